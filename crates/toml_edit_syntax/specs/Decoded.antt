@@ -1,0 +1,19 @@
+-- What a scalar of the code stands for.
+use Rattle.std.specs.Prelude.{◌≡◌, ℕ, ℤ, Bool, true, false, List, string_bytes, Option, MatchOption}
+use Rattle.toml_edit_model.specs.Text.{Text}
+use Rattle.toml_edit_model.specs.Scalars as scalars
+use Rattle.toml_edit_model.specs.Spelling.{SpellsKey, Spells, is_in_range}
+use Rattle.toml_edit_model.specs.Flat.{IsFlatScalar}
+use Rattle.toml_edit_syntax.specs.declared.decode.Scalar as code
+use Rattle.toml_edit_syntax.specs.declared.decode.Scalar.TheVariants.{String, Integer, Boolean}
+
+abbrev pub scalar_view : code.Scalar → scalars.Scalar
+scalar_view (String s) = scalars.string (string_bytes s)
+scalar_view (Integer z) = scalars.integer z
+scalar_view (Boolean b) = scalars.boolean b
+
+-- the text spells the scalar, which is flat and in range
+pub record IsFlatSpelling (t : Text) (s : scalars.Scalar) : Type 0 where
+  pub spells : Spells s t
+  pub flat : IsFlatScalar s t
+  pub in_range : is_in_range s t ≡ true

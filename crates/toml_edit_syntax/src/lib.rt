@@ -1,0 +1,10 @@
+//! Text to events with spans, and the decoding of keys and scalars.
+#![tactic(auto)]
+
+pub mod decode;
+pub mod event;
+pub mod lexer;
+
+pub use decode::{Scalar, decode_key, decode_scalar};
+pub use event::{Event, EventKind, Span};
+pub use lexer::{SyntaxFault, events};
