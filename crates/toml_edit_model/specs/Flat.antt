@@ -1,11 +1,39 @@
 -- The documents that are read so far: key lines of one simple key, whose value is a string of one line, an integer or a truth value.
-use Rattle.std.specs.Prelude.{◌⊎◌, List, [], ◌∷◌}
+use Rattle.std.specs.Prelude.{◌≡◌, ◌⊎◌, ℕ, Bool, List, [], ◌∷◌, map}
 use Rattle.std.specs.List.{AllByRecursion}
 use Rattle.toml_edit_model.specs.Text.{Text}
 use Rattle.toml_edit_model.specs.Scalars.{Scalar, string, integer, float, boolean, datetime}
 use Rattle.toml_edit_model.specs.Spelling.{SpellsBasic, SpellsLiteral}
-use Rattle.toml_edit_model.specs.Syntax.{Segment, Value, scalar, array, inline_table, Statement, key_line, header, Document, IsCut}
-use Rattle.toml_edit_model.specs.Accepted.{AcceptedAs}
+use Rattle.toml_edit_model.specs.Syntax.{Segment, Frame, scalar, Statement, key_line, Document, IsCut}
+use Rattle.toml_edit_model.specs.Accepted.{is_accepted}
+
+-- a key line with one simple key and a scalar
+pub record Line : Type 0 where
+  pub leading : Text
+  pub key : Text
+  pub spelled : Text
+  pub before_equals : Text
+  pub after_equals : Text
+  pub value : Scalar
+  pub spelling : Text
+  pub trailing : Text
+  pub end : Text
+
+abbrev pub simple_key : Line → Segment
+simple_key l = record { before = []; key = l.key; spelled = l.spelled; after = [] }
+
+abbrev pub line_frame : Line → Frame
+line_frame l =
+    record {
+      leading = l.leading;
+      path = simple_key l ∷ [];
+      before_equals = l.before_equals;
+      after_equals = l.after_equals;
+      trailing = l.trailing;
+    }
+
+abbrev pub line_statement : Line → Statement
+line_statement l = key_line (line_frame l) (scalar l.value l.spelling) l.end
 
 abbrev pub IsOneLineString : Text → Text → Type 0
 IsOneLineString v t = SpellsBasic v t ⊎ SpellsLiteral v t
@@ -17,22 +45,17 @@ IsFlatScalar (boolean b) t = Unit {0}
 IsFlatScalar (float x) t = ⊥
 IsFlatScalar (datetime d) t = ⊥
 
-abbrev pub IsFlatValue : Value → Type 0
-IsFlatValue (scalar s t) = IsFlatScalar s t
-IsFlatValue (array es comma t) = ⊥
-IsFlatValue (inline_table ps comma t) = ⊥
+abbrev pub IsFlatLine : Line → Type 0
+IsFlatLine l = IsFlatScalar l.value l.spelling
 
-abbrev pub IsSingle : List Segment → Type 0
-IsSingle [] = ⊥
-IsSingle (s ∷ []) = Unit {0}
-IsSingle (s ∷ r ∷ rest) = ⊥
+abbrev pub flat_document : Bool → List Line → Text → Document
+flat_document has_mark lines final = record { has_mark = has_mark; statements = map line_statement lines; final = final }
 
-abbrev pub IsFlatStatement : Statement → Type 0
-IsFlatStatement (key_line f v end) = IsSingle f.path × IsFlatValue v
-IsFlatStatement (header h end) = ⊥
-
-abbrev pub IsFlat : Document → Type 0
-IsFlat d = AllByRecursion IsFlatStatement d.statements
+-- the document has such lines alone
+pub record IsFlat (d : Document) : Type 0 where
+  pub lines : List Line
+  pub flat : AllByRecursion IsFlatLine lines
+  pub statements : d.statements ≡ map line_statement lines
 
 -- the document is a cut of the text, and flat
 pub record IsFlatCut (d : Document) (t : Text) : Type 0 where
@@ -41,5 +64,5 @@ pub record IsFlatCut (d : Document) (t : Text) : Type 0 where
 
 -- the text is flat, and accepted by this cut
 pub record FlatAs (t : Text) (d : Document) : Type 0 where
-  pub accepted : AcceptedAs t d
-  pub flat : IsFlat d
+  pub cut : IsFlatCut d t
+  pub accepted : is_accepted d ≡ true
