@@ -1,8 +1,8 @@
 -- What a scalar of the code stands for.
-use Rattle.std.specs.Prelude.{◌≡◌, ℕ, ℤ, Bool, true, false, List, string_bytes, Option, MatchOption}
+use Rattle.std.specs.Prelude.{◌≡◌, true, string_bytes}
 use Rattle.toml_edit_model.specs.Text.{Text}
 use Rattle.toml_edit_model.specs.Scalars as scalars
-use Rattle.toml_edit_model.specs.Spelling.{SpellsKey, Spells, is_in_range}
+use Rattle.toml_edit_model.specs.Spelling.{Spells, is_in_range}
 use Rattle.toml_edit_model.specs.Flat.{IsFlatScalar}
 use Rattle.toml_edit_syntax.specs.declared.decode.Scalar as code
 use Rattle.toml_edit_syntax.specs.declared.decode.Scalar.TheVariants.{String, Integer, Boolean}

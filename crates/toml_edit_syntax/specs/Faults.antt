@@ -1,5 +1,5 @@
 -- Where a fault of the text stands.
-use Rattle.std.specs.Prelude.{List, Result, Ok, Err}
+use Rattle.std.specs.Prelude.{Result, Ok, Err}
 use Rattle.toml_edit_model.specs.Text.{Text}
 use Rattle.toml_edit_syntax.specs.declared.lexer.SyntaxFault as fault
 use Rattle.toml_edit_syntax.specs.declared.lexer.SyntaxFault.TheVariants as faults
