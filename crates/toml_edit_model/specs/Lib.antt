@@ -20,3 +20,10 @@ pub mod Conversions
 pub mod Lone
 pub mod Excerpt
 pub mod Flat
+pub mod ComputedTree
+pub mod ExampleParts
+pub mod ExampleTexts
+pub mod ExampleRefusals
+pub mod ExampleExcerpts
+pub mod ExampleTrees
+pub mod ExampleTokens
