@@ -1,0 +1,6 @@
+//! The error of a text that is refused.
+#![tactic(auto)]
+
+pub mod toml_error;
+
+pub use toml_error::{ParseFault, TomlError};
