@@ -1,0 +1,49 @@
+-- What parsing gives.
+use Rattle.std.specs.Prelude.{◌≡◌, ◌⊎◌, ℕ, ◌+◌, ◌-◌, Bool, true, false, List, [], ◌∷◌, ◌++◌, length, codes, Contains, Result, Ok, Err}
+use Rattle.toml_edit_model.specs.Text.{Text}
+use Rattle.toml_edit_model.specs.Paths.{placed}
+use Rattle.toml_edit_model.specs.Accepted.{is_accepted}
+use Rattle.toml_edit_model.specs.Faults.{Fault, first_faults}
+use Rattle.toml_edit_model.specs.Flat.{Line, flat_document, IsFlatCut, FlatAs}
+use Rattle.toml_edit_model.specs.Syntax.{Document, mark_text, document_text}
+use Rattle.toml_edit_model.specs.Tree.{Raw, Slots}
+use Rattle.toml_edit_model.specs.TreeOf.{spanned_form, SlotsFit, RawFits}
+use Rattle.toml_edit_laws.specs.FlatTree.{are_right, line_slots}
+use Rattle.toml_edit_error.specs.Report.{Report, fault_of}
+use Rattle.toml_edit_error.specs.Fault.{IfToml}
+use Rattle.toml_edit_error.specs.declared.toml_error.ParseFault.{ParseFault}
+
+-- the slots and the trailing text of the flat document with these lines
+pub record SlotsParsed (source : Text) (has_mark : Bool) (lines : List Line) (final : Text) (slots : Slots) (trailing : Raw) : Type 0 where
+  pub right : are_right [] lines ≡ true
+  pub slots_are : slots ≡ line_slots spanned_form (length (mark_text has_mark)) lines
+  pub slots_fit : SlotsFit source slots
+  pub trailing_is : trailing ≡ spanned_form.raw (length source - length final) final
+  pub trailing_fits : RawFits source trailing
+
+-- the report is of the text, and names a fault of the first faulty statement of this document
+pub record Refuses (t : Text) (d : Document) (r : Report) : Type 0 where
+  pub input : r.input ≡ t
+  pub names : Contains (first_faults [] (placed d)) (fault_of r)
+  pub refused : is_accepted d ≡ false
+
+-- what building the tree of a flat document answers
+abbrev pub Builds : {S : Type 0} → (S → Slots) → Text → Bool → List Line → Text → Result (S × Raw) ParseFault → Type 0
+Builds view t has_mark lines final (Ok r) = SlotsParsed t has_mark lines final (view r.0) r.1
+Builds view t has_mark lines final (Err e) = IfToml e (Refuses t (flat_document has_mark lines final))
+
+-- The slots and the trailing text are those of the one flat document that the text is.
+pub record IsParsed (t : Text) (slots : Slots) (trailing : Raw) : Type 0 where
+  pub has_mark : Bool
+  pub lines : List Line
+  pub final : Text
+  pub cut : IsFlatCut (flat_document has_mark lines final) t
+  pub only : (other : Document) → IsFlatCut other t → other ≡ flat_document has_mark lines final
+  pub parsed : SlotsParsed t has_mark lines final slots trailing
+
+-- The report is of the text. The text is a flat document, and the report names a fault of its first faulty statement; or it is
+-- none, which isn't read yet.
+abbrev pub IsRefusal : Text → Report → Type 0
+IsRefusal t r =
+    ((d : Document) × IsFlatCut d t × Refuses t d r)
+    ⊎ (((d : Document) → IsFlatCut d t → ⊥) × (r.input ≡ t) × (r.message ≡ codes "not yet"))

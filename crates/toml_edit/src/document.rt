@@ -1,0 +1,158 @@
+//! Documents: as they were read, over their text, and as they can be printed.
+ghost use Rattle.toml_edit_model.specs.TreeOf.{IsOver};
+ghost use Rattle.toml_edit.specs.View.{tree_view};
+
+use crate::parser;
+use crate::table::{Iter, Table};
+use std::alloc::Global;
+use toml_edit_error::ParseFault;
+use toml_edit_repr::{Mem, RawString};
+
+/// What holds the text of a document: the same text each time.
+pub trait SourceText: Drop {
+    ghost use Rattle.std.specs.Prelude.{◌≡◌, List, ℕ};
+
+    /// The text.
+    ghost content: { Self → List ℕ };
+
+    /// The text.
+    fn text(&self) -> &str
+        ensures { result.now ≡ content self.now };
+}
+
+impl SourceText for &str {
+    ghost content = { λ s. s.now };
+
+    fn text(&self) -> &str {
+        *self
+    }
+}
+
+impl SourceText for String {
+    ghost use Rattle.std.specs.Prelude.{string_bytes};
+
+    ghost content = { λ s. string_bytes s };
+
+    fn text(&self) -> &str {
+        self.as_str()
+    }
+}
+
+/// A document as it was read: its keys and scalars are spans of its text.
+#[derive(Debug, Drop)]
+pub struct Document<S: SourceText> {
+    raw: S,
+    root: Table,
+    trailing: RawString,
+    // Each span cuts a text from the source, and each spelling so cut is true.
+    ghost over: { ∥ IsOver (S.content raw) (tree_view root trailing) ∥₁ },
+}
+
+impl<S: SourceText> Document<S> {
+    ghost use Rattle.std.specs.Prelude.{◌≡◌, ◌⊎◌, IfOk, IfErr, IsOk, IsErrOf};
+    ghost use Rattle.toml_edit_model.specs.Syntax.{Document as Cut};
+    ghost use Rattle.toml_edit_model.specs.Flat.{FlatAs};
+    ghost use Rattle.toml_edit_model.specs.Normal.{normal_text};
+    ghost use Rattle.toml_edit_model.specs.Print.{print as printed};
+    ghost use Rattle.toml_edit_model.specs.TreeOf.{owned_form, spanned_form, owned_tree, IsTreeOf};
+    ghost use Rattle.toml_edit_error.specs.Fault.{IfToml};
+    ghost use Rattle.toml_edit.specs.DocumentView.{source, tree_read, tree_owned};
+    ghost use Rattle.toml_edit.specs.Documents.{IsReading};
+    ghost use Rattle.toml_edit.specs.Held.{held, held_left};
+    ghost use Rattle.toml_edit.specs.Parsed.{IsRefusal};
+    ghost use Rattle.toml_edit.specs.View.{slots_view, fields_view};
+
+    /// Reads a text. The errors are a `TomlError` for a text that is refused, which names a fault of its first faulty statement, or
+    /// says `not yet` of what isn't read so far; and want of memory.
+    pub fn parse(alloc: Global, raw: S) -> Result<Document<S>, ParseFault>
+        ensures accepted { IfOk result (λ x. IsReading (S.content raw) (tree_read x)) }
+        ensures source { IfOk result (λ x. source x ≡ S.content raw) }
+        // An accepted text is never refused.
+        ensures every { (d : Cut) → FlatAs (S.content raw) d → IsOk result ⊎ IsErrOf result ParseFault.Memory }
+        ensures refused { IfErr result (λ e. IfToml e (IsRefusal (S.content raw))) }
+    {
+        let (slots, trailing) = parser::parse(alloc, raw.text())?;
+        Ok(Document {
+            raw,
+            root: Table::root(slots),
+            trailing,
+        })
+    }
+
+    /// The root table.
+    pub fn as_table(&self) -> &Table
+        ensures fields { fields_view result.now ≡ (tree_read self.now).root }
+        ensures slots { slots_view result.now.slots ≡ (tree_read self.now).slots }
+    {
+        &self.root
+    }
+
+    /// The keys' texts and the items of the root in order, without placeholders.
+    pub fn iter(&self) -> Iter<'_>
+        ensures { held_left result ≡ held (tree_read self.now).slots }
+    {
+        self.root.iter()
+    }
+
+    /// What follows the last statement.
+    pub fn trailing(&self) -> &RawString
+        ensures { result.now ≡ (tree_read self.now).trailing }
+    {
+        &self.trailing
+    }
+
+    /// The text that was read.
+    pub fn raw(&self) -> &str
+        ensures { result.now ≡ source self.now }
+    {
+        self.raw.text()
+    }
+
+    /// The document with its spans turned into the texts that they cut. The only error is want of memory, which gives the document
+    /// up.
+    pub fn into_mut(self, alloc: Global) -> Mem<DocumentMut>
+        ensures owned { IfOk result (λ m. tree_owned m ≡ owned_tree (source self) (tree_read self)) }
+        // The tree of an accepted text stays its tree, and prints as the normal text.
+        ensures normal { IfOk result (λ m. (d : Cut) → FlatAs (source self) d
+            → IsTreeOf spanned_form d (tree_read self)
+            → IsTreeOf owned_form d (tree_owned m) × (printed (tree_owned m) ≡ normal_text d)) }
+    {
+        let Document {
+            raw,
+            mut root,
+            mut trailing,
+        } = self;
+        root.despan(alloc, raw.text())?;
+        trailing.despan(alloc, raw.text())?;
+        Ok(DocumentMut { root, trailing })
+    }
+}
+
+/// A document that holds its own texts.
+#[derive(Debug, Drop)]
+pub struct DocumentMut {
+    pub(crate) root: Table,
+    pub(crate) trailing: RawString,
+}
+
+impl DocumentMut {
+    ghost use Rattle.std.specs.Prelude.{◌≡◌, IfOk, string_bytes};
+    ghost use Rattle.toml_edit_model.specs.Print.{print as printed};
+    ghost use Rattle.toml_edit.specs.DocumentView.{tree_owned};
+    ghost use Rattle.toml_edit.specs.View.{slots_view, fields_view};
+
+    /// The root table.
+    pub fn as_table(&self) -> &Table
+        ensures fields { fields_view result.now ≡ (tree_owned self.now).root }
+        ensures slots { slots_view result.now.slots ≡ (tree_owned self.now).slots }
+    {
+        &self.root
+    }
+
+    /// The text of the document. The only error is want of memory.
+    pub fn print(&self, alloc: Global) -> Mem<String>
+        ensures { IfOk result (λ s. string_bytes s ≡ text.print self.now) }
+    {
+        self.to_string(alloc)
+    }
+}

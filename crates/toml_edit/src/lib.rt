@@ -1,0 +1,16 @@
+//! Documents that keep every comment, space and spelling of a TOML text.
+#![tactic(auto)]
+
+pub mod document;
+mod encode;
+pub mod item;
+mod parser;
+pub mod table;
+pub mod value;
+
+pub use document::{Document, DocumentMut, SourceText};
+pub use item::Item;
+pub use table::{Iter, Table};
+pub use toml_edit_error::{ParseFault, TomlError};
+pub use toml_edit_repr::{Decor, Formatted, Key, Mem, NoMemory, RawString, Repr, ValueRepr};
+pub use value::Value;

@@ -1,0 +1,119 @@
+//! Tables.
+ghost use Rattle.std.specs.Prelude.{◌≡◌, ◌<◌, length, slice_get, IfSome, OnOk, option_map};
+ghost use Rattle.std.specs.Iterator.{YieldsFirstBy, item_count};
+ghost use Rattle.toml_edit_model.specs.Tree.{IsWellMade, SlotsAreWellMade};
+ghost use Rattle.toml_edit_model.specs.TreeOf.{root_fields, spanned_form, DecorFits, NodeFits, SlotsFit, owned_node, owned_slots, owned_fields};
+ghost use Rattle.toml_edit.specs.Held.{held, held_left, held_at, pair_read};
+ghost use Rattle.toml_edit.specs.Places.{on_node};
+ghost use Rattle.toml_edit.specs.View.{item_view, slots_view, fields_view};
+
+use crate::item::Item;
+use std::alloc::Global;
+use std::slice;
+use toml_edit_repr::{Decor, Mem, Slot, Slots};
+
+/// A table: its slots in order, and what is kept of its header.
+#[derive(Debug, Drop)]
+pub struct Table {
+    pub(crate) slots: Slots<Item>,
+    pub(crate) decor: Decor,
+    pub(crate) implicit: bool,
+    pub(crate) dotted: bool,
+    pub(crate) position: Option<isize>,
+    pub(crate) span: Option<(usize, usize)>,
+}
+
+impl Table {
+    /// The root of a document that was read.
+    pub(crate) fn root(slots: Slots<Item>) -> Table
+        ensures fields { fields_view result ≡ root_fields spanned_form }
+        ensures slots { result.slots ≡ slots }
+    {
+        Table {
+            slots,
+            decor: Decor::default(),
+            implicit: false,
+            dotted: false,
+            position: None,
+            span: Some((0, 0)),
+        }
+    }
+
+    /// Turns spans of `source` into the texts that stand there. The only error is want of memory, and then spans may be left: the
+    /// document is to be given up.
+    pub(crate) fn despan(&mut self, alloc: Global, source: &str) -> Mem<()>
+        requires decor { DecorFits source.now self.old.decor }
+        requires slots { SlotsFit source.now (slots_view self.old.slots) }
+        requires spelled { ∥ SlotsAreWellMade (owned_slots source.now (slots_view self.old.slots)) ∥₁ }
+        ensures fields { OnOk result (fields_view self.new ≡ owned_fields source.now (fields_view self.old)) }
+        ensures slots { OnOk result (slots_view self.new.slots ≡ owned_slots source.now (slots_view self.old.slots)) }
+    {
+        despan_slots(alloc, source, &mut self.slots)?;
+        self.decor.despan(alloc, source)?;
+        self.span = None;
+        Ok(())
+    }
+
+    /// The item under the key, which is no placeholder.
+    pub fn get(&self, key: &str) -> Option<&Item>
+        ensures { option_map (λ x. item_view x.now) result ≡ held_at key.now (slots_view self.now.slots) }
+    {
+        let item = self.slots.get(key)?;
+        if item.is_none() { None } else { Some(item) }
+    }
+
+    /// The keys' texts and the items in order, without placeholders.
+    pub fn iter(&self) -> Iter<'_>
+        ensures { held_left result ≡ held (slots_view self.now.slots) }
+    {
+        Iter {
+            slots: self.slots.as_slice().iter(),
+        }
+    }
+}
+
+fn despan_slots(alloc: Global, source: &str, slots: &mut Slots<Item>) -> Mem<()>
+    requires fits { SlotsFit source.now (slots_view slots.old) }
+    requires spelled { ∥ SlotsAreWellMade (owned_slots source.now (slots_view slots.old)) ∥₁ }
+    ensures { OnOk result (slots_view slots.new ≡ owned_slots source.now (slots_view slots.old)) }
+{
+    for at in 0..slots.len() {
+        slots.despan_key(at, alloc, source)?;
+        despan_item(alloc, source, slots, at)?;
+    }
+    Ok(())
+}
+
+/// Turns the spans of the item at the place.
+fn despan_item(alloc: Global, source: &str, slots: &mut Slots<Item>, at: usize) -> Mem<()>
+    requires at { at < length slots.old }
+    requires fits { IfSome (slice_get slots.old at) (λ slot. NodeFits source.now (item_view slot.item)) }
+    requires spelled { ∥ IfSome (slice_get slots.old at) (λ slot. IsWellMade (owned_node source.now (item_view slot.item))) ∥₁ }
+    ensures { OnOk result (slots_view slots.new ≡ on_node at (owned_node source.now) (slots_view slots.old)) }
+{
+    let item = slots.item_mut(at);
+    item.despan(alloc, source)
+}
+
+/// The slots of a table that hold an item: the texts of their keys, and the items, in order.
+#[derive(Drop)]
+pub struct Iter<'a> {
+    slots: slice::Iter<'a, Slot<Item>>,
+}
+
+impl<'a> Iterator for Iter<'a> {
+    type Item = (&'a str, &'a Item);
+
+    ghost next_gives = { YieldsFirstBy pair_read held_left };
+
+    ghost remaining = { item_count held_left };
+
+    fn next(&mut self) -> Option<(&'a str, &'a Item)> {
+        while let Some(slot) = self.slots.next() {
+            if !slot.item.is_none() {
+                return Some((slot.key.get(), &slot.item));
+            }
+        }
+        None
+    }
+}

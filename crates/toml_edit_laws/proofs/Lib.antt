@@ -1,0 +1,13 @@
+pub mod Tests
+pub mod Mentions
+pub mod AcceptedLaws
+pub mod TreeLaws
+pub mod PrintLaws
+pub mod LineLaws
+pub mod OwnedLaws
+pub mod NormalLaws
+pub mod MeaningLaws
+pub mod MadeLaws
+pub mod FaultLaws
+pub mod MoreLines
+pub mod FlatLaws

@@ -1,0 +1,2 @@
+pub mod FlatTree
+pub mod Laws

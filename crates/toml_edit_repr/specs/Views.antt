@@ -1,0 +1,26 @@
+-- What a contract sees of texts and scalars.
+use Rattle.std.specs.Prelude.{ℕ, Bool, ◌||◌, Option, None, Some}
+use Rattle.std.specs.declared.ops.Range.{Range}
+use Rattle.toml_edit_model.specs.Text.{Text, same_text, is_empty}
+use Rattle.toml_edit_model.specs.Tree.{Raw, owned, span, Decor}
+use Rattle.toml_edit_model.specs.Print.{blank}
+
+-- the text, unless it is a span
+abbrev pub text_of : Raw → Option Text
+text_of (owned t) = Some t
+text_of (span i j) = None
+
+-- the text takes no memory: nothing, or one space
+abbrev pub is_free : Text → Bool
+is_free t = is_empty t || same_text t blank
+
+-- the span, unless it is a text
+abbrev pub range_of : Raw → Option (Range ℕ)
+range_of (owned t) = None
+range_of (span i j) = Some (record { start = i; end = j })
+
+-- a scalar with its spelling and its decor
+pub record FormattedView (X : Type 0) : Type 0 where
+  pub value : X
+  pub repr : Option Raw
+  pub decor : Decor
