@@ -1,10 +1,12 @@
 -- Where the parts of a flat line stand, and what reading it does to the slots before it.
-use Rattle.std.specs.Prelude.{◌≡◌, ◌⊎◌, ℕ, ◌+◌, Bool, true, false, List, [], ◌∷◌, ◌++◌, length, Result, Ok, Err}
+use Rattle.std.specs.Prelude.{◌≡◌, ◌⊎◌, ℕ, ◌+◌, Bool, true, false, List, [], ◌∷◌, ◌++◌, length, Option, Some, String, string_bytes, Result, Ok, Err}
 use Rattle.toml_edit_model.specs.Text.{Text, same_text}
-use Rattle.toml_edit_model.specs.Spelling.{SpellsKey, Spells, is_in_range}
+use Rattle.std.specs.declared.alloc.Global.{Global}
+use Rattle.toml_edit_model.specs.Scalars.{Scalar}
+use Rattle.toml_edit_model.specs.Spelling.{is_in_range}
 use Rattle.toml_edit_model.specs.Faults.{Fault, fault, duplicate_key, range_message}
-use Rattle.toml_edit_model.specs.Flat.{Line, IsFlatLine}
-use Rattle.toml_edit_model.specs.Tree.{Key, Node, Slots, no_slots, slot, has_key}
+use Rattle.toml_edit_model.specs.Flat.{Line}
+use Rattle.toml_edit_model.specs.Tree.{span, Decor, Key, Node, leaf, Slots, no_slots, slot, has_key}
 use Rattle.toml_edit_model.specs.TreeOf.{spanned_form, SlotsFit}
 use Rattle.toml_edit_laws.specs.FlatTree.{line_text, key_start, key_end, after_equals_start, scalar_start, scalar_end, line_key, line_leaf}
 use Rattle.toml_edit_error.specs.Report.{Report, fault_of}
@@ -13,6 +15,8 @@ use Rattle.toml_edit_error.specs.declared.toml_error.ParseFault.{ParseFault}
 use Rattle.toml_edit_syntax.specs.declared.event.Span.{Span}
 use Rattle.toml_edit_syntax.specs.Events.{IsSpanOf}
 use Rattle.toml_edit.specs.declared.parser.LineSpans.{LineSpans}
+use Rattle.toml_edit.specs.declared.value.Value as code
+use Rattle.toml_edit.specs.View.{value_view}
 
 -- a text that begins at this byte
 abbrev pub span_at : ℕ → Text → Span
@@ -39,19 +43,6 @@ pub record AreSpansOf (t : Text) (s : LineSpans) : Type 0 where
   pub scalar : IsSpanOf t s.scalar
   pub trailing : IsSpanOf t s.trailing
 
--- a line that is spelled right
-pub record IsSpelled (l : Line) : Type 0 where
-  pub key : SpellsKey l.key l.spelled
-  pub value : Spells l.value l.spelling
-  pub flat : IsFlatLine l
-
--- the line begins at this byte of the text
-pub record StandsAt (t : Text) (start : ℕ) (l : Line) : Type 0 where
-  pub before : Text
-  pub after : Text
-  pub parts : t ≡ before ++ (line_text l ++ after)
-  pub place : start ≡ length before
-
 -- the slots with one more at the end
 abbrev pub with_slot : Slots → Key → Node → Slots
 with_slot no_slots k n = slot k n no_slots
@@ -73,3 +64,15 @@ NamesFault t start l old r =
 abbrev pub ReadsLine : {A : Type 0} → Text → ℕ → Line → Slots → Slots → Result A ParseFault → Type 0
 ReadsLine t start l old new (Ok _) = AddsLine start l old new
 ReadsLine t start l old new (Err e) = IfToml e (NamesFault t start l old)
+
+-- the text of a key that was read; nothing but want of memory stands in the way
+abbrev pub ReadsName : Text → Result (String Global) ParseFault → Type 0
+ReadsName k (Ok s) = string_bytes s ≡ k
+ReadsName k (Err e) = IfToml e (λ r. ⊥)
+
+-- the value that was read, with this decor, or a report of the text that names it as out of range
+abbrev pub ReadsValue : Text → ℕ → Scalar → Text → Decor → Result code.Value ParseFault → Type 0
+ReadsValue t start s spelling d (Ok v) =
+    (value_view v ≡ leaf s (Some (span start (start + length spelling))) d) × (is_in_range s spelling ≡ true)
+ReadsValue t start s spelling d (Err e) =
+    IfToml e (λ r. (r.input ≡ t) × (is_in_range s spelling ≡ false) × (fault_of r ≡ fault (range_message s) start (length spelling)))

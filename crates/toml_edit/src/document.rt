@@ -151,7 +151,7 @@ impl DocumentMut {
 
     /// The text of the document. The only error is want of memory.
     pub fn print(&self, alloc: Global) -> Mem<String>
-        ensures { IfOk result (λ s. string_bytes s ≡ text.print self.now) }
+        ensures { IfOk result (λ s. string_bytes s ≡ printed (tree_owned self.now)) }
     {
         self.to_string(alloc)
     }

@@ -1,17 +1,21 @@
 //! Events to slots.
-ghost use Rattle.std.specs.Prelude.{◌≡◌, ◌⊎◌, ◌+◌, ◌≤◌, Bool, List, ℕ, [], length, Some, OnOk, IfOk, IfErr, IsOk, IsErrOf, option_map, string_bytes};
+ghost use Rattle.std.specs.Prelude.{◌≡◌, ◌⊎◌, ◌+◌, ◌≤◌, Bool, List, ℕ, [], length, None, Some, OnOk, IfOk, IfErr, IsOk, IsErrOf, option_map, string_bytes};
 ghost use Rattle.std.specs.List.{AllByRecursion};
 ghost use Rattle.toml_edit_model.specs.Text.{Text};
+ghost use Rattle.toml_edit_model.specs.Scalars.{Scalar};
+ghost use Rattle.toml_edit_model.specs.Spelling.{SpellsKey, Spells};
 ghost use Rattle.toml_edit_model.specs.Syntax.{Document};
-ghost use Rattle.toml_edit_model.specs.Flat.{Line, flat_document, IsFlatCut, FlatAs};
-ghost use Rattle.toml_edit_model.specs.TreeOf.{SlotsFit, span_of, spanned_form, cut_out, RawFits};
-ghost use Rattle.toml_edit_laws.specs.FlatTree.{line_key};
+ghost use Rattle.toml_edit_model.specs.Flat.{Line, flat_document, IsFlatScalar, IsFlatCut, FlatAs};
+ghost use Rattle.toml_edit_model.specs.TreeOf.{RawFits, DecorFits, KeyFits, NodeFits, SlotsFit, span_of, spanned_form, cut_out};
+ghost use Rattle.toml_edit_laws.specs.FlatTree.{line_text, line_key, IsSpelledLine};
+ghost use Rattle.toml_edit_laws.specs.Standing.{Stands};
 ghost use Rattle.toml_edit_error.specs.Fault.{IfToml};
+ghost use Rattle.toml_edit_repr.specs.Slots.{place};
 ghost use Rattle.toml_edit_syntax.specs.Events.{IsSpanOf, events_of};
-ghost use Rattle.toml_edit.specs.Lines.{AreSpansOf, IsSpelled, StandsAt, line_spans, ReadsLine};
+ghost use Rattle.toml_edit.specs.Lines.{AreSpansOf, line_spans, with_slot, ReadsName, ReadsValue, ReadsLine};
 ghost use Rattle.toml_edit.specs.Parsed.{Builds, IsParsed, IsRefusal};
 ghost use Rattle.toml_edit.specs.Split as spec;
-ghost use Rattle.toml_edit.specs.View.{slots_view};
+ghost use Rattle.toml_edit.specs.View.{slots_view, value_view};
 
 use crate::item::Item;
 use crate::value::Value;
@@ -89,17 +93,53 @@ fn split_line(events: &[Event]) -> Option<(LineSpans, &[Event])>
     Some((line, rest))
 }
 
+/// The text of the key that is spelled at the span.
+fn read_name(alloc: Global, source: &str, span: Span) -> Result<String, ParseFault>
+    requires { IsSpanOf source.now span }
+    ensures { (k : Text) → SpellsKey k (cut_out source.now span.start span.end) → ReadsName k result }
+{
+    match decode_key(alloc, cut(source, span))? {
+        Some(name) => Ok(name),
+        None => Err(refusal(alloc, source, "not yet", span)),
+    }
+}
+
+/// The value that is spelled at the span.
+fn read_value(alloc: Global, source: &str, span: Span, decor: Decor) -> Result<Value, ParseFault>
+    requires { IsSpanOf source.now span }
+    ensures value { (s : Scalar) (t : Text) → cut_out source.now span.start span.end ≡ t → span.end ≡ span.start + length t
+        → Spells s t → IsFlatScalar s t → ReadsValue source.now span.start s t decor result }
+    ensures fits { IfOk result (λ v. DecorFits source.now decor → NodeFits source.now (value_view v)) }
+{
+    match decode_scalar(alloc, cut(source, span))? {
+        Some(scalar) => Ok(Value::spanned(scalar, span.start, span.end, decor)),
+        None => Err(refusal(alloc, source, "integer number overflowed", span)),
+    }
+}
+
 /// A key that was read, with this text.
 fn read_key(name: String, line: LineSpans) -> Key
-    ensures { (l : Line) (start : ℕ) → line ≡ line_spans start l → string_bytes name ≡ l.key → (l.spelled ≡ [] → ⊥)
+    ensures name { result.name ≡ string_bytes name }
+    ensures key { (l : Line) (start : ℕ) → line ≡ line_spans start l → string_bytes name ≡ l.key → (l.spelled ≡ [] → ⊥)
         → result ≡ line_key spanned_form start l }
+    ensures fits { (t : Text) → AreSpansOf t line → KeyFits t result }
 {
     let leaf = Decor::new(raw(line.leading), raw(line.before_equals));
     let dotted = Decor::new(RawString::default(), RawString::default());
     Key::spanned(name, line.key.start, line.key.end, leaf, dotted)
 }
 
-/// Adds the slot of a line, whose key has to be new.
+/// Adds a slot, whose key has to be new.
+fn add(slots: &mut Slots<Item>, key: Key, value: Value) -> Mem<()>
+    requires { place key.name slots.old ≡ None }
+    ensures { OnOk result (slots_view slots.new ≡ with_slot (slots_view slots.old) key (value_view value)) }
+{
+    let item = Item::Value(value);
+    slots.push(Slot { key, item })?;
+    Ok(())
+}
+
+/// Adds the slot of a line, unless its key stands there already.
 fn push_line(
     alloc: Global,
     source: &str,
@@ -107,26 +147,19 @@ fn push_line(
     line: LineSpans,
 ) -> Result<(), ParseFault>
     requires { AreSpansOf source.now line }
-    ensures line { (l : Line) (start : ℕ) → IsSpelled l → StandsAt source.now start l → line ≡ line_spans start l
+    ensures line { (l : Line) (start : ℕ) → IsSpelledLine l → Stands source.now start (line_text l) → line ≡ line_spans start l
         → ReadsLine source.now start l (slots_view slots.old) (slots_view slots.new) result }
     ensures fits { SlotsFit source.now (slots_view slots.old) → OnOk result (SlotsFit source.now (slots_view slots.new)) }
 {
-    let Some(name) = decode_key(alloc, cut(source, line.key))? else {
-        return Err(refusal(alloc, source, "not yet", line.key));
-    };
+    let name = read_name(alloc, source, line.key)?;
     if slots.find(name.as_str()).is_some() {
         return Err(refusal(alloc, source, "duplicate key", line.key));
     }
-    let Some(scalar) = decode_scalar(alloc, cut(source, line.scalar))? else {
-        return Err(refusal(alloc, source, "integer number overflowed", line.scalar));
-    };
     let decor = Decor::new(raw(line.after_equals), raw(line.trailing));
-    let value = Value::spanned(scalar, line.scalar.start, line.scalar.end, decor);
+    let value = read_value(alloc, source, line.scalar, decor)?;
     let key = read_key(name, line);
-    match slots.push(Slot { key, item: Item::Value(value) }) {
-        Ok(()) => Ok(()),
-        Err(_) => Err(ParseFault::Memory),
-    }
+    add(slots, key, value)?;
+    Ok(())
 }
 
 /// The slots of the lines, and the text after the last.

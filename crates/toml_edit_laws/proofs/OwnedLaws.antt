@@ -9,14 +9,8 @@ use Rattle.toml_edit_model.specs.Tree.{owned as owned_text}
 use Rattle.toml_edit_model.specs.TreeOf.{spanned_form, owned_form, span_of, cut_out, owned_raw, owned_key, owned_node, owned_slots, owned_tree}
 use Rattle.toml_edit_model.specs.Flat.{Line, flat_document}
 use Rattle.toml_edit_laws.specs.FlatTree.{line_text, lines_text, key_start, key_end, after_equals_start, scalar_start, scalar_end, next_line, line_key, line_leaf, line_slots, flat_tree}
+use Rattle.toml_edit_laws.specs.Standing.{Stands}
 use Rattle.toml_edit_laws.proofs.Tests.{append-nil}
-
--- the text stands in the source, from this byte on
-pub record Stands (source : Text) (i : ℕ) (t : Text) : Type 0 where
-  pub before : Text
-  pub after : Text
-  pub text : source ≡ before ++ (t ++ after)
-  pub place : i ≡ length before
 
 pub stands-left : (source : Text) (i : ℕ) (a b : Text) → Stands source i (a ++ b) → Stands source i a
 stands-left source i a b h =
@@ -45,13 +39,17 @@ cut before t after n e =
     ∙ ap (λ m. take m (t ++ after)) (let f : n ≡ length t = omega arith in f)
     ∙ take-append_seam t after
 
+-- from its first byte up to its end it is cut out
+pub cut_out-is : (source : Text) (i : ℕ) (t : Text) → Stands source i t → cut_out source i (i + length t) ≡ t
+cut_out-is source i t h =
+    ap (λ s. cut_out s i (i + length t)) h.text
+    ∙ ap (λ j. cut_out (h.before ++ (t ++ h.after)) j (j + length t)) h.place
+    ∙ cut h.before t h.after (length h.before + length t - length h.before) refl
+
 -- its span cuts it
 pub cut-is : (source : Text) (i : ℕ) (t : Text) → Stands source i t → owned_raw source (span_of i t) ≡ owned_text t
 cut-is source i [] h = refl
-cut-is source i (c ∷ t) h =
-    ap (λ s. owned_text (cut_out s i (i + length (c ∷ t)))) h.text
-    ∙ ap (λ j. owned_text (cut_out (h.before ++ ((c ∷ t) ++ h.after)) j (j + length (c ∷ t)))) h.place
-    ∙ ap owned_text (cut h.before (c ∷ t) h.after (length h.before + length (c ∷ t) - length h.before) refl)
+cut-is source i (c ∷ t) h = ap owned_text (cut_out-is source i (c ∷ t) h)
 
 -- the parts of a line stand in the source
 pub record LineStands (source : Text) (start : ℕ) (l : Line) : Type 0 where

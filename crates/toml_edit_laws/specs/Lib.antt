@@ -1,2 +1,3 @@
 pub mod FlatTree
 pub mod Laws
+pub mod Standing
