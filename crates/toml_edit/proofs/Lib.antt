@@ -1,3 +1,4 @@
 pub mod HeldLaws
 pub mod SlotLaws
 pub mod LineLaws
+pub mod BuildLaws

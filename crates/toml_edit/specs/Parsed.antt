@@ -1,5 +1,6 @@
 -- What parsing gives.
 use Rattle.std.specs.Prelude.{◌≡◌, ◌⊎◌, ℕ, ◌+◌, ◌-◌, Bool, true, false, List, [], ◌∷◌, ◌++◌, length, codes, Contains, Result, Ok, Err}
+use Rattle.std.specs.List.{AllByRecursion}
 use Rattle.toml_edit_model.specs.Text.{Text}
 use Rattle.toml_edit_model.specs.Paths.{placed}
 use Rattle.toml_edit_model.specs.Accepted.{is_accepted}
@@ -8,7 +9,9 @@ use Rattle.toml_edit_model.specs.Flat.{Line, flat_document, IsFlatCut, FlatAs}
 use Rattle.toml_edit_model.specs.Syntax.{Document, mark_text, document_text}
 use Rattle.toml_edit_model.specs.Tree.{Raw, Slots}
 use Rattle.toml_edit_model.specs.TreeOf.{spanned_form, SlotsFit, RawFits}
-use Rattle.toml_edit_laws.specs.FlatTree.{are_right, line_slots}
+use Rattle.toml_edit_laws.specs.FlatTree.{are_right, line_slots, IsSpelledLine}
+use Rattle.toml_edit_syntax.specs.declared.event.Event.{Event}
+use Rattle.toml_edit_syntax.specs.Events.{events_of}
 use Rattle.toml_edit_error.specs.Report.{Report, fault_of}
 use Rattle.toml_edit_error.specs.Fault.{IfToml}
 use Rattle.toml_edit_error.specs.declared.toml_error.ParseFault.{ParseFault}
@@ -26,6 +29,12 @@ pub record Refuses (t : Text) (d : Document) (r : Report) : Type 0 where
   pub input : r.input ≡ t
   pub names : Contains (first_faults [] (placed d)) (fault_of r)
   pub refused : is_accepted d ≡ false
+
+-- the text joins from the parts of a flat document, and these are its events
+pub record AreEventsIn (t : Text) (has_mark : Bool) (lines : List Line) (final : Text) (es : List Event) : Type 0 where
+  pub spelled : AllByRecursion IsSpelledLine lines
+  pub text : document_text (flat_document has_mark lines final) ≡ t
+  pub events : es ≡ events_of (flat_document has_mark lines final)
 
 -- what building the tree of a flat document answers
 abbrev pub Builds : {S : Type 0} → (S → Slots) → Text → Bool → List Line → Text → Result (S × Raw) ParseFault → Type 0

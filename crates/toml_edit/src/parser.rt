@@ -5,15 +5,15 @@ ghost use Rattle.toml_edit_model.specs.Text.{Text};
 ghost use Rattle.toml_edit_model.specs.Scalars.{Scalar};
 ghost use Rattle.toml_edit_model.specs.Spelling.{SpellsKey, Spells};
 ghost use Rattle.toml_edit_model.specs.Syntax.{Document};
-ghost use Rattle.toml_edit_model.specs.Flat.{Line, flat_document, IsFlatScalar, IsFlatCut, FlatAs};
+ghost use Rattle.toml_edit_model.specs.Flat.{Line, IsFlatScalar, FlatAs};
 ghost use Rattle.toml_edit_model.specs.TreeOf.{RawFits, DecorFits, KeyFits, NodeFits, SlotsFit, span_of, spanned_form, cut_out};
 ghost use Rattle.toml_edit_laws.specs.FlatTree.{line_text, line_key, IsSpelledLine};
 ghost use Rattle.toml_edit_laws.specs.Standing.{Stands};
 ghost use Rattle.toml_edit_error.specs.Fault.{IfToml};
 ghost use Rattle.toml_edit_repr.specs.Slots.{place};
-ghost use Rattle.toml_edit_syntax.specs.Events.{IsSpanOf, events_of};
+ghost use Rattle.toml_edit_syntax.specs.Events.{IsSpanOf};
 ghost use Rattle.toml_edit.specs.Lines.{AreSpansOf, line_spans, with_slot, ReadsName, ReadsValue, ReadsLine};
-ghost use Rattle.toml_edit.specs.Parsed.{Builds, IsParsed, IsRefusal};
+ghost use Rattle.toml_edit.specs.Parsed.{AreEventsIn, Builds, IsParsed, IsRefusal};
 ghost use Rattle.toml_edit.specs.Split as spec;
 ghost use Rattle.toml_edit.specs.View.{slots_view, value_view};
 
@@ -163,14 +163,18 @@ fn push_line(
 }
 
 /// The slots of the lines, and the text after the last.
-fn build(alloc: Global, source: &str, events: &[Event]) -> Result<(Slots<Item>, RawString), ParseFault>
+fn build(
+    alloc: Global,
+    source: &str,
+    events: &[Event],
+) -> Result<(Slots<Item>, RawString), ParseFault>
     requires { AllByRecursion (λ e. IsSpanOf source.now e.span) events.now }
-    ensures { (m : Bool) (lines : List Line) (final : Text) → IsFlatCut (flat_document m lines final) source.now
-        → events.now ≡ events_of (flat_document m lines final) → Builds slots_view source.now m lines final result }
+    ensures { (m : Bool) (lines : List Line) (final : Text) → AreEventsIn source.now m lines final events.now
+        → Builds slots_view source.now m lines final result }
 {
     let mut slots = Slots::new(alloc);
     let mut rest = events;
-    while let Some((line, tail)) = split_line(rest) {
+    'lines: while let Some((line, tail)) = split_line(rest) {
         push_line(alloc, source, &mut slots, line)?;
         rest = tail;
     }
