@@ -2,3 +2,4 @@ pub mod HeldLaws
 pub mod SlotLaws
 pub mod LineLaws
 pub mod BuildLaws
+pub mod WholeLaws
