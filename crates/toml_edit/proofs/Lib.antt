@@ -3,3 +3,7 @@ pub mod SlotLaws
 pub mod LineLaws
 pub mod BuildLaws
 pub mod WholeLaws
+pub mod DespanLaws
+pub mod SpanProps
+pub mod OwnLaws
+pub mod OverLaws

@@ -27,7 +27,9 @@ impl Value {
     {
         match scalar {
             Scalar::String(text) => Value::String(Formatted::spanned(text, start, end, decor)),
-            Scalar::Integer(number) => Value::Integer(Formatted::spanned(number, start, end, decor)),
+            Scalar::Integer(number) => Value::Integer(Formatted::spanned(
+                number, start, end, decor,
+            )),
             Scalar::Boolean(truth) => Value::Boolean(Formatted::spanned(truth, start, end, decor)),
         }
     }

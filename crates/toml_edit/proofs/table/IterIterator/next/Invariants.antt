@@ -1,3 +1,4 @@
+-- The slots left hold what was left at first.
 use Rattle.std.proofs.Common.{◌≡◌, length}
 use Rattle.std.specs.Slice.Iter.{iter_rest}
 use Rattle.toml_edit.specs.Held.{held_left}

@@ -1,6 +1,7 @@
-use Rattle.std.proofs.Common.{◌≡◌, Option, Some, None, IsTrue, true, false, option_map, refl, sym, ap, ◌∙◌}
+-- The item under a key, unless it is a placeholder.
+use Rattle.std.proofs.Common.{◌≡◌, option_map, sym, ap, ◌∙◌}
 use Rattle.std.specs.Option.{option_copied}
-use Rattle.toml_edit_model.specs.Tree.{Node, nothing}
+use Rattle.toml_edit_model.specs.Tree.{nothing}
 use Rattle.toml_edit.specs.Held.{held_item}
 use Rattle.toml_edit.specs.View.{item_view}
 use Rattle.toml_edit.proofs.HeldLaws.{held_of, held_at-lookup, held_item-filled}

@@ -1,3 +1,4 @@
+-- A value in owned form.
 use mathlib.Core.Logic.{∥∥₁_map}
 use Rattle.std.proofs.Common.{subst}
 use Rattle.toml_edit_model.specs.Tree.{IsWellMade}
