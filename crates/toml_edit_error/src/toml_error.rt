@@ -112,3 +112,35 @@ impl<T: Drop> From<AllocFailed<T>> for ParseFault {
         ParseFault::Memory
     }
 }
+
+#[cfg(test)]
+mod tests {
+    use super::{ParseFault, TomlError};
+    use std::alloc::{AllocError, Global};
+    use std::test::Fail;
+
+    fn sample(alloc: Global) -> Result<TomlError, AllocError> {
+        let message = String::from_str(alloc, "duplicate key")?;
+        let input = String::from_str(alloc, "a = 1\na = 2\n")?;
+        Ok(TomlError::new(message, None, input))
+    }
+
+    #[test]
+    fn shows_its_message(rt: HostRuntime) -> Result<(), Fail> {
+        let error = sample(rt.alloc())?;
+        assert_eq!(rt; error.message(), "duplicate key");
+        assert!(rt; error.span().is_none());
+        let shown = error.to_string(rt.alloc())?;
+        assert_eq!(rt; shown.as_str(), "duplicate key\n");
+        Ok(())
+    }
+
+    #[test]
+    fn shows_a_fault(rt: HostRuntime) -> Result<(), Fail> {
+        let shown = ParseFault::Toml(sample(rt.alloc())?).to_string(rt.alloc())?;
+        assert_eq!(rt; shown.as_str(), "duplicate key\n");
+        let shown = ParseFault::Memory.to_string(rt.alloc())?;
+        assert_eq!(rt; shown.as_str(), "out of memory\n");
+        Ok(())
+    }
+}

@@ -24,9 +24,7 @@ impl Model for Key {
 
     ghost Value = { KeyView };
 
-    ghost view = {
-        λ a. record { name = string_bytes a.text; spelling = a.repr; leaf = a.leaf; dotted = a.dotted }
-    };
+    ghost view = { λ a. record { name = string_bytes a.text; spelling = a.repr; leaf = a.leaf; dotted = a.dotted } };
 
     ghost invariant = { λ a. ∥ HasTrueSpelling (SpellsKey (string_bytes a.text)) a.repr ∥₁ };
 }
@@ -60,14 +58,12 @@ impl Key {
 
     /// A key that was read: its spelling stands from the byte `start` of the source up to `end`.
     pub fn spanned(text: String, start: usize, end: usize, leaf: Decor, dotted: Decor) -> Key
-        ensures {
-            result ≡ record {
-                name = string_bytes text;
-                spelling = Some (span start end);
-                leaf = leaf;
-                dotted = dotted;
-            }
-        }
+        ensures { result ≡ record {
+          name = string_bytes text;
+          spelling = Some (span start end);
+          leaf = leaf;
+          dotted = dotted;
+        } }
     {
         Key {
             text,
@@ -135,9 +131,7 @@ impl Key {
     /// document that the key is of is to be given up.
     pub fn despan(&mut self, alloc: Global, source: &str) -> Mem<()>
         requires fits { KeyFits source.now self.old }
-        requires spelled {
-            ∥ HasTrueSpelling (SpellsKey self.old.name) (option_map (owned_raw source.now) self.old.spelling) ∥₁
-        }
+        requires spelled { ∥ HasTrueSpelling (SpellsKey self.old.name) (option_map (owned_raw source.now) self.old.spelling) ∥₁ }
         ensures name { self.new.name ≡ self.old.name }
         ensures ok { OnOk result (self.new ≡ owned_key source.now self.old) }
     {

@@ -116,9 +116,8 @@ impl Default for RawString {
     ghost is_default = { λ raw. raw ≡ owned [] };
 
     fn default() -> RawString {
-        RawString {
-            inner: Inner::Empty,
-        }
+        let inner = Inner::Empty;
+        RawString { inner }
     }
 }
 
@@ -137,11 +136,7 @@ impl Model for Decor {
     ghost view = { λ a. record { prefix = a.prefix; suffix = a.suffix } };
 }
 
-fn despan_side(
-    alloc: Global,
-    side: &mut Option<RawString>,
-    source: &str,
-) -> Mem<()>
+fn despan_side(alloc: Global, side: &mut Option<RawString>, source: &str) -> Mem<()>
     requires { OptionFits source.now side.old }
     ensures ok { OnOk result (side.new ≡ option_map (owned_raw source.now) side.old) }
     ensures err { OnErr result (side.new ≡ side.old) }

@@ -49,11 +49,7 @@ impl Repr {
 }
 
 // Turns a spelling that spans `source` into its text.
-pub(crate) fn despan_spelling(
-    alloc: Global,
-    repr: &mut Option<Repr>,
-    source: &str,
-) -> Mem<()>
+pub(crate) fn despan_spelling(alloc: Global, repr: &mut Option<Repr>, source: &str) -> Mem<()>
     requires { OptionFits source.now repr.old }
     ensures ok { OnOk result (repr.new ≡ option_map (owned_raw source.now) repr.old) }
     ensures err { OnErr result (repr.new ≡ repr.old) }
@@ -191,16 +187,12 @@ impl<T: ValueRepr> Formatted<T> {
     pub fn despan(&mut self, alloc: Global, source: &str) -> Mem<()>
         requires spelling { OptionFits source.now self.old.repr }
         requires decor { DecorFits source.now self.old.decor }
-        requires spelled {
-            ∥ HasTrueSpelling (λ t. T.spells t self.old.value) (option_map (owned_raw source.now) self.old.repr) ∥₁
-        }
-        ensures ok {
-            OnOk result (self.new ≡ record {
-                value = self.old.value;
-                repr = option_map (owned_raw source.now) self.old.repr;
-                decor = owned_decor source.now self.old.decor;
-            })
-        }
+        requires spelled { ∥ HasTrueSpelling (λ t. T.spells t self.old.value) (option_map (owned_raw source.now) self.old.repr) ∥₁ }
+        ensures ok { OnOk result (self.new ≡ record {
+          value = self.old.value;
+          repr = option_map (owned_raw source.now) self.old.repr;
+          decor = owned_decor source.now self.old.decor;
+        }) }
     {
         despan_spelling(alloc, &mut self.repr, source)?;
         self.decor.despan(alloc, source)

@@ -104,7 +104,7 @@ impl<T> Slots<T> {
         ensures place { result ≡ place text.now self.now }
         ensures within { IfSome result (λ at. at < length self.now) }
     {
-        Slots::place_in(self.entries.as_slice(), text)
+        Slots::place_in(&self.entries, text)
     }
 
     fn place_in(entries: &[Slot<T>], text: &str) -> Option<usize>
@@ -127,8 +127,8 @@ impl<T> Slots<T> {
         ensures* writes_back { sem 𝓛 (LendsItem T.row self.entry at result) }
         ensures item { Some result.now ≡ slice_get (items_of self.old) at }
     {
-        let slot = &mut self.entries[at];
-        &mut slot.item
+        let lent = &mut self.entries[at];
+        &mut lent.item
     }
 
     /// The item under the name, to be changed, if there is one.
@@ -196,15 +196,13 @@ impl<T> Slots<T> {
     pub fn despan_key(&mut self, at: usize, alloc: Global, source: &str) -> Mem<()>
         requires at { at < length self.old }
         requires fits { ForSome (slice_get self.old at) (λ slot. KeyFits source.now slot.key) }
-        requires spelled {
-            ForSome (slice_get self.old at) (λ slot.
-                ∥ HasTrueSpelling (SpellsKey slot.key.name) (option_map (owned_raw source.now) slot.key.spelling) ∥₁)
-        }
+        requires spelled { ForSome (slice_get self.old at) (λ slot.
+            ∥ HasTrueSpelling (SpellsKey slot.key.name) (option_map (owned_raw source.now) slot.key.spelling) ∥₁) }
         ensures names { names self.new ≡ names self.old }
         ensures items { items_of self.new ≡ items_of self.old }
         ensures ok { OnOk result (self.new ≡ on_key at (owned_key source.now) self.old) }
     {
-        let slot = &mut self.entries[at];
-        slot.key.despan(alloc, source)
+        let spanned = &mut self.entries[at];
+        spanned.key.despan(alloc, source)
     }
 }

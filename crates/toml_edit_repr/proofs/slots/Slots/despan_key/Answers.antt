@@ -7,28 +7,28 @@ use Rattle.toml_edit_repr.proofs.slots.Slots.despan_key.Goals as goal
 
 pub invariant_of-self : goal.invariant_of-self
 invariant_of-self g c =
-    let d = c.index_mut-slot.result.now in
+    let d = c.index_mut-spanned.result.now in
     apart-set c.self.inside.entries.items c.args.at d (record { key = c.despan.new.self; item = d.item })
-      (c.despan.ensures.name ∙ ap (λ s. s.key.name) c.index_mut-slot.ensures.value) c.self.invariant
+    (c.despan.ensures.name ∙ ap (λ s. s.key.name) c.index_mut-spanned.ensures.value) c.self.invariant
 
 pub returns-clause-names : goal.returns-clause-names
 returns-clause-names g c =
-    let d = c.index_mut-slot.result.now in
+    let d = c.index_mut-spanned.result.now in
     names-set c.self.inside.entries.items c.args.at d (record { key = c.despan.new.self; item = d.item })
-      (c.despan.ensures.name ∙ ap (λ s. s.key.name) c.index_mut-slot.ensures.value)
+    (c.despan.ensures.name ∙ ap (λ s. s.key.name) c.index_mut-spanned.ensures.value)
     ∙ ap names c.self.view_is
 
 pub returns-clause-items : goal.returns-clause-items
 returns-clause-items g c =
-    let d = c.index_mut-slot.result.now in
+    let d = c.index_mut-spanned.result.now in
     items-set c.self.inside.entries.items c.args.at d (record { key = c.despan.new.self; item = d.item })
-      (ap (λ s. s.item) c.index_mut-slot.ensures.value)
+    (ap (λ s. s.item) c.index_mut-spanned.ensures.value)
     ∙ ap items_of c.self.view_is
 
 pub returns-clause-ok : goal.returns-clause-ok
 returns-clause-ok g c =
     let h = owned_key c.args.source.now in
     on_ok c.despan.result
-      (λ done. on_key-is h c.self.inside.entries.items c.args.at c.index_mut-slot.result.now c.despan.new.self c.index_mut-slot.ensures.value done
-        ∙ ap (on_key c.args.at h) c.self.view_is)
-      c.despan.ensures.ok
+    (λ done. on_key-is h c.self.inside.entries.items c.args.at c.index_mut-spanned.result.now c.despan.new.self c.index_mut-spanned.ensures.value done
+    ∙ ap (on_key c.args.at h) c.self.view_is)
+    c.despan.ensures.ok

@@ -1,6 +1,5 @@
 -- A slot taken out.
-use Rattle.std.proofs.Common.{◌≡◌, rules, sym, ◌∙◌}
-use Rattle.toml_edit_repr.specs.Slots.{without}
+use Rattle.std.proofs.Common.{rules, sym}
 use Rattle.toml_edit_repr.proofs.SlotLaws.{lookup_slot-absent, lookup_slot-present, without-absent, without-present, apart-without}
 use Rattle.toml_edit_repr.proofs.slots.Slots.remove.Goals as goal
 
@@ -20,5 +19,4 @@ pub invariant_of-self : goal.invariant_of-self
 invariant_of-self g c =
     let t = c.args.text.now in
     let es = c.self.inside.entries.items in
-    let left : c.remove.new.self.items ≡ without t es = c.remove.ensures.items ∙ sym (without-present t es c.in_ok-at.at (rw c.self.view_is (sym c.in_ok-at.ensures.place))) in
-    rw left (apart-without t es c.self.invariant)
+    rw (c.remove.ensures.items, ← without-present t es c.in_ok-at.at (rw c.self.view_is (sym c.in_ok-at.ensures.place))) (apart-without t es c.self.invariant)

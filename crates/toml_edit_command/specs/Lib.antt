@@ -1,0 +1,3 @@
+-- What a run of the command promises.
+pub mod Run
+pub mod Steps

@@ -1,0 +1,2 @@
+-- Lemmas on streams.
+pub mod Known

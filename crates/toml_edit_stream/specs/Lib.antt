@@ -1,0 +1,3 @@
+-- What the contracts of streams cite.
+pub mod Watch
+pub mod Whole

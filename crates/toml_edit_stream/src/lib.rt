@@ -1,0 +1,13 @@
+//! Where bytes come from and where they go: readers and writers that remember a fault.
+#![tactic(auto)]
+
+mod streams;
+mod watch;
+mod whole;
+
+pub use streams::{Broken, Input, Output};
+pub use watch::Watched;
+pub use whole::{ReadFault, read_to_end, write_all};
+
+#[cfg(test)]
+mod tests;

@@ -1,0 +1,32 @@
+//! `tomled print`: reads a TOML document from standard input, and prints it to standard output.
+#![tactic(auto)]
+
+use std::process::ExitCode;
+use std::{env, io};
+use toml_edit_command::run;
+use toml_edit_stream::Watched;
+
+fn main(rt: HostRuntime) -> ExitCode {
+    // Arguments that cannot be had, or are no text, are no command.
+    let words = match words_of(&rt) {
+        Ok(words) => words,
+        Err(_) => Vec::new(rt.alloc()),
+    };
+    let status = run(
+        rt.alloc(),
+        words.as_slice(),
+        &mut Watched::new(rt.stdin()),
+        &mut Watched::new(rt.stdout()),
+        &mut Watched::new(rt.stderr()),
+    );
+    ExitCode::from(status)
+}
+
+// The arguments after the program's name.
+fn words_of(rt: &HostRuntime) -> io::Result<Vec<String>> {
+    let mut words = Vec::new(rt.alloc());
+    for word in env::args(rt)?.skip(1) {
+        words.push(word)?;
+    }
+    Ok(words)
+}
