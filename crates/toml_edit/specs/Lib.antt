@@ -6,3 +6,4 @@ pub mod Split
 pub mod DocumentView
 pub mod Documents
 pub mod Places
+pub mod Printing

@@ -4,7 +4,14 @@
 pub mod decode;
 pub mod event;
 pub mod lexer;
+mod line;
+mod number;
+mod run;
+pub mod spelling;
+mod string;
+mod token;
 
 pub use decode::{Scalar, decode_key, decode_scalar};
 pub use event::{Event, EventKind, Span};
 pub use lexer::{SyntaxFault, events};
+pub use spelling::{write_key, write_string};

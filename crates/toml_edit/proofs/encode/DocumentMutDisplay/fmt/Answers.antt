@@ -1,0 +1,22 @@
+-- The four parts, one after the other, are the print.
+use Rattle.std.proofs.Common.{◌≡◌, [], if◌then◌else◌, sym, ap, ◌∙◌, rules}
+use Rattle.std.proofs.Output.{has_written_append, has_written_of_eq}
+use Rattle.std.specs.Option.{option_copied}
+use Rattle.toml_edit_model.specs.Tree.{shown_side, shown_prefix, shown_suffix, shown_raw}
+use Rattle.toml_edit_laws.specs.FlatTree.{leaf_lines}
+use Rattle.toml_edit.specs.View.{slots_view}
+use Rattle.toml_edit.proofs.PrintingLaws.{print_owned, in_four}
+use Rattle.toml_edit.proofs.encode.DocumentMutDisplay.fmt.Goals as goal
+
+pub returns-clause-writes : goal.returns-clause-writes
+returns-clause-writes g c plain ok =
+    let d = c.args.self.now in
+    let one = c.write_side.ensures plain (search rules) in
+    let two = c.write_root.ensures one.plain (search rules) in
+    let three = c.write_side-2.ensures two.plain (search rules) in
+    let four = c.write_raw.ensures three.plain ok in
+    let prefix : shown_side [] (option_copied c.prefix.result) ≡ shown_prefix [] d.root.decor = ap (shown_side []) c.prefix.ensures in
+    let suffix : shown_side [] (option_copied c.suffix.result) ≡ shown_suffix [] d.root.decor = ap (shown_side []) c.suffix.ensures in
+    has_written_of_eq _ _ _ _ _
+    (rw (prefix, suffix) (in_four (shown_prefix [] d.root.decor) (if d.root.dotted then [] else leaf_lines (slots_view d.root.slots)) (shown_suffix [] d.root.decor) (shown_raw d.trailing)) ∙ sym (print_owned d))
+    (has_written_append _ _ _ _ _ _ (has_written_append _ _ _ _ _ _ (has_written_append _ _ _ _ _ _ one two) three) four)

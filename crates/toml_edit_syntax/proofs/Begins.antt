@@ -1,0 +1,100 @@
+-- With which bytes the parts of a line begin.
+use Rattle.std.proofs.Common.{◌≡◌, ℕ, ◌<◌, Bool, true, false, ◌==◌, ◌||◌, List, [], ◌∷◌, ◌++◌, refl, sym, ap, ◌∙◌, inl, inr, arith, append_assoc, append-nil}
+use Rattle.std.specs.List.{flat_map, AllByRecursion, list_all}
+use Rattle.std.proofs.lemmas.Bool.{and_parts, false≢true}
+use Rattle.std.proofs.lemmas.Bool.Decides.{nat_tests}
+use Rattle.toml_edit_model.specs.Text.{Text, is_empty}
+use Rattle.toml_edit_model.specs.Trivia.{is_blank, Each, lf, crlf, comment, Piece, blank, break, remark, piece_text, IsPiece, IsWhiteSpace, IsWholeTrivia, IsNewline, IsLineEnd, IsFinalTrivia}
+use Rattle.toml_edit_model.specs.Scalars.{Scalar, string, integer, float, boolean, datetime}
+use Rattle.toml_edit_model.specs.Spelling.{is_bare_byte, SpellsKey, Digits, IsDigits, digits_text, plus, minus, unsigned, hexadecimal, octal, binary, Spells, SpellsInteger}
+use Rattle.toml_edit_model.specs.Flat.{IsOneLineString, IsFlatScalar}
+use Rattle.toml_edit_syntax.specs.Runs.{first, is_word_byte}
+
+-- a byte with which a key or a scalar begins
+abbrev pub is_opening : ℕ → Bool
+is_opening c = is_word_byte c || (c == 34 || c == 39)
+
+abbrev pub Begins : Text → Type 0
+Begins t = (c : ℕ) × (cs : Text) × (t ≡ c ∷ cs) × (is_opening c ≡ true)
+
+begins_bare : (t : Text) → Each is_bare_byte t → is_empty t ≡ false → Begins t
+begins_bare [] each some = absurd (false≢true (sym some))
+begins_bare (c ∷ cs) each some =
+    let bare : is_bare_byte c ≡ true = (and_parts (is_bare_byte c) (list_all is_bare_byte cs) each).0 in
+    (c, cs, refl, grind (arith, nat_tests))
+
+begins_string : (v t : Text) → IsOneLineString v t → Begins t
+begins_string v t (inl (parts, each, value, whole)) = (34, _, whole, refl)
+begins_string v t (inr (each, whole)) = (39, _, whole, refl)
+
+pub key_begins : (k t : Text) → SpellsKey k t → Begins t
+key_begins k t (inl ((each, some), same)) = begins_bare t each some
+key_begins k t (inr quoted) = begins_string k t quoted
+
+begins_digits : (ds : Digits) → IsDigits 10 ds → Begins (digits_text ds)
+begins_digits [] is = absurd is
+begins_digits ((true, c) ∷ ds) (has, each) = absurd (false≢true (sym has))
+begins_digits ((false, c) ∷ ds) (has, each) = (c, digits_text ds, refl, grind (arith, nat_tests, each.0))
+
+begins_integer : (z : _) (t : Text) → SpellsInteger z t → Begins t
+begins_integer z t (inl (plus, ds, (is, lead, parts), value)) = (43, _, parts, refl)
+begins_integer z t (inl (minus, ds, (is, lead, parts), value)) = (45, _, parts, refl)
+begins_integer z t (inl (unsigned, ds, (is, lead, parts), value)) = let (c, cs, e, opening) = begins_digits ds is in (c, cs, parts ∙ e, opening)
+begins_integer z t (inr (hexadecimal, ds, is, value, parts)) = (48, _, parts, refl)
+begins_integer z t (inr (octal, ds, is, value, parts)) = (48, _, parts, refl)
+begins_integer z t (inr (binary, ds, is, value, parts)) = (48, _, parts, refl)
+
+pub scalar_begins : (s : Scalar) (t : Text) → Spells s t → IsFlatScalar s t → Begins t
+scalar_begins (string v) t is flat = begins_string v t flat
+scalar_begins (integer z) t is flat = begins_integer z t is
+scalar_begins (boolean true) t is flat = (116, _, is, refl)
+scalar_begins (boolean false) t is flat = (102, _, is, refl)
+scalar_begins (float x) t is flat = absurd flat
+scalar_begins (datetime d) t is flat = absurd flat
+
+-- a byte that fails where no key or scalar can begin
+pub begins_not : (p : ℕ → Bool) (t rest : Text) → ((c : ℕ) → is_opening c ≡ true → p c ≡ false) → Begins t → p (first (t ++ rest)) ≡ false
+begins_not p t rest apart (c, cs, e, opening) = ap (λ (x : Text). p (first (x ++ rest))) e ∙ apart c opening
+
+-- ---- ASCII
+
+-- the text is empty or begins with an ASCII byte
+abbrev pub StartsAscii : Text → Type 0
+StartsAscii t = first t < 128
+
+pub ascii_begins : (t rest : Text) → Begins t → StartsAscii (t ++ rest)
+ascii_begins t rest (c, cs, e, opening) =
+    let here : first (t ++ rest) ≡ c = ap (λ (x : Text). first (x ++ rest)) e in
+    grind (arith, nat_tests)
+
+pub ascii_blank : (b rest : Text) → IsWhiteSpace b → StartsAscii rest → StartsAscii (b ++ rest)
+ascii_blank [] rest each h = h
+ascii_blank (c ∷ cs) rest each h =
+    let white : is_blank c ≡ true = (and_parts (is_blank c) (list_all is_blank cs) each).0 in
+    grind (arith, nat_tests)
+
+pub ascii_newline : (t rest : Text) → IsNewline t → StartsAscii (t ++ rest)
+ascii_newline t rest (lf, e) = rw e (omega arith)
+ascii_newline t rest (crlf, e) = rw e (omega arith)
+
+ascii_pieces : (ps : List Piece) (rest : Text) → AllByRecursion IsPiece ps → StartsAscii rest → StartsAscii (flat_map piece_text ps ++ rest)
+ascii_pieces [] rest each h = h
+ascii_pieces (blank c ∷ ps) rest each h = let white : is_blank c ≡ true = each.0 in grind (arith, nat_tests)
+ascii_pieces (break lf ∷ ps) rest each h = omega arith
+ascii_pieces (break crlf ∷ ps) rest each h = omega arith
+ascii_pieces (remark body n ∷ ps) rest each h = omega arith
+
+pub ascii_trivia : (t rest : Text) → IsWholeTrivia t → StartsAscii rest → StartsAscii (t ++ rest)
+ascii_trivia t rest (ps, each, e) h = rw e (ascii_pieces ps rest each h)
+
+pub ascii_line_end : (t rest : Text) → IsLineEnd t → StartsAscii rest → StartsAscii (t ++ rest)
+ascii_line_end t rest (white, none, each, inl empty, whole) h =
+    let same : t ++ rest ≡ white ++ rest = ap (λ (x : Text). x ++ rest) (whole ∙ ap (λ (x : Text). white ++ x) empty ∙ append-nil white) in
+    rw same (ascii_blank white rest each h)
+ascii_line_end t rest (white, last, each, inr (body, visible, is), whole) h =
+    let same : t ++ rest ≡ white ++ (35 ∷ (body ++ rest)) = ap (λ (x : Text). x ++ rest) (whole ∙ ap (λ (x : Text). white ++ x) is) ∙ append_assoc white (comment body) rest in
+    rw same (ascii_blank white (35 ∷ (body ++ rest)) each (omega arith))
+
+pub ascii_final : (t : Text) → IsFinalTrivia t → StartsAscii t
+ascii_final t (whole, none, trivia, inl empty, parts) = rw (parts, empty) (ascii_trivia whole [] trivia (omega arith))
+ascii_final t (whole, last, trivia, inr (body, visible, is), parts) = rw (parts, is) (ascii_trivia whole (comment body) trivia (omega arith))

@@ -1,0 +1,233 @@
+-- What reads as a line is one, and a line is read again.
+use Rattle.std.proofs.Common.{◌≡◌, ℕ, suc, ◌-◌, Bool, true, false, not, ◌==◌, ◌&&◌, [], ◌∷◌, ◌++◌, ◌⊎◌, length, drop, take, Some, refl, sym, ap, subst, ◌∙◌, inl, inr, arith, append_assoc, append-nil, take_at, drop_at, eqb-true}
+use Rattle.std.specs.List.{prefix_len, list_all}
+use Rattle.std.proofs.lemmas.Bool.{cases_Bool, and_parts}
+use Rattle.std.proofs.lemmas.Bool.Decides.{nat_tests}
+use Rattle.std.proofs.lemmas.List.{length-append}
+use Rattle.toml_edit_model.specs.Text.{Text}
+use Rattle.toml_edit_model.specs.Trivia.{is_blank, is_visible, lf, crlf, comment, IsWhiteSpace, IsWholeTrivia, IsNewline, IsLineEnd}
+use Rattle.toml_edit_model.specs.Scalars.{Scalar}
+use Rattle.toml_edit_model.specs.Spelling.{SpellsKey, Spells}
+use Rattle.toml_edit_model.specs.Flat.{IsFlatScalar, Line}
+use Rattle.toml_edit_syntax.specs.Runs.{first, is_word_byte}
+use Rattle.toml_edit_syntax.specs.Tokens.{ends_key, ends_scalar, key_at, scalar_at}
+use Rattle.toml_edit_syntax.specs.Reading.{front, equals_at, line_end_rest, newline_rest, entry_at}
+use Rattle.toml_edit_syntax.proofs.Steps.{chosen, bind_some, guard_some, starts, split_parts}
+use Rattle.toml_edit_syntax.proofs.RunLaws.{Each-run, prefix_len-run}
+use Rattle.toml_edit_syntax.proofs.TokenLaws.{key_takes, key_again, scalar_takes, scalar_again}
+use Rattle.toml_edit_syntax.proofs.Begins.{scalar_begins, begins_not}
+
+-- what stands before the rest
+pub front_is : (t rest : Text) → front (t ++ rest) rest ≡ t
+front_is t rest =
+    let len : length t ≡ length (t ++ rest) - length rest = omega (arith, length-append t rest) in
+    take_at t rest _ len
+
+pub front_of : (text t rest : Text) → text ≡ t ++ rest → front text rest ≡ t
+front_of text t rest e = ap (λ (x : Text). front x rest) e ∙ front_is t rest
+
+-- ---- between the parts
+
+-- what stands at the front of blanks and then of this
+blank_first : (p : ℕ → Bool) (b rest : Text) → ((c : ℕ) → is_blank c ≡ true → p c ≡ true) → IsWhiteSpace b → p (first rest) ≡ true → p (first (b ++ rest)) ≡ true
+blank_first p [] rest apart each h = h
+blank_first p (c ∷ cs) rest apart each h = apart c (and_parts (is_blank c) (list_all is_blank cs) each).0
+
+-- the white space on both sides of `=`, and what they stand in
+abbrev pub AreBlanks : Text × Text → Text → Text → Type 0
+AreBlanks e text rest = IsWhiteSpace e.0 × IsWhiteSpace e.1 × (text ≡ e.0 ++ (61 ∷ (e.1 ++ rest)))
+
+pub equals_takes : (text rest : Text) (e : Text × Text) → equals_at text ≡ Some (e, rest) → AreBlanks e text rest
+unfolding equals_at
+equals_takes text rest e h =
+    let n = prefix_len is_blank text in
+    let after = drop 1 (drop n text) in
+    let m = prefix_len is_blank after in
+    let (sign, same) = guard_some (first (drop n text) == 61) ((take n text, take m after), drop m after) (e, rest) h in
+    let whole : text ≡ take n text ++ (61 ∷ (take m after ++ drop m after)) = split_parts is_blank text ∙ ap (λ (x : Text). take n text ++ x) (starts (drop n text) 61 sign (omega arith) ∙ ap (λ (x : Text). 61 ∷ x) (split_parts is_blank after)) in
+    subst (λ (y : (Text × Text) × Text). AreBlanks y.0 text y.1) same (Each-run is_blank text, Each-run is_blank after, whole)
+
+equals_again : (before after rest : Text) → IsWhiteSpace before → IsWhiteSpace after → is_blank (first rest) ≡ false
+    → equals_at (before ++ (61 ∷ (after ++ rest))) ≡ Some ((before, after), rest)
+unfolding equals_at
+equals_again before after rest a b stop =
+    rw (
+      prefix_len-run is_blank before (61 ∷ (after ++ rest)) a refl,
+      take_at before (61 ∷ (after ++ rest)) _ refl,
+      drop_at before (61 ∷ (after ++ rest)) _ refl,
+      prefix_len-run is_blank after rest b stop,
+      take_at after rest _ refl,
+      drop_at after rest _ refl,
+    ) refl
+
+-- ---- the end of a line
+
+pub line_end_takes : (text : Text) → (t : Text) × IsLineEnd t × (text ≡ t ++ line_end_rest text)
+unfolding line_end_rest
+line_end_takes text =
+    let n = prefix_len is_blank text in
+    let after = drop 1 (drop n text) in
+    let m = prefix_len is_visible after in
+    elim (cases_Bool (first (drop n text) == 35)) [
+      | inl hash ↦
+          let body = comment (take m after) in
+          let whole : text ≡ take n text ++ (35 ∷ (take m after ++ drop m after)) = split_parts is_blank text ∙ ap (λ (x : Text). take n text ++ x) (starts (drop n text) 35 hash (omega arith) ∙ ap (λ (x : Text). 35 ∷ x) (split_parts is_visible after)) in
+          (take n text ++ body, (take n text, body, Each-run is_blank text, inr (take m after, Each-run is_visible after, refl), refl), rw hash (whole ∙ sym (append_assoc (take n text) body (drop m after))))
+      | inr none ↦ (take n text, (take n text, [], Each-run is_blank text, inl refl, sym (append-nil (take n text))), rw none (split_parts is_blank text))
+    ]
+
+line_end_again : (t rest : Text) → IsLineEnd t → is_visible (first rest) ≡ false → line_end_rest (t ++ rest) ≡ rest
+unfolding line_end_rest
+line_end_again t rest (white, none, each, inl empty, whole) stop =
+    let same : t ++ rest ≡ white ++ rest = ap (λ (x : Text). x ++ rest) (whole ∙ ap (λ (x : Text). white ++ x) empty ∙ append-nil white) in
+    let no_white : is_blank (first rest) ≡ false = grind (arith, nat_tests) in
+    let hash : (first rest == 35) ≡ false = grind (arith, nat_tests) in
+    rw (same, prefix_len-run is_blank white rest each no_white, drop_at white rest _ refl, hash) refl
+line_end_again t rest (white, last, each, inr (body, visible, is), whole) stop =
+    let same : t ++ rest ≡ white ++ (35 ∷ (body ++ rest)) = ap (λ (x : Text). x ++ rest) (whole ∙ ap (λ (x : Text). white ++ x) is) ∙ append_assoc white (comment body) rest in
+    rw (same, prefix_len-run is_blank white (35 ∷ (body ++ rest)) each refl, drop_at white (35 ∷ (body ++ rest)) _ refl, prefix_len-run is_visible body rest visible stop, drop_at body rest _ refl) refl
+
+line_end_first : (t rest : Text) → IsLineEnd t → is_visible (first rest) ≡ false → ends_scalar (t ++ rest) ≡ true
+line_end_first t rest (white, none, each, inl empty, whole) stop =
+    let same : t ++ rest ≡ white ++ rest = ap (λ (x : Text). x ++ rest) (whole ∙ ap (λ (x : Text). white ++ x) empty ∙ append-nil white) in
+    let past : not (is_word_byte (first rest)) ≡ true = grind (arith, nat_tests) in
+    rw same (blank_first (λ c. not (is_word_byte c)) white rest (λ c h. grind (arith, nat_tests)) each past)
+line_end_first t rest (white, last, each, inr (body, visible, is), whole) stop =
+    let same : t ++ rest ≡ white ++ (35 ∷ (body ++ rest)) = ap (λ (x : Text). x ++ rest) (whole ∙ ap (λ (x : Text). white ++ x) is) ∙ append_assoc white (comment body) rest in
+    rw same (blank_first (λ c. not (is_word_byte c)) white (35 ∷ (body ++ rest)) (λ c h. grind (arith, nat_tests)) each refl)
+
+-- a newline, or nothing at the end
+abbrev pub IsEnding : Text → Text → Type 0
+IsEnding t rest = IsNewline t ⊎ ((t ≡ []) × (rest ≡ []))
+
+newline_takes : (text rest : Text) → newline_rest text ≡ Some rest → (t : Text) × IsEnding t rest × (text ≡ t ++ rest)
+unfolding newline_rest
+newline_takes [] rest e = ([], inr (refl, cc), cc)
+newline_takes (c ∷ cs) rest e =
+    elim (chosen (c == 10) (Some cs) _ (Some rest) e) [
+      | inl (is_lf, h) ↦
+          let after : cs ≡ rest = cc in
+          (10 ∷ [], inl (lf, refl), ap (λ (x : ℕ). x ∷ cs) (eqb-true c 10 is_lf) ∙ ap (λ (x : Text). 10 ∷ x) after)
+      | inr (other, h) ↦ elim (chosen (c == 13 && first cs == 10) (Some (drop 1 cs)) _ (Some rest) h) [
+        | inl (both, g) ↦
+            let (is_cr, is_lf) = and_parts (c == 13) (first cs == 10) both in
+            let same : drop 1 cs ≡ rest = cc in
+            (13 ∷ 10 ∷ [], inl (crlf, refl), ap (λ (x : ℕ). x ∷ cs) (eqb-true c 13 is_cr) ∙ ap (λ (x : Text). 13 ∷ x) (starts cs 10 is_lf (omega arith) ∙ ap (λ (x : Text). 10 ∷ x) same))
+        | inr (neither, g) ↦
+            let (ended, same) = guard_some (suc (length cs) == 0) (c ∷ cs) rest g in
+            absurd (omega (arith, eqb-true (suc (length cs)) 0 ended))
+      ]
+    ]
+
+newline_again : (t rest : Text) → IsEnding t rest → newline_rest (t ++ rest) ≡ Some rest
+unfolding newline_rest
+newline_again t rest (inl (lf, same)) = rw same refl
+newline_again t rest (inl (crlf, same)) = rw same refl
+newline_again t rest (inr (nothing, ended)) = rw (nothing, ended) refl
+
+ending_first : (t rest : Text) → IsEnding t rest → is_visible (first (t ++ rest)) ≡ false
+ending_first t rest (inl (lf, same)) = rw same refl
+ending_first t rest (inl (crlf, same)) = rw same refl
+ending_first t rest (inr (nothing, ended)) = rw (nothing, ended) refl
+
+-- ---- a line behind its trivia
+
+abbrev pub line_text : Line → Text
+line_text l = l.leading ++ (l.spelled ++ (l.before_equals ++ (61 ∷ (l.after_equals ++ (l.spelling ++ (l.trailing ++ l.end))))))
+
+-- the line in the grammar, but for its end
+pub record IsLine (l : Line) : Type 0 where
+  pub leading : IsWholeTrivia l.leading
+  pub key : SpellsKey l.key l.spelled
+  pub before_equals : IsWhiteSpace l.before_equals
+  pub after_equals : IsWhiteSpace l.after_equals
+  pub value : Spells l.value l.spelling
+  pub flat : IsFlatScalar l.value l.spelling
+  pub trailing : IsLineEnd l.trailing
+
+-- a line at the front, and what ends it
+abbrev pub Entry : Text → Line → Text → Type 0
+Entry text l rest = IsLine l × IsEnding l.end rest × (text ≡ line_text l ++ rest)
+
+-- the parts behind the trivia, and then this
+abbrev pub tail_text : Line → Text → Text
+tail_text l rest = l.spelled ++ (l.before_equals ++ (61 ∷ (l.after_equals ++ (l.spelling ++ (l.trailing ++ (l.end ++ rest))))))
+
+pub line_then : (l : Line) (rest : Text) → line_text l ++ rest ≡ l.leading ++ tail_text l rest
+line_then l rest = simp append_assoc
+
+entry_made : (leading text : Text) (k : Text × Text) (e : (Text × Text) × Text) (v : Scalar × Text) (rest : Text)
+    → IsWholeTrivia leading → key_at text ≡ Some k → equals_at k.1 ≡ Some e → scalar_at e.1 ≡ Some v → newline_rest (line_end_rest v.1) ≡ Some rest
+    → Entry (leading ++ text) (record {
+      leading = leading;
+      key = k.0;
+      spelled = front text k.1;
+      before_equals = e.0.0;
+      after_equals = e.0.1;
+      value = v.0;
+      spelling = front e.1 v.1;
+      trailing = front v.1 (line_end_rest v.1);
+      end = front (line_end_rest v.1) rest;
+    }) rest
+entry_made leading text k e v rest whole hk he hv hn =
+    let (kt, key, kparts) = key_takes text k.1 k.0 hk in
+    let (before, after, eparts) = equals_takes k.1 e.1 e.0 he in
+    let (vt, value, flat, vparts) = scalar_takes e.1 v.1 v.0 hv in
+    let (lt, ends, lparts) = line_end_takes v.1 in
+    let (nt, newline, nparts) = newline_takes (line_end_rest v.1) rest hn in
+    let k-is = sym (front_of text kt k.1 kparts) in
+    let v-is = sym (front_of e.1 vt v.1 vparts) in
+    let l-is = sym (front_of v.1 lt (line_end_rest v.1) lparts) in
+    let n-is = sym (front_of (line_end_rest v.1) nt rest nparts) in
+    let regroup : leading ++ (kt ++ (e.0.0 ++ (61 ∷ (e.0.1 ++ (vt ++ (lt ++ (nt ++ rest)))))))
+    ≡ (leading ++ (kt ++ (e.0.0 ++ (61 ∷ (e.0.1 ++ (vt ++ (lt ++ nt))))))) ++ rest = simp append_assoc in
+    let parts : leading ++ text ≡ (leading ++ (kt ++ (e.0.0 ++ (61 ∷ (e.0.1 ++ (vt ++ (lt ++ nt))))))) ++ rest =
+    ap (λ (x : Text). leading ++ x) (kparts ∙ ap (λ (x : Text). kt ++ x) (eparts ∙ ap (λ (x : Text). e.0.0 ++ (61 ∷ (e.0.1 ++ x))) (vparts ∙ ap (λ (x : Text). vt ++ x) (lparts ∙ ap (λ (x : Text). lt ++ x) nparts)))) ∙ regroup in
+    subst (λ (x : Text). Entry (leading ++ text) (record { leading = leading; key = k.0; spelled = x; before_equals = e.0.0; after_equals = e.0.1; value = v.0; spelling = front e.1 v.1; trailing = front v.1 (line_end_rest v.1); end = front (line_end_rest v.1) rest }) rest) k-is
+    (subst (λ (x : Text). Entry (leading ++ text) (record { leading = leading; key = k.0; spelled = kt; before_equals = e.0.0; after_equals = e.0.1; value = v.0; spelling = x; trailing = front v.1 (line_end_rest v.1); end = front (line_end_rest v.1) rest }) rest) v-is
+    (subst (λ (x : Text). Entry (leading ++ text) (record { leading = leading; key = k.0; spelled = kt; before_equals = e.0.0; after_equals = e.0.1; value = v.0; spelling = vt; trailing = x; end = front (line_end_rest v.1) rest }) rest) l-is
+    (subst (λ (x : Text). Entry (leading ++ text) (record { leading = leading; key = k.0; spelled = kt; before_equals = e.0.0; after_equals = e.0.1; value = v.0; spelling = vt; trailing = lt; end = x }) rest) n-is
+    (record { leading = whole; key = key; before_equals = before; after_equals = after; value = value; flat = flat; trailing = ends }, newline, parts))))
+
+pub entry_takes : (leading text : Text) (l : Line) (rest : Text) → IsWholeTrivia leading → entry_at leading text ≡ Some (l, rest) → Entry (leading ++ text) l rest
+unfolding entry_at
+entry_takes leading text l rest whole h =
+    let (k, hk, h1) = bind_some (key_at text) _ (l, rest) h in
+    let (e, he, h2) = bind_some (equals_at k.1) _ (l, rest) h1 in
+    let (v, hv, h3) = bind_some (scalar_at e.1) _ (l, rest) h2 in
+    let (r, hr, h4) = bind_some (newline_rest (line_end_rest v.1)) _ (l, rest) h3 in
+    let made : Line = record {
+      leading = leading;
+      key = k.0;
+      spelled = front text k.1;
+      before_equals = e.0.0;
+      after_equals = e.0.1;
+      value = v.0;
+      spelling = front e.1 v.1;
+      trailing = front v.1 (line_end_rest v.1);
+      end = front (line_end_rest v.1) r;
+    } in
+    let same : ◌≡◌ {A = Line × Text} (made, r) (l, rest) = cc in
+    subst (λ (y : Line × Text). Entry (leading ++ text) y.0 y.1) same (entry_made leading text k e v r whole hk he hv hr)
+
+pub entry_again : (l : Line) (rest : Text) → IsLine l → IsEnding l.end rest → entry_at l.leading (tail_text l rest) ≡ Some (l, rest)
+unfolding entry_at
+entry_again l rest is ending =
+    let r4 = l.trailing ++ (l.end ++ rest) in
+    let r3 = l.spelling ++ r4 in
+    let r2 = l.before_equals ++ (61 ∷ (l.after_equals ++ r3)) in
+    let ends = ending_first l.end rest ending in
+    let past_value = line_end_first l.trailing (l.end ++ rest) is.trailing ends in
+    let past_space = begins_not is_blank l.spelling r4 (λ c h. grind (arith, nat_tests)) (scalar_begins l.value l.spelling is.value is.flat) in
+    let past_key = blank_first (λ c. ends_key (c ∷ [])) l.before_equals (61 ∷ (l.after_equals ++ r3)) (λ c h. grind (arith, nat_tests)) is.before_equals refl in
+    rw (
+      key_again l.key l.spelled r2 is.key past_key,
+      equals_again l.before_equals l.after_equals r3 is.before_equals is.after_equals past_space,
+      scalar_again l.value l.spelling r4 is.value is.flat past_value,
+      line_end_again l.trailing (l.end ++ rest) is.trailing ends,
+      newline_again l.end rest ending,
+      front_is l.spelled r2,
+      front_is l.spelling r4,
+      front_is l.trailing (l.end ++ rest),
+      front_is l.end rest,
+    ) refl

@@ -1,0 +1,10 @@
+use Rattle.std.proofs.Common.{◌≡◌, ◌+◌, false, drop}
+use Rattle.std.specs.Str.{IsCharBoundary}
+use Rattle.toml_edit_syntax.specs.Reading.{scan}
+use Rattle.toml_edit_syntax.proofs.line.trivia.Given as goal
+
+abbrev pub invariant-bytes : goal.invariant-bytes
+invariant-bytes l = record {
+  scanned : scan false l.s ≡ (l.at + (scan l.inside (drop l.at l.s)).0, (scan l.inside (drop l.at l.s)).1);
+  boundary : l.inside ≡ false → IsCharBoundary l.s l.at;
+}
