@@ -43,7 +43,7 @@ at_start source m lines final es h =
       right = refl;
       slots_are = refl;
       rest_is = h.events ∙ ap (λ n. events_from n (map line_statement lines) ++ event Final (length (document_text (flat_document m lines final)) - length final) final ∷ []) none
-        ∙ ap (λ t. events_from (end_of m []) (map line_statement lines) ++ event Final (length t - length final) final ∷ []) h.text;
+          ∙ ap (λ t. events_from (end_of m []) (map line_statement lines) ++ event Final (length t - length final) final ∷ []) h.text;
     }
 
 -- the events of a line come first
@@ -68,15 +68,17 @@ spans_split t (a ∷ b ∷ c ∷ d ∷ f ∷ g ∷ rest) line tail e h =
     let spans : LineSpans = record { leading = a.span; key = b.span; before_equals = c.span; after_equals = d.span; scalar = f.span; trailing = g.span } in
     let both : ◌≡◌ {A = LineSpans × List Event} (spans, rest) (line, tail) = cc in
     let first : spans ≡ line = ap (λ (p : LineSpans × List Event). p.0) both in
-    let others : rest ≡ tail = ap (λ (p : LineSpans × List Event). p.1) both in
-    (subst (AreSpansOf t) first (record {
-      leading = h.0;
-      key = h.1.0;
-      before_equals = h.1.1.0;
-      after_equals = h.1.1.1.0;
-      scalar = h.1.1.1.1.0;
-      trailing = h.1.1.1.1.1.0;
-    }), subst (AllByRecursion (λ x. IsSpanOf t x.span)) others h.1.1.1.1.1.1)
+    let others : rest ≡ tail = ap (λ (p : LineSpans × List Event). p.1) both in (
+      subst (AreSpansOf t) first (record {
+        leading = h.0;
+        key = h.1.0;
+        before_equals = h.1.1.0;
+        after_equals = h.1.1.1.0;
+        scalar = h.1.1.1.1.0;
+        trailing = h.1.1.1.1.1.0;
+      }),
+      subst (AllByRecursion (λ x. IsSpanOf t x.span)) others h.1.1.1.1.1.1,
+    )
 
 pub with_slot-lines : (form : Form) (start : ℕ) (done : List Line) (l : Line)
     → with_slot (line_slots form start done) (line_key form (start + length (lines_text done)) l) (line_leaf form (start + length (lines_text done)) l)
@@ -116,9 +118,9 @@ line-there m done l more final source e =
       before = mark_text m ++ lines_text done;
       after = lines_text more ++ final;
       text = sym e ∙ ap (λ t. mark_text m ++ (t ++ final)) (lines_text-append done (l ∷ more))
-        ∙ ap (λ t. mark_text m ++ t) (append_assoc (lines_text done) (line_text l ++ lines_text more) final)
-        ∙ sym (append_assoc (mark_text m) (lines_text done) ((line_text l ++ lines_text more) ++ final))
-        ∙ ap (λ t. (mark_text m ++ lines_text done) ++ t) (append_assoc (line_text l) (lines_text more) final);
+          ∙ ap (λ t. mark_text m ++ t) (append_assoc (lines_text done) (line_text l ++ lines_text more) final)
+          ∙ sym (append_assoc (mark_text m) (lines_text done) ((line_text l ++ lines_text more) ++ final))
+          ∙ ap (λ t. (mark_text m ++ lines_text done) ++ t) (append_assoc (line_text l) (lines_text more) final);
       place = sym (end_of-text m done);
     }
 
@@ -143,7 +145,7 @@ next-of source m lines final es rest slots line tail done (l ∷ more) h all rig
       slots_are = are;
       line_is = sym (ap (λ (p : LineSpans × List Event). p.0) both);
       tail_is = sym (ap (λ (p : LineSpans × List Event). p.1) both)
-        ∙ ap (λ n. events_from n (map line_statement more) ++ after) (sym (end_of-more m done l));
+          ∙ ap (λ n. events_from n (map line_statement more) ++ after) (sym (end_of-more m done l));
       spelled = all-at IsSpelledLine done l more (subst (AllByRecursion IsSpelledLine) all h.spelled);
       stands = line-there m done l more final source (ap (λ ls. document_text (flat_document m ls final)) (sym all) ∙ h.text);
     }
@@ -165,7 +167,7 @@ added source m lines final line tail old new n adds =
       all = n.all ∙ sym (append_assoc n.done (one n.own) n.more);
       right = one_more_right n.done n.own n.right adds.in_range fresh;
       slots_are = adds.slots ∙ ap (λ ss. with_slot ss (line_key spanned_form (end_of m n.done) n.own) (line_leaf spanned_form (end_of m n.done) n.own)) n.slots_are
-        ∙ with_slot-lines spanned_form (length (mark_text m)) n.done n.own;
+          ∙ with_slot-lines spanned_form (length (mark_text m)) n.done n.own;
       rest_is = n.tail_is;
     }
 

@@ -105,4 +105,4 @@ value_is line start l d before after v e some decor first last is =
     let two = ap (λ x. span_of x.trailing.start l.trailing) e in
     is ∙ ap (λ x. leaf l.value (Some (span x (x + length l.spelling))) d) scalar ∙ ap (λ x. leaf l.value (Some x) d) (sym at)
     ∙ ap (leaf l.value (Some (span_of (scalar_start start l) l.spelling))) (decor ∙ ap (λ x. decor_of (Some x) (Some after)) (first ∙ one)
-      ∙ ap (λ x. decor_of (Some (span_of (after_equals_start start l) l.after_equals)) (Some x)) (last ∙ two))
+    ∙ ap (λ x. decor_of (Some (span_of (after_equals_start start l) l.after_equals)) (Some x)) (last ∙ two))

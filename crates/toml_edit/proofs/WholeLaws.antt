@@ -48,7 +48,7 @@ module _ (t : Text) (es : List Event) (h : AreEventsOf t es) where
   every view (Err (Toml r)) built d f =
       let refused = built.refused in
       let accepted : is_accepted (flat_document h.document.has_mark h.cut.flat.lines h.document.final) ≡ true =
-        ap is_accepted (sym (h.only d f.cut ∙ same)) ∙ f.accepted in
+      ap is_accepted (sym (h.only d f.cut ∙ same)) ∙ f.accepted in
       absurd cc
   every view (Err Memory) built d f = inr refl
 

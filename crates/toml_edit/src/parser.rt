@@ -79,7 +79,16 @@ fn refusal(alloc: Global, source: &str, message: &str, span: Span) -> ParseFault
 fn split_line(events: &[Event]) -> Option<(LineSpans, &[Event])>
     ensures { option_map (λ p. (p.0, p.1.now)) result ≡ spec.split_line events.now }
 {
-    let [leading, key, before_equals, after_equals, scalar, trailing, rest @ ..] = events else {
+    let [
+        leading,
+        key,
+        before_equals,
+        after_equals,
+        scalar,
+        trailing,
+        rest @ ..,
+    ] = events
+    else {
         return None;
     };
     let line = LineSpans {

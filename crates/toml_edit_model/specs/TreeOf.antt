@@ -190,8 +190,8 @@ module _ (form : Form) where
     AreEntrySlots ms (m ∷ rest) (slot k n ss) =
         (k ≡ key_of m.source.leaf m)
         × MatchBool (ends_path m.role)
-          (IsValueNode m.source.value m.source.start m.source.before m.source.after n)
-          (IsMadeByPath m (under (at_key m.segment.key) ms) n)
+        (IsValueNode m.source.value m.source.start m.source.before m.source.after n)
+        (IsMadeByPath m (under (at_key m.segment.key) ms) n)
         × AreEntrySlots ms rest ss
     AreEntrySlots ms _ _ = ⊥
 

@@ -12,14 +12,23 @@ const PRINTS: [(&str, &str); 15] = [
         "# settings\nname = \"x\"  # y\ncount = 0x10\n",
         "# settings\nname = \"x\"  # y\ncount = 0x10\n",
     ),
-    ("\n\"hello\" = 'toml!' # comment\n    ", "\n\"hello\" = 'toml!' # comment\n    "),
+    (
+        "\n\"hello\" = 'toml!' # comment\n    ",
+        "\n\"hello\" = 'toml!' # comment\n    ",
+    ),
     ("# c\r\na = 1 # d\r\n# e\r\n", "# c\na = 1 # d\n# e\n"),
     ("  a\t=\t1\t\n", "  a\t=\t1\t\n"),
     ("a=1", "a=1\n"),
     ("\"\" = ''\n", "\"\" = ''\n"),
-    ("\"é\" = \"\\u00e9\\U0001F600\\e\"\n", "\"é\" = \"\\u00e9\\U0001F600\\e\"\n"),
+    (
+        "\"é\" = \"\\u00e9\\U0001F600\\e\"\n",
+        "\"é\" = \"\\u00e9\\U0001F600\\e\"\n",
+    ),
     ("x = -9223372036854775808\n", "x = -9223372036854775808\n"),
-    ("x = +1_000\ny = 0o17\nz = 0b1_0\n", "x = +1_000\ny = 0o17\nz = 0b1_0\n"),
+    (
+        "x = +1_000\ny = 0o17\nz = 0b1_0\n",
+        "x = +1_000\ny = 0o17\nz = 0b1_0\n",
+    ),
     ("t = true\nf = false\n", "t = true\nf = false\n"),
     ("# only", "# only"),
 ];
@@ -27,10 +36,20 @@ const PRINTS: [(&str, &str); 15] = [
 /// A text that is refused, the message, and the span.
 const REFUSALS: [(&str, &str, usize, usize); 5] = [
     ("a = 1\na = 2\n", "duplicate key", 6, 7),
-    ("x = 9223372036854775808\n", "integer number overflowed", 4, 23),
+    (
+        "x = 9223372036854775808\n",
+        "integer number overflowed",
+        4,
+        23,
+    ),
     ("\"é\" = 1\n\"é\" = 2\n", "duplicate key", 9, 13),
     ("\u{FEFF}a = 1\na = 2\n", "duplicate key", 9, 10),
-    ("a = 1\na = 2\nx = 9223372036854775808\n", "duplicate key", 6, 7),
+    (
+        "a = 1\na = 2\nx = 9223372036854775808\n",
+        "duplicate key",
+        6,
+        7,
+    ),
 ];
 
 /// Texts that are no flat documents.

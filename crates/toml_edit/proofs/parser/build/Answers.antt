@@ -21,7 +21,7 @@ returns-in_err-push_line c =
     let p = err_from_is_err_and c.from_residual.result c.from_residual.ensures.1 in
     rw (p.1, p.2) (λ m lines final h.
     let n = next c.args.source.now m lines final c.args.events.now c.lines.rest.now (slots_view c.lines.slots) c.in-Some.line c.in-Some.tail.now h
-      (c.lines.invariant.progress m lines final h) (sym c.in-Some.ensures) in
+    (c.lines.invariant.progress m lines final h) (sym c.in-Some.ensures) in
     mapped c.in_err-push_line.field-0.0 (NamesFault c.args.source.now (end_of m n.done) n.own (slots_view c.lines.slots))
     (Refuses c.args.source.now (flat_document m lines final))
     (refused c.args.source.now m lines final c.in-Some.line c.in-Some.tail.now (slots_view c.lines.slots) n)
@@ -33,34 +33,34 @@ lines-preserved c =
       fits = c.in_ok-push_line.ensures.fits c.lines.invariant.fits;
       spans = (spans_split c.args.source.now c.lines.rest.now c.in-Some.line c.in-Some.tail.now (sym c.in-Some.ensures) c.lines.invariant.spans).1;
       progress = λ m lines final h.
-        let n = next c.args.source.now m lines final c.args.events.now c.lines.rest.now (slots_view c.lines.slots) c.in-Some.line c.in-Some.tail.now h
+          let n = next c.args.source.now m lines final c.args.events.now c.lines.rest.now (slots_view c.lines.slots) c.in-Some.line c.in-Some.tail.now h
           (c.lines.invariant.progress m lines final h) (sym c.in-Some.ensures) in
-        added c.args.source.now m lines final c.in-Some.line c.in-Some.tail.now (slots_view c.lines.slots) (slots_view c.push_line.new.slots) n
-        (c.in_ok-push_line.ensures.line n.own (end_of m n.done) n.spelled n.stands n.line_is);
+          added c.args.source.now m lines final c.in-Some.line c.in-Some.tail.now (slots_view c.lines.slots) (slots_view c.push_line.new.slots) n
+          (c.in_ok-push_line.ensures.line n.own (end_of m n.done) n.spelled n.stands n.line_is);
     }
 
 pub returns : goal.returns
 returns c =
     λ m lines final h.
     let end = ended c.args.source.now m lines final c.lines.rest.now (slots_view c.lines.slots) (c.lines.invariant.progress m lines final h)
-      (sym c.in_default.ensures) in
+    (sym c.in_default.ensures) in
     let last = event Final (length c.args.source.now - length final) final in
     let only = ap (λ (es : List Event). slice_get es 0) end.rest_is in
     elim c.match-first.branch [
-      in-Some-first w ↦
-        let value : ◌≡◌ {A = Option Event} (Some w.in-Some-first.last.now) (Some last) = w.in-Some-first.ensures.value ∙ only in
-        let is : w.in-Some-first.last.now ≡ last = cc in
-        let P : List Event → Type 0 = λ es. AllByRecursion (λ e. IsSpanOf c.args.source.now e.span) es in
-        let Q : Event → Type 0 = λ e. IsSpanOf c.args.source.now e.span in
-        let R : Raw → Type 0 = λ r. RawFits c.args.source.now r in
-        record {
-          right = end.right;
-          slots_are = end.slots_are;
-          slots_fit = c.lines.invariant.fits;
-          trailing_is = w.trailing-is
-            ∙ w.raw-trailing.ensures.span final (ap (λ (e : Event). e.span.end) is ∙ sym (ap (λ (e : Event). e.span.start + length final) is))
-            ∙ ap (λ (e : Event). span_of e.span.start final) is;
-          trailing_fits = subst R (sym w.trailing-is) (w.raw-trailing.ensures.fits c.args.source.now (subst Q (sym is) (subst P end.rest_is c.lines.invariant.spans).0));
-        }
-    | in-None w ↦ let value : ◌≡◌ {A = Option Event} None (Some last) = w.in-None.ensures.value ∙ only in absurd cc
+      | in-Some-first w ↦
+          let value : ◌≡◌ {A = Option Event} (Some w.in-Some-first.last.now) (Some last) = w.in-Some-first.ensures.value ∙ only in
+          let is : w.in-Some-first.last.now ≡ last = cc in
+          let P : List Event → Type 0 = λ es. AllByRecursion (λ e. IsSpanOf c.args.source.now e.span) es in
+          let Q : Event → Type 0 = λ e. IsSpanOf c.args.source.now e.span in
+          let R : Raw → Type 0 = λ r. RawFits c.args.source.now r in
+          record {
+            right = end.right;
+            slots_are = end.slots_are;
+            slots_fit = c.lines.invariant.fits;
+            trailing_is = w.trailing-is
+                ∙ w.raw-trailing.ensures.span final (ap (λ (e : Event). e.span.end) is ∙ sym (ap (λ (e : Event). e.span.start + length final) is))
+                ∙ ap (λ (e : Event). span_of e.span.start final) is;
+            trailing_fits = subst R (sym w.trailing-is) (w.raw-trailing.ensures.fits c.args.source.now (subst Q (sym is) (subst P end.rest_is c.lines.invariant.spans).0));
+          }
+      | in-None w ↦ let value : ◌≡◌ {A = Option Event} None (Some last) = w.in-None.ensures.value ∙ only in absurd cc
     ]

@@ -16,7 +16,7 @@ invariant-lines l =
       fits : SlotsFit l.source (slots_view l.slots);
       spans : AllByRecursion (λ e. IsSpanOf l.source e.span) l.rest;
       progress : (m : Bool) (lines : List Line) (final : Text) → AreEventsIn l.source m lines final l.events
-        → Progress l.source m lines final l.rest (slots_view l.slots);
+          → Progress l.source m lines final l.rest (slots_view l.slots);
     }
 
 abbrev pub decreases-lines : goal.decreases-lines

@@ -5,7 +5,6 @@ use Rattle.toml_edit.specs.View.{slots_view}
 use Rattle.toml_edit.proofs.WholeLaws.{events_in, parsed, every, refused}
 use Rattle.toml_edit.proofs.parser.parse.Goals as goal
 
-
 pub returns-in-Ok-clause-parsed : goal.returns-in-Ok-clause-parsed
 returns-in-Ok-clause-parsed c =
     let P : List Event → Type 0 = λ es. AreEventsOf c.args.source.now es in
