@@ -9,7 +9,7 @@ use Rattle.toml_edit_model.specs.Flat.{Line, line_statement, flat_document, IsFl
 use Rattle.toml_edit_model.specs.Meaning.{SameFacts, meaning}
 use Rattle.toml_edit_model.specs.Shown.{shown_meaning}
 use Rattle.toml_edit_model.specs.Tree.{Raw, Slots, Tree, SlotsAreWellMade}
-use Rattle.toml_edit_model.specs.TreeOf.{spanned_form, owned_form, root_fields, owned_slots, IsTreeOf, IsOver}
+use Rattle.toml_edit_model.specs.TreeOf.{spanned_form, owned_form, root_fields, owned_slots, owned_tree, IsTreeOf, IsOver}
 use Rattle.toml_edit_laws.specs.FlatTree.{IsSpelledLine, line_slots, flat_tree}
 use Rattle.toml_edit_laws.proofs.AcceptedLaws.{accepted}
 use Rattle.toml_edit_laws.proofs.LineLaws.{cut_lines}
@@ -136,6 +136,10 @@ module _ (t : Text) (slots : Slots) (trailing : Raw) (h : IsParsed t slots trail
         tree =
             subst (IsTreeOf spanned_form (flat_document h.has_mark h.lines h.final)) (sym tree-is)
             (tree spanned_form h.has_mark h.lines h.final h.parsed.right);
+        spans =
+            subst (IsTreeOf owned_form (flat_document h.has_mark h.lines h.final))
+            (sym (ap (owned_tree t) tree-is ∙ ap (λ s. owned_tree s (flat_tree spanned_form h.has_mark h.lines h.final)) (sym h.cut.cut.1) ∙ owned h.has_mark h.lines h.final))
+            (tree owned_form h.has_mark h.lines h.final h.parsed.right);
         meaning =
             subst (λ u. SameFacts (shown_meaning u) (meaning (flat_document h.has_mark h.lines h.final))) (sym tree-is)
             (meaning_flat spanned_form h.has_mark h.lines h.final);

@@ -1,5 +1,5 @@
 -- The slots of a table as the definitions see them: one more at the end, and whether a key stands there.
-use Rattle.std.proofs.Common.{◌≡◌, ◌≢◌, ℕ, suc, Bool, true, false, ◌||◌, List, [], ◌∷◌, ◌++◌, Option, Some, None, is_some, cond, option_map, refl, sym, ap, ◌∙◌}
+use Rattle.std.proofs.Common.{◌≡◌, ℕ, suc, Bool, true, false, ◌||◌, List, [], ◌∷◌, ◌++◌, Option, Some, None, is_some, cond, option_map, refl, sym, ap, ◌∙◌}
 use Rattle.toml_edit_model.specs.Text.{Text, same_text}
 use Rattle.toml_edit_model.specs.Tree.{Key, Node, Slots, no_slots, slot, has_key}
 use Rattle.toml_edit_model.specs.TreeOf.{KeyFits, NodeFits, SlotsFit}

@@ -1,5 +1,5 @@
 -- From the events of a text to what parsing it answers.
-use Rattle.std.proofs.Common.{◌≡◌, ◌⊎◌, true, false, List, Result, Ok, Err, IfOk, IfErr, IsOk, IsErrOf, refl, sym, ap, ◌∙◌, subst, inl, inr}
+use Rattle.std.proofs.Common.{◌≡◌, ◌⊎◌, true, List, Result, Ok, Err, IfOk, IfErr, IsOk, IsErrOf, refl, sym, ap, ◌∙◌, subst, inl, inr}
 use Rattle.toml_edit_model.specs.Text.{Text}
 use Rattle.toml_edit_model.specs.Syntax.{Document, document_text}
 use Rattle.toml_edit_model.specs.Accepted.{is_accepted}
@@ -7,12 +7,11 @@ use Rattle.toml_edit_model.specs.Flat.{flat_document, IsFlatCut, FlatAs}
 use Rattle.toml_edit_model.specs.Tree.{Raw, Slots}
 use Rattle.toml_edit_laws.proofs.LineLaws.{flat-is, cut_lines}
 use Rattle.toml_edit_error.specs.Fault.{IfToml}
-use Rattle.toml_edit_error.specs.Report.{Report}
 use Rattle.toml_edit_error.specs.declared.toml_error.ParseFault.{ParseFault}
 use Rattle.toml_edit_error.specs.declared.toml_error.ParseFault.TheVariants.{Toml, Memory}
 use Rattle.toml_edit_syntax.specs.declared.event.Event.{Event}
 use Rattle.toml_edit_syntax.specs.Events.{AreEventsOf, events_of}
-use Rattle.toml_edit.specs.Parsed.{AreEventsIn, SlotsParsed, Refuses, Builds, IsParsed, IsRefusal}
+use Rattle.toml_edit.specs.Parsed.{AreEventsIn, Builds, IsParsed, IsRefusal}
 
 module _ (t : Text) (es : List Event) (h : AreEventsOf t es) where
   same : h.document ≡ flat_document h.document.has_mark h.cut.flat.lines h.document.final

@@ -1,14 +1,14 @@
 -- Where the parts of a flat line stand, and what reading it does to the slots before it.
-use Rattle.std.specs.Prelude.{◌≡◌, ◌⊎◌, ℕ, ◌+◌, Bool, true, false, List, [], ◌∷◌, ◌++◌, length, Option, Some, String, string_bytes, Result, Ok, Err}
-use Rattle.toml_edit_model.specs.Text.{Text, same_text}
+use Rattle.std.specs.Prelude.{◌≡◌, ◌⊎◌, ℕ, ◌+◌, true, false, length, Some, String, string_bytes, Result, Ok, Err}
+use Rattle.toml_edit_model.specs.Text.{Text}
 use Rattle.std.specs.declared.alloc.Global.{Global}
 use Rattle.toml_edit_model.specs.Scalars.{Scalar}
 use Rattle.toml_edit_model.specs.Spelling.{is_in_range}
-use Rattle.toml_edit_model.specs.Faults.{Fault, fault, duplicate_key, range_message}
+use Rattle.toml_edit_model.specs.Faults.{fault, duplicate_key, range_message}
 use Rattle.toml_edit_model.specs.Flat.{Line}
 use Rattle.toml_edit_model.specs.Tree.{span, Decor, Key, Node, leaf, Slots, no_slots, slot, has_key}
-use Rattle.toml_edit_model.specs.TreeOf.{spanned_form, SlotsFit}
-use Rattle.toml_edit_laws.specs.FlatTree.{line_text, key_start, key_end, after_equals_start, scalar_start, scalar_end, line_key, line_leaf}
+use Rattle.toml_edit_model.specs.TreeOf.{spanned_form}
+use Rattle.toml_edit_laws.specs.FlatTree.{key_start, key_end, after_equals_start, scalar_start, scalar_end, line_key, line_leaf}
 use Rattle.toml_edit_error.specs.Report.{Report, fault_of}
 use Rattle.toml_edit_error.specs.Fault.{IfToml}
 use Rattle.toml_edit_error.specs.declared.toml_error.ParseFault.{ParseFault}

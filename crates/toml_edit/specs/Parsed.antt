@@ -1,11 +1,11 @@
 -- What parsing gives.
-use Rattle.std.specs.Prelude.{◌≡◌, ◌⊎◌, ℕ, ◌+◌, ◌-◌, Bool, true, false, List, [], ◌∷◌, ◌++◌, length, codes, Contains, Result, Ok, Err}
+use Rattle.std.specs.Prelude.{◌≡◌, ◌⊎◌, ◌-◌, Bool, true, false, List, [], length, codes, Contains, Result, Ok, Err}
 use Rattle.std.specs.List.{AllByRecursion}
 use Rattle.toml_edit_model.specs.Text.{Text}
 use Rattle.toml_edit_model.specs.Paths.{placed}
 use Rattle.toml_edit_model.specs.Accepted.{is_accepted}
-use Rattle.toml_edit_model.specs.Faults.{Fault, first_faults}
-use Rattle.toml_edit_model.specs.Flat.{Line, flat_document, IsFlatCut, FlatAs}
+use Rattle.toml_edit_model.specs.Faults.{first_faults}
+use Rattle.toml_edit_model.specs.Flat.{Line, flat_document, IsFlatCut}
 use Rattle.toml_edit_model.specs.Syntax.{Document, mark_text, document_text}
 use Rattle.toml_edit_model.specs.Tree.{Raw, Slots}
 use Rattle.toml_edit_model.specs.TreeOf.{spanned_form, SlotsFit, RawFits}

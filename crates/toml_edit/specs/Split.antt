@@ -1,5 +1,5 @@
 -- The events of a line, at the front of a list of events.
-use Rattle.std.specs.Prelude.{List, [], ◌∷◌, Option, Some, None}
+use Rattle.std.specs.Prelude.{List, ◌∷◌, Option, Some, None}
 use Rattle.toml_edit_syntax.specs.declared.event.Event.{Event}
 use Rattle.toml_edit.specs.declared.parser.LineSpans.{LineSpans}
 

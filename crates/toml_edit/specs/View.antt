@@ -1,6 +1,5 @@
 -- The tree that an item, a table and a document stand for.
-use Rattle.std.specs.Prelude.{ℕ, ℤ, Bool, List, [], ◌∷◌, Option, None, Some, string_bytes}
-use Rattle.std.specs.declared.alloc.Global.{Global}
+use Rattle.std.specs.Prelude.{List, [], ◌∷◌, string_bytes}
 use Rattle.toml_edit_model.specs.Scalars.{string, integer, boolean}
 use Rattle.toml_edit_model.specs.Tree.{Raw, Node, nothing, leaf, Slots, no_slots, slot, TableFields, Tree}
 use Rattle.toml_edit_repr.specs.declared.slots.Slot as repr

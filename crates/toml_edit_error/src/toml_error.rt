@@ -80,7 +80,13 @@ pub enum ParseFault {
     Memory,
 }
 
+/// The text of the error, or `out of memory` and a line feed.
 impl fmt::Display for ParseFault {
+    ghost use Rattle.std.specs.Prelude.{Some};
+    ghost use Rattle.toml_edit_error.specs.Fault.{fault_text};
+
+    ghost output = { λ e. Some (fault_text e) };
+
     fn fmt<W: fmt::Write>(&self, f: &mut fmt::Formatter<W>) -> fmt::Result {
         match self {
             ParseFault::Toml(error) => error.fmt(f),
