@@ -1,5 +1,5 @@
 -- What reading to the end and writing a whole text leave.
-use Rattle.std.specs.Prelude.{◌≡◌, ℕ, ◌≤◌, Bool, true, List, length, take, Option}
+use Rattle.std.specs.Prelude.{◌≡◌, ℕ, ◌≤◌, Bool, true, List, length, take, codes, Option}
 use Rattle.std.specs.Io.KnownBytes.{Appends}
 use Rattle.toml_edit_stream.specs.declared.whole.ReadFault.{ReadFault}
 use Rattle.toml_edit_stream.specs.declared.whole.ReadFault.TheVariants.{Memory, Broken}
@@ -12,3 +12,8 @@ AppendsBeginning old new bs = (n : ℕ) × (n ≤ length bs) × Appends old new 
 abbrev pub ReadFaultLeaves : Bool → Bool → ReadFault → Type 0
 ReadFaultLeaves old new Memory = new ≡ old
 ReadFaultLeaves old new Broken = new ≡ true
+
+-- what is shown of a fault
+abbrev pub fault_text : ReadFault → List ℕ
+fault_text Memory = codes "out of memory"
+fault_text Broken = codes "broken"

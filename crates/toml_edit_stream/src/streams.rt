@@ -10,8 +10,12 @@ use std::fmt;
 pub struct Broken;
 
 impl fmt::Display for Broken {
+    ghost use Rattle.std.specs.Prelude.{Some, codes};
+
+    ghost output = { λ _. Some (codes "broken") };
+
     fn fmt<W: fmt::Write>(&self, f: &mut fmt::Formatter<W>) -> fmt::Result {
-        write!(f, "broken")
+        f.write_str("broken")
     }
 }
 

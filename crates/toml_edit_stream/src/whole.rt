@@ -17,10 +17,15 @@ pub enum ReadFault {
 }
 
 impl fmt::Display for ReadFault {
+    ghost use Rattle.std.specs.Prelude.{Some};
+    ghost use Rattle.toml_edit_stream.specs.Whole.{fault_text};
+
+    ghost output = { λ fault. Some (fault_text fault) };
+
     fn fmt<W: fmt::Write>(&self, f: &mut fmt::Formatter<W>) -> fmt::Result {
         match self {
-            ReadFault::Memory => write!(f, "out of memory"),
-            ReadFault::Broken => write!(f, "broken"),
+            ReadFault::Memory => f.write_str("out of memory"),
+            ReadFault::Broken => f.write_str("broken"),
         }
     }
 }
