@@ -12,6 +12,6 @@ pub use document::{Document, DocumentMut, SourceText};
 pub use item::Item;
 pub use table::{Iter, Table};
 pub use toml_edit_error::{ParseFault, TomlError};
-pub use toml_edit_stream::{Broken, Input, Output, Watched};
 pub use toml_edit_repr::{Decor, Formatted, Key, Mem, NoMemory, RawString, Repr, ValueRepr};
+pub use toml_edit_stream::{Broken, Input, Output, Watched};
 pub use value::Value;
