@@ -7,5 +7,5 @@ pub mod DespanLaws
 pub mod SpanProps
 pub mod OwnLaws
 pub mod OverLaws
-pub mod ReturnLaws
 pub mod PrintingLaws
+pub mod LoneScalarLaws

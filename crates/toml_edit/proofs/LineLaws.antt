@@ -1,10 +1,10 @@
 -- What reading one line says, at each of its exits.
-use Rattle.std.proofs.Common.{◌≡◌, ℕ, ◌+◌, Bool, true, false, List, [], ◌∷◌, ◌++◌, length, Option, Some, is_some, refl, sym, ap, ◌∙◌, subst, inl, inr}
+use Rattle.std.proofs.Common.{◌≡◌, ℕ, ◌+◌, Bool, true, false, List, [], ◌∷◌, ◌++◌, length, Option, None, Some, is_some, refl, sym, ap, ◌∙◌, subst, inl, inr}
 use Rattle.toml_edit_model.specs.Text.{Text, is_empty}
-use Rattle.toml_edit_model.specs.Scalars.{Scalar, string, integer, float, boolean, datetime}
-use Rattle.toml_edit_model.specs.Spelling.{SpellsKey, Spells, Digits, IsDigits, digits_text, sign_text, base_number, base_prefix, is_in_range}
+use Rattle.toml_edit_model.specs.Scalars.{Date, Time, Offset, Scalar, string, integer, float, boolean, datetime}
+use Rattle.toml_edit_model.specs.Spelling.{SpellsKey, Spells, SpellsTime, SpellsParts, IsFloat, Digits, IsDigits, digits_text, plus, minus, unsigned, sign_text, base_number, base_prefix, is_in_range}
 use Rattle.toml_edit_model.specs.Faults.{duplicate_key, range_message, fault}
-use Rattle.toml_edit_model.specs.Flat.{Line, IsFlatScalar}
+use Rattle.toml_edit_model.specs.Flat.{Line}
 use Rattle.toml_edit_model.specs.Tree.{Raw, span, Decor, Node, leaf, Slots, has_key}
 use Rattle.toml_edit_model.specs.TreeOf.{cut_out, span_of, spanned_form}
 use Rattle.toml_edit_laws.specs.FlatTree.{line_text, key_start, scalar_start, after_equals_start, line_leaf, IsSpelledLine}
@@ -73,15 +73,43 @@ digits-some base ((false, c) ∷ ds) [] h e = absurd cc
 digits-some base ((true, c) ∷ ds) [] h e = absurd cc
 digits-some base (d ∷ ds) (b ∷ before) h e = absurd cc
 
-pub scalar-some : (s : Scalar) (t : Text) → Spells s t → IsFlatScalar s t → t ≡ [] → ⊥
-scalar-some (string v) t spells (inl basic) e = let f = basic.3 in absurd cc
-scalar-some (string v) t spells (inr literal) e = let f = literal.1 in absurd cc
-scalar-some (integer z) t (inl (s, ds, decimal, is)) flat e = digits-some 10 ds (sign_text s) decimal.0 (sym decimal.2 ∙ e)
-scalar-some (integer z) t (inr (b, ds, digits, is, text)) flat e = digits-some (base_number b) ds (base_prefix b) digits (sym text ∙ e)
-scalar-some (boolean true) t spells flat e = absurd cc
-scalar-some (boolean false) t spells flat e = absurd cc
-scalar-some (float x) t spells flat e = absurd flat
-scalar-some (datetime d) t spells flat e = absurd flat
+front-some : (a b : Text) → a ++ b ≡ [] → a ≡ []
+front-some [] b e = refl
+front-some (x ∷ a) b e = absurd cc
+
+float-some : (t : Text) → IsFloat t → t ≡ [] → ⊥
+float-some t (inl (s, ds, whole, rest, decimal, fraction, is)) e =
+    digits-some 10 ds (sign_text s) decimal.0 (sym decimal.2 ∙ front-some whole rest (sym is ∙ e))
+float-some t (inr (plus, inl is)) e = absurd cc
+float-some t (inr (minus, inl is)) e = absurd cc
+float-some t (inr (unsigned, inl is)) e = absurd cc
+float-some t (inr (plus, inr is)) e = absurd cc
+float-some t (inr (minus, inr is)) e = absurd cc
+float-some t (inr (unsigned, inr is)) e = absurd cc
+
+time-some : (time : Time) (t : Text) → SpellsTime time t → t ≡ [] → ⊥
+time-some time t (h, m, rest, seconds, is) e = absurd cc
+
+parts-some : (d : Option Date) (time : Option Time) (o : Option Offset) (t : Text) → SpellsParts d time o t → t ≡ [] → ⊥
+parts-some (Some d) None None t (y, m, day, is) e = absurd cc
+parts-some (Some d) None (Some o) t h e = h
+parts-some None (Some time) None t h e = time-some time t h e
+parts-some None (Some time) (Some o) t h e = h
+parts-some None None o t h e = h
+parts-some (Some d) (Some time) o t (one, two, three, mark, date, mark_is, clock, offset, is) e =
+    absurd (let f = date.3 in cc)
+
+pub scalar-some : (s : Scalar) (t : Text) → Spells s t → t ≡ [] → ⊥
+scalar-some (string v) t (inl (inl basic)) e = let f = basic.3 in absurd cc
+scalar-some (string v) t (inl (inr literal)) e = let f = literal.1 in absurd cc
+scalar-some (string v) t (inr (inl (first, parts, each, follow, start, value, is))) e = absurd cc
+scalar-some (string v) t (inr (inr (first, parts, each, follow, start, value, is))) e = absurd cc
+scalar-some (integer z) t (inl (s, ds, decimal, is)) e = digits-some 10 ds (sign_text s) decimal.0 (sym decimal.2 ∙ e)
+scalar-some (integer z) t (inr (b, ds, digits, is, text)) e = digits-some (base_number b) ds (base_prefix b) digits (sym text ∙ e)
+scalar-some (boolean true) t spells e = absurd cc
+scalar-some (boolean false) t spells e = absurd cc
+scalar-some (float x) t spells e = float-some t spells.0 e
+scalar-some (datetime d) t spells e = parts-some d.date d.time d.offset t spells e
 
 pub span_of-some : (i : ℕ) (t : Text) → (t ≡ [] → ⊥) → span_of i t ≡ span i (i + length t)
 span_of-some i [] some = absurd (some refl)

@@ -18,7 +18,9 @@ has_leaf : (x : items.Item) → HasLeaf (item_view x)
 has_leaf variants.None = tt
 has_leaf (variants.Value (values.String f)) = tt
 has_leaf (variants.Value (values.Integer f)) = tt
+has_leaf (variants.Value (values.Float f)) = tt
 has_leaf (variants.Value (values.Boolean f)) = tt
+has_leaf (variants.Value (values.Datetime f)) = tt
 
 -- and so are all of a table's
 pub have_leaves : (es : List (Slot items.Item)) → HaveLeaves (slots_view es)

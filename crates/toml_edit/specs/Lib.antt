@@ -7,3 +7,5 @@ pub mod DocumentView
 pub mod Documents
 pub mod Places
 pub mod Printing
+pub mod Casts
+pub mod LoneScalar

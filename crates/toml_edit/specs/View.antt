@@ -1,6 +1,7 @@
 -- The tree that an item, a table and a document stand for.
 use Rattle.std.specs.Prelude.{List, [], ◌∷◌, string_bytes}
-use Rattle.toml_edit_model.specs.Scalars.{string, integer, boolean}
+use Rattle.toml_edit_model.specs.Scalars.{string, integer, float, boolean, datetime}
+use Rattle.toml_edit_datetime.specs.DatetimeView.{datetime_view}
 use Rattle.toml_edit_model.specs.Tree.{Raw, Node, nothing, leaf, Slots, no_slots, slot, TableFields, Tree}
 use Rattle.toml_edit_repr.specs.declared.slots.Slot as repr
 use Rattle.toml_edit.specs.declared.value.Value as code
@@ -12,6 +13,8 @@ use Rattle.toml_edit.specs.declared.table.Table.{Table}
 abbrev pub value_view : code.Value → Node
 value_view (values.String f) = leaf (string (string_bytes f.value)) f.repr f.decor
 value_view (values.Integer f) = leaf (integer f.value) f.repr f.decor
+value_view (values.Float f) = leaf (float f.value) f.repr f.decor
+value_view (values.Datetime f) = leaf (datetime (datetime_view f.value)) f.repr f.decor
 value_view (values.Boolean f) = leaf (boolean f.value) f.repr f.decor
 
 abbrev pub item_view : items.Item → Node

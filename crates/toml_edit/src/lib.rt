@@ -11,7 +11,10 @@ pub mod value;
 pub use document::{Document, DocumentMut, SourceText};
 pub use item::Item;
 pub use table::{Iter, Table};
+pub use toml_edit_datetime::{Date, Datetime, DatetimeFault, FloatText, Offset, Time};
 pub use toml_edit_error::{ParseFault, TomlError};
-pub use toml_edit_repr::{Decor, Formatted, Key, Mem, NoMemory, RawString, Repr, ValueRepr};
+pub use toml_edit_repr::{
+    Decor, Formatted, Key, KeyMut, Mem, NoMemory, RawString, Repr, ScalarValue, ValueRepr,
+};
 pub use toml_edit_stream::{Broken, Input, Output, Watched};
 pub use value::Value;

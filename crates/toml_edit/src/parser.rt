@@ -5,7 +5,7 @@ ghost use Rattle.toml_edit_model.specs.Text.{Text};
 ghost use Rattle.toml_edit_model.specs.Scalars.{Scalar};
 ghost use Rattle.toml_edit_model.specs.Spelling.{SpellsKey, Spells};
 ghost use Rattle.toml_edit_model.specs.Syntax.{Document};
-ghost use Rattle.toml_edit_model.specs.Flat.{Line, IsFlatScalar, FlatAs};
+ghost use Rattle.toml_edit_model.specs.Flat.{Line, FlatAs};
 ghost use Rattle.toml_edit_model.specs.TreeOf.{RawFits, DecorFits, KeyFits, NodeFits, SlotsFit, span_of, spanned_form, cut_out};
 ghost use Rattle.toml_edit_laws.specs.FlatTree.{line_text, line_key, IsSpelledLine};
 ghost use Rattle.toml_edit_laws.specs.Standing.{Stands};
@@ -22,7 +22,9 @@ use crate::value::Value;
 use std::alloc::Global;
 use toml_edit_error::{ParseFault, TomlError};
 use toml_edit_repr::{Decor, Key, Mem, RawString, Slot, Slots};
-use toml_edit_syntax::{Event, Span, SyntaxFault, decode_key, decode_scalar, events};
+use toml_edit_syntax::{
+    Event, Span, SyntaxFault, decode_key, decode_scalar, events, range_message,
+};
 
 /// Where the parts of a key line stand.
 #[derive(Clone, Copy)]
@@ -65,7 +67,7 @@ fn error(alloc: Global, source: &str, message: &str, span: Span) -> Mem<TomlErro
 }
 
 /// The error with this message about the span.
-fn refusal(alloc: Global, source: &str, message: &str, span: Span) -> ParseFault
+pub(crate) fn refusal(alloc: Global, source: &str, message: &str, span: Span) -> ParseFault
     requires { IsSpanOf source.now span }
     ensures { IfToml result (λ r. r ≡ record { message = message.now; span = Some (span.start, span.end); input = source.now }) }
 {
@@ -114,15 +116,20 @@ fn read_name(alloc: Global, source: &str, span: Span) -> Result<String, ParseFau
 }
 
 /// The value that is spelled at the span.
-fn read_value(alloc: Global, source: &str, span: Span, decor: Decor) -> Result<Value, ParseFault>
+pub(crate) fn read_value(
+    alloc: Global,
+    source: &str,
+    span: Span,
+    decor: Decor,
+) -> Result<Value, ParseFault>
     requires { IsSpanOf source.now span }
     ensures value { (s : Scalar) (t : Text) → cut_out source.now span.start span.end ≡ t → span.end ≡ span.start + length t
-        → Spells s t → IsFlatScalar s t → ReadsValue source.now span.start s t decor result }
+        → Spells s t → ReadsValue source.now span.start s t decor result }
     ensures fits { IfOk result (λ v. DecorFits source.now decor → NodeFits source.now (value_view v)) }
 {
     match decode_scalar(alloc, cut(source, span))? {
         Some(scalar) => Ok(Value::spanned(scalar, span.start, span.end, decor)),
-        None => Err(refusal(alloc, source, "integer number overflowed", span)),
+        None => Err(refusal(alloc, source, range_message(cut(source, span)), span)),
     }
 }
 

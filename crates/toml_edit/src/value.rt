@@ -1,13 +1,32 @@
 //! Values.
-ghost use Rattle.std.specs.Prelude.{◌≡◌, Some, OnOk};
-ghost use Rattle.toml_edit_model.specs.Tree.{leaf, span, IsWellMade};
+ghost use Rattle.std.specs.Prelude.{◌≡◌, ◌⊎◌, ◌+◌, true, None, Some, OnOk, IfOk, IfErr, IsOk, IsErrOf, length, option_map, is_some, string_bytes};
+ghost use Rattle.std.specs.Borrow.{sem};
+ghost use Rattle.toml_edit_model.specs.Scalars as scalars;
+ghost use Rattle.toml_edit_model.specs.Scalars.{string, integer, float, boolean, datetime};
+ghost use Rattle.toml_edit_datetime.specs.DateView.{date_view};
+ghost use Rattle.toml_edit_datetime.specs.TimeView.{time_view};
+ghost use Rattle.toml_edit_datetime.specs.DatetimeView.{datetime_view};
+ghost use Rattle.toml_edit_model.specs.Tree.{leaf, span, unset, node_decor, IsWellMade};
+ghost use Rattle.toml_edit_model.specs.Conversions.{with_decor};
+ghost use Rattle.toml_edit.specs.Casts.{type_of, text_in, integer_in, float_in, truth_in, datetime_in, of_date, of_time, span_in, both_sides, LendsDecor};
 ghost use Rattle.toml_edit_model.specs.TreeOf.{NodeFits, owned_node};
 ghost use Rattle.toml_edit_syntax.specs.Decoded.{scalar_view};
+ghost use Rattle.toml_edit_model.specs.Text.{Text};
+ghost use Rattle.toml_edit_model.specs.Syntax.{scalar};
+ghost use Rattle.toml_edit_model.specs.Lone.{IsLoneValue, is_accepted_value};
+ghost use Rattle.toml_edit_error.specs.Fault.{IfToml};
+ghost use Rattle.toml_edit_syntax.specs.Lone.{StandsAlone};
+ghost use Rattle.toml_edit.specs.LoneScalar.{IsLoneScalar, IsLoneRefusal, ReadsLone};
 ghost use Rattle.toml_edit.specs.View.{value_view};
 
+use crate::parser::{read_value, refusal};
 use std::alloc::Global;
-use toml_edit_repr::{Decor, Formatted, Mem};
-use toml_edit_syntax::Scalar;
+use std::fmt;
+use std::ops::Range;
+use toml_edit_datetime::{Date, Datetime, FloatText, Time};
+use toml_edit_error::ParseFault;
+use toml_edit_repr::{Decor, Formatted, Mem, RawString};
+use toml_edit_syntax::{Scalar, Span, lone_scalar};
 
 /// A value, with its spelling and what stands around it.
 #[derive(Debug, Drop)]
@@ -16,8 +35,12 @@ pub enum Value {
     String(Formatted<String>),
     /// An integer of 64 bits.
     Integer(Formatted<i64>),
+    /// A float, kept as its text.
+    Float(Formatted<FloatText>),
     /// A truth value.
     Boolean(Formatted<bool>),
+    /// A date, a time, or both.
+    Datetime(Formatted<Datetime>),
 }
 
 impl Value {
@@ -30,7 +53,11 @@ impl Value {
             Scalar::Integer(number) => Value::Integer(Formatted::spanned(
                 number, start, end, decor,
             )),
+            Scalar::Float(float) => Value::Float(Formatted::spanned(float, start, end, decor)),
             Scalar::Boolean(truth) => Value::Boolean(Formatted::spanned(truth, start, end, decor)),
+            Scalar::Datetime(datetime) => Value::Datetime(Formatted::spanned(
+                datetime, start, end, decor,
+            )),
         }
     }
 
@@ -44,7 +71,290 @@ impl Value {
         match self {
             Value::String(scalar) => scalar.despan(alloc, source),
             Value::Integer(scalar) => scalar.despan(alloc, source),
+            Value::Float(scalar) => scalar.despan(alloc, source),
             Value::Boolean(scalar) => scalar.despan(alloc, source),
+            Value::Datetime(scalar) => scalar.despan(alloc, source),
         }
+    }
+
+    /// Reads a lone scalar: a scalar with white space around it. The value keeps the spelling, and its decor is unset. An integer that
+    /// 64 bits don't hold is refused with `integer number overflowed`, a date, a time or an offset that doesn't exist with
+    /// `invalid date-time`, at the span of the scalar; any other text at a place in it.
+    pub fn from_str(alloc: Global, text: &str) -> Result<Value, ParseFault>
+        ensures read { IfOk result (λ v. IsLoneScalar text.now (value_view v)) }
+        ensures every { (s : scalars.Scalar) (spelled : Text) → IsLoneValue text.now (scalar s spelled)
+            → is_accepted_value (scalar s spelled) ≡ true → IsOk result ⊎ IsErrOf result ParseFault.Memory }
+        ensures refused { IfErr result (λ e. IfToml e (IsLoneRefusal text.now)) }
+    {
+        match lone_scalar(text) {
+            Ok(span) => read_lone(alloc, text, span),
+            Err(span) => Err(refusal(alloc, text, lone_message(text, span), span)),
+        }
+    }
+
+    /// An equal copy. The only error is want of memory.
+    pub fn clone(&self, alloc: Global) -> Mem<Value>
+        ensures { IfOk result (λ copy. value_view copy ≡ value_view self.now) }
+    {
+        match self {
+            Value::String(scalar) => Ok(Value::String(scalar.clone(alloc)?)),
+            Value::Integer(scalar) => Ok(Value::Integer(scalar.clone(alloc)?)),
+            Value::Float(scalar) => Ok(Value::Float(scalar.clone(alloc)?)),
+            Value::Boolean(scalar) => Ok(Value::Boolean(scalar.clone(alloc)?)),
+            Value::Datetime(scalar) => Ok(Value::Datetime(scalar.clone(alloc)?)),
+        }
+    }
+
+    /// The name of its type in TOML's words, as error messages have it.
+    pub fn type_name(&self) -> &'static str
+        ensures { result.now ≡ type_of (value_view self.now) }
+    {
+        match self {
+            Value::String(_) => "string",
+            Value::Integer(_) => "integer",
+            Value::Float(_) => "float",
+            Value::Boolean(_) => "boolean",
+            Value::Datetime(_) => "datetime",
+        }
+    }
+
+    /// The text, if it is a string.
+    pub fn as_str(&self) -> Option<&str>
+        ensures { option_map (λ t. t.now) result ≡ text_in (value_view self.now) }
+    {
+        match self {
+            Value::String(scalar) => Some(scalar.value().as_str()),
+            _ => None,
+        }
+    }
+
+    /// Whether it is a string.
+    pub fn is_str(&self) -> bool
+        ensures { result ≡ is_some (text_in (value_view self.now)) }
+    {
+        self.as_str().is_some()
+    }
+
+    /// The number, if it is an integer.
+    pub fn as_integer(&self) -> Option<i64>
+        ensures { result ≡ integer_in (value_view self.now) }
+    {
+        match self {
+            Value::Integer(scalar) => Some(*scalar.value()),
+            _ => None,
+        }
+    }
+
+    /// Whether it is an integer.
+    pub fn is_integer(&self) -> bool
+        ensures { result ≡ is_some (integer_in (value_view self.now)) }
+    {
+        self.as_integer().is_some()
+    }
+
+    /// The float, if it is one.
+    pub fn as_float_text(&self) -> Option<&FloatText>
+        ensures { option_map (λ x. x.now) result ≡ float_in (value_view self.now) }
+    {
+        match self {
+            Value::Float(scalar) => Some(scalar.value()),
+            _ => None,
+        }
+    }
+
+    /// Whether it is a float.
+    pub fn is_float(&self) -> bool
+        ensures { result ≡ is_some (float_in (value_view self.now)) }
+    {
+        self.as_float_text().is_some()
+    }
+
+    /// The date-time, if it is one.
+    pub fn as_datetime(&self) -> Option<&Datetime>
+        ensures { option_map (λ x. datetime_view x.now) result ≡ datetime_in (value_view self.now) }
+    {
+        match self {
+            Value::Datetime(scalar) => Some(scalar.value()),
+            _ => None,
+        }
+    }
+
+    /// Whether it is a date-time.
+    pub fn is_datetime(&self) -> bool
+        ensures { result ≡ is_some (datetime_in (value_view self.now)) }
+    {
+        self.as_datetime().is_some()
+    }
+
+    /// The truth value, if it is one.
+    pub fn as_bool(&self) -> Option<bool>
+        ensures { result ≡ truth_in (value_view self.now) }
+    {
+        match self {
+            Value::Boolean(scalar) => Some(*scalar.value()),
+            _ => None,
+        }
+    }
+
+    /// Whether it is a truth value.
+    pub fn is_bool(&self) -> bool
+        ensures { result ≡ is_some (truth_in (value_view self.now)) }
+    {
+        self.as_bool().is_some()
+    }
+
+    /// What stands around it.
+    pub fn decor(&self) -> &Decor
+        ensures { result.now ≡ node_decor (value_view self.now) }
+    {
+        match self {
+            Value::String(scalar) => scalar.decor(),
+            Value::Integer(scalar) => scalar.decor(),
+            Value::Float(scalar) => scalar.decor(),
+            Value::Boolean(scalar) => scalar.decor(),
+            Value::Datetime(scalar) => scalar.decor(),
+        }
+    }
+
+    /// What stands around it, to be changed.
+    pub fn decor_mut(&mut self) -> &mut Decor
+        ensures* writes_back { sem 𝓛 (LendsDecor self.entry result) }
+        ensures decor { result.now ≡ node_decor (value_view self.old) }
+    {
+        match self {
+            Value::String(scalar) => scalar.decor_mut(),
+            Value::Integer(scalar) => scalar.decor_mut(),
+            Value::Float(scalar) => scalar.decor_mut(),
+            Value::Boolean(scalar) => scalar.decor_mut(),
+            Value::Datetime(scalar) => scalar.decor_mut(),
+        }
+    }
+
+    /// The value with these texts around it.
+    pub fn decorated(self, prefix: RawString, suffix: RawString) -> Value
+        ensures { value_view result ≡ with_decor (both_sides prefix suffix) (value_view self) }
+    {
+        let mut value = self;
+        *value.decor_mut() = Decor::new(prefix, suffix);
+        value
+    }
+
+    /// The bytes of the source that its spelling stands at, if that is a span.
+    pub fn span(&self) -> Option<Range<usize>>
+        ensures { result ≡ span_in (value_view self.now) }
+    {
+        match self {
+            Value::String(scalar) => scalar.as_repr()?.span(),
+            Value::Integer(scalar) => scalar.as_repr()?.span(),
+            Value::Float(scalar) => scalar.as_repr()?.span(),
+            Value::Boolean(scalar) => scalar.as_repr()?.span(),
+            Value::Datetime(scalar) => scalar.as_repr()?.span(),
+        }
+    }
+
+    /// A string with this text, of default spelling and decor. The only error is want of memory.
+    pub fn string(alloc: Global, text: &str) -> Mem<Value>
+        ensures { IfOk result (λ v. value_view v ≡ leaf (string text.now) None unset) }
+    {
+        Ok(Value::String(Formatted::new(String::from_str(alloc, text)?)))
+    }
+}
+
+/// The scalar that stands alone at the span.
+fn read_lone(alloc: Global, text: &str, span: Span) -> Result<Value, ParseFault>
+    requires { StandsAlone text.now span }
+    ensures { (s : scalars.Scalar) (spelled : Text) (lone : IsLoneValue text.now (scalar s spelled))
+        → span.start ≡ length lone.before → span.end ≡ length lone.before + length spelled
+        → ReadsLone text.now lone.before s spelled result }
+{
+    let mut value = read_value(alloc, text, span, Decor::default())?;
+    value.despan(alloc, text)?;
+    Ok(value)
+}
+
+/// What to say of a text that is no lone scalar, where this is in the way.
+fn lone_message(text: &str, span: Span) -> &'static str {
+    let before = text.as_bytes().get(..span.start).unwrap_or(&[]);
+    if !before.iter().all(|byte| *byte == b' ' || *byte == b'\t') {
+        return "unexpected character";
+    }
+    match text.as_bytes().get(span.start) {
+        Some(b'[' | b'{') => "not yet",
+        Some(b'"' | b'\'') => "unclosed string",
+        Some(b'0'..=b'9' | b'+' | b'-') => "invalid number",
+        _ => "expected a value",
+    }
+}
+
+/// The value between the sides of its decor, which are empty where they are unset.
+impl fmt::Display for Value {
+    ghost use Rattle.toml_edit_model.specs.Conversions.{value_display};
+
+    ghost output = { λ value. Some (value_display (value_view value)) };
+
+    fn fmt<W: fmt::Write>(&self, f: &mut fmt::Formatter<W>) -> fmt::Result {
+        match self {
+            Value::String(scalar) => scalar.fmt(f),
+            Value::Integer(scalar) => scalar.fmt(f),
+            Value::Float(scalar) => scalar.fmt(f),
+            Value::Boolean(scalar) => scalar.fmt(f),
+            Value::Datetime(scalar) => scalar.fmt(f),
+        }
+    }
+}
+
+impl From<String> for Value {
+    ghost from_gives = { λ text v. value_view v ≡ leaf (string (string_bytes text)) None unset };
+
+    fn from(text: String) -> Value {
+        Value::String(Formatted::new(text))
+    }
+}
+
+impl From<i64> for Value {
+    ghost from_gives = { λ number v. value_view v ≡ leaf (integer number) None unset };
+
+    fn from(number: i64) -> Value {
+        Value::Integer(Formatted::new(number))
+    }
+}
+
+impl From<bool> for Value {
+    ghost from_gives = { λ truth v. value_view v ≡ leaf (boolean truth) None unset };
+
+    fn from(truth: bool) -> Value {
+        Value::Boolean(Formatted::new(truth))
+    }
+}
+
+impl From<FloatText> for Value {
+    ghost from_gives = { λ x v. value_view v ≡ leaf (float x) None unset };
+
+    fn from(number: FloatText) -> Value {
+        Value::Float(Formatted::new(number))
+    }
+}
+
+impl From<Datetime> for Value {
+    ghost from_gives = { λ d v. value_view v ≡ leaf (datetime (datetime_view d)) None unset };
+
+    fn from(datetime: Datetime) -> Value {
+        Value::Datetime(Formatted::new(datetime))
+    }
+}
+
+impl From<Date> for Value {
+    ghost from_gives = { λ d v. value_view v ≡ leaf (datetime (of_date (date_view d))) None unset };
+
+    fn from(date: Date) -> Value {
+        Value::from(Datetime::from(date))
+    }
+}
+
+impl From<Time> for Value {
+    ghost from_gives = { λ t v. value_view v ≡ leaf (datetime (of_time (time_view t))) None unset };
+
+    fn from(time: Time) -> Value {
+        Value::from(Datetime::from(time))
     }
 }

@@ -7,7 +7,12 @@ pub mod LineLaws
 pub mod OwnedLaws
 pub mod NormalLaws
 pub mod MeaningLaws
+pub mod OffsetLaws
 pub mod MadeLaws
 pub mod FaultLaws
 pub mod MoreLines
 pub mod FlatLaws
+pub mod EscapeLaws
+pub mod DecimalLaws
+pub mod DatetimeLaws
+pub mod DefaultLaws

@@ -7,7 +7,7 @@ use Rattle.toml_edit_model.specs.Text.{Text, carriage_return, without_returns}
 use Rattle.toml_edit_model.specs.Trivia.{is_blank, IsWhiteSpace, IsLineEnd}
 use Rattle.toml_edit_model.specs.Spelling.{Spells}
 use Rattle.toml_edit_model.specs.Syntax.{Document, IsFrame, AreStatements}
-use Rattle.toml_edit_model.specs.Flat.{Line, line_frame, line_statement, IsFlatLine, flat_document, IsFlat, IsFlatCut}
+use Rattle.toml_edit_model.specs.Flat.{Line, line_frame, line_statement, flat_document, IsFlat, IsFlatCut}
 use Rattle.toml_edit_laws.specs.FlatTree.{IsSpelledLine}
 use Rattle.toml_edit_laws.proofs.Tests.{and_left, and_right, false-by}
 
@@ -44,13 +44,11 @@ are-lines final (l ∷ j ∷ rest) h = ((h.0.0, h.0.1), are-lines final (j ∷ r
 pub flat-is : (d : Document) (f : IsFlat d) → d ≡ flat_document d.has_mark f.lines d.final
 flat-is d f = ap (λ ss. record d { statements = ss }) f.statements
 
-spelled-lines : (lines : List Line) → AllByRecursion IsFlatLine lines → AllByRecursion IsLine lines → AllByRecursion IsSpelledLine lines
-spelled-lines [] f h = tt
-spelled-lines (l ∷ rest) f h =
-    (record { key = h.0.0.1.spelled.0; value = h.0.1; flat = f.0 }, spelled-lines rest f.1 h.1)
+spelled-lines : (lines : List Line) → AllByRecursion IsLine lines → AllByRecursion IsSpelledLine lines
+spelled-lines [] h = tt
+spelled-lines (l ∷ rest) h = (record { key = h.0.0.1.spelled.0; value = h.0.1 }, spelled-lines rest h.1)
 
 -- the document of a flat cut, by its lines
 pub cut_lines : (d : Document) (t : Text) (h : IsFlatCut d t) → AllByRecursion IsSpelledLine h.flat.lines
 cut_lines d t h =
-    spelled-lines h.flat.lines h.flat.flat
-    (are-lines d.final h.flat.lines (subst (AreStatements d.final) h.flat.statements h.cut.0.0))
+    spelled-lines h.flat.lines (are-lines d.final h.flat.lines (subst (AreStatements d.final) h.flat.statements h.cut.0.0))

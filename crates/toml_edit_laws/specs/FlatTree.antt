@@ -8,7 +8,7 @@ use Rattle.toml_edit_model.specs.Faults.{Fault, fault, duplicate_key, range_mess
 use Rattle.toml_edit_model.specs.Tree.{Key, Node, nothing, leaf, list, inline, table, tables, Slots, no_slots, slot, Tree, shown_prefix, shown_suffix, scalar_text, key_text}
 use Rattle.toml_edit_model.specs.TreeOf.{Form, decor_at, root_fields}
 use Rattle.toml_edit_model.specs.Print.{blank}
-use Rattle.toml_edit_model.specs.Flat.{Line, line_statement, IsFlatLine, flat_document}
+use Rattle.toml_edit_model.specs.Flat.{Line, line_statement, flat_document}
 
 -- ---- which are right
 
@@ -30,7 +30,6 @@ line_keys lines = map (λ l. l.key) lines
 pub record IsSpelledLine (l : Line) : Type 0 where
   pub key : SpellsKey l.key l.spelled
   pub value : Spells l.value l.spelling
-  pub flat : IsFlatLine l
 
 -- ---- texts and places
 

@@ -1,7 +1,7 @@
-//! Laws about flat documents, over the definitions alone: `specs/` has words for their trees, and `proofs/` the lemmas.
+//! Laws about flat documents and default spellings, over the definitions alone: `specs/` has words for their trees, and `proofs/` the lemmas.
 #![tactic(auto)]
 
-ghost use Rattle.toml_edit_laws.specs.Laws.{FlatMeaning, FlatNormal, FlatOneTree, FlatOwned};
+ghost use Rattle.toml_edit_laws.specs.Laws.{DefaultSpellings, FlatMeaning, FlatNormal, FlatOneTree, FlatOwned};
 
 /// In each form a flat text has one tree.
 pub fn one_tree()
@@ -21,4 +21,9 @@ pub fn meaning_of_tree()
 /// The tree of a flat text with spans becomes that with owned texts, by what the spans cut from the text.
 pub fn owned_form_of()
     ensures { FlatOwned }
+{}
+
+/// A default spelling is read back: it spells its scalar, in range, or its key.
+pub fn default_spellings()
+    ensures { DefaultSpellings }
 {}

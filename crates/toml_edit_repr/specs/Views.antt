@@ -1,5 +1,5 @@
 -- What a contract sees of texts and scalars.
-use Rattle.std.specs.Prelude.{ℕ, Bool, ◌||◌, Option, None, Some}
+use Rattle.std.specs.Prelude.{ℕ, Bool, true, ◌||◌, Option, None, Some}
 use Rattle.std.specs.declared.ops.Range.{Range}
 use Rattle.toml_edit_model.specs.Text.{Text, same_text, is_empty}
 use Rattle.toml_edit_model.specs.Tree.{Raw, owned, span, Decor}
@@ -13,6 +13,11 @@ text_of (span i j) = None
 -- the text takes no memory: nothing, or one space
 abbrev pub is_free : Text → Bool
 is_free t = is_empty t || same_text t blank
+
+-- it takes no memory: such a text, or a span
+abbrev pub is_free_raw : Raw → Bool
+is_free_raw (owned t) = is_free t
+is_free_raw (span i j) = true
 
 -- the span, unless it is a text
 abbrev pub range_of : Raw → Option (Range ℕ)

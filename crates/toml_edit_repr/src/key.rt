@@ -1,11 +1,22 @@
 //! Keys.
-ghost use Rattle.std.specs.Prelude.{◌≡◌, Some, IfOk, OnOk, option_map, string_bytes};
+ghost use Rattle.std.specs.Prelude.{◌≡◌, Some, IfOk, OnOk, option_map, option_and_then, string_bytes};
 ghost use Rattle.std.specs.Option.{option_copied};
 
 use crate::raw_string::{Decor, Mem, RawString};
 use crate::repr::{Repr, despan_spelling};
 use std::alloc::Global;
 use std::marker::Model;
+use std::ops::Range;
+
+mod compared;
+mod copies;
+mod key_mut;
+mod read;
+mod shown;
+#[cfg(test)]
+mod tests;
+
+pub use key_mut::KeyMut;
 
 /// A key: its name, its spelling, and its decors where it ends a path and where dots stand beside it. A spelling that is a text
 /// spells the name.
@@ -36,6 +47,7 @@ impl Key {
     ghost use Rattle.toml_edit_model.specs.SlotLists.{new_key, reset_key};
     ghost use Rattle.toml_edit_model.specs.Spelling.{SpellsKey};
     ghost use Rattle.toml_edit_repr.specs.LendingParts.{LendsLeaf, LendsDotted};
+    ghost use Rattle.toml_edit_repr.specs.Views.{range_of};
 
     /// A key of this name, with the default spelling and no decor.
     pub fn new(text: String) -> Key
@@ -125,6 +137,31 @@ impl Key {
         self.repr = None;
         self.leaf.clear();
         self.dotted.clear();
+    }
+
+    /// The bytes of the source that the spelling spans, or `None` at a text or at the default spelling.
+    pub fn span(&self) -> Option<Range<usize>>
+        ensures { result ≡ option_and_then range_of self.now.spelling }
+    {
+        self.as_repr()?.span()
+    }
+
+    /// The key with this decor where it ends a path.
+    pub fn with_leaf_decor(self, decor: Decor) -> Key
+        ensures { result ≡ record self { leaf = decor } }
+    {
+        let mut key = self;
+        key.leaf = decor;
+        key
+    }
+
+    /// The key with this decor where it ends no path.
+    pub fn with_dotted_decor(self, decor: Decor) -> Key
+        ensures { result ≡ record self { dotted = decor } }
+    {
+        let mut key = self;
+        key.dotted = decor;
+        key
     }
 
     /// Turns spans of `source` into the texts that stand there. The only error is want of memory, and then spans may be left: the

@@ -1,10 +1,11 @@
 //! Texts that are kept beside values, as texts of their own or as spans of the source, and decors.
-ghost use Rattle.std.specs.Prelude.{◌≡◌, [], None, Some, IsOk, IsTrue, IfOk, OnOk, OnErr, option_map, string_bytes};
+ghost use Rattle.std.specs.Prelude.{◌≡◌, ◌↔◌, [], None, Some, IsOk, IsTrue, IfOk, OnOk, OnErr, option_map, string_bytes};
 ghost use Rattle.std.specs.Option.{option_copied};
 ghost use Rattle.toml_edit_model.specs.Tree.{owned, span, unset};
 ghost use Rattle.toml_edit_model.specs.TreeOf.{RawFits, OptionFits, DecorFits, owned_raw, owned_decor};
 
 use std::alloc::{AllocError, Global};
+use std::hash::{Hash, Hasher};
 use std::marker::Model;
 use std::ops::Range;
 
@@ -36,7 +37,7 @@ impl Model for RawString {
 }
 
 impl RawString {
-    ghost use Rattle.toml_edit_repr.specs.Views.{text_of, range_of, is_free};
+    ghost use Rattle.toml_edit_repr.specs.Views.{text_of, range_of, is_free, is_free_raw};
 
     /// A copy of the text. The only error is want of memory. The empty text and one space take none.
     pub fn from_text(alloc: Global, text: &str) -> Mem<RawString>
@@ -76,6 +77,21 @@ impl RawString {
             Inner::Space => Some(" "),
             Inner::Text(text) => Some(text.as_str()),
             Inner::Span(_, _) => None,
+        }
+    }
+
+    /// An equal copy. The only error is want of memory. The empty text, one space and a span take none.
+    pub fn clone(&self, alloc: Global) -> Mem<RawString>
+        ensures equal { IfOk result (λ copy. copy ≡ self.now) }
+        ensures free { IsTrue (is_free_raw self.now) → IsOk result }
+    {
+        match &self.inner {
+            Inner::Empty => Ok(RawString::default()),
+            Inner::Space => Ok(RawString {
+                inner: Inner::Space,
+            }),
+            Inner::Text(text) => RawString::from_text(alloc, text.as_str()),
+            Inner::Span(start, end) => Ok(RawString::from_span(*start, *end)),
         }
     }
 
@@ -121,6 +137,58 @@ impl Default for RawString {
     }
 }
 
+/// Two texts are equal if they are one text, however they are kept; two spans, if they are one span.
+impl PartialEq for RawString {
+    ghost use Rattle.toml_edit_repr.specs.Sameness.{same_raw};
+    ghost use Rattle.toml_edit_repr.specs.SamenessLaws.{same_raw_partial_equiv};
+
+    ghost eq = { same_raw };
+
+    ghost laws = { same_raw_partial_equiv };
+
+    fn eq(&self, other: &RawString) -> bool
+        ensures answer { result ≡ same_raw self.now other.now }
+        ensures exact { IsTrue result ↔ (self.now ≡ other.now) }
+    {
+        match (&self.inner, &other.inner) {
+            (Inner::Span(start, end), Inner::Span(from, to)) => start == from && end == to,
+            _ => match (self.as_str(), other.as_str()) {
+                (Some(text), Some(another)) => text == another,
+                _ => false,
+            },
+        }
+    }
+}
+
+impl Eq for RawString {
+    ghost use Rattle.toml_edit_repr.specs.SamenessLaws.{same_raw_equiv};
+
+    ghost laws = { same_raw_equiv };
+}
+
+impl Hash for RawString {
+    ghost use Rattle.toml_edit_repr.specs.Sameness.{raw_hash_input};
+    ghost use Rattle.toml_edit_repr.specs.SamenessLaws.{raw_hash_respects};
+
+    ghost hash_input = { raw_hash_input };
+
+    ghost respects_eq = { raw_hash_respects };
+
+    fn hash<H: Hasher>(&self, state: &mut H) {
+        match &self.inner {
+            Inner::Span(start, end) => {
+                state.write_u8(1);
+                start.hash(state);
+                end.hash(state);
+            }
+            _ => {
+                state.write_u8(0);
+                self.as_str().unwrap_or("").hash(state);
+            }
+        }
+    }
+}
+
 /// What stands before and after a key or a value. A side that is unset is printed as its place wants it.
 #[derive(Debug, Drop)]
 pub struct Decor {
@@ -147,6 +215,15 @@ fn despan_side(alloc: Global, side: &mut Option<RawString>, source: &str) -> Mem
     }
 }
 
+fn clone_side(alloc: Global, side: &Option<RawString>) -> Mem<Option<RawString>>
+    ensures { IfOk result (λ copy. copy ≡ side.now) }
+{
+    match side {
+        None => Ok(None),
+        Some(raw) => Ok(Some(raw.clone(alloc)?)),
+    }
+}
+
 impl Decor {
     /// Both sides.
     pub fn new(prefix: RawString, suffix: RawString) -> Decor
@@ -156,6 +233,16 @@ impl Decor {
             prefix: Some(prefix),
             suffix: Some(suffix),
         }
+    }
+
+    /// An equal copy. The only error is want of memory.
+    pub fn clone(&self, alloc: Global) -> Mem<Decor>
+        ensures { IfOk result (λ copy. copy ≡ self.now) }
+    {
+        Ok(Decor {
+            prefix: clone_side(alloc, &self.prefix)?,
+            suffix: clone_side(alloc, &self.suffix)?,
+        })
     }
 
     /// Unsets both sides.
@@ -213,5 +300,42 @@ impl Default for Decor {
             prefix: None,
             suffix: None,
         }
+    }
+}
+
+/// Two decors are equal if both of their sides are. An unset side differs from an empty one.
+impl PartialEq for Decor {
+    ghost use Rattle.toml_edit_repr.specs.Sameness.{same_decor};
+    ghost use Rattle.toml_edit_repr.specs.SamenessLaws.{same_decor_partial_equiv};
+
+    ghost eq = { same_decor };
+
+    ghost laws = { same_decor_partial_equiv };
+
+    fn eq(&self, other: &Decor) -> bool
+        ensures answer { result ≡ same_decor self.now other.now }
+        ensures exact { IsTrue result ↔ (self.now ≡ other.now) }
+    {
+        self.prefix == other.prefix && self.suffix == other.suffix
+    }
+}
+
+impl Eq for Decor {
+    ghost use Rattle.toml_edit_repr.specs.SamenessLaws.{same_decor_equiv};
+
+    ghost laws = { same_decor_equiv };
+}
+
+impl Hash for Decor {
+    ghost use Rattle.toml_edit_repr.specs.Sameness.{decor_hash_input};
+    ghost use Rattle.toml_edit_repr.specs.SamenessLaws.{decor_hash_respects};
+
+    ghost hash_input = { decor_hash_input };
+
+    ghost respects_eq = { decor_hash_respects };
+
+    fn hash<H: Hasher>(&self, state: &mut H) {
+        self.prefix.hash(state);
+        self.suffix.hash(state);
     }
 }

@@ -1,13 +1,24 @@
 //! Spellings, and scalars with their spelling and their decor.
-ghost use Rattle.std.specs.Prelude.{◌≡◌, None, Some, OnOk, OnErr, option_map};
+ghost use Rattle.std.specs.Prelude.{◌≡◌, ◌↔◌, IsTrue, None, Some, IsSome, IsOkAnd, IfOk, OnOk, OnErr, option_map, option_and_then, string_bytes};
 ghost use Rattle.std.specs.Option.{option_copied};
-ghost use Rattle.toml_edit_model.specs.Tree.{owned, span, unset, HasTrueSpelling};
+ghost use Rattle.std.specs.Cow.{cow_str_bytes, IsBorrowedStr};
+ghost use Rattle.std.specs.Fmt.{WritesOnOk};
+ghost use Rattle.toml_edit_model.specs.DefaultSpelling.{default_spelling};
+ghost use Rattle.toml_edit_model.specs.Scalars.{integer};
+ghost use Rattle.toml_edit_model.specs.Spelling.{SpellsInRange};
+ghost use Rattle.toml_edit_model.specs.Tree.{owned, span, unset, HasTrueSpelling, scalar_text};
 ghost use Rattle.toml_edit_model.specs.TreeOf.{RawFits, OptionFits, DecorFits, owned_raw, owned_decor};
 
 use crate::raw_string::{Decor, Mem, RawString};
+use crate::write::{spelling_text, write_scalar, write_side};
 use std::alloc::Global;
+use std::borrow::CowStr;
+use std::fmt;
+use std::fmt::{Formatter, Write};
+use std::hash::{Hash, Hasher};
 use std::marker::Model;
 use std::ops::Range;
+use toml_edit_syntax::write_string;
 
 /// The spelling of a scalar or a key: a text, or a span of the source.
 #[derive(Debug, Drop)]
@@ -33,6 +44,13 @@ impl Repr {
         Repr { raw }
     }
 
+    /// An equal copy. The only error is want of memory.
+    pub fn clone(&self, alloc: Global) -> Mem<Repr>
+        ensures { IfOk result (λ copy. copy ≡ self.now) }
+    {
+        Ok(Repr::new(self.raw.clone(alloc)?))
+    }
+
     /// The text or the span.
     pub fn as_raw(&self) -> &RawString
         ensures { result.now ≡ self.now }
@@ -48,6 +66,42 @@ impl Repr {
     }
 }
 
+/// Two spellings are equal if they are one text, or one span.
+impl PartialEq for Repr {
+    ghost use Rattle.toml_edit_repr.specs.Sameness.{same_raw};
+    ghost use Rattle.toml_edit_repr.specs.SamenessLaws.{same_raw_partial_equiv};
+
+    ghost eq = { same_raw };
+
+    ghost laws = { same_raw_partial_equiv };
+
+    fn eq(&self, other: &Repr) -> bool
+        ensures answer { result ≡ same_raw self.now other.now }
+        ensures exact { IsTrue result ↔ (self.now ≡ other.now) }
+    {
+        self.raw == other.raw
+    }
+}
+
+impl Eq for Repr {
+    ghost use Rattle.toml_edit_repr.specs.SamenessLaws.{same_raw_equiv};
+
+    ghost laws = { same_raw_equiv };
+}
+
+impl Hash for Repr {
+    ghost use Rattle.toml_edit_repr.specs.Sameness.{raw_hash_input};
+    ghost use Rattle.toml_edit_repr.specs.SamenessLaws.{raw_hash_respects};
+
+    ghost hash_input = { raw_hash_input };
+
+    ghost respects_eq = { raw_hash_respects };
+
+    fn hash<H: Hasher>(&self, state: &mut H) {
+        self.raw.hash(state);
+    }
+}
+
 // Turns a spelling that spans `source` into its text.
 pub(crate) fn despan_spelling(alloc: Global, repr: &mut Option<Repr>, source: &str) -> Mem<()>
     requires { OptionFits source.now repr.old }
@@ -60,12 +114,87 @@ pub(crate) fn despan_spelling(alloc: Global, repr: &mut Option<Repr>, source: &s
     }
 }
 
+fn clone_spelling(alloc: Global, repr: &Option<Repr>) -> Mem<Option<Repr>>
+    ensures { IfOk result (λ copy. copy ≡ repr.now) }
+{
+    match repr {
+        None => Ok(None),
+        Some(repr) => Ok(Some(repr.clone(alloc)?)),
+    }
+}
+
+/// A value that is a scalar.
+pub trait ScalarValue {
+    ghost use Rattle.toml_edit_model.specs.Scalars.{Scalar};
+
+    // the scalar that the value is
+    ghost scalar: { Self → Scalar };
+
+    /// Writes the default spelling of the value. It takes no memory.
+    fn write_default<W: Write>(&self, f: &mut Formatter<W>) -> fmt::Result
+        ensures { WritesOnOk W.write_str_gives f.old result (default_spelling (scalar self.now)) f.new };
+
+    /// An equal copy. The only error is want of memory.
+    fn copy(&self, alloc: Global) -> Mem<Self>
+        ensures { IfOk result (λ copy. scalar copy ≡ scalar self.now) };
+}
+
 /// A value that has a spelling.
-pub trait ValueRepr {
+pub trait ValueRepr: ScalarValue {
     ghost use Rattle.std.specs.Prelude.{List, ℕ};
 
     // the text spells the value, and in range
     ghost spells: { List ℕ → Self → Type 0 };
+
+    /// The default spelling of the value, as a text, which spells it. The only error is want of memory.
+    fn to_repr(&self, alloc: Global) -> Mem<Repr>
+        ensures default { IfOk result (λ repr. repr ≡ owned (default_spelling (Self.scalar self.now))) }
+        ensures spelled { ∥ spells (default_spelling (Self.scalar self.now)) self.now ∥₁ };
+
+    // the spellings of the value are those of its scalar that are in range
+    ghost spells_scalar: { (t : List ℕ) (x : Self) → spells t x ↔ SpellsInRange (Self.scalar x) t };
+}
+
+/// The default spelling of a value, to be written.
+#[derive(Drop)]
+struct Spelled<'a, T>(&'a T);
+
+impl<T: ScalarValue> fmt::Display for Spelled<'_, T> {
+    ghost use Rattle.std.specs.Prelude.{Some};
+    ghost use Rattle.toml_edit_model.specs.DefaultSpelling.{default_spelling};
+
+    ghost output = { λ spelled. Some (default_spelling (T.scalar spelled.0.now)) };
+
+    fn fmt<W: Write>(&self, f: &mut Formatter<W>) -> fmt::Result {
+        self.0.write_default(f)
+    }
+}
+
+// The default spelling as a text.
+fn default_text<T: ScalarValue>(alloc: Global, value: &T) -> Mem<String>
+    ensures { IfOk result (λ text. string_bytes text ≡ default_spelling (T.scalar value.now)) }
+{
+    format!(in alloc; "{}", Spelled(value))
+}
+
+pub(crate) fn default_repr_of<T: ScalarValue>(alloc: Global, value: &T) -> Mem<Repr>
+    ensures { IfOk result (λ repr. repr ≡ owned (default_spelling (T.scalar value.now))) }
+{
+    Ok(Repr::new(RawString::from(default_text(alloc, value)?)))
+}
+
+impl ScalarValue for String {
+    ghost use Rattle.toml_edit_model.specs.Scalars.{string};
+
+    ghost scalar = { λ value. string (string_bytes value) };
+
+    fn write_default<W: Write>(&self, f: &mut Formatter<W>) -> fmt::Result {
+        write_string(f, self.as_str())
+    }
+
+    fn copy(&self, alloc: Global) -> Mem<String> {
+        String::from_str(alloc, self.as_str())
+    }
 }
 
 impl ValueRepr for String {
@@ -74,6 +203,34 @@ impl ValueRepr for String {
     ghost use Rattle.toml_edit_model.specs.Spelling.{SpellsInRange};
 
     ghost spells = { λ t value. SpellsInRange (string (string_bytes value)) t };
+
+    ghost spells_scalar = { λ t x. (λ spelled. spelled, λ spelled. spelled) };
+
+    fn to_repr(&self, alloc: Global) -> Mem<Repr> {
+        default_repr_of(alloc, self)
+    }
+}
+
+// By value, so that the range of the integer is known.
+fn integer_repr(alloc: Global, value: i64) -> Mem<Repr>
+    ensures default { IfOk result (λ repr. repr ≡ owned (default_spelling (integer value))) }
+    ensures spelled { ∥ SpellsInRange (integer value) (default_spelling (integer value)) ∥₁ }
+{
+    default_repr_of(alloc, &value)
+}
+
+impl ScalarValue for i64 {
+    ghost use Rattle.toml_edit_model.specs.Scalars.{integer};
+
+    ghost scalar = { integer };
+
+    fn write_default<W: Write>(&self, f: &mut Formatter<W>) -> fmt::Result {
+        write!(f, "{}", *self)
+    }
+
+    fn copy(&self, _alloc: Global) -> Mem<i64> {
+        Ok(*self)
+    }
 }
 
 impl ValueRepr for i64 {
@@ -81,6 +238,26 @@ impl ValueRepr for i64 {
     ghost use Rattle.toml_edit_model.specs.Spelling.{SpellsInRange};
 
     ghost spells = { λ t value. SpellsInRange (integer value) t };
+
+    ghost spells_scalar = { λ t x. (λ spelled. spelled, λ spelled. spelled) };
+
+    fn to_repr(&self, alloc: Global) -> Mem<Repr> {
+        integer_repr(alloc, *self)
+    }
+}
+
+impl ScalarValue for bool {
+    ghost use Rattle.toml_edit_model.specs.Scalars.{boolean};
+
+    ghost scalar = { boolean };
+
+    fn write_default<W: Write>(&self, f: &mut Formatter<W>) -> fmt::Result {
+        f.write_str(if *self { "true" } else { "false" })
+    }
+
+    fn copy(&self, _alloc: Global) -> Mem<bool> {
+        Ok(*self)
+    }
 }
 
 impl ValueRepr for bool {
@@ -88,6 +265,12 @@ impl ValueRepr for bool {
     ghost use Rattle.toml_edit_model.specs.Spelling.{SpellsInRange};
 
     ghost spells = { λ t value. SpellsInRange (boolean value) t };
+
+    ghost spells_scalar = { λ t x. (λ spelled. spelled, λ spelled. spelled) };
+
+    fn to_repr(&self, alloc: Global) -> Mem<Repr> {
+        default_repr_of(alloc, self)
+    }
 }
 
 /// A scalar with its spelling and its decor. A spelling that is a text spells the value.
@@ -109,9 +292,59 @@ impl<T: ValueRepr> Model for Formatted<T> {
     ghost invariant = { λ a. ∥ HasTrueSpelling (λ t. T.spells t a.value) a.repr ∥₁ };
 }
 
+/// Two scalars are equal if their values, their spellings and their decors are.
+impl<T: ValueRepr + PartialEq> PartialEq for Formatted<T> {
+    ghost use Rattle.toml_edit_repr.specs.Sameness.{same_formatted};
+    ghost use Rattle.toml_edit_repr.specs.SamenessLaws.{same_formatted_partial_equiv};
+
+    ghost eq = { same_formatted T.eq };
+
+    ghost laws = { same_formatted_partial_equiv T.laws };
+
+    fn eq(&self, other: &Formatted<T>) -> bool {
+        self.value == other.value && (self.repr == other.repr && self.decor == other.decor)
+    }
+}
+
+impl<T: ValueRepr + Eq> Eq for Formatted<T> {
+    ghost use Rattle.toml_edit_repr.specs.SamenessLaws.{same_formatted_equiv};
+
+    ghost laws = { same_formatted_equiv T.Eq.laws };
+}
+
+impl<T: ValueRepr + Hash> Hash for Formatted<T> {
+    ghost use Rattle.toml_edit_repr.specs.Sameness.{formatted_hash_input};
+    ghost use Rattle.toml_edit_repr.specs.SamenessLaws.{formatted_hash_respects};
+
+    ghost hash_input = { formatted_hash_input T.hash_input };
+
+    ghost respects_eq = { formatted_hash_respects T.respects_eq };
+
+    fn hash<H: Hasher>(&self, state: &mut H) {
+        self.value.hash(state);
+        self.repr.hash(state);
+        self.decor.hash(state);
+    }
+}
+
+/// The spelling that is shown, between the shown sides of the decor. A side that is unset or a span is empty.
+impl<T: ValueRepr> fmt::Display for Formatted<T> {
+    ghost use Rattle.std.specs.Prelude.{Some};
+    ghost use Rattle.toml_edit_repr.specs.Shown.{formatted_text};
+
+    ghost output = { λ scalar. Some (formatted_text T.scalar scalar) };
+
+    fn fmt<W: Write>(&self, f: &mut Formatter<W>) -> fmt::Result {
+        write_side(f, self.decor.prefix(), "")?;
+        write_scalar(f, self)?;
+        write_side(f, self.decor.suffix(), "")
+    }
+}
+
 impl<T: ValueRepr> Formatted<T> {
     ghost use Rattle.std.specs.Borrow.{sem};
     ghost use Rattle.toml_edit_repr.specs.LendingParts.{LendsDecor};
+    ghost use Rattle.toml_edit_repr.specs.Views.{range_of, text_of};
 
     /// The value with the default spelling and no decor.
     pub fn new(value: T) -> Formatted<T>
@@ -133,6 +366,19 @@ impl<T: ValueRepr> Formatted<T> {
             repr: Some(Repr::new(RawString::from_span(start, end))),
             decor,
         }
+    }
+
+    /// An equal copy: of the scalar, its spelling and its decor. The only error is want of memory.
+    pub fn clone(&self, alloc: Global) -> Mem<Formatted<T>>
+        ensures value { IfOk result (λ copy. T.scalar copy.value ≡ T.scalar self.now.value) }
+        ensures repr { IfOk result (λ copy. copy.repr ≡ self.now.repr) }
+        ensures decor { IfOk result (λ copy. copy.decor ≡ self.now.decor) }
+    {
+        let repr = clone_spelling(alloc, &self.repr)?;
+        let decor = self.decor.clone(alloc)?;
+        // the value is copied last, since it need not be one that can be dropped
+        let value = self.value.copy(alloc)?;
+        Ok(Formatted { value, repr, decor })
     }
 
     /// The value. A spelling that is a text spells it.
@@ -160,6 +406,33 @@ impl<T: ValueRepr> Formatted<T> {
         self.repr.as_ref()
     }
 
+    /// The default spelling of the value, which spells it. The only error is want of memory.
+    pub fn default_repr(&self, alloc: Global) -> Mem<Repr>
+        ensures default { IfOk result (λ repr. repr ≡ owned (default_spelling (T.scalar self.now.value))) }
+        ensures spelled { ∥ T.spells (default_spelling (T.scalar self.now.value)) self.now.value ∥₁ }
+    {
+        self.value.to_repr(alloc)
+    }
+
+    /// The spelling that is shown: the own one, if it is a text, and else the default one. The only error is want of memory; a
+    /// spelling that is a text takes none.
+    pub fn display_repr(&self, alloc: Global) -> Mem<CowStr<'_>>
+        ensures text { IfOk result (λ text. cow_str_bytes text ≡ scalar_text (T.scalar self.now.value) self.now.repr) }
+        ensures free { IsSome (option_and_then text_of self.now.repr) → IsOkAnd result IsBorrowedStr }
+    {
+        match spelling_text(self.as_repr()) {
+            Some(text) => Ok(CowStr::Borrowed(text)),
+            None => Ok(CowStr::Owned(default_text(alloc, &self.value)?)),
+        }
+    }
+
+    /// The bytes of the source that the spelling spans, or `None` at a text or at no spelling.
+    pub fn span(&self) -> Option<Range<usize>>
+        ensures { result ≡ option_and_then range_of self.now.repr }
+    {
+        self.as_repr()?.span()
+    }
+
     /// What stands around the value.
     pub fn decor(&self) -> &Decor
         ensures { result.now ≡ self.now.decor }
@@ -169,7 +442,7 @@ impl<T: ValueRepr> Formatted<T> {
 
     /// What stands around the value, to be changed.
     pub fn decor_mut(&mut self) -> &mut Decor
-        ensures* writes_back { sem 𝓛 (LendsDecor T.row (record { spells = T.spells }) self.entry result) }
+        ensures* writes_back { sem 𝓛 (LendsDecor T.row (record { spells = T.spells }) (record { scalar = T.scalar }) self.entry result) }
         ensures decor { result.now ≡ self.old.decor }
     {
         &mut self.decor

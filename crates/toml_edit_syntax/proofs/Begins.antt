@@ -1,13 +1,17 @@
 -- With which bytes the parts of a line begin.
 use Rattle.std.proofs.Common.{◌≡◌, ℕ, ◌<◌, Bool, true, false, ◌==◌, ◌||◌, List, [], ◌∷◌, ◌++◌, refl, sym, ap, ◌∙◌, inl, inr, arith, append_assoc, append-nil}
 use Rattle.std.specs.List.{flat_map, AllByRecursion, list_all}
+use Rattle.std.specs.Char.{is_ascii_digit}
 use Rattle.std.proofs.lemmas.Bool.{and_parts, false≢true}
 use Rattle.std.proofs.lemmas.Bool.Decides.{nat_tests}
 use Rattle.toml_edit_model.specs.Text.{Text, is_empty}
 use Rattle.toml_edit_model.specs.Trivia.{is_blank, Each, lf, crlf, comment, Piece, blank, break, remark, piece_text, IsPiece, IsWhiteSpace, IsWholeTrivia, IsNewline, IsLineEnd, IsFinalTrivia}
 use Rattle.toml_edit_model.specs.Scalars.{Scalar, string, integer, float, boolean, datetime}
-use Rattle.toml_edit_model.specs.Spelling.{is_bare_byte, SpellsKey, Digits, IsDigits, digits_text, plus, minus, unsigned, hexadecimal, octal, binary, Spells, SpellsInteger}
-use Rattle.toml_edit_model.specs.Flat.{IsOneLineString, IsFlatScalar}
+use Rattle.toml_edit_model.specs.Spelling.{is_bare_byte, SpellsKey, Digits, IsDigits, digits_text, plus, minus, unsigned, hexadecimal, octal, binary, Spells, SpellsInteger, IsFloat}
+use Rattle.toml_edit_datetime.specs.FloatReading.{is_float_byte}
+use Rattle.toml_edit_datetime.proofs.FloatLaws.{float_bytes, float-some}
+use Rattle.toml_edit_syntax.proofs.StringLaws.{IsOneLineString}
+use Rattle.toml_edit_syntax.proofs.WordLaws.{each_weaken, datetime_first}
 use Rattle.toml_edit_syntax.specs.Runs.{first, is_word_byte}
 
 -- a byte with which a key or a scalar begins
@@ -44,13 +48,27 @@ begins_integer z t (inr (hexadecimal, ds, is, value, parts)) = (48, _, parts, re
 begins_integer z t (inr (octal, ds, is, value, parts)) = (48, _, parts, refl)
 begins_integer z t (inr (binary, ds, is, value, parts)) = (48, _, parts, refl)
 
-pub scalar_begins : (s : Scalar) (t : Text) → Spells s t → IsFlatScalar s t → Begins t
-scalar_begins (string v) t is flat = begins_string v t flat
-scalar_begins (integer z) t is flat = begins_integer z t is
-scalar_begins (boolean true) t is flat = (116, _, is, refl)
-scalar_begins (boolean false) t is flat = (102, _, is, refl)
-scalar_begins (float x) t is flat = absurd flat
-scalar_begins (datetime d) t is flat = absurd flat
+begins_word : (t : Text) → Each is_word_byte t → (t ≡ [] → ⊥) → Begins t
+begins_word [] each some = absurd (some refl)
+begins_word (c ∷ cs) each some = (c, cs, refl, rw (and_parts (is_word_byte c) (list_all is_word_byte cs) each).0 refl)
+
+begins_digit : (t : Text) → is_ascii_digit (first t) ≡ true → Begins t
+begins_digit [] digit = absurd cc
+begins_digit (c ∷ cs) digit = (c, cs, refl, grind (arith, nat_tests))
+
+-- a float is a word
+pub float_each : (t : Text) → IsFloat t → Each is_word_byte t
+float_each t is = each_weaken is_float_byte is_word_byte (λ c h. grind (arith, nat_tests)) t (float_bytes t is)
+
+pub scalar_begins : (s : Scalar) (t : Text) → Spells s t → Begins t
+scalar_begins (string v) t (inl line) = begins_string v t line
+scalar_begins (string v) t (inr (inl (first_line, parts, each, follows, newline, value, whole))) = (34, _, whole, refl)
+scalar_begins (string v) t (inr (inr (first_line, parts, each, follows, newline, value, whole))) = (39, _, whole, refl)
+scalar_begins (integer z) t is = begins_integer z t is
+scalar_begins (boolean true) t is = (116, _, is, refl)
+scalar_begins (boolean false) t is = (102, _, is, refl)
+scalar_begins (float x) t (is, same) = begins_word t (float_each t is) (float-some t is)
+scalar_begins (datetime d) t is = begins_digit t (datetime_first d t is)
 
 -- a byte that fails where no key or scalar can begin
 pub begins_not : (p : ℕ → Bool) (t rest : Text) → ((c : ℕ) → is_opening c ≡ true → p c ≡ false) → Begins t → p (first (t ++ rest)) ≡ false

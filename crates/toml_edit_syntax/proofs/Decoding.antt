@@ -1,14 +1,17 @@
 -- Whole texts: what is decoded is spelled, and what is spelled is decoded.
-use Rattle.std.proofs.Common.{◌≡◌, true, false, cond, List, [], ◌∷◌, Option, Some, None, Result, Ok, Err, refl, sym, ap, ◌∙◌, inl, inr, append-nil}
+use Rattle.std.proofs.Common.{◌≡◌, Bool, true, false, cond, List, [], ◌∷◌, Option, Some, None, Result, Ok, Err, refl, sym, ap, ◌∙◌, inl, inr, append-nil}
 use Rattle.std.specs.Prelude.{option_map, IfOk, IfSome, IsSomeAnd, MatchOption}
+use Rattle.std.specs.Result.{result_ok}
 use Rattle.std.proofs.lemmas.Bool.{cases_Bool}
 use Rattle.toml_edit_model.specs.Text.{Text, is_empty}
 use Rattle.toml_edit_model.specs.Scalars as scalars
-use Rattle.toml_edit_model.specs.Spelling.{SpellsKey, Spells, is_in_range}
-use Rattle.toml_edit_model.specs.Flat.{IsFlatScalar}
-use Rattle.toml_edit_syntax.specs.Decoded.{IsFlatSpelling}
-use Rattle.toml_edit_syntax.specs.Tokens.{Read, key_at, scalar_at, whole, ranged}
+use Rattle.toml_edit_model.specs.Spelling.{SpellsKey, Spells, SpellsDatetime, is_in_range, SpellsInRange}
+use Rattle.toml_edit_datetime.specs.DatetimeReading.{datetime_of}
+use Rattle.toml_edit_syntax.specs.Decoded.{IsSpelling}
+use Rattle.toml_edit_syntax.specs.Tokens.{Read, key_at, whole, ranged}
+use Rattle.toml_edit_syntax.specs.ScalarReading.{scalar_at}
 use Rattle.toml_edit_syntax.proofs.Steps.{bind_some, map_some, guard_some}
+use Rattle.toml_edit_datetime.proofs.DatetimeLaws.{datetime_takes, datetime_again}
 use Rattle.toml_edit_syntax.proofs.TokenLaws.{key_takes, key_again, scalar_takes, scalar_again}
 
 -- what holds of the value in an `Ok`
@@ -52,19 +55,19 @@ module _ {S : Type 0} (f : S → scalars.Scalar) (t : Text) where
       (is ∙ ap Some same, ap (λ (x : scalars.Scalar). is_in_range x t) (sym same) ∙ fits)
 
   -- a scalar that was decoded is spelled by the text, and in range
-  pub scalar_found : (o : Option S) → option_map f o ≡ ranged t (whole (scalar_at t)) → IfSome o (λ s. IsFlatSpelling t (f s))
+  pub scalar_found : (o : Option S) → option_map f o ≡ ranged t (whole (scalar_at t)) → IfSome o (λ s. IsSpelling t (f s))
   scalar_found None e = tt
   scalar_found (Some s) e =
       let (read, fits) = in_range (whole (scalar_at t)) (f s) (sym e) in
-      let (spelled, spells, flat, parts) = scalar_takes t [] (f s) (whole_some (scalar_at t) (f s) read) in
+      let (spelled, spells, parts) = scalar_takes t [] (f s) (whole_some (scalar_at t) (f s) read) in
       let same : t ≡ spelled = parts ∙ append-nil spelled in
-      record { spells = rw same spells; flat = rw same flat; in_range = fits }
+      record { spells = rw same spells; in_range = fits }
 
   -- a scalar that the text spells is decoded, unless it is out of range
-  pub scalar_only : (o : Option S) → option_map f o ≡ ranged t (whole (scalar_at t)) → (s : scalars.Scalar) → Spells s t → IsFlatScalar s t
+  pub scalar_only : (o : Option S) → option_map f o ≡ ranged t (whole (scalar_at t)) → (s : scalars.Scalar) → Spells s t
       → MatchOption o (is_in_range s t ≡ false) (λ x. s ≡ f x)
-  scalar_only o e s spells flat =
-      let found : scalar_at t ≡ Some (s, []) = ap scalar_at (sym (append-nil t)) ∙ scalar_again s t [] spells flat refl in
+  scalar_only o e s spells =
+      let found : scalar_at t ≡ Some (s, []) = ap scalar_at (sym (append-nil t)) ∙ scalar_again s t [] spells refl in
       let known : option_map f o ≡ cond (is_in_range s t) (Some s) None = e ∙ rw found refl in
       elim (cases_Bool (is_in_range s t)) [
         | inl fits ↦ let (x, is, same) = map_some o f s (known ∙ rw fits refl) in rw is (sym same)
@@ -74,3 +77,25 @@ module _ {S : Type 0} (f : S → scalars.Scalar) (t : Text) where
       none_known : (o : Option S) → option_map f o ≡ None → is_in_range s t ≡ false → MatchOption o (is_in_range s t ≡ false) (λ x. s ≡ f x)
       none_known None e past = past
       none_known (Some x) e past = absurd cc
+
+module _ (t : Text) where
+  read_range : (s : scalars.Scalar) (b : Bool) → is_in_range s t ≡ b → ranged t (Some s) ≡ cond b (Some s) None
+  read_range s b e = ap (λ (x : Bool). cond x (Some s) None) e
+
+  out_of_range : (o : Option scalars.Datetime) → datetime_of t ≡ o → ((d : scalars.Datetime) → SpellsInRange (scalars.datetime d) t → ⊥)
+      → None ≡ ranged t (option_map (λ d. scalars.datetime d) o)
+  out_of_range None e none = refl
+  out_of_range (Some d) e none =
+      elim (cases_Bool (is_in_range (scalars.datetime d) t)) [
+        | inl fits ↦ absurd (none d (datetime_takes t d e, fits))
+        | inr past ↦ sym (read_range (scalars.datetime d) false past)
+      ]
+
+  -- a date or a time that was read is what the text reads as
+  pub datetime_read : {D E : Type 0} (view : D → scalars.Datetime) (r : Result D E) → IfOk r (λ d. SpellsInRange (scalars.datetime (view d)) t)
+      → ((d : scalars.Datetime) → SpellsDatetime d t → is_in_range (scalars.datetime d) t ≡ true → option_map view (result_ok r) ≡ Some d)
+      → option_map (λ d. scalars.datetime (view d)) (result_ok r) ≡ ranged t (option_map (λ d. scalars.datetime d) (datetime_of t))
+  datetime_read view (Ok d) (spells, fits) only =
+      sym (ap (λ (o : Option scalars.Datetime). ranged t (option_map (λ d. scalars.datetime d) o)) (datetime_again t (view d) spells) ∙ read_range (scalars.datetime (view d)) true fits)
+  datetime_read {D} view (Err e) found only =
+      out_of_range (datetime_of t) refl (λ d is. absurd (cc (only d is.0 is.1)))

@@ -1,13 +1,12 @@
 -- Flat documents: what reads as one is one, one is read again, and so a text has one flat cut at most.
 use Rattle.std.proofs.Common.{◌≡◌, suc, ◌<◌, Bool, true, false, cond, ◌==◌, ◌&&◌, List, [], ◌∷◌, ◌++◌, length, map, drop, Some, refl, sym, ap, subst, ◌∙◌, inl, inr, arith, eqb-true, slice_index}
-use Rattle.std.specs.List.{AllByRecursion}
 use Rattle.std.proofs.lemmas.Bool.{cases_Bool, and_parts, ne_eqb}
 use Rattle.std.proofs.lemmas.Option.{same_Some}
 use Rattle.toml_edit_model.specs.Text.{Text}
 use Rattle.toml_edit_model.specs.Trivia.{IsLineEnd, IsFinalTrivia}
 use Rattle.toml_edit_model.specs.Syntax.{mark_text, Document, document_text, Statement, IsFrame, AreStatements}
 use Rattle.toml_edit_model.specs.Spelling.{Spells}
-use Rattle.toml_edit_model.specs.Flat.{Line, line_frame, line_statement, IsFlatScalar, IsFlatLine, flat_document, IsFlatCut}
+use Rattle.toml_edit_model.specs.Flat.{Line, line_frame, line_statement, flat_document, IsFlatCut}
 use Rattle.toml_edit_syntax.specs.Runs.{first}
 use Rattle.toml_edit_syntax.specs.Reading.{lines_at, is_marked, cut_of}
 use Rattle.toml_edit_syntax.proofs.Steps.{map_some}
@@ -22,29 +21,29 @@ frame_of l is = (
   record { begins = refl; ends = refl; spelled = (is.key, tt) },
 )
 
-line_of : (l : Line) → IsFrame IsLineEnd (line_frame l) → Spells l.value l.spelling → IsFlatScalar l.value l.spelling → IsLine l
-line_of l (spaced, path) value flat =
-    record { leading = spaced.leading; key = path.spelled.0; before_equals = spaced.before_equals; after_equals = spaced.after_equals; value = value; flat = flat; trailing = spaced.trailing }
+line_of : (l : Line) → IsFrame IsLineEnd (line_frame l) → Spells l.value l.spelling → IsLine l
+line_of l (spaced, path) value =
+    record { leading = spaced.leading; key = path.spelled.0; before_equals = spaced.before_equals; after_equals = spaced.after_equals; value = value; trailing = spaced.trailing }
 
 abbrev AreFlatStatements : List Line → Text → Type 0
-AreFlatStatements ls final = AreStatements final (map line_statement ls) × IsFinalTrivia final × AllByRecursion IsFlatLine ls
+AreFlatStatements ls final = AreStatements final (map line_statement ls) × IsFinalTrivia final
 
 statements_of : (ls : List Line) (final : Text) → AreLines ls final → AreFlatStatements ls final
-statements_of [] final is = (tt, is, tt)
-statements_of (l ∷ []) final (is, inl (newline, last)) = ((frame_of l is, is.value, inl newline), last, (is.flat, tt))
+statements_of [] final is = (tt, is)
+statements_of (l ∷ []) final (is, inl (newline, last)) = ((frame_of l is, is.value, inl newline), last)
 statements_of (l ∷ []) final (is, inr (nothing, none, last)) =
     let empty : IsFinalTrivia [] = ([], [], ([], tt, refl), inl refl, refl) in
-    ((frame_of l is, is.value, inr (nothing, last)), subst IsFinalTrivia (sym last) empty, (is.flat, tt))
+    ((frame_of l is, is.value, inr (nothing, last)), subst IsFinalTrivia (sym last) empty)
 statements_of (l ∷ m ∷ ls) final (is, inl (newline, lines)) =
-    let (more, last, flat) = statements_of (m ∷ ls) final lines in
-    (((frame_of l is, is.value, newline), more), last, (is.flat, flat))
+    let (more, last) = statements_of (m ∷ ls) final lines in
+    (((frame_of l is, is.value, newline), more), last)
 statements_of (l ∷ m ∷ ls) final (is, inr (nothing, none, last)) = absurd cc
 
-lines_of : (ls : List Line) (final : Text) → AreStatements final (map line_statement ls) → IsFinalTrivia final → AllByRecursion IsFlatLine ls → AreLines ls final
-lines_of [] final is last flat = last
-lines_of (l ∷ []) final (frame, value, inl newline) last flat = (line_of l frame value flat.0, inl (newline, last))
-lines_of (l ∷ []) final (frame, value, inr (nothing, empty)) last flat = (line_of l frame value flat.0, inr (nothing, refl, empty))
-lines_of (l ∷ m ∷ ls) final ((frame, value, newline), more) last flat = (line_of l frame value flat.0, inl (newline, lines_of (m ∷ ls) final more last flat.1))
+lines_of : (ls : List Line) (final : Text) → AreStatements final (map line_statement ls) → IsFinalTrivia final → AreLines ls final
+lines_of [] final is last = last
+lines_of (l ∷ []) final (frame, value, inl newline) last = (line_of l frame value, inl (newline, last))
+lines_of (l ∷ []) final (frame, value, inr (nothing, empty)) last = (line_of l frame value, inr (nothing, refl, empty))
+lines_of (l ∷ m ∷ ls) final ((frame, value, newline), more) last = (line_of l frame value, inl (newline, lines_of (m ∷ ls) final more last))
 
 -- ---- whole texts
 
@@ -69,8 +68,8 @@ marks t rest e =
 -- a flat document, from its lines and its text
 cut_made : (marked : Bool) (ls : List Line) (final t : Text) → AreLines ls final → t ≡ mark_text marked ++ (lines_text ls ++ final) → IsFlatCut (flat_document marked ls final) t
 cut_made marked ls final t lines whole =
-    let (statements, last, flat) = statements_of ls final lines in
-    record { cut = ((statements, last), flat_text marked ls final ∙ sym whole); flat = record { lines = ls; flat = flat; statements = refl } }
+    let (statements, last) = statements_of ls final lines in
+    record { cut = ((statements, last), flat_text marked ls final ∙ sym whole); flat = record { lines = ls; statements = refl } }
 
 pub cut_takes : (t : Text) (d : Document) → cut_of t ≡ Some d → IsFlatCut d t
 unfolding cut_of
@@ -94,7 +93,7 @@ cut_lines t d is =
     let ls = is.flat.lines in
     let same : d ≡ flat_document d.has_mark ls d.final = ap (λ (s : List Statement). record { has_mark = d.has_mark; statements = s; final = d.final }) is.flat.statements in
     let statements : AreStatements d.final (map line_statement ls) = subst (λ (s : List Statement). AreStatements d.final s) is.flat.statements is.cut.0.0 in
-    (ls, lines_of ls d.final statements is.cut.0.1 is.flat.flat, same, sym is.cut.1 ∙ ap document_text same ∙ flat_text d.has_mark ls d.final)
+    (ls, lines_of ls d.final statements is.cut.0.1, same, sym is.cut.1 ∙ ap document_text same ∙ flat_text d.has_mark ls d.final)
 
 pub cut_again : (t : Text) (d : Document) → IsFlatCut d t → cut_of t ≡ Some d
 cut_again t d is =

@@ -2,13 +2,16 @@ pub mod Steps
 pub mod RunLaws
 pub mod StringLaws
 pub mod NumberLaws
+pub mod BlockLaws
+pub mod BlockLoop
+pub mod WordLaws
+pub mod Begins
 pub mod TokenLaws
 pub mod BasicLoop
 pub mod NumberLoop
 pub mod Decoding
 pub mod Escaping
 pub mod TriviaLaws
-pub mod Begins
 pub mod Marks
 pub mod LineLaws
 pub mod CutLaws
@@ -17,3 +20,4 @@ pub mod PlaceLaws
 pub mod Loop
 pub mod Whole
 pub mod SpanLaws
+pub mod LoneLaws

@@ -1,5 +1,5 @@
 -- What reads as a line is one, and a line is read again.
-use Rattle.std.proofs.Common.{◌≡◌, ℕ, suc, ◌-◌, Bool, true, false, not, ◌==◌, ◌&&◌, [], ◌∷◌, ◌++◌, ◌⊎◌, length, drop, take, Some, refl, sym, ap, subst, ◌∙◌, inl, inr, arith, append_assoc, append-nil, take_at, drop_at, eqb-true}
+use Rattle.std.proofs.Common.{◌≡◌, ℕ, suc, ◌-◌, Bool, true, false, ◌==◌, ◌&&◌, [], ◌∷◌, ◌++◌, ◌⊎◌, length, drop, take, Some, refl, sym, ap, subst, ◌∙◌, inl, inr, arith, append_assoc, append-nil, take_at, drop_at, eqb-true}
 use Rattle.std.specs.List.{prefix_len, list_all}
 use Rattle.std.proofs.lemmas.Bool.{cases_Bool, and_parts}
 use Rattle.std.proofs.lemmas.Bool.Decides.{nat_tests}
@@ -8,9 +8,10 @@ use Rattle.toml_edit_model.specs.Text.{Text}
 use Rattle.toml_edit_model.specs.Trivia.{is_blank, is_visible, lf, crlf, comment, IsWhiteSpace, IsWholeTrivia, IsNewline, IsLineEnd}
 use Rattle.toml_edit_model.specs.Scalars.{Scalar}
 use Rattle.toml_edit_model.specs.Spelling.{SpellsKey, Spells}
-use Rattle.toml_edit_model.specs.Flat.{IsFlatScalar, Line}
-use Rattle.toml_edit_syntax.specs.Runs.{first, is_word_byte}
-use Rattle.toml_edit_syntax.specs.Tokens.{ends_key, ends_scalar, key_at, scalar_at}
+use Rattle.toml_edit_model.specs.Flat.{Line}
+use Rattle.toml_edit_syntax.specs.Runs.{first}
+use Rattle.toml_edit_syntax.specs.Tokens.{ends_key, key_at}
+use Rattle.toml_edit_syntax.specs.ScalarReading.{ends_scalar, scalar_at}
 use Rattle.toml_edit_syntax.specs.Reading.{front, equals_at, line_end_rest, newline_rest, entry_at}
 use Rattle.toml_edit_syntax.proofs.Steps.{chosen, bind_some, guard_some, starts, split_parts}
 use Rattle.toml_edit_syntax.proofs.RunLaws.{Each-run, prefix_len-run}
@@ -87,14 +88,20 @@ line_end_again t rest (white, last, each, inr (body, visible, is), whole) stop =
     let same : t ++ rest ≡ white ++ (35 ∷ (body ++ rest)) = ap (λ (x : Text). x ++ rest) (whole ∙ ap (λ (x : Text). white ++ x) is) ∙ append_assoc white (comment body) rest in
     rw (same, prefix_len-run is_blank white (35 ∷ (body ++ rest)) each refl, drop_at white (35 ∷ (body ++ rest)) _ refl, prefix_len-run is_visible body rest visible stop, drop_at body rest _ refl) refl
 
-line_end_first : (t rest : Text) → IsLineEnd t → is_visible (first rest) ≡ false → ends_scalar (t ++ rest) ≡ true
+-- blanks and then what ends a scalar
+blank_ends : (b rest : Text) → IsWhiteSpace b → ends_scalar rest ≡ true → ends_scalar (b ++ rest) ≡ true
+blank_ends [] rest each h = h
+blank_ends (c ∷ cs) rest each h =
+    let (white, more) = and_parts (is_blank c) (list_all is_blank cs) each in
+    rw white (blank_ends cs rest more h)
+
+line_end_first : (t rest : Text) → IsLineEnd t → ends_scalar rest ≡ true → ends_scalar (t ++ rest) ≡ true
 line_end_first t rest (white, none, each, inl empty, whole) stop =
     let same : t ++ rest ≡ white ++ rest = ap (λ (x : Text). x ++ rest) (whole ∙ ap (λ (x : Text). white ++ x) empty ∙ append-nil white) in
-    let past : not (is_word_byte (first rest)) ≡ true = grind (arith, nat_tests) in
-    rw same (blank_first (λ c. not (is_word_byte c)) white rest (λ c h. grind (arith, nat_tests)) each past)
+    ap ends_scalar same ∙ blank_ends white rest each stop
 line_end_first t rest (white, last, each, inr (body, visible, is), whole) stop =
     let same : t ++ rest ≡ white ++ (35 ∷ (body ++ rest)) = ap (λ (x : Text). x ++ rest) (whole ∙ ap (λ (x : Text). white ++ x) is) ∙ append_assoc white (comment body) rest in
-    rw same (blank_first (λ c. not (is_word_byte c)) white (35 ∷ (body ++ rest)) (λ c h. grind (arith, nat_tests)) each refl)
+    ap ends_scalar same ∙ blank_ends white (35 ∷ (body ++ rest)) each refl
 
 -- a newline, or nothing at the end
 abbrev pub IsEnding : Text → Text → Type 0
@@ -130,6 +137,11 @@ ending_first t rest (inl (lf, same)) = rw same refl
 ending_first t rest (inl (crlf, same)) = rw same refl
 ending_first t rest (inr (nothing, ended)) = rw (nothing, ended) refl
 
+ending_ends : (t rest : Text) → IsEnding t rest → ends_scalar (t ++ rest) ≡ true
+ending_ends t rest (inl (lf, same)) = rw same refl
+ending_ends t rest (inl (crlf, same)) = rw same refl
+ending_ends t rest (inr (nothing, ended)) = rw (nothing, ended) refl
+
 -- ---- a line behind its trivia
 
 abbrev pub line_text : Line → Text
@@ -142,7 +154,6 @@ pub record IsLine (l : Line) : Type 0 where
   pub before_equals : IsWhiteSpace l.before_equals
   pub after_equals : IsWhiteSpace l.after_equals
   pub value : Spells l.value l.spelling
-  pub flat : IsFlatScalar l.value l.spelling
   pub trailing : IsLineEnd l.trailing
 
 -- a line at the front, and what ends it
@@ -172,7 +183,7 @@ entry_made : (leading text : Text) (k : Text × Text) (e : (Text × Text) × Tex
 entry_made leading text k e v rest whole hk he hv hn =
     let (kt, key, kparts) = key_takes text k.1 k.0 hk in
     let (before, after, eparts) = equals_takes k.1 e.1 e.0 he in
-    let (vt, value, flat, vparts) = scalar_takes e.1 v.1 v.0 hv in
+    let (vt, value, vparts) = scalar_takes e.1 v.1 v.0 hv in
     let (lt, ends, lparts) = line_end_takes v.1 in
     let (nt, newline, nparts) = newline_takes (line_end_rest v.1) rest hn in
     let k-is = sym (front_of text kt k.1 kparts) in
@@ -187,7 +198,7 @@ entry_made leading text k e v rest whole hk he hv hn =
     (subst (λ (x : Text). Entry (leading ++ text) (record { leading = leading; key = k.0; spelled = kt; before_equals = e.0.0; after_equals = e.0.1; value = v.0; spelling = x; trailing = front v.1 (line_end_rest v.1); end = front (line_end_rest v.1) rest }) rest) v-is
     (subst (λ (x : Text). Entry (leading ++ text) (record { leading = leading; key = k.0; spelled = kt; before_equals = e.0.0; after_equals = e.0.1; value = v.0; spelling = vt; trailing = x; end = front (line_end_rest v.1) rest }) rest) l-is
     (subst (λ (x : Text). Entry (leading ++ text) (record { leading = leading; key = k.0; spelled = kt; before_equals = e.0.0; after_equals = e.0.1; value = v.0; spelling = vt; trailing = lt; end = x }) rest) n-is
-    (record { leading = whole; key = key; before_equals = before; after_equals = after; value = value; flat = flat; trailing = ends }, newline, parts))))
+    (record { leading = whole; key = key; before_equals = before; after_equals = after; value = value; trailing = ends }, newline, parts))))
 
 pub entry_takes : (leading text : Text) (l : Line) (rest : Text) → IsWholeTrivia leading → entry_at leading text ≡ Some (l, rest) → Entry (leading ++ text) l rest
 unfolding entry_at
@@ -217,13 +228,13 @@ entry_again l rest is ending =
     let r3 = l.spelling ++ r4 in
     let r2 = l.before_equals ++ (61 ∷ (l.after_equals ++ r3)) in
     let ends = ending_first l.end rest ending in
-    let past_value = line_end_first l.trailing (l.end ++ rest) is.trailing ends in
-    let past_space = begins_not is_blank l.spelling r4 (λ c h. grind (arith, nat_tests)) (scalar_begins l.value l.spelling is.value is.flat) in
+    let past_value = line_end_first l.trailing (l.end ++ rest) is.trailing (ending_ends l.end rest ending) in
+    let past_space = begins_not is_blank l.spelling r4 (λ c h. grind (arith, nat_tests)) (scalar_begins l.value l.spelling is.value) in
     let past_key = blank_first (λ c. ends_key (c ∷ [])) l.before_equals (61 ∷ (l.after_equals ++ r3)) (λ c h. grind (arith, nat_tests)) is.before_equals refl in
     rw (
       key_again l.key l.spelled r2 is.key past_key,
       equals_again l.before_equals l.after_equals r3 is.before_equals is.after_equals past_space,
-      scalar_again l.value l.spelling r4 is.value is.flat past_value,
+      scalar_again l.value l.spelling r4 is.value past_value,
       line_end_again l.trailing (l.end ++ rest) is.trailing ends,
       newline_again l.end rest ending,
       front_is l.spelled r2,

@@ -6,7 +6,8 @@ use Rattle.toml_edit_model.specs.Text.{Text}
 use Rattle.toml_edit_model.specs.Scalars.{Scalar}
 use Rattle.toml_edit_model.specs.Flat.{Line}
 use Rattle.toml_edit_syntax.specs.declared.line.LinePlaces.{LinePlaces}
-use Rattle.toml_edit_syntax.specs.Tokens.{key_at, scalar_at}
+use Rattle.toml_edit_syntax.specs.Tokens.{key_at}
+use Rattle.toml_edit_syntax.specs.ScalarReading.{scalar_at}
 use Rattle.toml_edit_syntax.specs.Reading.{◌>>=◌, front, equals_at, line_end_rest, newline_rest, entry_at, places_of, places_at}
 use Rattle.toml_edit_syntax.proofs.TokenLaws.{key_takes, scalar_takes}
 use Rattle.toml_edit_syntax.proofs.LineLaws.{front_of, equals_takes, line_end_takes}
@@ -54,7 +55,7 @@ places_made : (whole : ℕ) (leading t : Text) (k : Text × Text) (e : (Text × 
 places_made whole leading t k e v r fits hk he hv =
     let (kt, key, kparts) = key_takes t k.1 k.0 hk in
     let (before, after, eparts) = equals_takes k.1 e.1 e.0 he in
-    let (vt, value, flat, vparts) = scalar_takes e.1 v.1 v.0 hv in
+    let (vt, value, vparts) = scalar_takes e.1 v.1 v.0 hv in
     let (lt, ends, lparts) = line_end_takes v.1 in
     let key_len = front_len t kt k.1 kparts in
     let equals_len : length k.1 ≡ length e.0.0 + (1 + (length e.0.1 + length e.1)) = omega (arith, ap length eparts, length-append e.0.0 (61 ∷ (e.0.1 ++ e.1)), length-append e.0.1 e.1) in

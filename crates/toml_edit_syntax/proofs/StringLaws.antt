@@ -1,5 +1,5 @@
 -- What reads as a string of one line is one, and such a string is read again.
-use Rattle.std.proofs.Common.{◌≡◌, ℕ, zero, suc, ◌<◌, true, ◌==◌, ◌&&◌, List, [], ◌∷◌, ◌++◌, length, drop, take, Option, Some, None, is_some, unwrap_or, refl, sym, ap, subst, ◌∙◌, inl, inr, arith, append_assoc, encode_utf8, take_at, drop_at, eqb-true, nat_lt, nat_le}
+use Rattle.std.proofs.Common.{◌⊎◌, ◌≡◌, ℕ, zero, suc, ◌<◌, true, ◌==◌, ◌&&◌, List, [], ◌∷◌, ◌++◌, length, drop, take, Option, Some, None, is_some, unwrap_or, refl, sym, ap, subst, ◌∙◌, inl, inr, arith, append_assoc, encode_utf8, take_at, drop_at, eqb-true, nat_lt, nat_le}
 use Rattle.std.specs.Prelude.{option_map}
 use Rattle.std.specs.List.{prefix_len, flat_map, AllByRecursion, list_all}
 use Rattle.std.specs.Char.{is_digit}
@@ -8,8 +8,7 @@ use Rattle.std.proofs.lemmas.Bool.{and_parts, leb-true, le-leb, ltb-true, lt-ltb
 use Rattle.std.proofs.lemmas.Bool.Decides.{nat_tests}
 use Rattle.std.proofs.lemmas.List.{take-append-drop, length-append, length-take-le}
 use Rattle.toml_edit_model.specs.Trivia.{Each}
-use Rattle.toml_edit_model.specs.Spelling.{Part, plain, letter, numbered, part_text, part_value, IsPart, short_escape, hex_digits, is_scalar_value, is_plain, is_literal}
-use Rattle.toml_edit_model.specs.Flat.{IsOneLineString}
+use Rattle.toml_edit_model.specs.Spelling.{SpellsBasic, SpellsLiteral, Part, plain, letter, numbered, part_text, part_value, IsPart, short_escape, hex_digits, is_scalar_value, is_plain, is_literal}
 use Rattle.toml_edit_syntax.specs.Runs.{first}
 use Rattle.toml_edit_syntax.specs.Tokens.{Read, prepend, hex_at, escape_at, literal_at, basic_at, string_at}
 use Rattle.toml_edit_syntax.proofs.RunLaws.{Each-run, prefix_len-run}
@@ -39,7 +38,7 @@ abbrev pub TakesPart : ℕ → List ℕ → List ℕ → Type 0
 TakesPart c text rest = (p : Part) × IsPart p × (encode_utf8 c ≡ part_value p) × (92 ∷ text ≡ part_text p ++ rest)
 
 -- what reads as an escape is one
-escape_takes : (text rest : List ℕ) (c : ℕ) → escape_at text ≡ Some (c, rest) → TakesPart c text rest
+pub escape_takes : (text rest : List ℕ) (c : ℕ) → escape_at text ≡ Some (c, rest) → TakesPart c text rest
 unfolding escape_at hex_at
 escape_takes [] rest c e = absurd cc
 escape_takes (x ∷ xs) rest c e =
@@ -71,12 +70,12 @@ known : (o : Option ℕ) → is_some o ≡ true → o ≡ Some (unwrap_or o 0)
 known None h = absurd (false≢true h)
 known (Some x) h = refl
 
-letter_again : (c : ℕ) (rest : List ℕ) → is_some (short_escape c) ≡ true → escape_at (c ∷ rest) ≡ Some (unwrap_or (short_escape c) 0, rest)
+pub letter_again : (c : ℕ) (rest : List ℕ) → is_some (short_escape c) ≡ true → escape_at (c ∷ rest) ≡ Some (unwrap_or (short_escape c) 0, rest)
 unfolding escape_at
 letter_again c rest h = rw (letters_apart c h) (ap (option_map (λ d. (d, rest))) (known (short_escape c) h))
 
 -- an escape by digits is read again
-numbered_again : (c : ℕ) (digits rest : List ℕ) → IsPart (numbered c digits) → escape_at (c ∷ (digits ++ rest)) ≡ Some (digits_value 16 digits, rest)
+pub numbered_again : (c : ℕ) (digits rest : List ℕ) → IsPart (numbered c digits) → escape_at (c ∷ (digits ++ rest)) ≡ Some (digits_value 16 digits, rest)
 unfolding escape_at hex_at
 numbered_again c digits rest (some, len, each, scalar) =
     let room : nat_le (hex_digits c) (length (digits ++ rest)) ≡ true = le-leb _ _ (omega (arith, len, length-append digits rest)) in
@@ -153,6 +152,9 @@ basic_again (numbered c digits ∷ parts) rest (suc n) each room =
     ∙ basic_escape n _ _ _ (numbered_again c digits later each.0) ∙ ap (prepend (encode_utf8 (digits_value 16 digits))) (basic_again parts rest n each.1 fits)
 
 -- ---- strings of one line
+
+abbrev pub IsOneLineString : List ℕ → List ℕ → Type 0
+IsOneLineString v t = SpellsBasic v t ⊎ SpellsLiteral v t
 
 -- what reads as a string is one
 pub string_takes : (text v rest : List ℕ) → string_at text ≡ Some (v, rest) → (t : List ℕ) × IsOneLineString v t × (text ≡ t ++ rest)

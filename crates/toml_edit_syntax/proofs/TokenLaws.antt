@@ -1,21 +1,30 @@
 -- What reads as a key or a scalar is one, and each is read again.
-use Rattle.std.proofs.Common.{◌≡◌, ℕ, ◌<◌, Bool, true, false, not, List, [], ◌∷◌, ◌++◌, ◌⊎◌, length, drop, take, Some, refl, sym, ap, subst, ◌∙◌, inl, inr, arith, take_at, drop_at, codes}
+use Rattle.std.proofs.Common.{◌≡◌, ℕ, ◌<◌, Bool, true, false, not, cond, ◌==◌, List, [], ◌∷◌, ◌++◌, ◌⊎◌, length, drop, take, Option, Some, None, is_some, refl, sym, ap, subst, ◌∙◌, inl, inr, arith, take_at, drop_at, codes}
 use Rattle.std.specs.Prelude.{option_map, ℤ, bytes_eq}
 use Rattle.std.specs.List.{prefix_len, list_all}
 use Rattle.std.proofs.lemmas.Bool.{and_parts, false_from_ne_true}
-use Rattle.std.proofs.lemmas.List.{length-take}
+use Rattle.std.proofs.lemmas.Bool.Decides.{nat_tests}
+use Rattle.std.proofs.lemmas.List.{length-take, take-append-drop}
 use Rattle.std.specs.Cmp.Lexicographic.{bytes_decides}
 use Rattle.toml_edit_model.specs.Text.{Text, is_empty}
 use Rattle.toml_edit_model.specs.Trivia.{Each}
-use Rattle.toml_edit_model.specs.Scalars.{Scalar, string, integer, float, boolean, datetime}
-use Rattle.toml_edit_model.specs.Spelling.{SpellsKey, Spells, SpellsInteger, truth_text, is_bare_byte}
-use Rattle.toml_edit_model.specs.Flat.{IsFlatScalar, IsOneLineString}
+use Rattle.toml_edit_model.specs.Scalars.{Datetime, Scalar, string, integer, float, boolean, datetime}
+use Rattle.toml_edit_model.specs.Spelling.{SpellsKey, Spells, SpellsString, SpellsInteger, IsFloat, SpellsDatetime, truth_text, is_bare_byte, SpellsMultilineBasic, SpellsMultilineLiteral}
+use Rattle.toml_edit_datetime.specs.FloatReading.{is_float_text}
+use Rattle.toml_edit_datetime.specs.DatetimeReading.{datetime_of}
+use Rattle.toml_edit_syntax.specs.BlockReading.{block_at, opens_block, ends_block}
 use Rattle.toml_edit_syntax.specs.Runs.{first, is_word_byte, split_while}
-use Rattle.toml_edit_syntax.specs.Tokens.{ends_key, ends_scalar, string_at, integer_of, word_of, key_at, scalar_at}
+use Rattle.toml_edit_syntax.specs.Tokens.{ends_key, string_at, integer_of, key_at}
+use Rattle.toml_edit_syntax.specs.ScalarReading.{ends_scalar, word_len, word_scalar, scalar_at}
 use Rattle.toml_edit_syntax.proofs.RunLaws.{Each-run, prefix_len-run}
 use Rattle.toml_edit_syntax.proofs.Steps.{chosen, map_some, same_parts, split_parts}
-use Rattle.toml_edit_syntax.proofs.StringLaws.{string_takes, string_again}
+use Rattle.toml_edit_syntax.proofs.StringLaws.{IsOneLineString, string_takes, string_again}
+use Rattle.toml_edit_syntax.proofs.BlockLaws.{block_takes, block_again, block-opens_before, line-opens_none}
 use Rattle.toml_edit_syntax.proofs.NumberLaws.{integer_takes, integer_again, integer_each, integer_begins}
+use Rattle.toml_edit_datetime.proofs.FloatLaws.{float_takes, float_again, float-some, float-no_integer, float-no_truth}
+use Rattle.toml_edit_datetime.proofs.DatetimeLaws.{datetime_takes, datetime_again, datetime-no_integer, datetime-no_truth}
+use Rattle.toml_edit_syntax.proofs.WordLaws.{scalar_stops, HasWord, run_word, datetime_word, float_no_datetime}
+use Rattle.toml_edit_syntax.proofs.Begins.{scalar_begins, float_each}
 
 -- a test that is turned round
 fails_from_not : (b : Bool) → not b ≡ true → b ≡ false
@@ -70,8 +79,8 @@ key_again k t rest (inr spells) stop = rw (not_in_quote is_bare_byte k t rest re
 -- ---- words
 
 -- a truth value is read again
-truth_word : (b : Bool) → word_of (truth_text b) ≡ Some (boolean b)
-unfolding word_of
+truth_word : (b : Bool) → word_scalar (truth_text b) ≡ Some (boolean b)
+unfolding word_scalar
 truth_word true = refl
 truth_word false = refl
 
@@ -80,85 +89,148 @@ truth_each : (b : Bool) → Each is_word_byte (truth_text b)
 truth_each true = refl
 truth_each false = refl
 
--- and begins with a byte of one
-truth_first : (b : Bool) (rest : List ℕ) → is_word_byte (first (truth_text b ++ rest)) ≡ true
-truth_first true rest = refl
-truth_first false rest = refl
-
 -- what begins with a digit or a sign is no truth value
 not_begins : (c : ℕ) (cs : List ℕ) (b : Bool) → c < 58 → c ∷ cs ≡ truth_text b → ⊥
 not_begins c cs true below e = let same : c ≡ 116 = cc in omega arith
 not_begins c cs false below e = let same : c ≡ 102 = cc in omega arith
 
--- the text spells the scalar, which is flat
-abbrev pub IsFlatToken : Scalar → List ℕ → Type 0
-IsFlatToken s t = Spells s t × IsFlatScalar s t
+-- what is none of these is no such word
+no_truth : (word : Text) → ((b : Bool) → word ≡ truth_text b → ⊥) → (b : Bool) → bytes_eq word (truth_text b) ≡ false
+no_truth word none b = false_from_ne_true (bytes_eq word (truth_text b)) (λ same. none b ((bytes_decides word (truth_text b)).0 same))
+
+no_integer : (word : Text) → ((z : ℤ) → SpellsInteger z word → ⊥) → is_some (integer_of word) ≡ false
+no_integer word none = none_some (integer_of word) (λ z e. none z (integer_takes word z e))
+  where
+    none_some : (o : Option ℤ) → ((z : ℤ) → o ≡ Some z → ⊥) → is_some o ≡ false
+    none_some None h = refl
+    none_some (Some z) h = absurd (h z refl)
+
+no_float : (word : Text) → (IsFloat word → ⊥) → is_float_text word ≡ false
+no_float word none = false_from_ne_true (is_float_text word) (λ h. none (float_takes word h))
 
 -- what reads as a word of a scalar spells it
-word_takes : (word : List ℕ) (s : Scalar) → word_of word ≡ Some s → IsFlatToken s word
-unfolding word_of
+word_takes : (word : Text) (s : Scalar) → word_scalar word ≡ Some s → Spells s word
+unfolding word_scalar
 word_takes word s e =
     elim (chosen (bytes_eq word (codes "true")) (Some (boolean true)) _ (Some s) e) [
       | inl (same, h) ↦
           let value : boolean true ≡ s = cc in
-          subst (λ (x : Scalar). IsFlatToken x word) value ((bytes_decides word (codes "true")).0 same, tt)
-      | inr (other, h) ↦
-          elim (chosen (bytes_eq word (codes "false")) (Some (boolean false)) _ (Some s) h) [
-            | inl (same, g) ↦
-                let value : boolean false ≡ s = cc in
-                subst (λ (x : Scalar). IsFlatToken x word) value ((bytes_decides word (codes "false")).0 same, tt)
-            | inr (neither, g) ↦
-                let (z, found, value) = map_some (integer_of word) (λ (z : ℤ). integer z) s g in
-                subst (λ (x : Scalar). IsFlatToken x word) value (integer_takes word z found, tt)
+          subst (λ (x : Scalar). Spells x word) value ((bytes_decides word (codes "true")).0 same)
+      | inr (other, e1) ↦ elim (chosen (bytes_eq word (codes "false")) (Some (boolean false)) _ (Some s) e1) [
+        | inl (same, h) ↦
+            let value : boolean false ≡ s = cc in
+            subst (λ (x : Scalar). Spells x word) value ((bytes_decides word (codes "false")).0 same)
+        | inr (neither, e2) ↦ elim (chosen (is_some (integer_of word)) (option_map (λ (z : ℤ). integer z) (integer_of word)) _ (Some s) e2) [
+          | inl (number, h) ↦
+              let (z, found, value) = map_some (integer_of word) (λ (z : ℤ). integer z) s h in
+              subst (λ (x : Scalar). Spells x word) value (integer_takes word z found)
+          | inr (none, e3) ↦ elim (chosen (is_float_text word) (Some (float word)) _ (Some s) e3) [
+            | inl (is, h) ↦
+                let value : float word ≡ s = cc in
+                subst (λ (x : Scalar). Spells x word) value (float_takes word is, refl)
+            | inr (no_point, h) ↦
+                let (d, found, value) = map_some (datetime_of word) (λ (d : Datetime). datetime d) s h in
+                subst (λ (x : Scalar). Spells x word) value (datetime_takes word d found)
           ]
+        ]
+      ]
     ]
 
 -- no number is a truth value
-apart : (word : List ℕ) (z : ℤ) (b : Bool) → SpellsInteger z word → bytes_eq word (truth_text b) ≡ false
-apart word z b is =
-    let (c, cs, e, w, below) = integer_begins word z is in
-    false_from_ne_true (bytes_eq word (truth_text b)) (λ same. not_begins c cs b below (sym e ∙ (bytes_decides word (truth_text b)).0 same))
+integer_no_truth : (word : Text) (z : ℤ) → SpellsInteger z word → (b : Bool) → word ≡ truth_text b → ⊥
+integer_no_truth word z is b same = let (c, cs, e, w, below) = integer_begins word z is in not_begins c cs b below (sym e ∙ same)
 
 -- an integer is read again as a word
-number_word : (word : List ℕ) (z : ℤ) → SpellsInteger z word → word_of word ≡ Some (integer z)
-unfolding word_of
-number_word word z is = rw (apart word z true is, apart word z false is, integer_again word z is) refl
+number_word : (word : Text) (z : ℤ) → SpellsInteger z word → word_scalar word ≡ Some (integer z)
+unfolding word_scalar
+number_word word z is =
+    let none = no_truth word (integer_no_truth word z is) in
+    rw (none true, none false, integer_again word z is) refl
 
--- an integer begins with a byte of a word
-number_first : (word rest : List ℕ) (z : ℤ) → SpellsInteger z word → is_word_byte (first (word ++ rest)) ≡ true
-number_first word rest z is =
-    let (c, cs, e, w, below) = integer_begins word z is in
-    ap (λ (x : List ℕ). is_word_byte (first (x ++ rest))) e ∙ w
+-- a float too
+float_word : (word : Text) → IsFloat word → word_scalar word ≡ Some (float word)
+unfolding word_scalar
+float_word word is =
+    let none = no_truth word (λ b same. float-no_truth word b is same) in
+    rw (none true, none false, no_integer word (λ z number. float-no_integer word z is number), float_again word is) refl
+
+-- and a date or a time
+date_word : (word : Text) (d : Datetime) → SpellsDatetime d word → word_scalar word ≡ Some (datetime d)
+unfolding word_scalar
+date_word word d is =
+    let none = no_truth word (λ b same. datetime-no_truth word d b is same) in
+    rw (
+      none true,
+      none false,
+      no_integer word (λ z number. datetime-no_integer word d z is number),
+      no_float word (λ number. float_no_datetime d word number is),
+      datetime_again word d is,
+    ) refl
 
 -- ---- scalars
 
--- what reads as a scalar is one
-pub scalar_takes : (t rest : Text) (s : Scalar) → scalar_at t ≡ Some (s, rest) → (spelled : Text) × Spells s spelled × IsFlatScalar s spelled × (t ≡ spelled ++ rest)
-unfolding scalar_at
-scalar_takes text rest s e =
-    let n = prefix_len is_word_byte text in
-    elim (chosen (is_word_byte (first text)) (option_map (λ w. (w, drop n text)) (word_of (take n text))) _ (Some (s, rest)) e) [
-      | inl (word, h) ↦
-          let (w, found, same) = map_some (word_of (take n text)) (λ (w : Scalar). (w, drop n text)) (s, rest) h in
-          let (value, after) = same_parts w s (drop n text) rest same in
-          let (spells, flat) = subst (λ (x : Scalar). IsFlatToken x (take n text)) value (word_takes (take n text) w found) in
-          (take n text, spells, flat, split_parts is_word_byte text ∙ ap (λ (x : List ℕ). take n text ++ x) after)
-      | inr (other, h) ↦
-          let (p, found, same) = map_some (string_at text) (λ (p : List ℕ × List ℕ). (string p.0, p.1)) (s, rest) h in
-          let (value, after) = same_parts (string p.0) s p.1 rest same in
-          let (t, spells, parts) = string_takes text p.0 p.1 found in
-          let (spelled, flat) = subst (λ (x : Scalar). IsFlatToken x t) value (inl spells, spells) in
-          (t, spelled, flat, parts ∙ ap (λ (x : List ℕ). t ++ x) after)
+-- no scalar is spelled by nothing
+pub scalar-some : (s : Scalar) (t : Text) → Spells s t → t ≡ [] → ⊥
+scalar-some s t is none = let (c, cs, begins, opening) = scalar_begins s t is in absurd cc
+
+-- what reads as a string is one
+any_string_takes : (t v rest : Text) → cond (opens_block t) (block_at t) (string_at t) ≡ Some (v, rest) → (spelled : Text) × SpellsString v spelled × (t ≡ spelled ++ rest)
+any_string_takes t v rest e =
+    elim (chosen (opens_block t) (block_at t) (string_at t) (Some (v, rest)) e) [
+      | inl (opens, h) ↦ let (spelled, spells, parts) = block_takes t rest v h in (spelled, inr spells, parts)
+      | inr (line, h) ↦ let (spelled, spells, parts) = string_takes t v rest h in (spelled, inl spells, parts)
     ]
 
--- a scalar is read again in front of a byte that ends it
-pub scalar_again : (s : Scalar) (spelled rest : Text) → Spells s spelled → IsFlatScalar s spelled → ends_scalar rest ≡ true → scalar_at (spelled ++ rest) ≡ Some (s, rest)
+-- what reads as a scalar is one
+pub scalar_takes : (t rest : Text) (s : Scalar) → scalar_at t ≡ Some (s, rest) → (spelled : Text) × Spells s spelled × (t ≡ spelled ++ rest)
 unfolding scalar_at
-scalar_again (boolean b) t rest same flat stop =
-    ap (λ (x : List ℕ). scalar_at (x ++ rest)) same
-    ∙ rw (truth_first b rest, prefix_len-run is_word_byte (truth_text b) rest (truth_each b) (fails_from_not _ stop), take_at (truth_text b) rest _ refl, drop_at (truth_text b) rest _ refl, truth_word b) refl
-scalar_again (integer z) t rest is flat stop =
-    rw (number_first t rest z is, prefix_len-run is_word_byte t rest (integer_each t z is) (fails_from_not _ stop), take_at t rest _ refl, drop_at t rest _ refl, number_word t z is) refl
-scalar_again (string v) t rest spells flat stop = rw (not_in_quote is_word_byte v t rest refl refl flat, string_again v t rest flat) refl
-scalar_again (float x) t rest spells flat stop = absurd flat
-scalar_again (datetime d) t rest spells flat stop = absurd flat
+scalar_takes text rest s e =
+    let n = word_len text in
+    elim (chosen (is_word_byte (first text)) (option_map (λ (w : Scalar). (w, drop n text)) (word_scalar (take n text))) _ (Some (s, rest)) e) [
+      | inl (word, h) ↦
+          let (w, found, same) = map_some (word_scalar (take n text)) (λ (w : Scalar). (w, drop n text)) (s, rest) h in
+          let (value, after) = same_parts w s (drop n text) rest same in
+          let spells = subst (λ (x : Scalar). Spells x (take n text)) value (word_takes (take n text) w found) in
+          (take n text, spells, sym (take-append-drop n text) ∙ ap (λ (x : Text). take n text ++ x) after)
+      | inr (other, h) ↦
+          let (p, found, same) = map_some (cond (opens_block text) (block_at text) (string_at text)) (λ (p : Text × Text). (string p.0, p.1)) (s, rest) h in
+          let (value, after) = same_parts (string p.0) s p.1 rest same in
+          let (t, spells, parts) = any_string_takes text p.0 p.1 found in
+          let spelled = subst (λ (x : Scalar). Spells x t) value spells in
+          (t, spelled, parts ∙ ap (λ (x : Text). t ++ x) after)
+    ]
+
+-- a word is read again
+word_again : (s : Scalar) (t rest : Text) → HasWord t rest → word_scalar t ≡ Some s → scalar_at (t ++ rest) ≡ Some (s, rest)
+unfolding scalar_at
+word_again s t rest word found = rw (word.begins, word.len, take_at t rest _ refl, drop_at t rest _ refl, found) refl
+
+-- no quote follows a scalar
+double_stops : (t : Text) → ends_scalar t ≡ true → (first t == 34) ≡ false
+double_stops = scalar_stops (λ c. c == 34) refl (λ c h. grind (arith, nat_tests)) (λ c h. grind (arith, nat_tests))
+
+single_stops : (t : Text) → ends_scalar t ≡ true → (first t == 39) ≡ false
+single_stops = scalar_stops (λ c. c == 39) refl (λ c h. grind (arith, nat_tests)) (λ c h. grind (arith, nat_tests))
+
+-- a string of several lines begins no word
+block_no_word : (v t rest : Text) → SpellsMultilineBasic v t ⊎ SpellsMultilineLiteral v t → is_word_byte (first (t ++ rest)) ≡ false
+block_no_word v t rest (inl (first_line, parts, each, follows, newline, value, whole)) = ap (λ (x : Text). is_word_byte (first (x ++ rest))) whole
+block_no_word v t rest (inr (first_line, parts, each, follows, newline, value, whole)) = ap (λ (x : Text). is_word_byte (first (x ++ rest))) whole
+
+block_ends : (t : Text) → ends_scalar t ≡ true → ends_block t ≡ true
+block_ends t stop = rw (double_stops t stop, single_stops t stop) refl
+
+-- a scalar is read again in front of a byte that ends it
+pub scalar_again : (s : Scalar) (spelled rest : Text) → Spells s spelled → ends_scalar rest ≡ true → scalar_at (spelled ++ rest) ≡ Some (s, rest)
+unfolding scalar_at
+scalar_again (boolean b) t rest is stop =
+    word_again (boolean b) t rest (run_word t rest (rw is (truth_each b)) (scalar-some (boolean b) t is) stop) (ap word_scalar is ∙ truth_word b)
+scalar_again (integer z) t rest is stop =
+    word_again (integer z) t rest (run_word t rest (integer_each t z is) (scalar-some (integer z) t is) stop) (number_word t z is)
+scalar_again (float x) t rest (is, same) stop =
+    word_again (float x) t rest (run_word t rest (float_each t is) (float-some t is) stop) (float_word t is ∙ ap (λ (y : Text). Some (float y)) (sym same))
+scalar_again (datetime d) t rest is stop = word_again (datetime d) t rest (datetime_word d t rest is stop) (date_word t d is)
+scalar_again (string v) t rest (inl line) stop =
+    rw (not_in_quote is_word_byte v t rest refl refl line, line-opens_none v t rest line (block_ends rest stop), string_again v t rest line) refl
+scalar_again (string v) t rest (inr block) stop =
+    rw (block_no_word v t rest block, block-opens_before v t rest block, block_again v t rest block (block_ends rest stop)) refl

@@ -3,5 +3,9 @@ pub mod Decoded
 pub mod Faults
 pub mod Runs
 pub mod Tokens
+pub mod BlockReading
+pub mod BlockPieces
+pub mod ScalarReading
 pub mod Reading
 pub mod Gives
+pub mod Lone

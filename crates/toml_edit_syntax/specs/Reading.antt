@@ -9,7 +9,8 @@ use Rattle.toml_edit_syntax.specs.declared.event.Event.{Event}
 use Rattle.toml_edit_syntax.specs.declared.line.LinePlaces.{LinePlaces}
 use Rattle.toml_edit_syntax.specs.Events.{event}
 use Rattle.toml_edit_syntax.specs.Runs.{first, split_while}
-use Rattle.toml_edit_syntax.specs.Tokens.{key_at, scalar_at}
+use Rattle.toml_edit_syntax.specs.Tokens.{key_at}
+use Rattle.toml_edit_syntax.specs.ScalarReading.{scalar_at}
 
 infixl 10 ◌>>=◌
 abbrev pub ◌>>=◌ : {A B : Type 0} → Option A → (A → Option B) → Option B

@@ -11,9 +11,9 @@ use Rattle.toml_edit_syntax.specs.declared.run.Class.TheVariants.{Blank, Visible
 abbrev pub first : Text → ℕ
 first t = slice_index t 0
 
--- a byte of a number or a truth value
+-- a byte of a number, a truth value, a date or a time
 abbrev pub is_word_byte : ℕ → Bool
-is_word_byte c = is_bare_byte c || c == 0x2B
+is_word_byte c = is_bare_byte c || ((c == 0x2B || c == 0x2E) || c == 0x3A)
 
 -- whether a byte is of the class
 abbrev pub class_test : Class → ℕ → Bool

@@ -1,23 +1,20 @@
--- Reading a key or a scalar at the front of a text, from left to right.
-use Rattle.std.specs.Prelude.{ℕ, zero, suc, ◌+◌, ◌*◌, ℤ, pos, Bool, true, false, not, ◌&&◌, ◌==◌, nat_lt, nat_le, if◌then◌else◌, [], ◌∷◌, ◌++◌, length, take, drop, slice_index, codes, encode_utf8, bytes_eq, Option, Some, None, option_map, option_and_then}
+-- Reading strings of one line, integers and keys, from left to right.
+use Rattle.std.specs.Prelude.{ℕ, zero, suc, ◌+◌, ◌*◌, ℤ, pos, Bool, true, false, not, ◌&&◌, ◌==◌, nat_lt, nat_le, if◌then◌else◌, [], ◌∷◌, ◌++◌, length, take, drop, slice_index, encode_utf8, Option, Some, None, option_map, option_and_then}
 use Rattle.std.specs.List.{list_all}
 use Rattle.std.specs.Char.{is_digit, digit_value}
 use Rattle.std.specs.Str.Parse.{digits_value}
 use Rattle.toml_edit_model.specs.Text.{Text, quote, apostrophe, backslash, underscore, is_empty}
-use Rattle.toml_edit_model.specs.Scalars.{Scalar, string, integer, boolean, fits_integer}
+use Rattle.toml_edit_model.specs.Scalars.{Scalar, fits_integer}
 use Rattle.toml_edit_model.specs.Spelling.{short_escape, hex_digits, is_scalar_value, is_plain, is_literal, is_bare_byte, Sign, plus, minus, unsigned, signed, Base, hexadecimal, octal, binary, base_number, is_in_range}
-use Rattle.toml_edit_syntax.specs.Runs.{first, is_word_byte, split_while}
+use Rattle.toml_edit_syntax.specs.Runs.{first, split_while}
 
 -- a value and the text after it
 abbrev pub Read : Type 0 → Type 0
 Read A = Option (A × Text)
 
--- the text goes on with no byte of a bare key, or of a number or a truth value
+-- the text goes on with no byte of a bare key
 abbrev pub ends_key : Text → Bool
 ends_key t = not (is_bare_byte (first t))
-
-abbrev pub ends_scalar : Text → Bool
-ends_scalar t = not (is_word_byte (first t))
 
 -- ---- strings
 
@@ -100,25 +97,11 @@ integer_of t =
     else if first t == 0x2D then decimal_of minus (drop 1 t)
     else decimal_of unsigned t
 
--- the scalar that a word spells
-unfoldable pub word_of : Text → Option Scalar
-word_of t =
-    if bytes_eq t (codes "true") then Some (boolean true)
-    else if bytes_eq t (codes "false") then Some (boolean false)
-    else option_map (λ z. integer z) (integer_of t)
-
--- ---- keys and scalars
+-- ---- keys
 
 -- what a simple key says
 unfoldable pub key_at : Text → Option (Text × Text)
 key_at t = if is_bare_byte (first t) then Some (split_while is_bare_byte t) else string_at t
-
--- a string of one line, or a word that is read whole
-unfoldable pub scalar_at : Text → Option (Scalar × Text)
-scalar_at t =
-    let word = split_while is_word_byte t in
-    if is_word_byte (first t) then option_map (λ s. (s, word.1)) (word_of word.0)
-    else option_map (λ p. (string p.0, p.1)) (string_at t)
 
 -- ---- whole texts
 

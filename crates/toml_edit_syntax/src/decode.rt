@@ -3,21 +3,29 @@ ghost use Rattle.std.specs.Prelude.{◌≡◌, false, IfOk, IfSome, IsSomeAnd, M
 ghost use Rattle.toml_edit_model.specs.Text.{Text};
 ghost use Rattle.toml_edit_model.specs.Scalars as scalars;
 ghost use Rattle.toml_edit_model.specs.Spelling.{SpellsKey, Spells, is_in_range};
-ghost use Rattle.toml_edit_model.specs.Flat.{IsFlatScalar};
-ghost use Rattle.toml_edit_syntax.specs.Decoded.{scalar_view, IsFlatSpelling};
+ghost use Rattle.toml_edit_syntax.specs.Decoded.{scalar_view, IsSpelling};
+ghost use Rattle.toml_edit_syntax.specs.ScalarReading as scalar;
+ghost use Rattle.toml_edit_datetime.specs.DatetimeReading.{datetime_of};
+ghost use Rattle.toml_edit_datetime.specs.DatetimeView.{datetime_view};
 ghost use Rattle.toml_edit_syntax.specs.Tokens as spec;
 
-use crate::number::decode_integer;
-use crate::run::{Class, first, is_bare, split_run};
+use crate::block_string::read_block;
+use crate::number::{decode_integer, is_integer};
+use crate::run::{Class, first, is_bare, is_word, split_run};
 use crate::string::decode_string;
+use crate::token::{opens_block, split_word};
 use std::alloc::{AllocError, Global};
+use std::str::FromStr;
+use toml_edit_datetime::{Datetime, FloatText, is_float};
 
 /// A scalar without its spelling.
 #[derive(Debug, Drop)]
 pub enum Scalar {
     String(String),
     Integer(i64),
+    Float(FloatText),
     Boolean(bool),
+    Datetime(Datetime),
 }
 
 /// The text of the simple key that is spelled so, or `None` if the text spells none.
@@ -28,12 +36,12 @@ pub fn decode_key(alloc: Global, text: &str) -> Result<Option<String>, AllocErro
     read_key(alloc, text)
 }
 
-/// The scalar that is spelled so: a string of one line, a truth value, or an integer of 64 bits. `None` if the text spells none of
-/// these, or an integer out of range.
+/// The scalar that is spelled so. `None` if the text spells none, or one out of range: an integer that 64 bits don't hold, or a date,
+/// a time or an offset that doesn't exist.
 pub fn decode_scalar(alloc: Global, text: &str) -> Result<Option<Scalar>, AllocError>
-    ensures found { IfOk result (λ o. IfSome o (λ x. IsFlatSpelling text.now (scalar_view x))) }
+    ensures found { IfOk result (λ o. IfSome o (λ x. IsSpelling text.now (scalar_view x))) }
     // What the text spells is that scalar, and where there is none it is out of range.
-    ensures only { IfOk result (λ o. (s : scalars.Scalar) → Spells s text.now → IsFlatScalar s text.now
+    ensures only { IfOk result (λ o. (s : scalars.Scalar) → Spells s text.now
         → MatchOption o (is_in_range s text.now ≡ false) (λ x. s ≡ scalar_view x)) }
 {
     read_scalar(alloc, text)
@@ -56,36 +64,59 @@ fn read_key(alloc: Global, text: &str) -> Result<Option<String>, AllocError>
 }
 
 /// What the whole text says, read as a scalar.
-#[tactic(auto, unfolding(crate::specs::Tokens::scalar_at))]
+#[tactic(auto, unfolding(crate::specs::ScalarReading::scalar_at))]
 fn read_scalar(alloc: Global, text: &str) -> Result<Option<Scalar>, AllocError>
-    ensures { IfOk result (λ o. option_map scalar_view o ≡ spec.ranged text.now (spec.whole (spec.scalar_at text.now))) }
+    ensures { IfOk result (λ o. option_map scalar_view o ≡ spec.ranged text.now (spec.whole (scalar.scalar_at text.now))) }
 {
-    let (word, rest) = split_run(text, Class::Word);
-    if word.is_empty() {
-        return match decode_string(alloc, text)? {
-            Some(value) => Ok(Some(Scalar::String(value))),
-            None => Ok(None),
+    if is_word(first(text)) {
+        let (word, rest) = split_word(text);
+        return if rest.is_empty() {
+            read_word(alloc, word)
+        } else {
+            Ok(None)
         };
     }
-    if rest.is_empty() {
-        Ok(read_word(word))
+    let value = if opens_block(text) {
+        read_block(alloc, text)?
     } else {
-        Ok(None)
+        decode_string(alloc, text)?
+    };
+    match value {
+        Some(value) => Ok(Some(Scalar::String(value))),
+        None => Ok(None),
     }
 }
 
-/// The truth value or the integer that a word spells.
-#[tactic(auto, unfolding(crate::specs::Tokens::word_of))]
-fn read_word(word: &str) -> Option<Scalar>
-    ensures { option_map scalar_view result ≡ spec.ranged word.now (spec.word_of word.now) }
+/// The truth value, the number, the date or the time that a word spells, where it is in range.
+#[tactic(auto, unfolding(crate::specs::ScalarReading::word_scalar))]
+fn read_word(alloc: Global, word: &str) -> Result<Option<Scalar>, AllocError>
+    ensures { IfOk result (λ o. option_map scalar_view o ≡ spec.ranged word.now (scalar.word_scalar word.now)) }
 {
     if word == "true" {
-        Some(Scalar::Boolean(true))
+        Ok(Some(Scalar::Boolean(true)))
     } else if word == "false" {
-        Some(Scalar::Boolean(false))
+        Ok(Some(Scalar::Boolean(false)))
+    } else if is_integer(word.as_bytes()) {
+        Ok(decode_integer(word.as_bytes()).map(Scalar::Integer))
+    } else if is_float(word) {
+        match FloatText::new(String::from_str(alloc, word)?) {
+            Ok(float) => Ok(Some(Scalar::Float(float))),
+            Err(_) => Ok(None),
+        }
     } else {
-        decode_integer(word.as_bytes()).map(Scalar::Integer)
+        match read_datetime(word) {
+            Some(datetime) => Ok(Some(Scalar::Datetime(datetime))),
+            None => Ok(None),
+        }
     }
+}
+
+/// The date or the time that a word spells, where it is in range.
+fn read_datetime(word: &str) -> Option<Datetime>
+    ensures { option_map (λ d. scalars.datetime (datetime_view d)) result
+        ≡ spec.ranged word.now (option_map (λ d. scalars.datetime d) (datetime_of word.now)) }
+{
+    Datetime::from_str(word).ok()
 }
 
 #[cfg(test)]
@@ -145,13 +176,63 @@ mod tests {
             ("\"a\"b", None),
             ("\"a", None),
             ("'a\nb'", None),
-            ("\"\"\"a\"\"\"", None),
+            ("\"\"\"\na\"\"\"", Some("a")),
+            ("''''a'''''", Some("'a''")),
+            ("\"\"\"a\"\"", None),
+            ("\"\"\"a\"\"\" ", None),
         ];
         for (text, want) in table {
-            match decode_scalar(rt.alloc(), text)? {
+            let found = decode_scalar(rt.alloc(), text)?;
+            match &found {
                 Some(Scalar::String(value)) => assert_eq!(rt; Some(value.as_str()), want, "{text}"),
                 _ => assert_eq!(rt; None, want, "{text}"),
             }
+        }
+        Ok(())
+    }
+
+    #[test]
+    fn decodes_floats(rt: HostRuntime) -> Result<(), Fail> {
+        let table = [
+            ("1.0", true),
+            ("+inf", true),
+            ("-0.0", true),
+            ("6.626e-34", true),
+            ("1e400", true),
+            ("1.", false),
+            (".5", false),
+            ("1.5.6", false),
+            ("1e1 ", false),
+        ];
+        for (text, is_float) in table {
+            let found = decode_scalar(rt.alloc(), text)?;
+            match &found {
+                Some(Scalar::Float(float)) => assert_eq!(rt; float.as_str(), text),
+                _ => assert!(rt; !is_float, "{text}"),
+            }
+        }
+        Ok(())
+    }
+
+    #[test]
+    fn decodes_dates_and_times(rt: HostRuntime) -> Result<(), Fail> {
+        let table = [
+            ("2024-02-29", true),
+            ("07:32", true),
+            ("23:59:60.5", true),
+            ("2024-02-29 07:32", true),
+            ("1979-05-27T00:32:00.999999-07:00", true),
+            ("1979-05-27t00:32z", true),
+            ("2023-02-29", false),
+            ("24:00", false),
+            ("1979-05-27T00:32+24:00", false),
+            ("2024-02-29 7:32", false),
+            ("2024-02-29  07:32", false),
+            ("07:32Z", false),
+        ];
+        for (text, is_datetime) in table {
+            let found = matches!(decode_scalar(rt.alloc(), text)?, Some(Scalar::Datetime(_)));
+            assert_eq!(rt; found, is_datetime, "{text}");
         }
         Ok(())
     }

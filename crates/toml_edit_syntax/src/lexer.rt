@@ -119,7 +119,7 @@ fn parts(alloc: Global, whole: usize, s: &str) -> Result<Vec<Event>, Stop>
 }
 
 /// The character that stands `left` bytes before the end of the text, or its end.
-fn place(source: &str, left: usize) -> Span
+pub(crate) fn place(source: &str, left: usize) -> Span
     ensures { IsSpanOf source.now result }
 {
     let at = source.len().saturating_sub(left);
@@ -207,6 +207,30 @@ mod tests {
     }
 
     #[test]
+    fn reads_scalars(rt: HostRuntime) -> Result<(), Fail> {
+        let table = [
+            ("e = \"\"", 6),
+            ("i = -0 # c", 6),
+            ("x = 1.5", 7),
+            ("f = +inf", 8),
+            ("t = 07:32", 9),
+            ("d = 2024-02-29", 14),
+            ("d = 2024-02-29 # c", 14),
+            ("d = 2024-13-45\n", 14),
+            ("d = 2024-02-29 07:32 # c", 20),
+            ("d = 1979-05-27t00:32:00.5-07:00\r\n", 31),
+            ("s = \"\"\"a\nb\"\"\"", 13),
+            ("s = '''''a\n''''' # c", 16),
+        ];
+        for (text, end) in table {
+            let found = events(rt.alloc(), text)?;
+            assert_eq!(rt; found.len(), 7, "{text}");
+            assert_eq!(rt; found[4], event(EventKind::Scalar, 4, end), "{text}");
+        }
+        Ok(())
+    }
+
+    #[test]
     fn reads_trivia_alone(rt: HostRuntime) -> Result<(), Fail> {
         let found = events(rt.alloc(), "")?;
         assert_eq!(rt; found.len(), 1);
@@ -226,7 +250,13 @@ mod tests {
             "# c\ra = 1",
             "a.b = 1\n",
             "[a]\n",
-            "x = 1.5\n",
+            "x = 1.\n",
+            "x = 1.5.6",
+            "d = 2024-02-29 7:32",
+            "d = 2024-02-29T",
+            "t = 7:32",
+            "s = \"\"\"a\nb\"\"",
+            "s = 'a\nb'",
             "a = 1 # \u{7F}",
             "# \u{7F}\n",
             "a = 1 b = 2",

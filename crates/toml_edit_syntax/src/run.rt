@@ -3,7 +3,7 @@ ghost use Rattle.std.specs.Prelude.{◌≡◌, ◌+◌, ◌-◌, ◌<◌, ◌≤
 ghost use Rattle.std.specs.List.{prefix_len};
 ghost use Rattle.toml_edit_model.specs.Trivia as trivia;
 ghost use Rattle.toml_edit_model.specs.Spelling as spelling;
-ghost use Rattle.toml_edit_syntax.specs.Runs.{class_test, split_while};
+ghost use Rattle.toml_edit_syntax.specs.Runs.{is_word_byte, class_test, split_while};
 
 /// The byte at `index`, or 0 past the end.
 pub(crate) fn byte_at(s: &str, index: usize) -> u8
@@ -43,7 +43,7 @@ pub(crate) enum Class {
     Literal,
     /// Stands in a bare key.
     Bare,
-    /// Stands in a number or a truth value.
+    /// Stands in a number, a truth value, a date or a time.
     Word,
 }
 
@@ -65,6 +65,12 @@ pub(crate) fn is_bare(byte: u8) -> bool
     byte.is_ascii_alphanumeric() || byte == b'-' || byte == b'_'
 }
 
+pub(crate) fn is_word(byte: u8) -> bool
+    ensures { result ≡ is_word_byte byte }
+{
+    is_bare(byte) || byte == b'+' || byte == b'.' || byte == b':'
+}
+
 fn is_in(class: Class, byte: u8) -> bool
     ensures { result ≡ class_test class byte }
 {
@@ -74,7 +80,7 @@ fn is_in(class: Class, byte: u8) -> bool
         Class::Plain => is_visible(byte) && byte != b'"' && byte != b'\\',
         Class::Literal => is_visible(byte) && byte != b'\'',
         Class::Bare => is_bare(byte),
-        Class::Word => is_bare(byte) || byte == b'+',
+        Class::Word => is_word(byte),
     }
 }
 

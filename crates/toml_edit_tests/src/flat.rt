@@ -53,16 +53,20 @@ const REFUSALS: [(&str, &str, usize, usize); 5] = [
 ];
 
 /// Texts that are no flat documents.
-const NOT_YET: [&str; 19] = [
+const NOT_YET: [&str; 23] = [
     "é = 1",
     "a.b = 1\n",
     "[a]\n",
-    "x = 1.5\n",
+    "x = 1.\n",
+    "x = .5\n",
+    "x = 01.5\n",
     "[[a]]\n",
     "a = [1]\n",
     "a = {}\n",
-    "a = \"\"\"x\"\"\"\n",
-    "d = 2024-02-29\n",
+    "a = \"\"\"x\"\"\n",
+    "a = \"\"\"\"\"\"\"\"\"\n",
+    "a = '''\rx'''\n",
+    "d = 2024-2-29\n",
     "a = 0X10\n",
     "a = 01\n",
     "a = 1\r",

@@ -3,6 +3,8 @@
 
 #[cfg(test)]
 mod flat;
+#[cfg(test)]
+mod scalars;
 
 /// Nothing: a crate has a function.
 pub fn tests() {}

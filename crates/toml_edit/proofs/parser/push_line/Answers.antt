@@ -38,17 +38,17 @@ returns-in_err-value-clause-line c =
     × (fault_of r ≡ fault (range_message l.value) x.scalar.start (length l.spelling))) in
     rw (p.1, p.2) (names_range c.args.source.now start l (slots_view c.args.slots.now) c.in_err-value.field-0.0
     (subst P e (c.in_err-value.ensures.value l.value l.spelling (scalar_cut c.args.source.now c.args.line start l stands e)
-    (scalar_len c.args.line start l e) spelled.value spelled.flat)))
+    (scalar_len c.args.line start l e) spelled.value)))
 
 pub returns-clause-line : goal.returns-clause-line
 returns-clause-line c =
     λ l start spelled stands e.
     let name = c.in_ok-name.ensures l.key (key_spelled c.args.source.now c.args.line start l spelled stands e) in
     let value = c.in_ok-value.ensures.value l.value l.spelling (scalar_cut c.args.source.now c.args.line start l stands e)
-    (scalar_len c.args.line start l e) spelled.value spelled.flat in
+    (scalar_len c.args.line start l e) spelled.value in
     let key = c.read_key-key.ensures.key l start e name (spelled-some l.key l.spelled spelled.key) in
     let item = value_is c.args.line start l c.new-decor.result c.raw.result c.raw-2.result _ e
-    (scalar-some l.value l.spelling spelled.value spelled.flat) c.new-decor.ensures
+    (scalar-some l.value l.spelling spelled.value) c.new-decor.ensures
     (c.raw.ensures.span l.after_equals (ap (λ x. x.after_equals.end) e ∙ sym (ap (λ x. x.after_equals.start + length l.after_equals) e)))
     (c.raw-2.ensures.span l.trailing (ap (λ x. x.trailing.end) e ∙ sym (ap (λ x. x.trailing.start + length l.trailing) e)))
     value.0 in

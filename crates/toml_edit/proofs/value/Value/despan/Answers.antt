@@ -21,3 +21,13 @@ pub despan-requires-in-Boolean-clause-spelled : goal.despan-requires-in-Boolean-
 despan-requires-in-Boolean-clause-spelled c =
     let P : Value → Type 0 = λ v. ∥ IsWellMade (owned_node c.args.source.now (value_view v)) ∥₁ in
     ∥∥₁_map (subst P c.in-Boolean.is c.requires.spelled) (λ made. made.0)
+
+pub despan-requires-in-Float-clause-spelled : goal.despan-requires-in-Float-clause-spelled
+despan-requires-in-Float-clause-spelled c =
+    let P : Value → Type 0 = λ v. ∥ IsWellMade (owned_node c.args.source.now (value_view v)) ∥₁ in
+    ∥∥₁_map (subst P c.in-Float.is c.requires.spelled) (λ made. made.0)
+
+pub despan-requires-in-Datetime-clause-spelled : goal.despan-requires-in-Datetime-clause-spelled
+despan-requires-in-Datetime-clause-spelled c =
+    let P : Value → Type 0 = λ v. ∥ IsWellMade (owned_node c.args.source.now (value_view v)) ∥₁ in
+    ∥∥₁_map (subst P c.in-Datetime.is c.requires.spelled) (λ made. made.0)

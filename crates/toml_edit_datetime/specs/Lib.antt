@@ -1,0 +1,9 @@
+-- What the contracts of this crate cite.
+pub mod DateView
+pub mod TimeView
+pub mod OffsetView
+pub mod DatetimeView
+pub mod DatetimeReading
+pub mod ReadsDatetime
+pub mod FractionText
+pub mod FloatReading

@@ -1,0 +1,302 @@
+//! Floats, which are kept as their texts.
+ghost use Rattle.std.specs.Prelude.{◌≡◌, ◌↔◌, false, IsTrue, IsOk, IfOk, IfErr, Some, slice_index, string_bytes, nat_eq};
+ghost use Rattle.std.specs.Option.{option_copied};
+ghost use Rattle.std.specs.Hash as fed;
+ghost use Rattle.std.specs.Cmp.{partial_equiv_from_equiv};
+ghost use Rattle.std.specs.Cmp.Lexicographic.{pointwise, nat_list_eq_equiv};
+ghost use Rattle.std.specs.Cmp.Rules.{hashing};
+ghost use Rattle.std.proofs.Common.{rules};
+ghost use Rattle.toml_edit_model.specs.Spelling.{IsFloat};
+ghost use Rattle.toml_edit_datetime.specs.FloatReading as spec;
+
+use std::alloc::{AllocError, Global};
+use std::fmt;
+use std::hash::{Hash, Hasher};
+use std::marker::Model;
+
+fn byte_at(text: &[u8], index: usize) -> u8
+    ensures { result ≡ slice_index text.now index }
+{
+    text.get(index).copied().unwrap_or(0)
+}
+
+// The text behind an optional sign.
+fn without_sign(text: &[u8]) -> &[u8]
+    ensures { result.now ≡ spec.without_sign text.now }
+{
+    match text {
+        [b'+' | b'-', rest @ ..] => rest,
+        _ => text,
+    }
+}
+
+// The text behind decimal digits with single underscores between them, or `None` if it doesn't begin with such digits.
+fn after_digits(text: &[u8]) -> Option<&[u8]>
+    ensures { option_copied result ≡ spec.after_digits false text.now }
+{
+    let mut after_digit = false;
+    'digits: for (index, byte) in text.iter().enumerate() {
+        if byte.is_ascii_digit() {
+            after_digit = true;
+        } else if after_digit && *byte == b'_' {
+            after_digit = false;
+        } else if after_digit {
+            return Some(&text[index..]);
+        } else {
+            return None;
+        }
+    }
+    if after_digit { Some(&[]) } else { None }
+}
+
+fn leads_with_zero(text: &[u8]) -> bool
+    ensures { result ≡ spec.leads_with_zero text.now }
+{
+    byte_at(text, 0) == b'0' && matches!(byte_at(text, 1), b'0'..=b'9' | b'_')
+}
+
+// Whether the text is `e` or `E`, an optional sign and digits.
+fn is_exponent(text: &[u8]) -> bool
+    ensures { result ≡ spec.is_exponent text.now }
+{
+    match text {
+        [b'e' | b'E', rest @ ..] => matches!(after_digits(without_sign(rest)), Some([])),
+        _ => false,
+    }
+}
+
+// Whether the text is a point and digits, an exponent, or both.
+fn is_fraction_or_exponent(text: &[u8]) -> bool
+    ensures { result ≡ spec.is_fraction_or_exponent text.now }
+{
+    match text {
+        [b'.', rest @ ..] => match after_digits(rest) {
+            Some(end) => end.is_empty() || is_exponent(end),
+            None => false,
+        },
+        _ => is_exponent(text),
+    }
+}
+
+// Whether the text is digits of which no 0 leads, and a fraction, an exponent or both.
+fn is_decimal_float(text: &[u8]) -> bool
+    ensures { result ≡ spec.is_decimal_float text.now }
+{
+    if leads_with_zero(text) {
+        return false;
+    }
+    match after_digits(text) {
+        Some(rest) => is_fraction_or_exponent(rest),
+        None => false,
+    }
+}
+
+// Whether the text is `inf`, `nan` or a decimal float, without a sign.
+fn is_unsigned_float(text: &[u8]) -> bool
+    ensures { result ≡ spec.is_unsigned_float text.now }
+{
+    text == b"inf".as_slice() || text == b"nan".as_slice() || is_decimal_float(text)
+}
+
+/// Whether the text is a TOML float: decimal digits with a fraction, an exponent or both, or `inf` or `nan`, with an optional sign.
+/// How large the number is does not matter.
+#[tactic(auto, unfolding(crate::specs::FloatReading::is_float_text))]
+pub fn is_float(text: &str) -> bool
+    ensures test { result ≡ spec.is_float_text text.now }
+    ensures float { IsTrue result ↔ IsFloat text.now }
+{
+    is_unsigned_float(without_sign(text.as_bytes()))
+}
+
+/// A float as the text that spells it, as `6.626e-34`, of any magnitude. A contract sees it as that text.
+#[derive(Debug, Drop)]
+pub struct FloatText {
+    text: String,
+}
+
+impl Model for FloatText {
+    ghost use Rattle.std.specs.Prelude.{◌≡◌, true, string_bytes};
+    ghost use Rattle.toml_edit_model.specs.Text.{Text};
+    ghost use Rattle.toml_edit_datetime.specs.FloatReading.{is_float_text};
+
+    ghost Value = { Text };
+
+    ghost view = { λ a. string_bytes a.text };
+
+    ghost invariant = { λ a. is_float_text (string_bytes a.text) ≡ true };
+}
+
+impl FloatText {
+    /// The float that the text spells. A text that spells none is given back.
+    pub fn new(text: String) -> Result<FloatText, String>
+        ensures cases { IsOk result ↔ IsFloat (string_bytes text) }
+        ensures ok { IfOk result (λ float. float ≡ string_bytes text) }
+        ensures err { IfErr result (λ back. back ≡ text) }
+    {
+        if is_float(text.as_str()) {
+            Ok(FloatText { text })
+        } else {
+            Err(text)
+        }
+    }
+
+    /// The text.
+    pub fn as_str(&self) -> &str
+        ensures text { result.now ≡ self.now }
+        ensures float { IsFloat self.now }
+    {
+        self.text.as_str()
+    }
+
+    /// An equal copy. The only error is want of memory.
+    pub fn clone(&self, alloc: Global) -> Result<FloatText, AllocError>
+        ensures { IfOk result (λ copy. copy ≡ self.now) }
+    {
+        Ok(FloatText {
+            text: String::from_str(alloc, self.as_str())?,
+        })
+    }
+}
+
+impl fmt::Display for FloatText {
+    ghost output = { λ float. Some float };
+
+    fn fmt<W: fmt::Write>(&self, f: &mut fmt::Formatter<W>) -> fmt::Result {
+        fmt::Display::fmt(&self.as_str(), f)
+    }
+}
+
+impl PartialEq for FloatText {
+    ghost eq = { pointwise nat_eq };
+
+    ghost laws = { partial_equiv_from_equiv nat_list_eq_equiv };
+
+    fn eq(&self, other: &FloatText) -> bool {
+        self.as_str() == other.as_str()
+    }
+}
+
+impl Eq for FloatText {
+    ghost laws = { nat_list_eq_equiv };
+}
+
+impl Hash for FloatText {
+    ghost hash_input = { fed.str };
+
+    ghost respects_eq = { Prim.search (hashing, rules) };
+
+    fn hash<H: Hasher>(&self, state: &mut H) {
+        self.as_str().hash(state);
+    }
+}
+
+#[cfg(test)]
+mod tests {
+    use super::{FloatText, is_float};
+    use std::alloc::Global;
+    use std::collections::HashMap;
+    use std::hash::Hash;
+    use std::test::Fail;
+
+    fn is_kept(alloc: Global, text: &str) -> Result<bool, Fail> {
+        let kept = match FloatText::new(String::from_str(alloc, text)?) {
+            Ok(float) => is_float(text) && float.as_str() == text,
+            Err(_) => false,
+        };
+        Ok(kept)
+    }
+
+    fn is_given_back(alloc: Global, text: &str) -> Result<bool, Fail> {
+        let given_back = match FloatText::new(String::from_str(alloc, text)?) {
+            Ok(_) => false,
+            Err(back) => !is_float(text) && back.as_str() == text,
+        };
+        Ok(given_back)
+    }
+
+    #[test]
+    fn accepts_floats(rt: HostRuntime) -> Result<(), Fail> {
+        let alloc = rt.alloc();
+        assert!(rt; is_kept(alloc, "1e400")?);
+        assert!(rt; is_kept(alloc, "1e06")?);
+        assert!(rt; is_kept(alloc, "+nan")?);
+        assert!(rt; is_kept(alloc, "1_0.0_1")?);
+        assert!(rt; is_kept(alloc, "-inf")?);
+        assert!(rt; is_kept(alloc, "0.0")?);
+        assert!(rt; is_kept(alloc, "6.626e-34")?);
+        assert!(rt; is_kept(alloc, "1E+2")?);
+        assert!(rt; is_kept(alloc, "-0.0")?);
+        assert!(rt; is_kept(alloc, "0e0")?);
+        Ok(())
+    }
+
+    #[test]
+    fn gives_back_what_lacks_digits(rt: HostRuntime) -> Result<(), Fail> {
+        let alloc = rt.alloc();
+        assert!(rt; is_given_back(alloc, "")?);
+        assert!(rt; is_given_back(alloc, "1.")?);
+        assert!(rt; is_given_back(alloc, ".5")?);
+        assert!(rt; is_given_back(alloc, "1e")?);
+        assert!(rt; is_given_back(alloc, "1e+")?);
+        assert!(rt; is_given_back(alloc, "1.e1")?);
+        assert!(rt; is_given_back(alloc, "+-inf")?);
+        assert!(rt; is_given_back(alloc, "infinity")?);
+        assert!(rt; is_given_back(alloc, "Inf")?);
+        Ok(())
+    }
+
+    #[test]
+    fn gives_back_other_digits(rt: HostRuntime) -> Result<(), Fail> {
+        let alloc = rt.alloc();
+        assert!(rt; is_given_back(alloc, "1")?);
+        assert!(rt; is_given_back(alloc, "01.5")?);
+        assert!(rt; is_given_back(alloc, "0_0.5")?);
+        assert!(rt; is_given_back(alloc, "1__0.0")?);
+        assert!(rt; is_given_back(alloc, "1._0")?);
+        assert!(rt; is_given_back(alloc, "1_.0")?);
+        assert!(rt; is_given_back(alloc, "1e_1")?);
+        assert!(rt; is_given_back(alloc, "0x1.0")?);
+        assert!(rt; is_given_back(alloc, "1.0 ")?);
+        Ok(())
+    }
+
+    #[test]
+    fn shows_and_copies(rt: HostRuntime) -> Result<(), Fail> {
+        let alloc = rt.alloc();
+        let float = FloatText::new(String::from_str(alloc, "6.626e-34")?)
+            .ok()
+            .ok_or("a float")?;
+        let shown = float.to_string(alloc)?;
+        assert_eq!(rt; shown.as_str(), "6.626e-34");
+        let copy = float.clone(alloc)?;
+        assert_eq!(rt; copy.as_str(), "6.626e-34");
+        assert!(rt; copy == float);
+        let other = FloatText::new(String::from_str(alloc, "6.626E-34")?)
+            .ok()
+            .ok_or("a float")?;
+        assert!(rt; copy != other);
+        Ok(())
+    }
+
+    fn is_found<K: Eq + Hash + Drop>(rt: &HostRuntime, key: K, sought: &K) -> Result<bool, Fail> {
+        let mut places = HashMap::new(rt.alloc());
+        places.insert(key, 1)?;
+        Ok(places.get(sought).is_some())
+    }
+
+    #[test]
+    fn hashes_as_its_text(rt: HostRuntime) -> Result<(), Fail> {
+        let alloc = rt.alloc();
+        let key = FloatText::new(String::from_str(alloc, "1.0")?)
+            .ok()
+            .ok_or("a float")?;
+        let same = key.clone(alloc)?;
+        let other = FloatText::new(String::from_str(alloc, "1.00")?)
+            .ok()
+            .ok_or("a float")?;
+        let again = key.clone(alloc)?;
+        assert!(rt; is_found(&rt, key, &same)?);
+        assert!(rt; !is_found(&rt, again, &other)?);
+        Ok(())
+    }
+}

@@ -1,0 +1,85 @@
+//! Reading a date-time that is in range.
+ghost use Rattle.std.specs.Prelude.{◌≡◌, ◌↔◌, ◌==◌, IsTrue, Some, None, is_some, if◌then◌else◌, option_map};
+ghost use Rattle.toml_edit_model.specs.Scalars.{Datetime as DatetimeRecord, is_absent_or, is_real_date, is_real_time};
+ghost use Rattle.toml_edit_model.specs.Spelling.{SpellsDatetime};
+ghost use Rattle.toml_edit_datetime.specs.DateView.{date_view};
+ghost use Rattle.toml_edit_datetime.specs.TimeView.{time_view};
+ghost use Rattle.toml_edit_datetime.specs.OffsetView.{offset_view};
+ghost use Rattle.toml_edit_datetime.specs.DatetimeView.{datetime_view};
+ghost use Rattle.toml_edit_datetime.specs.DatetimeReading as spec;
+
+use crate::date::Date;
+use crate::datetime::{Datetime, DatetimeFault, Offset};
+use crate::parts::{DateParts, OffsetParts, TimeParts};
+use crate::reading;
+use crate::time::Time;
+use std::str::FromStr;
+
+/// Whether a text spells a date, a time of day or both with an offset or without, in range or not.
+pub fn is_datetime(text: &str) -> bool
+    ensures spelled { IsTrue result ↔ ((d : DatetimeRecord) × SpellsDatetime d text.now) }
+    ensures read { result ≡ is_some (spec.datetime_of text.now) }
+{
+    reading::read(text.as_bytes()).is_some()
+}
+
+/// Reads a date, a time of day, or both with an offset or without. Digits of a fraction past the ninth are dropped, and an offset
+/// of `-00:00` is one of 0 minutes.
+impl FromStr for Datetime {
+    ghost use Rattle.toml_edit_datetime.specs.ReadsDatetime.{ReadsDatetime};
+
+    type Err = DatetimeFault;
+
+    ghost from_str_gives = { ReadsDatetime };
+
+    fn from_str(text: &str) -> Result<Datetime, DatetimeFault> {
+        real_datetime(text).ok_or(DatetimeFault)
+    }
+}
+
+/// The date-time that a text spells and that exists.
+fn real_datetime(text: &str) -> Option<Datetime>
+    ensures { option_map datetime_view result ≡ spec.ranged_of text.now }
+{
+    let parts = reading::read(text.as_bytes())?;
+    let date = real_date(parts.date)?;
+    let time = real_time(parts.time)?;
+    let offset = real_offset(parts.offset)?;
+    Datetime::new(date, time, offset)
+}
+
+/// The date, if there is one, unless the calendar has no such day.
+fn real_date(parts: Option<DateParts>) -> Option<Option<Date>>
+    ensures { option_map (option_map date_view) result
+        ≡ (if is_absent_or is_real_date (option_map spec.date_of parts) then Some (option_map spec.date_of parts) else None) }
+{
+    let Some(parts) = parts else {
+        return Some(None);
+    };
+    let date = Date::new(parts.year, parts.month, parts.day)?;
+    Some(Some(date))
+}
+
+/// The time, if there is one, unless no day has it.
+fn real_time(parts: Option<TimeParts>) -> Option<Option<Time>>
+    ensures { option_map (option_map time_view) result
+        ≡ (if is_absent_or is_real_time (option_map spec.time_of parts) then Some (option_map spec.time_of parts) else None) }
+{
+    let Some(parts) = parts else {
+        return Some(None);
+    };
+    let time = Time::new(parts.hour, parts.minute, parts.second, parts.nanosecond)?;
+    Some(Some(time))
+}
+
+/// The offset, if there is one, unless its hours or minutes are not those of a day.
+fn real_offset(parts: Option<OffsetParts>) -> Option<Option<Offset>>
+    ensures { option_map (option_map offset_view) result
+        ≡ (if is_absent_or (λ o. o.is_real) parts then Some (option_map (λ o. offset_view o.offset) parts) else None) }
+{
+    match parts {
+        None => Some(None),
+        Some(parts) if parts.is_real => Some(Some(parts.offset)),
+        Some(_) => None,
+    }
+}

@@ -1,0 +1,224 @@
+//! Reading a date-time. Each function here reads a part from the front of the text, and gives it with the rest.
+ghost use Rattle.std.specs.Prelude.{◌≡◌, ℕ, ◌<◌, ◌≤◌, true, length, is_some, slice_index, IfSome};
+ghost use Rattle.std.specs.List.{prefix_len};
+ghost use Rattle.std.specs.Option.{option_copied};
+ghost use Rattle.std.specs.Char.{is_ascii_digit};
+ghost use Rattle.toml_edit_model.specs.Spelling.{nanoseconds};
+ghost use Rattle.toml_edit_datetime.specs.DatetimeReading as spec;
+
+use crate::datetime::Offset;
+use crate::parts::{DateParts, OffsetParts, Parts, TimeParts};
+
+/// What a text reads as that is a date-time, in range or not.
+#[tactic(auto, unfolding(crate::specs::DatetimeReading::parts_of))]
+pub(crate) fn read(text: &[u8]) -> Option<Parts>
+    ensures { result ≡ spec.parts_of text.now }
+{
+    if byte_at(text, 2) == b':' {
+        let time = whole(time(text))?;
+        return Some(Parts {
+            date: None,
+            time: Some(time),
+            offset: None,
+        });
+    }
+    let (date, rest) = date(text)?;
+    after_date(date, rest)
+}
+
+/// What follows a date: nothing, or a time and perhaps an offset.
+#[tactic(auto, unfolding(crate::specs::DatetimeReading::after_date))]
+fn after_date(date: DateParts, text: &[u8]) -> Option<Parts>
+    ensures { result ≡ spec.after_date date text.now }
+{
+    let [mark, rest @ ..] = text else {
+        return Some(Parts {
+            date: Some(date),
+            time: None,
+            offset: None,
+        });
+    };
+    if !matches!(mark, b'T' | b't' | b' ') {
+        return None;
+    }
+    let (time, rest) = time(rest)?;
+    let offset = if rest.is_empty() {
+        None
+    } else {
+        Some(whole(offset(rest))?)
+    };
+    Some(Parts {
+        date: Some(date),
+        time: Some(time),
+        offset,
+    })
+}
+
+#[tactic(auto, unfolding(crate::specs::DatetimeReading::date_at))]
+fn date(text: &[u8]) -> Option<(DateParts, &[u8])>
+    ensures { spec.read_of result ≡ spec.date_at text.now }
+{
+    let (century, rest) = two_digits(text)?;
+    let (year, rest) = two_digits(rest)?;
+    let (month, rest) = two_digits(after_byte(rest, b'-')?)?;
+    let (day, rest) = two_digits(after_byte(rest, b'-')?)?;
+    let date = DateParts {
+        year: 100 * u16::from(century) + u16::from(year),
+        month,
+        day,
+    };
+    Some((date, rest))
+}
+
+#[tactic(auto, unfolding(crate::specs::DatetimeReading::time_at))]
+fn time(text: &[u8]) -> Option<(TimeParts, &[u8])>
+    ensures { spec.read_of result ≡ spec.time_at text.now }
+{
+    let ((hour, minute), rest) = clock(text)?;
+    let ((second, nanosecond), rest) = seconds(rest)?;
+    let time = TimeParts {
+        hour,
+        minute,
+        second,
+        nanosecond,
+    };
+    Some((time, rest))
+}
+
+/// `hh:mm`.
+#[tactic(auto, unfolding(crate::specs::DatetimeReading::clock_at))]
+fn clock(text: &[u8]) -> Option<((u8, u8), &[u8])>
+    ensures value { spec.read_of result ≡ spec.clock_at text.now }
+    ensures small { IfSome result (λ p. (p.0.0 < 100) × (p.0.1 < 100)) }
+{
+    let (hour, rest) = two_digits(text)?;
+    let (minute, rest) = two_digits(after_byte(rest, b':')?)?;
+    Some(((hour, minute), rest))
+}
+
+/// Nothing, or `:ss` and perhaps a fraction.
+#[tactic(auto, unfolding(crate::specs::DatetimeReading::seconds_at))]
+fn seconds(text: &[u8]) -> Option<((Option<u8>, Option<u32>), &[u8])>
+    ensures { spec.read_of result ≡ spec.seconds_at text.now }
+{
+    if byte_at(text, 0) != b':' {
+        return Some(((None, None), text));
+    }
+    let (second, rest) = two_digits(&text[1..])?;
+    if byte_at(rest, 0) != b'.' {
+        return Some(((Some(second), None), rest));
+    }
+    let (nanosecond, rest) = fraction(&rest[1..])?;
+    Some(((Some(second), Some(nanosecond)), rest))
+}
+
+/// The digits behind a point, as nanoseconds.
+#[tactic(auto, unfolding(crate::specs::DatetimeReading::fraction_at))]
+fn fraction(text: &[u8]) -> Option<(u32, &[u8])>
+    ensures { spec.read_of result ≡ spec.fraction_at text.now }
+{
+    let len = digits_len(text);
+    if len == 0 {
+        return None;
+    }
+    let (digits, rest) = text.split_at(len);
+    Some((nanosecond(digits), rest))
+}
+
+/// The number of nine digits: the first of these, and then zeros.
+fn nanosecond(digits: &[u8]) -> u32
+    requires { (k : ℕ) → k < length digits.now → is_ascii_digit (slice_index digits.now k) ≡ true }
+    ensures { result ≡ nanoseconds digits.now }
+{
+    let mut value = 0u32;
+    for place in 0..9 {
+        let digit = match digits.get(place) {
+            Some(digit) => *digit - b'0',
+            None => 0,
+        };
+        value = value * 10 + u32::from(digit);
+    }
+    value
+}
+
+fn digits_len(text: &[u8]) -> usize
+    ensures len { result ≡ prefix_len is_ascii_digit text.now }
+    ensures within { result ≤ length text.now }
+    ensures digits { (k : ℕ) → k < result → is_ascii_digit (slice_index text.now k) ≡ true }
+{
+    text.iter().take_while(|b| b.is_ascii_digit()).count()
+}
+
+/// `Z`, `z`, or a sign and `hh:mm`.
+#[tactic(auto, unfolding(crate::specs::DatetimeReading::offset_at))]
+fn offset(text: &[u8]) -> Option<(OffsetParts, &[u8])>
+    ensures { spec.read_of result ≡ spec.offset_at text.now }
+{
+    match text {
+        [b'Z' | b'z', rest @ ..] => {
+            let parts = OffsetParts {
+                offset: Offset::Z,
+                is_real: true,
+            };
+            Some((parts, rest))
+        }
+        [b'+', rest @ ..] => {
+            let ((hours, minutes), rest) = clock(rest)?;
+            let all = 60 * u16::from(hours) + u16::from(minutes);
+            Some((shift(all as i16, hours, minutes), rest))
+        }
+        [b'-', rest @ ..] => {
+            let ((hours, minutes), rest) = clock(rest)?;
+            let all = 60 * u16::from(hours) + u16::from(minutes);
+            Some((shift(-(all as i16), hours, minutes), rest))
+        }
+        _ => None,
+    }
+}
+
+/// So many minutes, written by these hours and minutes.
+fn shift(all: i16, hours: u8, minutes: u8) -> OffsetParts
+    ensures { result ≡ spec.shift_parts all hours minutes }
+{
+    OffsetParts {
+        offset: Offset::Custom { minutes: all },
+        is_real: hours < 24 && minutes < 60,
+    }
+}
+
+#[tactic(auto, unfolding(crate::specs::DatetimeReading::two_at))]
+fn two_digits(text: &[u8]) -> Option<(u8, &[u8])>
+    ensures value { spec.read_of result ≡ spec.two_at text.now }
+    ensures small { IfSome result (λ p. p.0 < 100) }
+{
+    match text {
+        [a @ b'0'..=b'9', b @ b'0'..=b'9', rest @ ..] => {
+            Some((10 * (a - b'0') + (b - b'0'), rest))
+        }
+        _ => None,
+    }
+}
+
+fn after_byte(text: &[u8], byte: u8) -> Option<&[u8]>
+    ensures { option_copied result ≡ spec.after_byte byte text.now }
+{
+    match text {
+        [first, rest @ ..] if *first == byte => Some(rest),
+        _ => None,
+    }
+}
+
+fn byte_at(text: &[u8], index: usize) -> u8
+    ensures { result ≡ slice_index text.now index }
+{
+    text.get(index).copied().unwrap_or(0)
+}
+
+fn whole<T: Copy>(read: Option<(T, &[u8])>) -> Option<T>
+    ensures { result ≡ spec.whole (spec.read_of read.entry) }
+{
+    match read {
+        Some((value, [])) => Some(value),
+        _ => None,
+    }
+}

@@ -1,0 +1,8 @@
+-- The default spelling spells the integer, which has 64 bits.
+use Rattle.toml_edit_laws.proofs.DefaultLaws.{default_integer_spells}
+use Rattle.toml_edit_repr.proofs.Integers.{integer_fits}
+use Rattle.toml_edit_repr.proofs.repr.integer_repr.Goals as goal
+
+pub returns-clause-spelled : goal.returns-clause-spelled
+returns-clause-spelled c =
+    ∣ default_integer_spells c.args.value (integer_fits c.args.value c.ranges.value) ∣₁

@@ -1,0 +1,124 @@
+-- Equal texts and decors are one, equality is an equivalence, and what is equal is hashed alike.
+use Rattle.std.specs.Prelude.{◌≡◌, Bool, true, false, ◌&&◌, ℕ, IsTrue, List, Option, Some, None}
+use Rattle.std.specs.Bool.{Decides}
+use Rattle.std.specs.Cmp.{IsEquivalence, IsPartialEquivalence, partial_equiv_from_equiv, on_equiv, on_per, and_equiv, and_per}
+use Rattle.std.specs.Hash.{Alike, same_Alike, on_Alike, and-Alike}
+use Rattle.std.proofs.Common.{refl, ap, sym}
+use Rattle.std.proofs.lemmas.Bool.{eqb-true, eq-eqb}
+use Rattle.std.proofs.lemmas.Bool.Decides.{same_from_decides}
+use Rattle.std.proofs.lemmas.Slice.Eq.{bytes_eq-Decides}
+use Rattle.toml_edit_model.specs.Tree.{Raw, owned, span, Decor}
+use Rattle.toml_edit_repr.specs.Views.{FormattedView}
+use Rattle.toml_edit_repr.specs.Sameness.{same_raw, same_side, same_decor, same_formatted, raw_hash_input, side_hash_input, decor_hash_input, formatted_hash_input}
+
+-- ---- tests that find equal what is one
+
+both : (a b : Bool) → (a && b) ≡ true → (a ≡ true) × (b ≡ true)
+both true true e = (refl, refl)
+both true false e = absurd cc
+both false b e = absurd cc
+
+-- a test that passes one with itself, and only that
+module _ {X : Type 0} (same : X → X → Bool) (exact : (a b : X) → same a b ≡ true → a ≡ b) (itself : (a : X) → same a a ≡ true) where
+  pub decides : (a b : X) → Decides (same a b) (a ≡ b)
+  decides a b = (exact a b, λ e. rw e (itself b))
+
+  backwards : (a b : X) → Decides (same b a) (a ≡ b)
+  backwards a b = (λ e. sym (exact b a e), λ e. rw e (itself b))
+
+  pub equivalence : IsEquivalence same
+  equivalence =
+      record {
+        refl = itself;
+        symm = λ a b. same_from_decides _ _ (decides a b) (backwards a b);
+        congr = λ a b c e. ap (λ x. same x c) (exact a b e);
+      }
+
+-- ---- texts
+
+same_raw_exact : (a b : Raw) → same_raw a b ≡ true → a ≡ b
+same_raw_exact (owned s) (owned t) e = ap owned ((bytes_eq-Decides s t).0 e)
+same_raw_exact (span i j) (span k l) e =
+    let (first, second) = both _ _ e in
+    let i-k : i ≡ k = eqb-true i k first in
+    let j-l : j ≡ l = eqb-true j l second in
+    cc
+same_raw_exact (owned s) (span k l) e = absurd cc
+same_raw_exact (span i j) (owned t) e = absurd cc
+
+same_raw_itself : (a : Raw) → same_raw a a ≡ true
+same_raw_itself (owned s) = (bytes_eq-Decides s s).1 refl
+same_raw_itself (span i j) = rw (eq-eqb i i refl) (eq-eqb j j refl)
+
+pub same_raw_equiv : IsEquivalence same_raw
+same_raw_equiv = equivalence same_raw same_raw_exact same_raw_itself
+
+pub same_raw_partial_equiv : IsPartialEquivalence same_raw
+same_raw_partial_equiv = partial_equiv_from_equiv same_raw_equiv
+
+pub raw_hash_respects : (a b : Raw) → IsTrue (same_raw a b) → raw_hash_input a ≡ raw_hash_input b
+raw_hash_respects a b e = ap raw_hash_input (same_raw_exact a b e)
+
+-- ---- sides
+
+same_side_exact : (a b : Option Raw) → same_side a b ≡ true → a ≡ b
+same_side_exact None None e = refl
+same_side_exact (Some a) (Some b) e = ap Some (same_raw_exact a b e)
+same_side_exact None (Some b) e = absurd cc
+same_side_exact (Some a) None e = absurd cc
+
+same_side_itself : (a : Option Raw) → same_side a a ≡ true
+same_side_itself None = refl
+same_side_itself (Some a) = same_raw_itself a
+
+same_side_equiv : IsEquivalence same_side
+same_side_equiv = equivalence same_side same_side_exact same_side_itself
+
+side_alike : Alike same_side side_hash_input
+side_alike = same_Alike side_hash_input (decides same_side same_side_exact same_side_itself)
+
+-- ---- decors
+
+same_decor_exact : (a b : Decor) → same_decor a b ≡ true → a ≡ b
+same_decor_exact a b e =
+    let (first, second) = both _ _ e in
+    let prefix = same_side_exact a.prefix b.prefix first in
+    let suffix = same_side_exact a.suffix b.suffix second in
+    λ i. record { prefix = prefix i; suffix = suffix i }
+
+same_decor_itself : (a : Decor) → same_decor a a ≡ true
+same_decor_itself a = rw (same_side_itself a.prefix) (same_side_itself a.suffix)
+
+pub same_decor_decides : (a b : Decor) → Decides (same_decor a b) (a ≡ b)
+same_decor_decides = decides same_decor same_decor_exact same_decor_itself
+
+pub same_decor_equiv : IsEquivalence same_decor
+same_decor_equiv = equivalence same_decor same_decor_exact same_decor_itself
+
+pub same_decor_partial_equiv : IsPartialEquivalence same_decor
+same_decor_partial_equiv = partial_equiv_from_equiv same_decor_equiv
+
+decor_alike : Alike same_decor decor_hash_input
+decor_alike = same_Alike decor_hash_input same_decor_decides
+
+pub decor_hash_respects : (a b : Decor) → IsTrue (same_decor a b) → decor_hash_input a ≡ decor_hash_input b
+decor_hash_respects = decor_alike.fed
+
+-- ---- scalars
+
+pub same_formatted_equiv : {X : Type 0} {same : X → X → Bool} → IsEquivalence same → IsEquivalence (same_formatted same)
+same_formatted_equiv values =
+    and_equiv (on_equiv (λ v. v.value) values)
+    (and_equiv (on_equiv (λ v. v.repr) same_side_equiv) (on_equiv (λ v. v.decor) same_decor_equiv))
+
+pub same_formatted_partial_equiv : {X : Type 0} {same : X → X → Bool} → IsPartialEquivalence same → IsPartialEquivalence (same_formatted same)
+same_formatted_partial_equiv values =
+    and_per (on_per (λ v. v.value) values)
+    (and_per (on_per (λ v. v.repr) (partial_equiv_from_equiv same_side_equiv)) (on_per (λ v. v.decor) same_decor_partial_equiv))
+
+pub formatted_hash_respects : {X : Type 0} {same : X → X → Bool} {input : X → List (List ℕ)}
+    → ((x y : X) → IsTrue (same x y) → input x ≡ input y)
+    → (a b : FormattedView X) → IsTrue (same_formatted same a b) → formatted_hash_input input a ≡ formatted_hash_input input b
+formatted_hash_respects values =
+    (and-Alike (on_Alike (λ v. v.value) (record { fed = values }))
+    (and-Alike (on_Alike (λ v. v.repr) side_alike) (on_Alike (λ v. v.decor) decor_alike))).fed

@@ -1,0 +1,63 @@
+//! Floats, dates and times as scalars.
+use crate::raw_string::{Mem, RawString};
+use crate::repr::{Repr, ScalarValue, ValueRepr, default_repr_of};
+use std::alloc::Global;
+use std::fmt;
+use std::fmt::{Formatter, Write};
+use toml_edit_datetime::{Datetime, FloatText};
+
+impl ScalarValue for FloatText {
+    ghost use Rattle.toml_edit_model.specs.Scalars.{float};
+
+    ghost scalar = { float };
+
+    fn write_default<W: Write>(&self, f: &mut Formatter<W>) -> fmt::Result {
+        f.write_str(self.as_str())
+    }
+
+    fn copy(&self, alloc: Global) -> Mem<FloatText> {
+        self.clone(alloc)
+    }
+}
+
+impl ValueRepr for FloatText {
+    ghost use Rattle.toml_edit_model.specs.Scalars.{float};
+    ghost use Rattle.toml_edit_model.specs.Spelling.{SpellsInRange};
+
+    ghost spells = { λ t value. SpellsInRange (float value) t };
+
+    ghost spells_scalar = { λ t x. (λ spelled. spelled, λ spelled. spelled) };
+
+    fn to_repr(&self, alloc: Global) -> Mem<Repr> {
+        Ok(Repr::new(RawString::from_text(alloc, self.as_str())?))
+    }
+}
+
+impl ScalarValue for Datetime {
+    ghost use Rattle.toml_edit_model.specs.Scalars.{datetime};
+    ghost use Rattle.toml_edit_datetime.specs.DatetimeView.{datetime_view};
+
+    ghost scalar = { λ value. datetime (datetime_view value) };
+
+    fn write_default<W: Write>(&self, f: &mut Formatter<W>) -> fmt::Result {
+        fmt::Display::fmt(self, f)
+    }
+
+    fn copy(&self, _alloc: Global) -> Mem<Datetime> {
+        Ok(*self)
+    }
+}
+
+impl ValueRepr for Datetime {
+    ghost use Rattle.toml_edit_model.specs.Scalars.{datetime};
+    ghost use Rattle.toml_edit_model.specs.Spelling.{SpellsInRange};
+    ghost use Rattle.toml_edit_datetime.specs.DatetimeView.{datetime_view};
+
+    ghost spells = { λ t value. SpellsInRange (datetime (datetime_view value)) t };
+
+    ghost spells_scalar = { λ t x. (λ spelled. spelled, λ spelled. spelled) };
+
+    fn to_repr(&self, alloc: Global) -> Mem<Repr> {
+        default_repr_of(alloc, self)
+    }
+}

@@ -1,0 +1,121 @@
+//! Writing texts that are kept beside values.
+ghost use Rattle.std.specs.Prelude.{◌≡◌, ◌<◌, false, ◌++◌, length, option_and_then, IfSome, MatchOption};
+ghost use Rattle.std.specs.Option.{option_copied};
+ghost use Rattle.std.specs.Fmt.{WritesOnOk};
+ghost use Rattle.toml_edit_model.specs.Text.{without_returns};
+ghost use Rattle.toml_edit_model.specs.Tree.{scalar_text, shown_side, shown_raw};
+ghost use Rattle.toml_edit_repr.specs.Views.{text_of};
+
+use crate::raw_string::RawString;
+use crate::repr::{Formatted, Repr, ValueRepr};
+use memchr::memchr;
+use std::fmt;
+use std::fmt::{Formatter, Write};
+
+/// Writes the spelling of the scalar as it stands, or the default one where it has none or a span.
+pub fn write_scalar<W: Write, T: ValueRepr>(
+    f: &mut Formatter<W>,
+    scalar: &Formatted<T>,
+) -> fmt::Result
+    ensures { WritesOnOk W.write_str_gives f.old result (scalar_text (T.scalar scalar.now.value) scalar.now.repr) f.new }
+{
+    match spelling_text(scalar.as_repr()) {
+        Some(text) => f.write_str(text),
+        None => scalar.value().write_default(f),
+    }
+}
+
+/// The spelling, unless it is a span.
+pub fn spelling_text(spelling: Option<&Repr>) -> Option<&str>
+    ensures { option_copied result ≡ option_and_then text_of (option_copied spelling.entry) }
+{
+    spelling?.as_raw().as_str()
+}
+
+/// The text of a decor's side, unless it is unset or a span.
+fn side_text(side: Option<&RawString>) -> Option<&str>
+    ensures { option_copied result ≡ option_and_then text_of (option_copied side.entry) }
+{
+    side?.as_str()
+}
+
+/// Writes a decor's side without its carriage returns. One that is unset or a span is the default of its place.
+#[inline(always)]
+pub fn write_side<W: Write>(
+    f: &mut Formatter<W>,
+    side: Option<&RawString>,
+    default: &str,
+) -> fmt::Result
+    ensures { WritesOnOk W.write_str_gives f.old result (shown_side default.now (option_copied side.entry)) f.new }
+{
+    match side_text(side) {
+        Some(text) => write_without_returns(f, text),
+        None => f.write_str(default),
+    }
+}
+
+/// Writes the text without its carriage returns. A span has none.
+pub fn write_raw<W: Write>(f: &mut Formatter<W>, raw: &RawString) -> fmt::Result
+    ensures { WritesOnOk W.write_str_gives f.old result (shown_raw raw.now) f.new }
+{
+    match raw.as_str() {
+        Some(text) => write_without_returns(f, text),
+        None => Ok(()),
+    }
+}
+
+/// Writes the text without its carriage returns.
+#[inline(always)]
+pub fn write_without_returns<W: Write>(f: &mut Formatter<W>, text: &str) -> fmt::Result
+    ensures { WritesOnOk W.write_str_gives f.old result (without_returns text.now) f.new }
+{
+    // Most sides are empty, or one space.
+    if text.is_empty() {
+        Ok(())
+    } else if text == " " {
+        f.write_str(" ")
+    } else {
+        write_longer(f, text)
+    }
+}
+
+/// The same of any text. It stands apart, so that the short texts are written in place.
+#[inline(never)]
+fn write_longer<W: Write>(f: &mut Formatter<W>, text: &str) -> fmt::Result
+    ensures { WritesOnOk W.write_str_gives f.old result (without_returns text.now) f.new }
+{
+    if has_return(text) {
+        write_pieces(f, text)
+    } else {
+        f.write_str(text)
+    }
+}
+
+fn has_return(text: &str) -> bool
+    ensures { result ≡ false → without_returns text.now ≡ text.now }
+{
+    memchr(b'\r', text.as_bytes()).is_some()
+}
+
+/// The text without its carriage returns, piece by piece.
+#[cold]
+fn write_pieces<W: Write>(f: &mut Formatter<W>, text: &str) -> fmt::Result
+    ensures { WritesOnOk W.write_str_gives f.old result (without_returns text.now) f.new }
+{
+    let mut rest = text;
+    'pieces: while let Some((piece, after)) = split_at_return(rest) {
+        f.write_str(piece)?;
+        rest = after;
+    }
+    f.write_str(rest)
+}
+
+/// What stands before and after the first carriage return, if there is one.
+fn split_at_return(text: &str) -> Option<(&str, &str)>
+    ensures parts { MatchOption result (without_returns text.now ≡ text.now)
+        (λ p. without_returns text.now ≡ p.0.now ++ without_returns p.1.now) }
+    ensures shorter { IfSome result (λ p. length p.1.now < length text.now) }
+{
+    let at = memchr(b'\r', text.as_bytes())?;
+    Some((&text[..at], &text[at + 1..]))
+}
