@@ -13,8 +13,6 @@ mod copies;
 mod key_mut;
 mod read;
 mod shown;
-#[cfg(test)]
-mod tests;
 
 pub use key_mut::KeyMut;
 

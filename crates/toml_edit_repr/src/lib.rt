@@ -13,6 +13,3 @@ pub use raw_string::{Decor, Mem, RawString};
 pub use repr::{Formatted, Repr, ScalarValue, ValueRepr};
 pub use slots::{NoMemory, Slot, Slots};
 pub use write::{spelling_text, write_raw, write_scalar, write_side};
-
-#[cfg(test)]
-mod tests;

@@ -1,6 +1,7 @@
 //! Flat documents, from their text to their print.
-use std::test::Fail;
-use toml_edit::{Document, Item, ParseFault, Value};
+use crate::reading::{is_marked, owned_holds, prints, read_holds, refuses};
+use std::alloc::Global;
+use toml_edit::{Document, DocumentMut, Item, Value};
 
 /// A text, and what its document prints.
 const PRINTS: [(&str, &str); 15] = [
@@ -80,108 +81,99 @@ const NOT_YET: [&str; 23] = [
 ];
 
 #[test]
-fn prints(rt: HostRuntime) -> Result<(), Fail> {
+fn prints_documents(rt: HostRuntime) {
     for (text, print) in PRINTS {
-        let document = Document::parse(rt.alloc(), text)?;
-        let printed = document.into_mut(rt.alloc())?.print(rt.alloc())?;
-        assert_eq!(rt; printed.as_str(), print);
+        assert!(rt; prints(rt.alloc(), text, print), "{text}");
     }
-    Ok(())
 }
 
 #[test]
-fn refuses(rt: HostRuntime) -> Result<(), Fail> {
+fn refuses_faults(rt: HostRuntime) {
     for (text, message, start, end) in REFUSALS {
-        match Document::parse(rt.alloc(), text) {
-            Ok(_) => panic!(rt; "accepted: {text}"),
-            Err(ParseFault::Memory) => panic!(rt; "out of memory"),
-            Err(ParseFault::Toml(error)) => {
-                assert_eq!(rt; error.message(), message);
-                match error.span() {
-                    None => panic!(rt; "no span: {text}"),
-                    Some(span) => {
-                        assert_eq!(rt; span.start, start);
-                        assert_eq!(rt; span.end, end);
-                    }
-                }
-            }
-        }
+        assert!(rt; refuses(rt.alloc(), text, message, start, end), "{text}");
     }
-    Ok(())
+}
+
+/// Whether the text is refused as one that isn't read yet, with a span.
+fn is_not_yet(alloc: Global, text: &str) -> bool {
+    match Document::parse(alloc, text) {
+        Ok(_) => false,
+        Err(fault) => is_marked(&fault, "not yet"),
+    }
 }
 
 #[test]
-fn refuses_what_is_not_flat(rt: HostRuntime) -> Result<(), Fail> {
+fn refuses_what_is_not_flat(rt: HostRuntime) {
     for text in NOT_YET {
-        match Document::parse(rt.alloc(), text) {
-            Ok(_) => panic!(rt; "accepted: {text}"),
-            Err(ParseFault::Memory) => panic!(rt; "out of memory"),
-            Err(ParseFault::Toml(error)) => {
-                assert_eq!(rt; error.message(), "not yet");
-                assert!(rt; error.span().is_some());
-            }
-        }
+        assert!(rt; is_not_yet(rt.alloc(), text), "{text}");
     }
-    Ok(())
+}
+
+const SOURCE: &str = "a = 0x10 # c\nb = 'x'\n# end";
+
+#[test]
+fn keeps_the_source(rt: HostRuntime) {
+    assert!(rt; read_holds(rt.alloc(), SOURCE, |document| document.raw() == SOURCE));
 }
 
 #[test]
-fn reads_a_document(rt: HostRuntime) -> Result<(), Fail> {
-    let text = String::from_str(rt.alloc(), "a = 0x10 # c\nb = 'x'\n# end")?;
-    let document = Document::parse(rt.alloc(), text)?;
-    assert_eq!(rt; document.raw(), "a = 0x10 # c\nb = 'x'\n# end");
-    let end = document.trailing().span();
-    match end {
-        None => panic!(rt; "no span"),
-        Some(span) => assert_eq!(rt; span.start, 21),
-    }
-    let mut names = 0usize;
-    for (name, _item) in document.iter() {
-        assert!(rt; name == "a" || name == "b");
-        names = names.saturating_add(1);
-    }
-    assert_eq!(rt; names, 2);
-    assert!(rt; document.as_table().get("c").is_none());
+fn ends_in_a_comment(rt: HostRuntime) {
+    assert!(rt;
+        read_holds(rt.alloc(), SOURCE, |document| document.trailing().span() == Some(21..26))
+    );
+}
+
+fn are_a_and_b(document: &Document<&str>) -> bool {
+    let mut names = document.iter().map(|(name, _)| name);
+    names.next() == Some("a") && names.next() == Some("b") && names.next().is_none()
+}
+
+#[test]
+fn gives_its_keys(rt: HostRuntime) {
+    assert!(rt; read_holds(rt.alloc(), SOURCE, are_a_and_b));
+    assert!(rt; read_holds(rt.alloc(), SOURCE, |document| document.as_table().get("c").is_none()));
+}
+
+fn is_sixteen(document: &Document<&str>) -> bool {
     match document.as_table().get("a") {
         Some(Item::Value(Value::Integer(number))) => {
-            assert_eq!(rt; *number.value(), 16);
-            match number.as_repr() {
-                None => panic!(rt; "no spelling"),
-                Some(repr) => match repr.span() {
-                    None => panic!(rt; "no span"),
-                    Some(span) => {
-                        assert_eq!(rt; span.start, 4);
-                        assert_eq!(rt; span.end, 8);
-                    }
-                },
-            }
+            *number.value() == 16 && number.span() == Some(4..8)
         }
-        _ => panic!(rt; "no integer"),
+        _ => false,
     }
-    Ok(())
 }
 
 #[test]
-fn reads_every_kind_of_value(rt: HostRuntime) -> Result<(), Fail> {
-    let text = "s = \"a\\tb\"\nt = 'c'\ni = -0x0\n";
-    assert!(rt; Document::parse(rt.alloc(), text).is_err());
-    let text = "s = \"a\\tb\"\nt = 'c'\ni = -1_0\nb = true\n";
-    let document = Document::parse(rt.alloc(), text)?.into_mut(rt.alloc())?;
-    let root = document.as_table();
-    match root.get("s") {
-        Some(Item::Value(Value::String(text))) => {
-            assert_eq!(rt; text.value().as_str(), "a\tb");
-            match text.as_repr() {
-                None => panic!(rt; "no spelling"),
-                Some(repr) => assert_eq!(rt; repr.as_raw().as_str(), Some("\"a\\tb\"")),
-            }
-        }
-        _ => panic!(rt; "no string"),
+fn gives_the_span_of_a_number(rt: HostRuntime) {
+    assert!(rt; read_holds(rt.alloc(), SOURCE, is_sixteen));
+}
+
+const KINDS: &str = "s = \"a\\tb\"\nt = 'c'\ni = -1_0\nb = true\n";
+
+fn is_string(document: &DocumentMut) -> bool {
+    match document.as_table().get("s") {
+        Some(Item::Value(Value::String(text))) => text.value().as_str() == "a\tb",
+        _ => false,
     }
-    assert!(rt; matches!(root.get("i"), Some(Item::Value(Value::Integer(_)))));
-    match root.get("b") {
-        Some(Item::Value(Value::Boolean(truth))) => assert!(rt; *truth.value()),
-        _ => panic!(rt; "no truth value"),
+}
+
+fn is_integer(document: &DocumentMut) -> bool {
+    match document.as_table().get("i") {
+        Some(Item::Value(Value::Integer(number))) => *number.value() == -10,
+        _ => false,
     }
-    Ok(())
+}
+
+fn is_truth(document: &DocumentMut) -> bool {
+    match document.as_table().get("b") {
+        Some(Item::Value(Value::Boolean(truth))) => *truth.value(),
+        _ => false,
+    }
+}
+
+#[test]
+fn owns_values_of_each_kind(rt: HostRuntime) {
+    assert!(rt; owned_holds(rt.alloc(), KINDS, is_string));
+    assert!(rt; owned_holds(rt.alloc(), KINDS, is_integer));
+    assert!(rt; owned_holds(rt.alloc(), KINDS, is_truth));
 }

@@ -1,9 +1,8 @@
-//! Scalars and keys of every kind: what is read, kept and shown.
+//! Scalars of every kind: what is read, kept and shown.
+use crate::reading::{is_shown, owned_holds, prints, refuses, value_holds, value_refuses};
 use std::alloc::Global;
 use std::test::Fail;
-use toml_edit::{
-    Date, Datetime, Document, FloatText, Item, Key, Offset, ParseFault, RawString, Time, Value,
-};
+use toml_edit::{Date, Datetime, DocumentMut, FloatText, Item, Offset, RawString, Time, Value};
 
 /// A document with a scalar, and what it prints.
 const PRINTS: [(&str, &str); 15] = [
@@ -34,13 +33,10 @@ const PRINTS: [(&str, &str); 15] = [
 ];
 
 #[test]
-fn prints(rt: HostRuntime) -> Result<(), Fail> {
+fn prints_scalars(rt: HostRuntime) {
     for (text, print) in PRINTS {
-        let document = Document::parse(rt.alloc(), text)?;
-        let printed = document.into_mut(rt.alloc())?.print(rt.alloc())?;
-        assert_eq!(rt; printed.as_str(), print);
+        assert!(rt; prints(rt.alloc(), text, print), "{text}");
     }
-    Ok(())
 }
 
 /// A text, and the string that it spells.
@@ -59,26 +55,21 @@ const STRINGS: [(&str, &str); 9] = [
     ("\"\"\"\"a\"\" b\"\"\"\"\"", "\"a\"\" b\"\""),
 ];
 
-#[test]
-fn reads_strings(rt: HostRuntime) -> Result<(), Fail> {
-    for (text, says) in STRINGS {
-        let value = Value::from_str(rt.alloc(), text)?;
-        assert_eq!(rt; value.as_str(), Some(says));
-        assert_eq!(rt; value.type_name(), "string");
-        assert!(rt; value.is_str());
-        assert!(rt; value.decor().prefix().is_none());
-        assert!(rt; value.span().is_none());
-    }
-    Ok(())
+fn is_string(value: &Value, says: &str) -> bool {
+    value.as_str() == Some(says) && value.is_str() && value.type_name() == "string"
 }
 
-fn is_fault(fault: &ParseFault, message: &str, start: usize, end: usize) -> bool {
-    match fault {
-        ParseFault::Memory => false,
-        ParseFault::Toml(error) => match error.span() {
-            None => false,
-            Some(span) => error.message() == message && span.start == start && span.end == end,
-        },
+fn is_bare(value: &Value) -> bool {
+    value.decor().prefix().is_none() && value.span().is_none()
+}
+
+#[test]
+fn reads_strings(rt: HostRuntime) {
+    for (text, says) in STRINGS {
+        assert!(rt;
+            value_holds(rt.alloc(), text, |value| is_string(value, says) && is_bare(value)),
+            "{text}"
+        );
     }
 }
 
@@ -97,10 +88,7 @@ const REFUSALS: [(&str, &str, usize, usize); 8] = [
 #[test]
 fn refuses_lone_values(rt: HostRuntime) {
     for (text, message, start, end) in REFUSALS {
-        match Value::from_str(rt.alloc(), text) {
-            Ok(_) => panic!(rt; "accepted: {text}"),
-            Err(fault) => assert!(rt; is_fault(&fault, message, start, end), "{text}"),
-        }
+        assert!(rt; value_refuses(rt.alloc(), text, message, start, end), "{text}");
     }
 }
 
@@ -115,51 +103,49 @@ const RANGES: [(&str, usize, usize); 4] = [
 #[test]
 fn refuses_ranges(rt: HostRuntime) {
     for (text, start, end) in RANGES {
-        match Document::parse(rt.alloc(), text) {
-            Ok(_) => panic!(rt; "accepted: {text}"),
-            Err(fault) => assert!(rt; is_fault(&fault, "invalid date-time", start, end), "{text}"),
-        }
+        assert!(rt; refuses(rt.alloc(), text, "invalid date-time", start, end), "{text}");
     }
 }
 
-fn is_shown(alloc: Global, value: &Value, shown: &str) -> Result<bool, Fail> {
-    Ok(value.to_string(alloc)?.as_str() == shown)
+#[test]
+fn shows_numbers(rt: HostRuntime) {
+    let number = Value::from(42);
+    assert!(rt; number.as_integer() == Some(42) && number.is_integer());
+    assert!(rt; is_shown(rt.alloc(), &number, "42"));
 }
 
 #[test]
-fn shows_numbers_and_truth(rt: HostRuntime) -> Result<(), Fail> {
-    let number = Value::from(42);
-    assert_eq!(rt; number.as_integer(), Some(42));
-    assert!(rt; number.is_integer());
-    assert!(rt; is_shown(rt.alloc(), &number, "42")?);
+fn shows_truth(rt: HostRuntime) {
     let truth = Value::from(true);
+    assert!(rt; truth.as_bool() == Some(true) && truth.is_bool());
     assert!(rt; truth.decor().suffix().is_none());
-    assert_eq!(rt; truth.as_bool(), Some(true));
-    assert!(rt; truth.is_bool());
-    assert!(rt; is_shown(rt.alloc(), &truth, "true")?);
-    Ok(())
+    assert!(rt; is_shown(rt.alloc(), &truth, "true"));
+}
+
+/// Whether 42 with these texts around it is shown so.
+fn is_decorated(alloc: Global, before: RawString, after: RawString, shown: &str) -> bool {
+    is_shown(alloc, &Value::from(42).decorated(before, after), shown)
 }
 
 #[test]
 fn decorates(rt: HostRuntime) -> Result<(), Fail> {
     let before = RawString::from_text(rt.alloc(), " ")?;
     let after = RawString::from_text(rt.alloc(), " ")?;
-    assert!(rt;
-        is_shown(
-            rt.alloc(),
-            &Value::from(42).decorated(before, after),
-            " 42 "
-        )?
-    );
+    assert!(rt; is_decorated(rt.alloc(), before, after, " 42 "));
     Ok(())
+}
+
+/// Whether 7 with this text before it is shown so.
+fn is_prefixed(alloc: Global, before: RawString, shown: &str) -> bool {
+    let mut value = Value::from(7);
+    value.decor_mut().set_prefix(before);
+    is_shown(alloc, &value, shown)
 }
 
 #[test]
 fn changes_a_decor(rt: HostRuntime) -> Result<(), Fail> {
     let tab = RawString::from_text(rt.alloc(), "\t")?;
-    let mut value = Value::from(7);
-    value.decor_mut().set_prefix(tab);
-    assert!(rt; is_shown(rt.alloc(), &value, "\t7")?);
+    assert!(rt; is_prefixed(rt.alloc(), tab, "\t7"));
     Ok(())
 }
 
@@ -173,14 +159,26 @@ const DEFAULTS: [(&str, &str); 6] = [
     ("\u{1B}'", "\"\\u001B'\""),
 ];
 
-#[test]
-fn shows_strings(rt: HostRuntime) -> Result<(), Fail> {
-    for (text, shown) in DEFAULTS {
-        assert!(rt; is_shown(rt.alloc(), &Value::string(rt.alloc(), text)?, shown)?);
-        let owned = String::from_str(rt.alloc(), text)?;
-        assert!(rt; is_shown(rt.alloc(), &Value::from(owned), shown)?);
+fn string_is_shown(alloc: Global, text: &str, shown: &str) -> bool {
+    match Value::string(alloc, text) {
+        Ok(value) => is_shown(alloc, &value, shown),
+        Err(_) => false,
     }
-    Ok(())
+}
+
+fn moved_string_is_shown(alloc: Global, text: &str, shown: &str) -> bool {
+    match String::from_str(alloc, text) {
+        Ok(text) => is_shown(alloc, &Value::from(text), shown),
+        Err(_) => false,
+    }
+}
+
+#[test]
+fn shows_strings(rt: HostRuntime) {
+    for (text, shown) in DEFAULTS {
+        assert!(rt; string_is_shown(rt.alloc(), text, shown), "{text}");
+        assert!(rt; moved_string_is_shown(rt.alloc(), text, shown), "{text}");
+    }
 }
 
 /// A lone value, and what is shown of it: its spelling.
@@ -191,14 +189,19 @@ const KEPT: [(&str, &str); 4] = [
     ("'''\nx'''", "'''\nx'''"),
 ];
 
-#[test]
-fn keeps_and_copies_spellings(rt: HostRuntime) -> Result<(), Fail> {
-    for (text, shown) in KEPT {
-        let value = Value::from_str(rt.alloc(), text)?;
-        let copy = value.clone(rt.alloc())?;
-        assert!(rt; is_shown(rt.alloc(), &copy, shown)?);
+fn copy_is_shown(alloc: Global, value: &Value, shown: &str) -> bool {
+    match value.clone(alloc) {
+        Ok(copy) => is_shown(alloc, &copy, shown),
+        Err(_) => false,
     }
-    Ok(())
+}
+
+#[test]
+fn keeps_and_copies_spellings(rt: HostRuntime) {
+    let alloc = rt.alloc();
+    for (text, shown) in KEPT {
+        assert!(rt; value_holds(alloc, text, |value| copy_is_shown(alloc, value, shown)), "{text}");
+    }
 }
 
 /// A date-time, and its default spelling.
@@ -212,34 +215,33 @@ const DATE_TIMES: [(&str, &str); 4] = [
     ("0000-01-01", "0000-01-01"),
 ];
 
-#[test]
-fn shows_date_times(rt: HostRuntime) -> Result<(), Fail> {
-    for (text, shown) in DATE_TIMES {
-        let value = Value::from_str(rt.alloc(), text)?;
-        assert!(rt; value.is_datetime());
-        match value.as_datetime() {
-            None => panic!(rt; "no date-time"),
-            Some(datetime) => assert!(rt; is_shown(rt.alloc(), &Value::from(*datetime), shown)?),
-        }
+/// Whether the date-time that the value holds is shown so without its spelling.
+fn datetime_is_shown(alloc: Global, value: &Value, shown: &str) -> bool {
+    match value.as_datetime() {
+        None => false,
+        Some(datetime) => is_shown(alloc, &Value::from(*datetime), shown),
     }
-    Ok(())
+}
+
+#[test]
+fn shows_date_times(rt: HostRuntime) {
+    let alloc = rt.alloc();
+    for (text, shown) in DATE_TIMES {
+        assert!(rt; value_holds(alloc, text, |value| datetime_is_shown(alloc, value, shown)), "{text}");
+    }
 }
 
 fn leap_day() -> Option<Datetime> {
     let date = Date::new(2024, 2, 29)?;
     let time = Time::new(7, 32, Some(0), Some(500000000))?;
-    Datetime::new(
-        Some(date),
-        Some(time),
-        Some(Offset::Custom { minutes: -90 }),
-    )
+    let offset = Offset::Custom { minutes: -90 };
+    Datetime::new(Some(date), Some(time), Some(offset))
 }
 
 #[test]
 fn makes_date_times(rt: HostRuntime) -> Result<(), Fail> {
     let datetime = leap_day().ok_or("a date-time")?;
-    let value = Value::from(datetime);
-    assert!(rt; is_shown(rt.alloc(), &value, "2024-02-29T07:32:00.5-01:30")?);
+    assert!(rt; is_shown(rt.alloc(), &Value::from(datetime), "2024-02-29T07:32:00.5-01:30"));
     Ok(())
 }
 
@@ -247,77 +249,64 @@ fn makes_date_times(rt: HostRuntime) -> Result<(), Fail> {
 fn makes_dates(rt: HostRuntime) -> Result<(), Fail> {
     assert!(rt; Date::new(2023, 2, 29).is_none());
     let date = Date::new(2024, 2, 29).ok_or("a date")?;
-    assert!(rt; is_shown(rt.alloc(), &Value::from(date), "2024-02-29")?);
+    assert!(rt; is_shown(rt.alloc(), &Value::from(date), "2024-02-29"));
     Ok(())
 }
 
 #[test]
 fn makes_times(rt: HostRuntime) -> Result<(), Fail> {
     let time = Time::new(7, 32, Some(0), Some(500000000)).ok_or("a time")?;
-    assert!(rt; is_shown(rt.alloc(), &Value::from(time), "07:32:00.5")?);
+    assert!(rt; is_shown(rt.alloc(), &Value::from(time), "07:32:00.5"));
     Ok(())
 }
 
-#[test]
-fn keeps_floats(rt: HostRuntime) -> Result<(), Fail> {
-    let value = Value::from_str(rt.alloc(), "1e400")?;
-    assert!(rt; value.is_float());
-    assert_eq!(rt;
-        value.as_float_text().map(|float| float.as_str()),
-        Some("1e400")
-    );
-    match FloatText::new(String::from_str(rt.alloc(), "+nan")?) {
-        Err(_) => panic!(rt; "no float"),
-        Ok(float) => assert!(rt; is_shown(rt.alloc(), &Value::from(float), "+nan")?),
-    }
-    Ok(())
-}
-
-fn text_of(side: Option<&RawString>) -> &str {
-    match side {
-        None => "unset",
-        Some(raw) => raw.as_str().unwrap_or("a span"),
+fn is_large_float(value: &Value) -> bool {
+    match value.as_float_text() {
+        None => false,
+        Some(float) => value.is_float() && float.as_str() == "1e400",
     }
 }
 
 #[test]
-fn reads_paths(rt: HostRuntime) -> Result<(), Fail> {
-    let keys = Key::parse(rt.alloc(), " a . 'b c' ")?;
-    match keys.as_slice() {
-        [a, b] => {
-            assert_eq!(rt; a.get(), "a");
-            assert_eq!(rt; b.get(), "b c");
-            assert_eq!(rt; text_of(a.dotted_decor().suffix()), " ");
-            assert_eq!(rt; text_of(b.dotted_decor().prefix()), " ");
-            assert_eq!(rt; text_of(b.leaf_decor().prefix()), " ");
-            assert_eq!(rt; text_of(b.leaf_decor().suffix()), " ");
-        }
-        _ => panic!(rt; "another number of keys"),
+fn keeps_floats(rt: HostRuntime) {
+    assert!(rt; value_holds(rt.alloc(), "1e400", is_large_float));
+}
+
+fn new_float_is_shown(alloc: Global, text: String, shown: &str) -> bool {
+    match FloatText::new(text) {
+        Ok(float) => is_shown(alloc, &Value::from(float), shown),
+        Err(back) => back.as_str() != shown,
     }
-    Ok(())
+}
+
+/// Whether the text is taken as a float and shown as it is.
+fn float_is_shown(alloc: Global, text: &str) -> bool {
+    match String::from_str(alloc, text) {
+        Ok(owned) => new_float_is_shown(alloc, owned, text),
+        Err(_) => false,
+    }
 }
 
 #[test]
-fn reads_lone_keys(rt: HostRuntime) -> Result<(), Fail> {
-    for text in ["a.b", " a", "a ", "", "é"] {
-        assert!(rt; Key::from_str(rt.alloc(), text).is_err());
+fn makes_floats(rt: HostRuntime) {
+    for text in ["1e400", "1e06", "+nan", "1_0.0_1"] {
+        assert!(rt; float_is_shown(rt.alloc(), text), "{text}");
     }
-    let key = Key::from_str(rt.alloc(), "'a b'")?;
-    assert_eq!(rt; key.get(), "a b");
-    Ok(())
+    for text in ["1", "1.", ".5", "01.5", "1__0.0"] {
+        assert!(rt; !float_is_shown(rt.alloc(), text), "{text}");
+    }
+}
+
+fn is_float_at(document: &DocumentMut, key: &str) -> bool {
+    match document.as_table().get(key) {
+        Some(Item::Value(value)) => value.is_float(),
+        _ => false,
+    }
 }
 
 #[test]
-fn keeps_values_of_a_document(rt: HostRuntime) -> Result<(), Fail> {
+fn keeps_values_of_a_document(rt: HostRuntime) {
     let text = "f = 1.5\nd = 07:32\ns = '''\nx'''\n";
-    let document = Document::parse(rt.alloc(), text)?.into_mut(rt.alloc())?;
-    match document.as_table().get("f") {
-        Some(Item::Value(value)) => assert!(rt; value.is_float()),
-        _ => panic!(rt; "no value"),
-    }
-    match document.as_table().get("s") {
-        Some(Item::Value(value)) => assert_eq!(rt; value.as_str(), Some("x")),
-        _ => panic!(rt; "no value"),
-    }
-    Ok(())
+    assert!(rt; owned_holds(rt.alloc(), text, |document| is_float_at(document, "f")));
+    assert!(rt; !owned_holds(rt.alloc(), text, |document| is_float_at(document, "d")));
 }
