@@ -119,7 +119,11 @@ fn keeps_the_source(rt: HostRuntime) {
 #[test]
 fn ends_in_a_comment(rt: HostRuntime) {
     assert!(rt;
-        read_holds(rt.alloc(), SOURCE, |document| document.trailing().span() == Some(21..26))
+        read_holds(
+            rt.alloc(),
+            SOURCE,
+            |document| document.trailing().span() == Some(21..26)
+        )
     );
 }
 
@@ -131,7 +135,13 @@ fn are_a_and_b(document: &Document<&str>) -> bool {
 #[test]
 fn gives_its_keys(rt: HostRuntime) {
     assert!(rt; read_holds(rt.alloc(), SOURCE, are_a_and_b));
-    assert!(rt; read_holds(rt.alloc(), SOURCE, |document| document.as_table().get("c").is_none()));
+    assert!(rt;
+        read_holds(
+            rt.alloc(),
+            SOURCE,
+            |document| document.as_table().get("c").is_none()
+        )
+    );
 }
 
 fn is_sixteen(document: &Document<&str>) -> bool {

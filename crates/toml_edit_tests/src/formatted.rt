@@ -2,9 +2,7 @@
 use crate::hash_of;
 use std::alloc::Global;
 use std::test::Fail;
-use toml_edit::{
-    Date, Datetime, Decor, FloatText, Formatted, Mem, RawString, Value, ValueRepr,
-};
+use toml_edit::{Date, Datetime, Decor, FloatText, Formatted, Mem, RawString, Value, ValueRepr};
 
 /// The truth value that stands at the bytes 4 to 8 of its text, behind a byte of white space.
 fn truth() -> Formatted<bool> {
@@ -174,7 +172,10 @@ fn default_integers(rt: HostRuntime) -> Result<(), Fail> {
         (i64::MIN, "-9223372036854775808"),
         (i64::MAX, "9223372036854775807"),
     ] {
-        assert_eq!(rt; value.to_repr(rt.alloc())?.as_raw().as_str(), Some(spelling));
+        assert_eq!(rt;
+            value.to_repr(rt.alloc())?.as_raw().as_str(),
+            Some(spelling)
+        );
     }
     Ok(())
 }

@@ -56,7 +56,10 @@ fn is_bare(key: &Key, name: &str, text: &str) -> bool {
 #[test]
 fn reads_keys(rt: HostRuntime) {
     for (text, name) in [("\"a\\tb\"", "a\tb"), ("a-1", "a-1"), ("''", "")] {
-        assert!(rt; key_holds(rt.alloc(), text, |key| is_bare(key, name, text)), "{text}");
+        assert!(rt;
+            key_holds(rt.alloc(), text, |key| is_bare(key, name, text)),
+            "{text}"
+        );
     }
 }
 
@@ -179,9 +182,18 @@ fn is_default(alloc: Global, key: &Key, shown: &str) -> bool {
 fn shows_names(rt: HostRuntime) {
     let alloc = rt.alloc();
     for (name, shown) in [("a b", "\"a b\""), ("", "\"\""), ("a", "a")] {
-        assert!(rt; name_holds(alloc, name, |key| is_shown(alloc, key, shown)), "{name}");
-        assert!(rt; name_holds(alloc, name, |key| is_displayed(alloc, key, shown)), "{name}");
-        assert!(rt; name_holds(alloc, name, |key| is_default(alloc, key, shown)), "{name}");
+        assert!(rt;
+            name_holds(alloc, name, |key| is_shown(alloc, key, shown)),
+            "{name}"
+        );
+        assert!(rt;
+            name_holds(alloc, name, |key| is_displayed(alloc, key, shown)),
+            "{name}"
+        );
+        assert!(rt;
+            name_holds(alloc, name, |key| is_default(alloc, key, shown)),
+            "{name}"
+        );
     }
 }
 
@@ -207,13 +219,25 @@ fn is_same(one: &Key, other: &Key) -> bool {
 #[test]
 fn compares_names(rt: HostRuntime) {
     let alloc = rt.alloc();
-    assert!(rt; key_holds(alloc, "a", |one| key_holds(alloc, "'a'", |other| is_same(one, other))));
+    assert!(rt;
+        key_holds(
+            alloc,
+            "a",
+            |one| key_holds(alloc, "'a'", |other| is_same(one, other))
+        )
+    );
 }
 
 #[test]
 fn orders_names(rt: HostRuntime) {
     let alloc = rt.alloc();
-    assert!(rt; name_holds(alloc, "ab", |one| name_holds(alloc, "b", |other| one < other && one != other)));
+    assert!(rt;
+        name_holds(
+            alloc,
+            "ab",
+            |one| name_holds(alloc, "b", |other| one < other && one != other)
+        )
+    );
 }
 
 /// The key of this name with a text before it and a span behind it, at both its places.
@@ -253,7 +277,11 @@ fn copies_spellings(rt: HostRuntime) {
     let alloc = rt.alloc();
     assert!(rt;
         key_holds(alloc, "'k'", |key| {
-            copy_holds(alloc, key, |copy| spelled(copy) == Some("'k'") && copy.span().is_none())
+            copy_holds(
+                alloc,
+                key,
+                |copy| spelled(copy) == Some("'k'") && copy.span().is_none()
+            )
         })
     );
 }

@@ -67,7 +67,11 @@ fn is_bare(value: &Value) -> bool {
 fn reads_strings(rt: HostRuntime) {
     for (text, says) in STRINGS {
         assert!(rt;
-            value_holds(rt.alloc(), text, |value| is_string(value, says) && is_bare(value)),
+            value_holds(
+                rt.alloc(),
+                text,
+                |value| is_string(value, says) && is_bare(value)
+            ),
             "{text}"
         );
     }
@@ -88,7 +92,10 @@ const REFUSALS: [(&str, &str, usize, usize); 8] = [
 #[test]
 fn refuses_lone_values(rt: HostRuntime) {
     for (text, message, start, end) in REFUSALS {
-        assert!(rt; value_refuses(rt.alloc(), text, message, start, end), "{text}");
+        assert!(rt;
+            value_refuses(rt.alloc(), text, message, start, end),
+            "{text}"
+        );
     }
 }
 
@@ -103,7 +110,10 @@ const RANGES: [(&str, usize, usize); 4] = [
 #[test]
 fn refuses_ranges(rt: HostRuntime) {
     for (text, start, end) in RANGES {
-        assert!(rt; refuses(rt.alloc(), text, "invalid date-time", start, end), "{text}");
+        assert!(rt;
+            refuses(rt.alloc(), text, "invalid date-time", start, end),
+            "{text}"
+        );
     }
 }
 
@@ -200,7 +210,10 @@ fn copy_is_shown(alloc: Global, value: &Value, shown: &str) -> bool {
 fn keeps_and_copies_spellings(rt: HostRuntime) {
     let alloc = rt.alloc();
     for (text, shown) in KEPT {
-        assert!(rt; value_holds(alloc, text, |value| copy_is_shown(alloc, value, shown)), "{text}");
+        assert!(rt;
+            value_holds(alloc, text, |value| copy_is_shown(alloc, value, shown)),
+            "{text}"
+        );
     }
 }
 
@@ -227,7 +240,10 @@ fn datetime_is_shown(alloc: Global, value: &Value, shown: &str) -> bool {
 fn shows_date_times(rt: HostRuntime) {
     let alloc = rt.alloc();
     for (text, shown) in DATE_TIMES {
-        assert!(rt; value_holds(alloc, text, |value| datetime_is_shown(alloc, value, shown)), "{text}");
+        assert!(rt;
+            value_holds(alloc, text, |value| datetime_is_shown(alloc, value, shown)),
+            "{text}"
+        );
     }
 }
 
@@ -241,7 +257,13 @@ fn leap_day() -> Option<Datetime> {
 #[test]
 fn makes_date_times(rt: HostRuntime) -> Result<(), Fail> {
     let datetime = leap_day().ok_or("a date-time")?;
-    assert!(rt; is_shown(rt.alloc(), &Value::from(datetime), "2024-02-29T07:32:00.5-01:30"));
+    assert!(rt;
+        is_shown(
+            rt.alloc(),
+            &Value::from(datetime),
+            "2024-02-29T07:32:00.5-01:30"
+        )
+    );
     Ok(())
 }
 
