@@ -15,6 +15,3 @@ pub use datetime::{Datetime, DatetimeFault, Offset};
 pub use float_text::{FloatText, is_float};
 pub use from_str::is_datetime;
 pub use time::Time;
-
-#[cfg(test)]
-mod tests;

@@ -1,5 +1,5 @@
 //! Flat documents, from their text to their print.
-use crate::reading::{is_marked, owned_holds, prints, read_holds, refuses};
+use crate::reading::{is_marked, owned_holds, prints, refuses};
 use std::alloc::Global;
 use toml_edit::{Document, DocumentMut, Item, Value};
 
@@ -111,37 +111,16 @@ fn refuses_what_is_not_flat(rt: HostRuntime) {
 
 const SOURCE: &str = "a = 0x10 # c\nb = 'x'\n# end";
 
-#[test]
-fn keeps_the_source(rt: HostRuntime) {
-    assert!(rt; read_holds(rt.alloc(), SOURCE, |document| document.raw() == SOURCE));
-}
-
-#[test]
-fn ends_in_a_comment(rt: HostRuntime) {
-    assert!(rt;
-        read_holds(
-            rt.alloc(),
-            SOURCE,
-            |document| document.trailing().span() == Some(21..26)
-        )
-    );
+fn keeps_its_source(document: &Document<&str>) -> bool {
+    document.raw() == SOURCE && document.trailing().span() == Some(21..26)
 }
 
 fn are_a_and_b(document: &Document<&str>) -> bool {
     let mut names = document.iter().map(|(name, _)| name);
-    names.next() == Some("a") && names.next() == Some("b") && names.next().is_none()
-}
-
-#[test]
-fn gives_its_keys(rt: HostRuntime) {
-    assert!(rt; read_holds(rt.alloc(), SOURCE, are_a_and_b));
-    assert!(rt;
-        read_holds(
-            rt.alloc(),
-            SOURCE,
-            |document| document.as_table().get("c").is_none()
-        )
-    );
+    names.next() == Some("a")
+        && names.next() == Some("b")
+        && names.next().is_none()
+        && document.as_table().get("c").is_none()
 }
 
 fn is_sixteen(document: &Document<&str>) -> bool {
@@ -153,9 +132,18 @@ fn is_sixteen(document: &Document<&str>) -> bool {
     }
 }
 
+fn holds_of_the_source(alloc: Global) -> bool {
+    match Document::parse(alloc, SOURCE) {
+        Ok(document) => {
+            keeps_its_source(&document) && are_a_and_b(&document) && is_sixteen(&document)
+        }
+        Err(_) => false,
+    }
+}
+
 #[test]
-fn gives_the_span_of_a_number(rt: HostRuntime) {
-    assert!(rt; read_holds(rt.alloc(), SOURCE, is_sixteen));
+fn reads_a_document(rt: HostRuntime) {
+    assert!(rt; holds_of_the_source(rt.alloc()));
 }
 
 const KINDS: &str = "s = \"a\\tb\"\nt = 'c'\ni = -1_0\nb = true\n";

@@ -23,7 +23,9 @@ fn spelled(key: &Key) -> Option<&str> {
 }
 
 /// Whether this holds of the key that the text is.
-fn key_holds<F: Fn(&Key) -> bool>(alloc: Global, text: &str, holds: F) -> bool {
+fn key_holds<F: Fn(&Key) -> bool>(alloc: Global, text: &str, holds: F) -> bool
+    requires { F.IsAlwaysCallable holds }
+{
     match Key::from_str(alloc, text) {
         Ok(key) => holds(&key),
         Err(_) => false,
@@ -31,7 +33,9 @@ fn key_holds<F: Fn(&Key) -> bool>(alloc: Global, text: &str, holds: F) -> bool {
 }
 
 /// Whether this holds of the key of this name.
-fn name_holds<F: Fn(&Key) -> bool>(alloc: Global, name: &str, holds: F) -> bool {
+fn name_holds<F: Fn(&Key) -> bool>(alloc: Global, name: &str, holds: F) -> bool
+    requires { F.IsAlwaysCallable holds }
+{
     match Key::from_text(alloc, name) {
         Ok(key) => holds(&key),
         Err(_) => false,
@@ -39,7 +43,9 @@ fn name_holds<F: Fn(&Key) -> bool>(alloc: Global, name: &str, holds: F) -> bool 
 }
 
 /// Whether this holds of the keys of the path that the text is.
-fn path_holds<F: Fn(&[Key]) -> bool>(alloc: Global, text: &str, holds: F) -> bool {
+fn path_holds<F: Fn(&[Key]) -> bool>(alloc: Global, text: &str, holds: F) -> bool
+    requires { F.IsAlwaysCallable holds }
+{
     match Key::parse(alloc, text) {
         Ok(keys) => holds(keys.as_slice()),
         Err(_) => false,
@@ -258,7 +264,9 @@ fn is_decorated(key: &Key) -> bool {
         && key.dotted_decor().suffix().and_then(|raw| raw.span()) == Some(3..4)
 }
 
-fn copy_holds<F: Fn(&Key) -> bool>(alloc: Global, key: &Key, holds: F) -> bool {
+fn copy_holds<F: Fn(&Key) -> bool>(alloc: Global, key: &Key, holds: F) -> bool
+    requires { F.IsAlwaysCallable holds }
+{
     match key.clone(alloc) {
         Ok(copy) => holds(&copy),
         Err(_) => false,

@@ -2,6 +2,8 @@
 #![tactic(auto)]
 
 #[cfg(test)]
+mod datetimes;
+#[cfg(test)]
 mod flat;
 #[cfg(test)]
 mod formatted;

@@ -26,23 +26,13 @@ pub fn refuses(alloc: Global, text: &str, message: &str, start: usize, end: usiz
     }
 }
 
-/// Whether this holds of the document with its spans.
-pub fn read_holds<'a, F: Fn(&Document<&'a str>) -> bool>(
-    alloc: Global,
-    text: &'a str,
-    holds: F,
-) -> bool {
-    match Document::parse(alloc, text) {
-        Ok(document) => holds(&document),
-        Err(_) => false,
-    }
-}
-
 fn turned_holds<F: Fn(&DocumentMut) -> bool>(
     alloc: Global,
     document: Document<&str>,
     holds: F,
-) -> bool {
+) -> bool
+    requires { F.IsAlwaysCallable holds }
+{
     match document.into_mut(alloc) {
         Ok(document) => holds(&document),
         Err(_) => false,
@@ -50,7 +40,9 @@ fn turned_holds<F: Fn(&DocumentMut) -> bool>(
 }
 
 /// Whether this holds of the document with texts of its own.
-pub fn owned_holds<F: Fn(&DocumentMut) -> bool>(alloc: Global, text: &str, holds: F) -> bool {
+pub fn owned_holds<F: Fn(&DocumentMut) -> bool>(alloc: Global, text: &str, holds: F) -> bool
+    requires { F.IsAlwaysCallable holds }
+{
     match Document::parse(alloc, text) {
         Ok(document) => turned_holds(alloc, document, holds),
         Err(_) => false,
@@ -70,7 +62,9 @@ pub fn prints(alloc: Global, text: &str, print: &str) -> bool {
 }
 
 /// Whether this holds of the lone value.
-pub fn value_holds<F: Fn(&Value) -> bool>(alloc: Global, text: &str, holds: F) -> bool {
+pub fn value_holds<F: Fn(&Value) -> bool>(alloc: Global, text: &str, holds: F) -> bool
+    requires { F.IsAlwaysCallable holds }
+{
     match Value::from_str(alloc, text) {
         Ok(value) => holds(&value),
         Err(_) => false,
