@@ -184,10 +184,21 @@ fn is_default(alloc: Global, key: &Key, shown: &str) -> bool {
     }
 }
 
+/// A name, and its default spelling.
+const NAMES: [(&str, &str); 7] = [
+    ("a b", "\"a b\""),
+    ("", "\"\""),
+    ("a", "a"),
+    ("a-b_1", "a-b_1"),
+    ("a\"b", "'a\"b'"),
+    ("'\"", "\"'\\\"\""),
+    ("a\nb", "\"a\\nb\""),
+];
+
 #[test]
 fn shows_names(rt: HostRuntime) {
     let alloc = rt.alloc();
-    for (name, shown) in [("a b", "\"a b\""), ("", "\"\""), ("a", "a")] {
+    for (name, shown) in NAMES {
         assert!(rt;
             name_holds(alloc, name, |key| is_shown(alloc, key, shown)),
             "{name}"

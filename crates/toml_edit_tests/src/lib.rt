@@ -17,6 +17,8 @@ mod scalars;
 mod slots;
 #[cfg(test)]
 mod texts;
+#[cfg(test)]
+mod tokens;
 
 use std::hash::{DefaultHasher, Hash, Hasher};
 

@@ -160,13 +160,20 @@ fn changes_a_decor(rt: HostRuntime) -> Result<(), Fail> {
 }
 
 /// A string, and its default spelling.
-const DEFAULTS: [(&str, &str); 6] = [
+const DEFAULTS: [(&str, &str); 10] = [
     ("it's \"x\"", "\"it's \\\"x\\\"\""),
     ("a\nb", "\"\"\"\na\nb\"\"\""),
     ("\\d", "'\\d'"),
     ("", "\"\""),
     ("tab\t", "\"tab\t\""),
     ("\u{1B}'", "\"\\u001B'\""),
+    ("C:\\x \"y\"", "'C:\\x \"y\"'"),
+    ("it's \"x\" \\", "\"it's \\\"x\\\" \\\\\""),
+    (
+        "\0\u{8}\u{c}\r\u{1f}\u{7f}",
+        "\"\\u0000\\b\\f\\r\\u001F\\u007F\"",
+    ),
+    ("a\n'\"\r\n", "\"\"\"\na\n'\\\"\\r\n\"\"\""),
 ];
 
 fn string_is_shown(alloc: Global, text: &str, shown: &str) -> bool {
