@@ -10,6 +10,8 @@ mod formatted;
 #[cfg(test)]
 mod keys;
 #[cfg(test)]
+mod memory;
+#[cfg(test)]
 mod reading;
 #[cfg(test)]
 mod scalars;
