@@ -7,8 +7,8 @@ use Rattle.toml_edit_model.specs.Text.{Text}
 use Rattle.toml_edit_model.specs.Spelling.{SpellsKey}
 use Rattle.toml_edit_model.specs.Tree.{Key, Node, Slots, no_slots, slot, HasTrueSpelling, IsWellMade, SlotsAreWellMade}
 use Rattle.toml_edit_model.specs.TreeOf.{KeyFits, NodeFits, SlotsFit, owned_raw, owned_key, owned_node, owned_slots}
-use Rattle.toml_edit_repr.specs.declared.slots.Slot.{Slot}
-use Rattle.toml_edit_repr.specs.Slots.{with_item, on_key, items_of}
+use Rattle.toml_edit_slots.specs.declared.slots.Slot.{Slot}
+use Rattle.toml_edit_slots.specs.Slots.{with_item, on_key, items_of}
 use Rattle.toml_edit.specs.declared.item.Item.{Item}
 use Rattle.toml_edit.specs.Places.{on_node}
 use Rattle.toml_edit.specs.View.{item_view, slots_view}

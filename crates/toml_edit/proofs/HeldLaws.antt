@@ -2,8 +2,8 @@
 use Rattle.std.proofs.Common.{◌≡◌, Bool, true, false, List, [], ◌∷◌, Option, Some, None, cond, option_map, refl, ◌∙◌}
 use Rattle.toml_edit_model.specs.Text.{Text}
 use Rattle.toml_edit_model.specs.Tree.{Node, nothing, leaf, list, inline, table, tables}
-use Rattle.toml_edit_repr.specs.declared.slots.Slot.{Slot}
-use Rattle.toml_edit_repr.specs.Slots.{is_at, lookup, lookup_slot}
+use Rattle.toml_edit_slots.specs.declared.slots.Slot.{Slot}
+use Rattle.toml_edit_slots.specs.Slots.{is_at, lookup, lookup_slot}
 use Rattle.toml_edit.specs.declared.item.Item.{Item}
 use Rattle.toml_edit.specs.Held.{held_at, held_item}
 use Rattle.toml_edit.specs.View.{item_view, slots_view}

@@ -10,8 +10,8 @@ use Rattle.toml_edit_model.specs.TreeOf.{cut_out, span_of, spanned_form}
 use Rattle.toml_edit_laws.specs.FlatTree.{line_text, key_start, scalar_start, after_equals_start, line_leaf, IsSpelledLine}
 use Rattle.toml_edit_laws.specs.Standing.{Stands}
 use Rattle.toml_edit_laws.proofs.OwnedLaws.{cut_out-is, line-stands}
-use Rattle.toml_edit_repr.specs.declared.slots.Slot as repr
-use Rattle.toml_edit_repr.specs.Slots.{place}
+use Rattle.toml_edit_slots.specs.declared.slots.Slot as repr
+use Rattle.toml_edit_slots.specs.Slots.{place}
 use Rattle.toml_edit_error.specs.Report.{Report, fault_of}
 use Rattle.toml_edit_error.specs.Fault.{IfToml}
 use Rattle.toml_edit_error.specs.declared.toml_error.ParseFault.{ParseFault}

@@ -5,7 +5,7 @@ use Rattle.toml_edit_model.specs.Tree.{shown_prefix, shown_suffix, shown_raw}
 use Rattle.toml_edit_model.specs.Print.{print}
 use Rattle.toml_edit_laws.specs.FlatTree.{HasLeaf, HaveLeaves, leaf_lines}
 use Rattle.toml_edit_laws.proofs.PrintLaws.{print_flat}
-use Rattle.toml_edit_repr.specs.declared.slots.Slot.{Slot}
+use Rattle.toml_edit_slots.specs.declared.slots.Slot.{Slot}
 use Rattle.toml_edit.specs.declared.document.DocumentMut.{DocumentMut}
 use Rattle.toml_edit.specs.declared.item.Item as items
 use Rattle.toml_edit.specs.declared.item.Item.TheVariants as variants

@@ -3,8 +3,8 @@ use Rattle.std.proofs.Common.{◌≡◌, ℕ, suc, Bool, true, false, ◌||◌, 
 use Rattle.toml_edit_model.specs.Text.{Text, same_text}
 use Rattle.toml_edit_model.specs.Tree.{Key, Node, Slots, no_slots, slot, has_key}
 use Rattle.toml_edit_model.specs.TreeOf.{KeyFits, NodeFits, SlotsFit}
-use Rattle.toml_edit_repr.specs.declared.slots.Slot as repr
-use Rattle.toml_edit_repr.specs.Slots.{is_at, place}
+use Rattle.toml_edit_slots.specs.declared.slots.Slot as repr
+use Rattle.toml_edit_slots.specs.Slots.{is_at, place}
 use Rattle.toml_edit.specs.declared.item.Item.{Item}
 use Rattle.toml_edit.specs.Lines.{with_slot}
 use Rattle.toml_edit.specs.View.{item_view, slots_view}

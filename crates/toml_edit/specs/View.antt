@@ -3,7 +3,7 @@ use Rattle.std.specs.Prelude.{List, [], ◌∷◌, string_bytes}
 use Rattle.toml_edit_model.specs.Scalars.{string, integer, float, boolean, datetime}
 use Rattle.toml_edit_datetime.specs.DatetimeView.{datetime_view}
 use Rattle.toml_edit_model.specs.Tree.{Raw, Node, nothing, leaf, Slots, no_slots, slot, TableFields, Tree}
-use Rattle.toml_edit_repr.specs.declared.slots.Slot as repr
+use Rattle.toml_edit_slots.specs.declared.slots.Slot as repr
 use Rattle.toml_edit.specs.declared.value.Value as code
 use Rattle.toml_edit.specs.declared.value.Value.TheVariants as values
 use Rattle.toml_edit.specs.declared.item.Item as items

@@ -15,7 +15,9 @@ use crate::table::Table;
 use crate::value::Value;
 use std::fmt;
 use std::fmt::{Formatter, Write};
-use toml_edit_repr::{Key, Slots, spelling_text, write_raw, write_scalar, write_side};
+use toml_edit_key::Key;
+use toml_edit_repr::{spelling_text, write_raw, write_scalar, write_side};
+use toml_edit_slots::Slots;
 use toml_edit_syntax::write_key;
 
 /// The text of the document.

@@ -13,8 +13,8 @@ pub use item::Item;
 pub use table::{Iter, Table};
 pub use toml_edit_datetime::{Date, Datetime, DatetimeFault, FloatText, Offset, Time};
 pub use toml_edit_error::{ParseFault, TomlError};
-pub use toml_edit_repr::{
-    Decor, Formatted, Key, KeyMut, Mem, NoMemory, RawString, Repr, ScalarValue, ValueRepr,
-};
+pub use toml_edit_key::{Key, KeyMut};
+pub use toml_edit_repr::{Decor, Formatted, Mem, RawString, Repr, ScalarValue, ValueRepr};
+pub use toml_edit_slots::NoMemory;
 pub use toml_edit_stream::{Broken, Input, Output, Watched};
 pub use value::Value;

@@ -10,7 +10,7 @@ ghost use Rattle.toml_edit_model.specs.TreeOf.{RawFits, DecorFits, KeyFits, Node
 ghost use Rattle.toml_edit_laws.specs.FlatTree.{line_text, line_key, IsSpelledLine};
 ghost use Rattle.toml_edit_laws.specs.Standing.{Stands};
 ghost use Rattle.toml_edit_error.specs.Fault.{IfToml};
-ghost use Rattle.toml_edit_repr.specs.Slots.{place};
+ghost use Rattle.toml_edit_slots.specs.Slots.{place};
 ghost use Rattle.toml_edit_syntax.specs.Events.{IsSpanOf};
 ghost use Rattle.toml_edit.specs.Lines.{AreSpansOf, line_spans, with_slot, ReadsName, ReadsValue, ReadsLine};
 ghost use Rattle.toml_edit.specs.Parsed.{AreEventsIn, Builds, IsParsed, IsRefusal};
@@ -21,7 +21,9 @@ use crate::item::Item;
 use crate::value::Value;
 use std::alloc::Global;
 use toml_edit_error::{ParseFault, TomlError};
-use toml_edit_repr::{Decor, Key, Mem, RawString, Slot, Slots};
+use toml_edit_key::Key;
+use toml_edit_repr::{Decor, Mem, RawString};
+use toml_edit_slots::{Slot, Slots};
 use toml_edit_syntax::{
     Event, Span, SyntaxFault, decode_key, decode_scalar, events, range_message,
 };

@@ -10,7 +10,8 @@ ghost use Rattle.toml_edit.specs.View.{item_view, slots_view, fields_view};
 use crate::item::Item;
 use std::alloc::Global;
 use std::slice;
-use toml_edit_repr::{Decor, Mem, Slot, Slots};
+use toml_edit_repr::{Decor, Mem};
+use toml_edit_slots::{Slot, Slots};
 
 /// A table: its slots in order, and what is kept of its header.
 #[derive(Debug, Drop)]

@@ -38,7 +38,7 @@ impl Repr {
     ghost use Rattle.toml_edit_repr.specs.Views.{range_of};
 
     // The spelling that stands there.
-    pub(crate) fn new(raw: RawString) -> Repr
+    pub fn new(raw: RawString) -> Repr
         ensures { result ≡ raw }
     {
         Repr { raw }
@@ -103,7 +103,7 @@ impl Hash for Repr {
 }
 
 // Turns a spelling that spans `source` into its text.
-pub(crate) fn despan_spelling(alloc: Global, repr: &mut Option<Repr>, source: &str) -> Mem<()>
+pub fn despan_spelling(alloc: Global, repr: &mut Option<Repr>, source: &str) -> Mem<()>
     requires { OptionFits source.now repr.old }
     ensures ok { OnOk result (repr.new ≡ option_map (owned_raw source.now) repr.old) }
     ensures err { OnErr result (repr.new ≡ repr.old) }

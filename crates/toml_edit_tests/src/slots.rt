@@ -2,7 +2,7 @@
 use std::alloc::Global;
 use std::test::Fail;
 use toml_edit::{Decor, Key, Mem};
-use toml_edit_repr::{Slot, Slots};
+use toml_edit_slots::{Slot, Slots};
 
 /// Slots `a` with 1, `b` with 2 and `c` with 3.
 fn three(alloc: Global) -> Mem<Slots<u8>> {

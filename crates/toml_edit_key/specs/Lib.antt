@@ -1,0 +1,6 @@
+-- What the contracts of this crate cite.
+pub mod Keys
+pub mod LendingParts
+pub mod KeyLending
+pub mod PathReading
+pub mod ReadKeys

@@ -1,0 +1,96 @@
+//! Keys as texts.
+ghost use Rattle.std.specs.Prelude.{◌≡◌, Some, IfOk, option_and_then, string_bytes};
+ghost use Rattle.std.specs.Option.{option_copied};
+ghost use Rattle.std.specs.Cow.{cow_str_bytes};
+ghost use Rattle.toml_edit_model.specs.Tree.{owned, key_text};
+ghost use Rattle.toml_edit_model.specs.DefaultSpelling.{key_spelling};
+ghost use Rattle.toml_edit_model.specs.SlotLists.{new_key};
+ghost use Rattle.toml_edit_repr.specs.Views.{text_of};
+
+use super::Key;
+use std::alloc::Global;
+use std::borrow::CowStr;
+use std::fmt;
+use std::fmt::{Formatter, Write};
+use toml_edit_repr::{Mem, RawString, Repr};
+use toml_edit_syntax::write_key;
+
+impl Key {
+    /// The spelling of the name that a key without one of its own has: a function of the name. The only error is want of memory.
+    pub fn default_repr(&self, alloc: Global) -> Mem<Repr>
+        ensures { IfOk result (λ repr. repr ≡ owned (key_spelling self.now.name)) }
+    {
+        let spelling = DefaultSpelling { name: self.get() }.to_string(alloc)?;
+        Ok(Repr::new(RawString::from(spelling)))
+    }
+
+    /// The spelling as it is printed: the key's own one if it is a text, else the default one. The only error is want of memory.
+    pub fn display_repr(&self, alloc: Global) -> Mem<CowStr<'_>>
+        ensures { IfOk result (λ text. cow_str_bytes text ≡ key_text self.now) }
+    {
+        match self.own_spelling() {
+            Some(spelling) => Ok(CowStr::Borrowed(spelling)),
+            None => Ok(CowStr::Owned(DefaultSpelling { name: self.get() }.to_string(alloc)?)),
+        }
+    }
+
+    // The spelling, unless it is a span or the default one.
+    fn own_spelling(&self) -> Option<&str>
+        ensures { option_copied result ≡ option_and_then text_of self.now.spelling }
+    {
+        self.as_repr()?.as_raw().as_str()
+    }
+}
+
+/// The spelling: the key's own one if it is a text, else the default one.
+impl fmt::Display for Key {
+    ghost output = { λ key. Some (key_text key) };
+
+    fn fmt<W: Write>(&self, f: &mut Formatter<W>) -> fmt::Result {
+        match self.own_spelling() {
+            Some(spelling) => f.write_str(spelling),
+            None => write_key(f, self.get()),
+        }
+    }
+}
+
+// A name, shown by its default spelling.
+#[derive(Drop)]
+struct DefaultSpelling<'a> {
+    name: &'a str,
+}
+
+impl fmt::Display for DefaultSpelling<'_> {
+    ghost output = { λ s. Some (key_spelling s.name.now) };
+
+    fn fmt<W: Write>(&self, f: &mut Formatter<W>) -> fmt::Result {
+        write_key(f, self.name)
+    }
+}
+
+/// A key of this name, with the default spelling and no decor.
+impl From<String> for Key {
+    ghost from_gives = { λ text key. key ≡ new_key (string_bytes text) };
+
+    fn from(text: String) -> Key {
+        Key::new(text)
+    }
+}
+
+/// The name.
+impl From<Key> for String {
+    ghost from_gives = { λ key text. string_bytes text ≡ key.name };
+
+    fn from(key: Key) -> String {
+        let Key {
+            text,
+            repr,
+            leaf,
+            dotted,
+        } = key;
+        drop(repr);
+        drop(leaf);
+        drop(dotted);
+        text
+    }
+}

@@ -1,0 +1,210 @@
+-- What a place says of the slots: its slot, and the slots once that one is another or gone.
+use Rattle.std.proofs.Common.{◌≡◌, Result, Ok, Err, OnOk, ℕ, zero, suc, ◌+◌, ◌<◌, false, cond, nat_lt, List, [], ◌∷◌, ◌++◌, Option, Some, None, option_map, length, get_or, set, remove, refl, sym, ap, subst, ◌∙◌, inl, inr, arith, rules, position, slice_get}
+use Rattle.std.proofs.lemmas.Bool.{cases_Bool}
+use Rattle.std.proofs.lemmas.Cmp.{nat_list_eq_equiv}
+use Rattle.std.proofs.lemmas.Option.{none-some, same_Some}
+use Rattle.std.specs.List.{position_or_len, IsDistinct, AllByRecursion}
+use Rattle.toml_edit_model.specs.Text.{Text, same_text}
+use Rattle.toml_edit_model.specs.Tree.{Key}
+use Rattle.toml_edit_model.specs.SlotLists.{new_key, reset_key}
+use Rattle.toml_edit_slots.specs.declared.slots.Slot.{Slot}
+use Rattle.toml_edit_slots.specs.Slots.{is_at, names, AreApart, place, lookup, lookup_slot, put, without, items_of, with_item, on_key}
+
+-- the place after the first slot, in both ways of counting
+next_place : (n m : ℕ) → cond (nat_lt (1 + n) (suc m)) (Some (1 + n)) None ≡ option_map suc (cond (nat_lt n m) (Some n) None)
+next_place n m =
+    elim (cases_Bool (nat_lt n m)) [
+      | inl below ↦ grind (arith, rules, below)
+      | inr above ↦ grind (arith, rules, above)
+    ]
+
+-- a place after the first slot is one of the others
+pub some_next : (o : Option ℕ) (i : ℕ) → option_map suc o ≡ Some i → (j : ℕ) × (o ≡ Some j) × (i ≡ suc j)
+some_next None i h = absurd (none-some i h)
+some_next (Some j) i h = (j, refl, sym (same_Some (suc j) i h))
+
+-- no place among the others, where there is none after the first
+pub none_next : (o : Option ℕ) → option_map suc o ≡ None → o ≡ None
+none_next None h = refl
+none_next (Some j) h = absurd (none-some (suc j) (sym h))
+
+module _ {T : Type 0} (t : Text) where
+  -- the place is the position of the first slot that passes the test
+  pub place-position : (es : List (Slot T)) → position (is_at t) es ≡ place t es
+  place-position [] = refl
+  place-position (s ∷ es) =
+      elim (cases_Bool (is_at t s)) [
+        | inl same ↦ rw same (grind (arith, rules))
+        | inr other ↦ rw (other, ← place-position es) (next_place (position_or_len (is_at t) es) (length es))
+      ]
+
+  -- what is found is the slot at the place
+  pub lookup_slot-present : (es : List (Slot T)) (i : ℕ) (d : Slot T) → place t es ≡ Some i → lookup_slot t es ≡ Some (get_or es i d)
+  lookup_slot-present [] i d h = absurd (none-some i h)
+  lookup_slot-present (s ∷ es) i d h =
+      elim (cases_Bool (is_at t s)) [
+        | inl same ↦ let e : 0 ≡ i = same_Some 0 i (rw same at h) in rw (same, ← e) refl
+        | inr other ↦ let (j, at, e) = some_next (place t es) i (rw other at h) in rw (other, e) (lookup_slot-present es j d at)
+      ]
+
+  -- nothing is found where there is no place
+  pub lookup_slot-absent : (es : List (Slot T)) → place t es ≡ None → lookup_slot t es ≡ None
+  lookup_slot-absent [] h = refl
+  lookup_slot-absent (s ∷ es) h =
+      elim (cases_Bool (is_at t s)) [
+        | inl same ↦ absurd (none-some 0 (sym (rw same at h)))
+        | inr other ↦ rw other (lookup_slot-absent es (none_next (place t es) (rw other at h)))
+      ]
+
+  -- at a text that is there, its slot is replaced
+  pub put-present : (es : List (Slot T)) (i : ℕ) (d : Slot T) (x : T) → place t es ≡ Some i → put t x es ≡ set es i (record { key = reset_key (get_or es i d).key; item = x })
+  put-present [] i d x h = absurd (none-some i h)
+  put-present (s ∷ es) i d x h =
+      elim (cases_Bool (is_at t s)) [
+        | inl same ↦ let e : 0 ≡ i = same_Some 0 i (rw same at h) in rw (same, ← e) refl
+        | inr other ↦ let (j, at, e) = some_next (place t es) i (rw other at h) in rw (other, e) (ap (λ l. s ∷ l) (put-present es j d x at))
+      ]
+
+  -- at a text that isn't there, a slot comes last
+  pub put-absent : (es : List (Slot T)) (x : T) → place t es ≡ None → put t x es ≡ es ++ record { key = new_key t; item = x } ∷ []
+  put-absent [] x h = refl
+  put-absent (s ∷ es) x h =
+      elim (cases_Bool (is_at t s)) [
+        | inl same ↦ absurd (none-some 0 (sym (rw same at h)))
+        | inr other ↦ rw other (ap (λ l. s ∷ l) (put-absent es x (none_next (place t es) (rw other at h))))
+      ]
+
+  -- the slot at the place is taken out
+  pub without-present : (es : List (Slot T)) (i : ℕ) → place t es ≡ Some i → without t es ≡ remove es i
+  without-present [] i h = absurd (none-some i h)
+  without-present (s ∷ es) i h =
+      elim (cases_Bool (is_at t s)) [
+        | inl same ↦ let e : 0 ≡ i = same_Some 0 i (rw same at h) in rw (same, ← e) refl
+        | inr other ↦ let (j, at, e) = some_next (place t es) i (rw other at h) in rw (other, e) (ap (λ l. s ∷ l) (without-present es j at))
+      ]
+
+  -- nothing is taken out where there is no place
+  pub without-absent : (es : List (Slot T)) → place t es ≡ None → without t es ≡ es
+  without-absent [] h = refl
+  without-absent (s ∷ es) h =
+      elim (cases_Bool (is_at t s)) [
+        | inl same ↦ absurd (none-some 0 (sym (rw same at h)))
+        | inr other ↦ rw other (ap (λ l. s ∷ l) (without-absent es (none_next (place t es) (rw other at h))))
+      ]
+
+  -- what holds of all names does so once a slot is gone
+  all_without : (P : Text → Type 0) (es : List (Slot T)) → AllByRecursion P (names es) → AllByRecursion P (names (without t es))
+  all_without P [] h = tt
+  all_without P (s ∷ es) h =
+      elim (cases_Bool (is_at t s)) [
+        | inl same ↦ rw same h.1
+        | inr other ↦ rw other (h.0, all_without P es h.1)
+      ]
+
+  -- slots stay apart once one is gone
+  pub apart-without : (es : List (Slot T)) → AreApart es → AreApart (without t es)
+  unfolding IsDistinct
+  apart-without [] h = tt
+  apart-without (s ∷ es) h =
+      elim (cases_Bool (is_at t s)) [
+        | inl same ↦ rw same h.1
+        | inr other ↦ rw other (all_without (λ y. same_text s.key.name y ≡ false) es h.0, apart-without es h.1)
+      ]
+
+  -- what holds of all names, and of the text, does so once the text is there
+  all_put : (P : Text → Type 0) (es : List (Slot T)) (x : T) → P t → AllByRecursion P (names es) → AllByRecursion P (names (put t x es))
+  all_put P [] x p h = (p, tt)
+  all_put P (s ∷ es) x p h =
+      elim (cases_Bool (is_at t s)) [
+        | inl same ↦ rw same h
+        | inr other ↦ rw other (h.0, all_put P es x p h.1)
+      ]
+
+  -- slots stay apart once a text is there
+  pub apart-put : (es : List (Slot T)) (x : T) → AreApart es → AreApart (put t x es)
+  unfolding IsDistinct
+  apart-put [] x h = (tt, tt)
+  apart-put (s ∷ es) x h =
+      elim (cases_Bool (is_at t s)) [
+        | inl same ↦ rw same h
+        | inr other ↦ rw other (all_put (λ y. same_text s.key.name y ≡ false) es x (nat_list_eq_equiv.symm s.key.name t ∙ other) h.0, apart-put es x h.1)
+      ]
+
+module _ {T : Type 0} where
+  -- another item in a slot is another slot at the place
+  pub with_item-set : (es : List (Slot T)) (i : ℕ) (d : Slot T) (x : T) → with_item i x es ≡ set es i (record { key = (get_or es i d).key; item = x })
+  with_item-set [] i d x = refl
+  with_item-set (s ∷ es) zero d x = refl
+  with_item-set (s ∷ es) (suc i) d x = ap (λ l. s ∷ l) (with_item-set es i d x)
+
+  -- names don't change with an item
+  pub names-with_item : (es : List (Slot T)) (i : ℕ) (x : T) → names (with_item i x es) ≡ names es
+  names-with_item [] i x = refl
+  names-with_item (s ∷ es) zero x = refl
+  names-with_item (s ∷ es) (suc i) x = ap (λ l. s.key.name ∷ l) (names-with_item es i x)
+
+  -- slots stay apart when an item changes
+  pub apart-with_item : (es : List (Slot T)) (i : ℕ) (x : T) → AreApart es → AreApart (with_item i x es)
+  apart-with_item es i x a = subst (IsDistinct same_text) (sym (names-with_item es i x)) a
+
+  -- the item at a place is that of the slot at the place
+  pub items_of-get : (es : List (Slot T)) (i : ℕ) (d : Slot T) → i < length es → slice_get (items_of es) i ≡ Some (get_or es i d).item
+  items_of-get [] i d h = absurd (omega arith)
+  items_of-get (s ∷ es) zero d h = refl
+  items_of-get (s ∷ es) (suc i) d h = items_of-get es i d (omega arith)
+
+-- slots stay apart when one with a new name comes last
+pub apart-push : {T : Type 0} (es : List (Slot T)) (n : Slot T) → place n.key.name es ≡ None → AreApart es → AreApart (es ++ n ∷ [])
+unfolding IsDistinct
+apart-push [] n h a = (tt, tt)
+apart-push (s ∷ es) n h a =
+    elim (cases_Bool (is_at n.key.name s)) [
+      | inl same ↦ absurd (none-some 0 (sym (rw same at h)))
+      | inr other ↦ (
+        all_push (λ y. same_text s.key.name y ≡ false) es n (nat_list_eq_equiv.symm s.key.name n.key.name ∙ other) a.0,
+        apart-push es n (none_next (place n.key.name es) (rw other at h)) a.1,
+      )
+    ]
+  where
+    all_push : {T : Type 0} (P : Text → Type 0) (es : List (Slot T)) (n : Slot T) → P n.key.name → AllByRecursion P (names es) → AllByRecursion P (names (es ++ n ∷ []))
+    all_push P [] n p q = (p, tt)
+    all_push P (s ∷ es) n p q = (q.0, all_push P es n p q.1)
+
+-- what stands under a text is the item at its place
+pub lookup-at : {T : Type 0} (t : Text) (es : List (Slot T)) (i : ℕ) → place t es ≡ Some i → lookup t es ≡ slice_get (items_of es) i
+lookup-at t [] i h = absurd (none-some i h)
+lookup-at t (s ∷ es) i h =
+    elim (cases_Bool (is_at t s)) [
+      | inl same ↦ let e : 0 ≡ i = same_Some 0 i (rw same at h) in rw (same, ← e) refl
+      | inr other ↦ let (j, at, e) = some_next (place t es) i (rw other at h) in rw (other, e) (lookup-at t es j at)
+    ]
+
+-- ---- another slot at a place, whose key has the name of the one there
+module _ {T : Type 0} where
+  -- the names stay
+  pub names-set : (es : List (Slot T)) (i : ℕ) (d s : Slot T) → s.key.name ≡ (get_or es i d).key.name → names (set es i s) ≡ names es
+  names-set [] i d s e = refl
+  names-set (x ∷ es) zero d s e = ap (λ l. l ∷ names es) e
+  names-set (x ∷ es) (suc i) d s e = ap (λ l. x.key.name ∷ l) (names-set es i d s e)
+
+  -- the items stay, where the new slot has the old one's
+  pub items-set : (es : List (Slot T)) (i : ℕ) (d s : Slot T) → s.item ≡ (get_or es i d).item → items_of (set es i s) ≡ items_of es
+  items-set [] i d s e = refl
+  items-set (x ∷ es) zero d s e = ap (λ l. l ∷ items_of es) e
+  items-set (x ∷ es) (suc i) d s e = ap (λ l. x.item ∷ l) (items-set es i d s e)
+
+  -- the slots stay apart
+  pub apart-set : (es : List (Slot T)) (i : ℕ) (d s : Slot T) → s.key.name ≡ (get_or es i d).key.name → AreApart es → AreApart (set es i s)
+  apart-set es i d s e a = subst (IsDistinct same_text) (sym (names-set es i d s e)) a
+
+-- what follows from a fact holds wherever that does
+pub on_ok : {X E P Q : Type 0} (r : Result X E) → (P → Q) → OnOk r P → OnOk r Q
+on_ok (Ok x) f p = f p
+on_ok (Err e) f p = tt
+
+-- a slot whose key was changed
+pub on_key-is : {T : Type 0} (h : Key → Key) (es : List (Slot T)) (i : ℕ) (d : Slot T) (k : Key) → d ≡ get_or es i d → k ≡ h d.key
+    → set es i (record { key = k; item = d.item }) ≡ on_key i h es
+on_key-is h [] i d k e p = refl
+on_key-is h (s ∷ es) zero d k e p = ap (λ l. l ∷ es) (λ j. record { key = (p ∙ ap (λ (x : Slot _). h x.key) e) j; item = (e j).item })
+on_key-is h (s ∷ es) (suc i) d k e p = ap (λ l. s ∷ l) (on_key-is h es i d k e p)

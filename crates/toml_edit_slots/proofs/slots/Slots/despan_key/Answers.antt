@@ -1,0 +1,34 @@
+-- A key in owned form.
+use Rattle.std.proofs.Common.{ap, ◌∙◌}
+use Rattle.toml_edit_model.specs.TreeOf.{owned_key}
+use Rattle.toml_edit_slots.specs.Slots.{names, items_of, on_key}
+use Rattle.toml_edit_slots.proofs.SlotLaws.{on_key-is, names-set, items-set, apart-set, on_ok}
+use Rattle.toml_edit_slots.proofs.slots.Slots.despan_key.Goals as goal
+
+pub invariant_of-self : goal.invariant_of-self
+invariant_of-self g c =
+    let d = c.index_mut-spanned.result.now in
+    apart-set c.self.inside.entries.items c.args.at d (record { key = c.despan.new.self; item = d.item })
+    (c.despan.ensures.name ∙ ap (λ s. s.key.name) c.index_mut-spanned.ensures.value) c.self.invariant
+
+pub returns-clause-names : goal.returns-clause-names
+returns-clause-names g c =
+    let d = c.index_mut-spanned.result.now in
+    names-set c.self.inside.entries.items c.args.at d (record { key = c.despan.new.self; item = d.item })
+    (c.despan.ensures.name ∙ ap (λ s. s.key.name) c.index_mut-spanned.ensures.value)
+    ∙ ap names c.self.view_is
+
+pub returns-clause-items : goal.returns-clause-items
+returns-clause-items g c =
+    let d = c.index_mut-spanned.result.now in
+    items-set c.self.inside.entries.items c.args.at d (record { key = c.despan.new.self; item = d.item })
+    (ap (λ s. s.item) c.index_mut-spanned.ensures.value)
+    ∙ ap items_of c.self.view_is
+
+pub returns-clause-ok : goal.returns-clause-ok
+returns-clause-ok g c =
+    let h = owned_key c.args.source.now in
+    on_ok c.despan.result
+    (λ done. on_key-is h c.self.inside.entries.items c.args.at c.index_mut-spanned.result.now c.despan.new.self c.index_mut-spanned.ensures.value done
+    ∙ ap (on_key c.args.at h) c.self.view_is)
+    c.despan.ensures.ok

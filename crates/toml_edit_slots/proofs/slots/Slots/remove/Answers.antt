@@ -1,0 +1,22 @@
+-- A slot taken out.
+use Rattle.std.proofs.Common.{rules, sym}
+use Rattle.toml_edit_slots.proofs.SlotLaws.{lookup_slot-absent, lookup_slot-present, without-absent, without-present, apart-without}
+use Rattle.toml_edit_slots.proofs.slots.Slots.remove.Goals as goal
+
+pub returns-in_err-at-clause-slot : goal.returns-in_err-at-clause-slot
+returns-in_err-at-clause-slot g c = rw (lookup_slot-absent c.args.text.now c.args.self.now (sym c.in_err-at.ensures.place)) (search rules)
+
+pub returns-in_err-at-clause-slots : goal.returns-in_err-at-clause-slots
+returns-in_err-at-clause-slots g c = sym (without-absent c.args.text.now c.args.self.now (sym c.in_err-at.ensures.place))
+
+pub returns-clause-slots : goal.returns-clause-slots
+returns-clause-slots g c = rw (c.remove.ensures.items, without-present c.args.text.now c.args.self.now c.in_ok-at.at (sym c.in_ok-at.ensures.place), ← c.self.view_is) (search rules)
+
+pub returns-clause-slot : goal.returns-clause-slot
+returns-clause-slot g c = rw (lookup_slot-present c.args.text.now c.args.self.now c.in_ok-at.at c.remove.result (sym c.in_ok-at.ensures.place), ← c.self.view_is) (search rules)
+
+pub invariant_of-self : goal.invariant_of-self
+invariant_of-self g c =
+    let t = c.args.text.now in
+    let es = c.self.inside.entries.items in
+    rw (c.remove.ensures.items, ← without-present t es c.in_ok-at.at (rw c.self.view_is (sym c.in_ok-at.ensures.place))) (apart-without t es c.self.invariant)

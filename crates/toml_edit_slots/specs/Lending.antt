@@ -1,0 +1,17 @@
+-- What is lent out of slots.
+use Rattle.std.specs.Prelude.{ℕ, List, Option}
+use Rattle.std.specs.Option.{option_map_or}
+use Rattle.std.specs.Borrow.{Lends, LendsIf, MutBor, Fml}
+use denote.RattleType.{RattleType}
+use Rattle.toml_edit_model.specs.Text.{Text}
+use Rattle.toml_edit_slots.specs.Slots.{with_item, place}
+use Rattle.toml_edit_slots.specs.declared.slots.Slot.{Slot}
+use Rattle.toml_edit_slots.specs.contracts.slots.Slots.{the_row}
+
+-- the slots end with the last value behind r as the item at the place
+abbrev pub LendsItem : (T : RattleType) → MutBor (List (Slot T.Denot)) → ℕ → MutBor T.Denot → Fml
+LendsItem T s at r = Lends (the_row T) T s r (λ w. with_item at w s.now)
+
+-- the same of the slot of the text, where there is one
+abbrev pub LendsFound : (T : RattleType) → MutBor (List (Slot T.Denot)) → Text → Option (MutBor T.Denot) → Fml
+LendsFound T s t r = LendsIf (the_row T) T s r (λ w. option_map_or (λ i. with_item i w s.now) (place t s.now) s.now) s.now

@@ -1,0 +1,208 @@
+//! The slots of a table: keys with their items, in order, where no two keys have one name.
+ghost use Rattle.std.specs.Prelude.{◌≡◌, ◌<◌, ◌↔◌, IsTrue, [], ◌∷◌, ◌++◌, None, Some, IsSome, IsOk, length, IfOk, IfErr, IfSome, OnOk, OnErr, slice_get, option_map, position};
+ghost use Rattle.std.specs.Option.{ForSome, option_copied, option_copied_mut};
+
+use std::alloc::{AllocError, Global};
+use std::marker::Model;
+use std::mem;
+use toml_edit_key::Key;
+use toml_edit_repr::Mem;
+
+/// Want of memory, with the value that found no place.
+#[derive(Debug, Drop)]
+pub struct NoMemory<T>(pub T);
+
+impl<T: Drop> From<NoMemory<T>> for AllocError {
+    fn from(_refused: NoMemory<T>) -> AllocError {
+        AllocError
+    }
+}
+
+/// A key with its item.
+#[derive(Debug, Drop)]
+pub struct Slot<T> {
+    /// The key.
+    pub key: Key,
+    /// What stands under it.
+    pub item: T,
+}
+
+impl<T> Slot<T> {
+    /// The item, without its key.
+    pub fn into_item(self) -> T
+        ensures { result ≡ self.item }
+    {
+        let Slot { key, item } = self;
+        drop(key);
+        item
+    }
+}
+
+/// The slots of a table, in order. No two keys have one name.
+#[derive(Debug, Drop)]
+pub struct Slots<T> {
+    entries: Vec<Slot<T>>,
+}
+
+impl<T> Model for Slots<T> {
+    ghost use Rattle.std.specs.Prelude.{List};
+    ghost use Rattle.std.specs.Coded.{coded_list};
+    ghost use Rattle.toml_edit_slots.specs.declared.slots.Slot.{Slot};
+    ghost use Rattle.toml_edit_slots.specs.Slots.{AreApart};
+    ghost use Rattle.toml_edit_slots.specs.SlotCode.{slot_code};
+
+    ghost Value = { List (Slot T) };
+
+    ghost coded = { coded_list (slot_code T.code) };
+
+    ghost view = { λ a. a.entries.items };
+
+    ghost invariant = { λ a. AreApart a.entries.items };
+}
+
+impl<T> Slots<T> {
+    ghost use Rattle.std.specs.Borrow.{sem};
+    ghost use Rattle.toml_edit_model.specs.Tree.{HasTrueSpelling};
+    ghost use Rattle.toml_edit_model.specs.TreeOf.{KeyFits, owned_raw, owned_key};
+    ghost use Rattle.toml_edit_model.specs.Spelling.{SpellsKey};
+    ghost use Rattle.toml_edit_slots.specs.Lending.{LendsItem, LendsFound};
+    ghost use Rattle.toml_edit_slots.specs.Slots.{AreApart, is_at, place, lookup, lookup_slot, put, without, items_of, on_key, names};
+
+    /// No slots, which take no memory yet.
+    pub fn new(alloc: Global) -> Slots<T>
+        ensures { result ≡ [] }
+    {
+        Slots {
+            entries: Vec::new(alloc),
+        }
+    }
+
+    /// The slots in order.
+    pub fn as_slice(&self) -> &[Slot<T>]
+        ensures slots { result.now ≡ self.now }
+        ensures apart { AreApart self.now }
+    {
+        self.entries.as_slice()
+    }
+
+    /// How many slots there are.
+    pub fn len(&self) -> usize
+        ensures { result ≡ length self.now }
+    {
+        self.entries.len()
+    }
+
+    /// Whether there are none.
+    pub fn is_empty(&self) -> bool
+        ensures { IsTrue result ↔ (self.now ≡ []) }
+    {
+        self.entries.is_empty()
+    }
+
+    /// The place of the slot whose key has the name, if there is one.
+    pub fn find(&self, text: &str) -> Option<usize>
+        ensures place { result ≡ place text.now self.now }
+        ensures within { IfSome result (λ at. at < length self.now) }
+    {
+        Slots::place_in(&self.entries, text)
+    }
+
+    fn place_in(entries: &[Slot<T>], text: &str) -> Option<usize>
+        ensures { result ≡ position (is_at text.now) entries.now }
+    {
+        entries.iter().position(|slot| text == slot.key.get())
+    }
+
+    /// The item under the name, if there is one.
+    pub fn get(&self, text: &str) -> Option<&T>
+        ensures { option_copied result ≡ lookup text.now self.now }
+    {
+        let at = self.find(text)?;
+        Some(&self.entries[at].item)
+    }
+
+    /// The item at the place, to be changed.
+    pub fn item_mut(&mut self, at: usize) -> &mut T
+        requires { at < length self.old }
+        ensures* writes_back { sem 𝓛 (LendsItem T.row self.entry at result) }
+        ensures item { Some result.now ≡ slice_get (items_of self.old) at }
+    {
+        let lent = &mut self.entries[at];
+        &mut lent.item
+    }
+
+    /// The item under the name, to be changed, if there is one.
+    pub fn get_mut(&mut self, text: &str) -> Option<&mut T>
+        ensures* writes_back { sem 𝓛 (LendsFound T.row self.entry text.now result) }
+        ensures item { option_copied_mut result ≡ lookup text.now self.old }
+    {
+        match self.find(text) {
+            Some(at) => Some(self.item_mut(at)),
+            None => None,
+        }
+    }
+
+    /// Puts a slot with a new name last. The only error is want of memory: the slots stay, and the error has the slot.
+    pub fn push(&mut self, slot: Slot<T>) -> Result<(), NoMemory<Slot<T>>>
+        requires { place slot.key.name self.old ≡ None }
+        ensures slots { OnOk result (self.new ≡ self.old ++ slot ∷ []) }
+        ensures back { IfErr result (λ refused. refused.0 ≡ slot) }
+        ensures err { OnErr result (self.new ≡ self.old) }
+    {
+        match self.entries.push(slot) {
+            Ok(()) => Ok(()),
+            Err(refused) => Err(NoMemory(refused.value)),
+        }
+    }
+
+    /// Puts the item under the name: a key that is there is reset and keeps its place, and the answer is its old item; a new one
+    /// goes last. The only error is want of memory, at a new name: the slots stay, and the error has the item.
+    pub fn insert(&mut self, alloc: Global, text: &str, item: T) -> Result<Option<T>, NoMemory<T>>
+        ensures old { IfOk result (λ old. old ≡ lookup text.now self.old) }
+        ensures slots { OnOk result (self.new ≡ put text.now item self.old) }
+        ensures present { IsSome (place text.now self.old) → IsOk result }
+        ensures back { IfErr result (λ refused. refused.0 ≡ item) }
+        ensures err { OnErr result (self.new ≡ self.old) }
+    {
+        match self.find(text) {
+            Some(at) => {
+                let slot = &mut self.entries[at];
+                slot.key.fmt();
+                Ok(Some(mem::replace(&mut slot.item, item)))
+            }
+            None => {
+                let Ok(key) = Key::from_text(alloc, text) else {
+                    return Err(NoMemory(item));
+                };
+                match self.push(Slot { key, item }) {
+                    Ok(()) => Ok(None),
+                    Err(refused) => Err(NoMemory(refused.0.into_item())),
+                }
+            }
+        }
+    }
+
+    /// Takes the slot of the name out, if there is one. The others keep their order.
+    pub fn remove(&mut self, text: &str) -> Option<Slot<T>>
+        ensures slot { result ≡ lookup_slot text.now self.old }
+        ensures slots { self.new ≡ without text.now self.old }
+    {
+        let at = self.find(text)?;
+        Some(self.entries.remove(at))
+    }
+
+    /// Turns the spans of `source` in the key at the place into the texts that stand there. The only error is want of memory, and
+    /// then spans may be left: the document that the slots are of is to be given up.
+    pub fn despan_key(&mut self, at: usize, alloc: Global, source: &str) -> Mem<()>
+        requires at { at < length self.old }
+        requires fits { ForSome (slice_get self.old at) (λ slot. KeyFits source.now slot.key) }
+        requires spelled { ForSome (slice_get self.old at) (λ slot.
+            ∥ HasTrueSpelling (SpellsKey slot.key.name) (option_map (owned_raw source.now) slot.key.spelling) ∥₁) }
+        ensures names { names self.new ≡ names self.old }
+        ensures items { items_of self.new ≡ items_of self.old }
+        ensures ok { OnOk result (self.new ≡ on_key at (owned_key source.now) self.old) }
+    {
+        let spanned = &mut self.entries[at];
+        spanned.key.despan(alloc, source)
+    }
+}
