@@ -37,7 +37,7 @@ impl Model for Repr {
 impl Repr {
     ghost use Rattle.toml_edit_repr.specs.Views.{range_of};
 
-    // The spelling that stands there.
+    /// The spelling that stands there. Whoever keeps it beside a value sees to it that it spells the value.
     pub fn new(raw: RawString) -> Repr
         ensures { result ≡ raw }
     {
@@ -102,7 +102,7 @@ impl Hash for Repr {
     }
 }
 
-// Turns a spelling that spans `source` into its text.
+/// Turns a spelling that spans `source` into the text that stands there. The only error is want of memory, which leaves it as it was.
 pub fn despan_spelling(alloc: Global, repr: &mut Option<Repr>, source: &str) -> Mem<()>
     requires { OptionFits source.now repr.old }
     ensures ok { OnOk result (repr.new ≡ option_map (owned_raw source.now) repr.old) }
