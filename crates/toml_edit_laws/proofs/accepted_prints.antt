@@ -1,0 +1,14 @@
+pub mod EachPrintedValue
+pub mod PrintedValues
+pub mod PrintedCut
+pub mod Spots
+pub mod WalkPlaces
+pub mod WalkPaths
+pub mod HeaderNumbers
+pub mod HeaderReach
+pub mod NamedPaths
+pub mod LinePlaces
+pub mod Threads
+pub mod PairsAgree
+pub mod PrintedLead
+pub mod StatementsAgree

@@ -1,0 +1,314 @@
+-- The printed statements of a tree that fits are a cut of its print, within limits and ranges.
+use Rattle.std.proofs.Common.{◌≡◌, refl, sym, ◌∙◌, ap, subst, ℕ, ◌⊎◌, Bool, true, false, List, [], ◌∷◌, ◌++◌, append_assoc, inl}
+use Rattle.std.specs.Prelude.{◌&&◌, ◌||◌, not, map, ℤ, pos, MatchBool, if◌then◌else◌}
+use Rattle.std.specs.List.{list_all, AllByRecursion}
+use Rattle.toml_edit_model.specs.Text.{Text, newline, joined, is_empty}
+use Rattle.toml_edit_model.specs.Trivia.{IsWhiteSpace, IsWholeTrivia, IsLineEnd, IsFinalTrivia, IsNewline, lf}
+use Rattle.toml_edit_model.specs.Trivia as trivia
+use Rattle.toml_edit_model.specs.Syntax.{Statement, key_line, header, statement_text, document_text, IsStatement, AreStatements, IsPath, IsValue, IsHeader, keeps_limits, is_ranged, keeps_ranges}
+use Rattle.toml_edit_model.specs.Paths.{Path}
+use Rattle.toml_edit_model.specs.Tree.{Key, Node, nothing, leaf, list, inline, table, tables, Items, no_items, item, Slots, no_slots, slot, Tree, is_value_node, IsWellMade, ItemsAreWellMade, SlotsAreWellMade, shown_prefix, shown_suffix, shown_raw}
+use Rattle.toml_edit_model.specs.HeaderOrder.{Visit, Placed, node_walk, items_walk, slots_walk, walk, places_from, place_of, comes_before, in_header_order}
+use Rattle.toml_edit_model.specs.Print.{Line, line_of, is_line_node, value_of, inside_lines, lines_inside, table_lines, dotted_lines, segments, last_leaf, line_statement, Printed, printed, printed_line, printed_table, printed_tables, lines_of, has_header, header_of, header_default, lifted_prefix, key_prefix, is_lifted, statements_of, root_prefix, root_suffix, print, add_before, final_of, printed_document}
+use Rattle.toml_edit_model.specs.Fits.{PrintedLineSuits, HeaderSuits, TableSuits}
+use Rattle.toml_edit_laws.specs.AcceptedPrints.{PrintIsCut}
+use Rattle.toml_edit_laws.proofs.common.Tests.{and_left, and_right, and_both, not-true}
+use Rattle.toml_edit_laws.proofs.common.OrderLaws.{all-sorted}
+use Rattle.toml_edit_laws.proofs.accepted_prints.PrintedValues.{whole-append, final-append, side-any, KeysAreTrue, keys-snoc, line-value, segments-path, path-is, value-is, value-ranges}
+use Rattle.toml_edit_laws.proofs.common.Trivia.{empty-trivia}
+use Rattle.toml_edit_laws.proofs.common.Each.{all-both, all-append, all-map, all-image}
+
+-- ---- the text of the cut
+
+-- a text before the first statement, or before what follows, is before them all
+add_before-text : (t : Text) (ss : List Statement) (final : Text)
+    → joined (map statement_text (add_before t ss)) ++ final_of t ss final ≡ t ++ (joined (map statement_text ss) ++ final)
+add_before-text t [] final = refl
+add_before-text t (key_line f v end ∷ ss) final = simp append_assoc refl
+add_before-text t (header h end ∷ ss) final = simp append_assoc refl
+
+pub printed_document-text : (t : Tree) → document_text (printed_document t) ≡ print t
+unfolding print
+printed_document-text t = add_before-text (root_prefix t) (statements_of t) (root_suffix t ++ shown_raw t.trailing)
+
+-- ---- lines of tables
+
+-- a line as a table gives it: its value's syntax, its keys
+pub record IsLineOf (l : Line) : Type 0 where
+  pub value : l.value ≡ value_of l.item
+  pub shape : is_value_node l.item ≡ true
+  pub made : IsWellMade l.item
+  pub keys : KeysAreTrue l.keys
+  pub some_key : (front : List Key) × (last : Key) × (l.keys ≡ front ++ (last ∷ []))
+
+line_of-is : (n : Node) (ks : List Key) (k : Key) → is_line_node n ≡ true → IsWellMade n → KeysAreTrue (ks ++ (k ∷ []))
+    → AllByRecursion IsLineOf (line_of (ks ++ (k ∷ [])) n (value_of n))
+line_of-is n ks k line made keys =
+    (record { value = refl; shape = line-value n line; made = made; keys = keys; some_key = (ks, k, refl) }, tt)
+
+by_line : (n : Node) (ks : List Key) (k : Key) (ls : List Line) (b : Bool) → is_line_node n ≡ b → IsWellMade n → KeysAreTrue (ks ++ (k ∷ []))
+    → AllByRecursion IsLineOf ls → AllByRecursion IsLineOf (elim b [ true ↦ line_of (ks ++ (k ∷ [])) n (value_of n) | false ↦ ls ])
+by_line n ks k ls true e made keys h = line_of-is n ks k e made keys
+by_line n ks k ls false e made keys h = h
+
+mutual
+  inside_lines-are : (ss : Slots) (ks : List Key) → SlotsAreWellMade ss → KeysAreTrue ks → AllByRecursion IsLineOf (inside_lines ss ks)
+  inside_lines-are no_slots ks made keys = tt
+  inside_lines-are (slot k n ss) ks made keys =
+      let own = keys-snoc ks k keys made.1 in
+      all-append IsLineOf _ (inside_lines ss ks)
+      (by_line n ks k (lines_inside n (ks ++ (k ∷ []))) (is_line_node n) refl made.2 own (lines_inside-are n (ks ++ (k ∷ [])) made.2 own))
+      (inside_lines-are ss ks made.3 keys)
+
+  lines_inside-are : (n : Node) (ks : List Key) → IsWellMade n → KeysAreTrue ks → AllByRecursion IsLineOf (lines_inside n ks)
+  lines_inside-are (inline f ss) ks made keys = inside_lines-are ss ks made keys
+  lines_inside-are (table f ss) ks made keys = inside_lines-are ss ks made keys
+  lines_inside-are (leaf s r d) ks made keys = tt
+  lines_inside-are (list f xs) ks made keys = tt
+  lines_inside-are (tables e xs) ks made keys = tt
+  lines_inside-are nothing ks made keys = tt
+
+pub if_lines : (P : Line → Type 0) (b : Bool) (ls : List Line) → AllByRecursion P ls → AllByRecursion P (if b then ls else [])
+if_lines P true ls h = h
+if_lines P false ls h = tt
+
+mutual
+  pub table_lines-are : (ss : Slots) (ks : List Key) → SlotsAreWellMade ss → KeysAreTrue ks → AllByRecursion IsLineOf (table_lines ss ks)
+  table_lines-are no_slots ks made keys = tt
+  table_lines-are (slot k n ss) ks made keys =
+      let own = keys-snoc ks k keys made.1 in
+      all-append IsLineOf _ (table_lines ss ks)
+      (by_line n ks k (dotted_lines n (ks ++ (k ∷ []))) (is_line_node n) refl made.2 own (dotted_lines-are n (ks ++ (k ∷ [])) made.2 own))
+      (table_lines-are ss ks made.3 keys)
+
+  dotted_lines-are : (n : Node) (ks : List Key) → IsWellMade n → KeysAreTrue ks → AllByRecursion IsLineOf (dotted_lines n ks)
+  dotted_lines-are (table f ss) ks made keys = if_lines IsLineOf f.is_dotted (table_lines ss ks) (table_lines-are ss ks made keys)
+  dotted_lines-are (inline f ss) ks made keys = inside_lines-are ss ks made keys
+  dotted_lines-are (leaf s r d) ks made keys = tt
+  dotted_lines-are (list f xs) ks made keys = tt
+  dotted_lines-are (tables e xs) ks made keys = tt
+  dotted_lines-are nothing ks made keys = tt
+
+-- ---- tables of the walk
+
+pub record IsVisit (v : Visit) : Type 0 where
+  pub keys : KeysAreTrue v.keys
+  pub made : SlotsAreWellMade v.slots
+
+mutual
+  node_walk-is : (n : Node) (p : Path) (ks : List Key) (e : Bool) → IsWellMade n → KeysAreTrue ks → AllByRecursion IsVisit (node_walk n p ks e)
+  node_walk-is (table f ss) p ks e made keys = (record { keys = keys; made = made }, slots_walk-is ss p ks made keys)
+  node_walk-is (tables x xs) p ks e made keys = items_walk-is xs p ks 0 made keys
+  node_walk-is (leaf s r d) p ks e made keys = tt
+  node_walk-is (list f xs) p ks e made keys = tt
+  node_walk-is (inline f ss) p ks e made keys = tt
+  node_walk-is nothing p ks e made keys = tt
+
+  items_walk-is : (xs : Items) (p : Path) (ks : List Key) (i : ℕ) → ItemsAreWellMade xs → KeysAreTrue ks → AllByRecursion IsVisit (items_walk xs p ks i)
+  items_walk-is no_items p ks i made keys = tt
+  items_walk-is (item (table f ss) xs) p ks i made keys =
+      (record { keys = keys; made = made.0 }, all-append IsVisit (slots_walk ss _ ks) (items_walk xs p ks _) (slots_walk-is ss _ ks made.0 keys) (items_walk-is xs p ks _ made.1 keys))
+  items_walk-is (item (tables e us) xs) p ks i made keys = items_walk-is xs p ks i made.1 keys
+  items_walk-is (item (leaf s r d) xs) p ks i made keys = items_walk-is xs p ks i made.1 keys
+  items_walk-is (item (list f us) xs) p ks i made keys = items_walk-is xs p ks i made.1 keys
+  items_walk-is (item (inline f us) xs) p ks i made keys = items_walk-is xs p ks i made.1 keys
+  items_walk-is (item nothing xs) p ks i made keys = items_walk-is xs p ks i made.1 keys
+
+  pub slots_walk-is : (ss : Slots) (p : Path) (ks : List Key) → SlotsAreWellMade ss → KeysAreTrue ks → AllByRecursion IsVisit (slots_walk ss p ks)
+  slots_walk-is no_slots p ks made keys = tt
+  slots_walk-is (slot k n ss) p ks made keys =
+      all-append IsVisit (node_walk n _ (ks ++ (k ∷ [])) false) (slots_walk ss p ks)
+      (node_walk-is n _ (ks ++ (k ∷ [])) false made.2 (keys-snoc ks k keys made.1)) (slots_walk-is ss p ks made.3 keys)
+
+-- ---- what holds of tables in the walk holds of them in the order of headers
+
+pub places-all : (P : Visit → Type 0) (seen : ℤ) (vs : List Visit) → AllByRecursion P vs
+    → AllByRecursion (λ (v : Placed). P v.1 × (v.1.fields.is_dotted ≡ false)) (places_from seen vs)
+places-all P seen [] h = tt
+places-all P seen (v ∷ vs) h =
+    by_test v.fields.is_dotted refl (places_from seen vs) (places_from (place_of seen v) vs) (places-all P seen vs h.1) (places-all P (place_of seen v) vs h.1)
+  where
+    by_test : (c : Bool) → v.fields.is_dotted ≡ c → (xs ys : List Placed) → AllByRecursion (λ (v : Placed). P v.1 × (v.1.fields.is_dotted ≡ false)) xs
+        → AllByRecursion (λ (v : Placed). P v.1 × (v.1.fields.is_dotted ≡ false)) ys
+        → AllByRecursion (λ (v : Placed). P v.1 × (v.1.fields.is_dotted ≡ false)) (if c then xs else (place_of seen v, v) ∷ ys)
+    by_test true e xs ys f g = f
+    by_test false e xs ys f g = ((h.0, e), g)
+
+pub order-all : (P : Visit → Type 0) (t : Tree) → AllByRecursion P (walk t)
+    → AllByRecursion (λ (v : Placed). P v.1 × (v.1.fields.is_dotted ≡ false)) (in_header_order t)
+order-all P t h =
+    all-sorted (λ (v : Placed). P v.1 × (v.1.fields.is_dotted ≡ false)) comes_before (places_from (pos 0) (walk t)) (places-all P (pos 0) (walk t) h)
+
+-- ---- statements
+
+-- a line whose decors suit by the empty defaults is one of the grammar
+line-path : (ks : List Key) (front : List Key) (last : Key) → ks ≡ front ++ (last ∷ []) → KeysAreTrue ks → IsPath (segments ks)
+line-path ks front last e keys = subst (λ x. IsPath (segments x)) (sym e) (path-is front last (subst KeysAreTrue e keys))
+
+newline-is : IsNewline newline
+newline-is = (lf, refl)
+
+line_statement-is : (l : Line) → IsLineOf l → PrintedLineSuits l → IsStatement IsNewline (line_statement l)
+line_statement-is l is h = (
+  (
+    record {
+      leading = h.0.leading;
+      segments = h.0.segments;
+      before_equals = h.0.before_equals;
+      after_equals = h.0.after_equals;
+      trailing = h.0.trailing;
+    },
+    line-path l.keys is.some_key.0 is.some_key.1 is.some_key.2 is.keys,
+  ),
+  subst IsValue (sym is.value) (value-is l.item is.made is.shape h.1),
+  newline-is,
+)
+
+line-ranged : (l : Line) → IsLineOf l → is_ranged (line_statement l) ≡ true
+line-ranged l is = ap keeps_ranges is.value ∙ value-ranges l.item is.made
+
+default_trivia : (b : Bool) → IsWholeTrivia (header_default b)
+default_trivia true = empty-trivia
+default_trivia false = (trivia.break lf ∷ [], (tt, tt), refl)
+
+keys-path : (ks : List Key) → is_empty ks ≡ false → KeysAreTrue ks → IsPath (segments ks)
+keys-path [] h keys = absurd cc
+keys-path (k ∷ ks) h keys = segments-path k ks keys
+
+-- the key's prefix before the brackets, and the white space inside them
+record Inside (b : Bool) (prefix suffix : Text) : Type 0 where
+  lifted : IsWholeTrivia (if b then prefix else [])
+  opening : IsWhiteSpace (if b then [] else prefix)
+  closing : IsWhiteSpace (if b then [] else suffix)
+
+inside-is : (b : Bool) (prefix suffix : Text) → MatchBool b (IsWholeTrivia prefix) (IsWhiteSpace prefix × IsWhiteSpace suffix) → Inside b prefix suffix
+inside-is true prefix suffix h = record { lifted = h; opening = refl; closing = refl }
+inside-is false prefix suffix h = record { lifted = empty-trivia; opening = h.0; closing = h.1 }
+
+header-is : (b : Bool) (v : Visit) → IsVisit v → has_header v ≡ true → HeaderSuits v → IsHeader (header_of b v)
+header-is b v is has h =
+    let inside = inside-is (is_lifted v) (key_prefix v) (shown_suffix [] (last_leaf v.keys)) h.inner in (
+      record {
+        leading = whole-append (lifted_prefix v) (shown_prefix (header_default b) v.fields.decor) inside.lifted
+            (side-any IsWholeTrivia (header_default b) v.fields.decor.prefix (default_trivia b) h.leading);
+        segments = h.segments;
+        opening = inside.opening;
+        closing = inside.closing;
+        trailing = h.trailing;
+      },
+      keys-path v.keys (not-true (is_empty v.keys) (and_left (not (is_empty v.keys)) (v.is_element || not (v.fields.is_implicit && is_empty (lines_of v))) has)) is.keys,
+    )
+
+abbrev Good : Printed → Type 0
+Good p = IsStatement IsNewline p.statement × (is_ranged p.statement ≡ true)
+
+header-good : (b : Bool) (v : Visit) (c : Bool) → has_header v ≡ c → IsVisit v → MatchBool c (HeaderSuits v) (Unit {0})
+    → AllByRecursion Good (if c then record { block = v.path; path = v.path; statement = header (header_of b v) newline } ∷ [] else [])
+header-good b v true e is h = (((header-is b v is e h, newline-is), refl), tt)
+header-good b v false e is h = tt
+
+table-good : (b : Bool) (v : Placed) → IsVisit v.1 → TableSuits v → AllByRecursion Good (printed_table b v.1)
+table-good b v is h =
+    all-append Good _ (map (printed_line v.1.path) (lines_of v.1))
+    (header-good b v.1 (has_header v.1) refl is h.0)
+    (all-image (printed_line v.1.path) Good (lines_of v.1)
+    (all-map (λ l. IsLineOf l × PrintedLineSuits l) (λ l. Good (printed_line v.1.path l)) (lines_of v.1) (λ l g. (line_statement-is l g.0 g.1, line-ranged l g.0))
+    (all-both IsLineOf PrintedLineSuits (lines_of v.1) (table_lines-are v.1.slots [] is.made tt) h.1)))
+
+tables-good : (b : Bool) (vs : List Placed) → AllByRecursion (λ v. IsVisit v.1) vs → AllByRecursion TableSuits vs → AllByRecursion Good (printed_tables b vs)
+tables-good b [] h g = tt
+tables-good b (v ∷ vs) h g =
+    all-append Good (printed_table b v.1) _ (table-good b v h.0 g.0) (tables-good (b && is_empty (printed_table b v.1)) vs h.1 g.1)
+
+order-is : (t : Tree) → SlotsAreWellMade t.slots → AllByRecursion (λ (v : Placed). IsVisit v.1) (in_header_order t)
+order-is t made =
+    all-map (λ (v : Placed). IsVisit v.1 × (v.1.fields.is_dotted ≡ false)) (λ (v : Placed). IsVisit v.1) (in_header_order t) (λ v h. h.0)
+    (order-all IsVisit t (record { keys = tt; made = made }, slots_walk-is t.slots [] [] made tt))
+
+-- ---- the cut
+
+abbrev Ended : Statement → Type 0
+Ended s = IsStatement IsNewline s
+
+prefixed : (t : Text) (ss : List Statement) → IsWholeTrivia t → AllByRecursion Ended ss → AllByRecursion Ended (add_before t ss)
+prefixed t [] h g = tt
+prefixed t (key_line f v end ∷ ss) h g = (
+  (
+    (
+      record {
+        leading = whole-append t f.leading h g.0.0.0.leading;
+        segments = g.0.0.0.segments;
+        before_equals = g.0.0.0.before_equals;
+        after_equals = g.0.0.0.after_equals;
+        trailing = g.0.0.0.trailing;
+      },
+      g.0.0.1,
+    ),
+    g.0.1,
+    g.0.2,
+  ),
+  g.1,
+)
+prefixed t (header k end ∷ ss) h g = (
+  (
+    (
+      record {
+        leading = whole-append t k.leading h g.0.0.0.leading;
+        segments = g.0.0.0.segments;
+        opening = g.0.0.0.opening;
+        closing = g.0.0.0.closing;
+        trailing = g.0.0.0.trailing;
+      },
+      g.0.0.1,
+    ),
+    g.0.1,
+  ),
+  g.1,
+)
+
+last-is : (final : Text) (s : Statement) → Ended s → IsStatement (λ end. IsNewline end ⊎ ((end ≡ []) × (final ≡ []))) s
+last-is final (key_line f v end) h = (h.0, h.1, inl h.2)
+last-is final (header k end) h = (h.0, inl h.1)
+
+statements-are : (final : Text) (ss : List Statement) → AllByRecursion Ended ss → AreStatements final ss
+statements-are final [] h = tt
+statements-are final (s ∷ []) h = last-is final s h.0
+statements-are final (s ∷ r ∷ ss) h = (h.0, statements-are final (r ∷ ss) h.1)
+
+final-is : (before after : Text) (ss : List Statement) → IsWholeTrivia before → IsFinalTrivia after → IsFinalTrivia (final_of before ss after)
+final-is before after [] h g = final-append before after h g
+final-is before after (s ∷ ss) h g = g
+
+abbrev Keeps : Statement → Bool
+Keeps s = keeps_limits s && is_ranged s
+
+all-keep : (ss : List Statement) → list_all keeps_limits ss ≡ true → AllByRecursion (λ s. is_ranged s ≡ true) ss → list_all Keeps ss ≡ true
+all-keep [] h g = refl
+all-keep (s ∷ ss) h g =
+    and_both (Keeps s) (list_all Keeps ss) (and_both (keeps_limits s) (is_ranged s) (and_left (keeps_limits s) (list_all keeps_limits ss) h) g.0)
+    (all-keep ss (and_right (keeps_limits s) (list_all keeps_limits ss) h) g.1)
+
+prefixed-keeps : (t : Text) (ss : List Statement) → list_all Keeps ss ≡ true → list_all Keeps (add_before t ss) ≡ true
+prefixed-keeps t [] h = refl
+prefixed-keeps t (key_line f v end ∷ ss) h = h
+prefixed-keeps t (header k end ∷ ss) h = h
+
+-- The printed statements are a cut of the print, within limits and ranges.
+pub print-cut : PrintIsCut
+print-cut t fitting =
+    let decors = fitting.fits.decors in
+    let good = tables-good true (in_header_order t) (order-is t fitting.made) decors.tables in (
+      (
+        (
+          statements-are (printed_document t).final (printed_document t).statements
+              (prefixed (root_prefix t) (statements_of t) decors.root_prefix
+              (all-image (λ (p : Printed). p.statement) Ended (printed t) (all-map Good (λ p. Ended p.statement) (printed t) (λ p g. g.0) good))),
+          final-is (root_prefix t) (root_suffix t ++ shown_raw t.trailing) (statements_of t) decors.root_prefix
+              (final-append (root_suffix t) (shown_raw t.trailing) decors.root_suffix decors.trailing),
+        ),
+        printed_document-text t,
+      ),
+      prefixed-keeps (root_prefix t) (statements_of t)
+          (all-keep (statements_of t) fitting.fits.limits
+          (all-image (λ (p : Printed). p.statement) (λ s. is_ranged s ≡ true) (printed t) (all-map Good (λ p. is_ranged p.statement ≡ true) (printed t) (λ p g. g.1) good))),
+    )

@@ -1,0 +1,14 @@
+pub mod ClashMentions
+pub mod ClashKept
+pub mod ClashRoles
+pub mod TableClash
+pub mod LineClash
+pub mod ClashCounts
+pub mod HeaderGoes
+pub mod HeaderClash
+pub mod ClashFaults
+pub mod ClashStatements
+pub mod ClashContext
+pub mod ClashFirst
+pub mod BlockClash
+pub mod BlockOfHeader

@@ -1,0 +1,157 @@
+-- A statement that can't be added to the slots of the right statements before it is the first faulty one, and its fault is among those
+-- that are named.
+use Rattle.std.proofs.Common.{◌≡◌, refl, sym, ◌∙◌, ap, subst, ℕ, ◌+◌, Bool, true, false, List, [], ◌∷◌, ◌++◌, append_assoc, length, Option, Some, None, inl}
+use Rattle.std.specs.Prelude.{◌&&◌, nat_le}
+use Rattle.std.specs.List.{AllByRecursion, list_all}
+use Rattle.std.proofs.Math.Bool.{and-false}
+use Rattle.toml_edit_model.specs.Text.{Text}
+use Rattle.toml_edit_model.specs.Syntax.{Segment, Frame, Value, Header, Statement, key_line, header, Document, path_text, depth, most, is_short, has_short_keys, keeps_ranges}
+use Rattle.toml_edit_model.specs.Paths.{may_meet, Mention, Source, Placed, Context, source_of, mentions_of, path_start, context_after, start_context, placed_from, placed}
+use Rattle.toml_edit_model.specs.Accepted.{agree, has_agreeing_pairs, is_sound, is_right_after, all_right_after, is_accepted}
+use Rattle.toml_edit_model.specs.Faults.{Fault, first_clash, statement_clash, long_path, value_faults, own_faults, faults_in, first_faults}
+use Rattle.toml_edit_model.specs.Tree.{Node, Slots}
+use Rattle.toml_edit_model.specs.TreeOf.{spanned_form, kept, AreSlotsOf}
+use Rattle.toml_edit_laws.specs.TableTree.{own_mentions}
+use Rattle.toml_edit_laws.specs.TableClash.{line_clash, header_clash, table_way_fault, table_way_faults}
+use Rattle.toml_edit_laws.specs.Building.{context_from, context_behind, done_places}
+use Rattle.toml_edit_laws.proofs.common.Tests.{and_left, and_right, and-assoc, append-nil}
+use Rattle.toml_edit_laws.proofs.common.Members.{Among, among-right}
+use Rattle.toml_edit_laws.proofs.values.ValueFaults.{is_empty-nil, is_right_value-faults}
+use Rattle.toml_edit_laws.proofs.inline_tables.AgreeLaws.{agree-clash}
+use Rattle.toml_edit_laws.proofs.clashes.LineClash.{line_agrees}
+use Rattle.toml_edit_laws.proofs.clashes.HeaderClash.{header_agrees}
+use Rattle.toml_edit_laws.proofs.clashes.ClashFaults.{agree-below, line_fault, header_fault}
+use Rattle.toml_edit_laws.proofs.clashes.ClashContext.{HasKey, before_none, agree-each, before_all}
+use Rattle.toml_edit_laws.proofs.adding.DeeperMentions.{under_path}
+use Rattle.toml_edit_laws.proofs.mentions.Placed.{mentions_in, placed_at}
+use Rattle.toml_edit_laws.proofs.common.OptionSteps.{is_none}
+use Rattle.toml_edit_laws.proofs.clashes.ClashMentions.{statements-under_path}
+
+-- ---- right statements have no faults
+
+long-none : (p : List Segment) → is_short p ≡ true → long_path p ≡ []
+long-none p h = rw h refl
+
+pub sound-none : (start : ℕ) (t : Statement) → is_sound t ≡ true → own_faults start t ≡ []
+sound-none start (key_line f v end) h =
+    let i = start + length f.leading + length (path_text f.path) + length f.before_equals + 1 + length f.after_equals in
+    let parts = apart (is_short f.path) (nat_le (depth v) most && has_short_keys v) (keeps_ranges v) (has_agreeing_pairs v) h in
+    ap (λ fs. fs ++ value_faults v i 0) (long-none f.path parts.0) ∙ is_empty-nil (value_faults v i 0) (is_right_value-faults v i ∙ parts.1)
+  where
+    apart : (a b c d : Bool) → (((a && b) && c) && d) ≡ true → (a ≡ true) × (((b && c) && d) ≡ true)
+    apart true b c d h = (refl, h)
+    apart false b c d h = absurd cc
+sound-none start (header h end) g = long-none h.path (and_left (is_short h.path) true (and_left (is_short h.path && true) true g))
+
+pub right-none : (earlier : List Placed) (s : Placed) → is_right_after earlier s ≡ true → faults_in earlier s ≡ []
+right-none earlier s h =
+    let ms = mentions_in earlier in
+    let each = list_all (λ (e : Placed). agree may_meet e.mentions s.mentions) earlier in
+    let agreed : agree may_meet ms s.mentions ≡ true = sym (agree-each earlier s.mentions) ∙ and_right (is_sound s.source.statement) each h in
+    ap (λ fs. fs ++ statement_clash (first_clash may_meet ms s.mentions)) (sound-none s.source.start s.source.statement (and_left (is_sound s.source.statement) each h))
+    ∙ ap statement_clash (none-is (first_clash may_meet ms s.mentions) (sym (agree-clash may_meet ms s.mentions) ∙ agreed))
+  where
+    none-is : {A : Type 0} (o : Option A) → is_none o ≡ true → o ≡ None
+    none-is None h = refl
+    none-is (Some a) h = absurd cc
+
+-- ---- the first statement with faults
+
+pub faults-pass : (earlier rest : List Placed) (s : Placed) → faults_in earlier s ≡ [] → first_faults earlier (s ∷ rest) ≡ first_faults (earlier ++ (s ∷ [])) rest
+unfolding first_faults
+faults-pass earlier rest s h = rw h refl
+
+pub faults-stop : (earlier rest : List Placed) (s : Placed) (f : Fault) (fs : List Fault) → faults_in earlier s ≡ f ∷ fs → first_faults earlier (s ∷ rest) ≡ f ∷ fs
+unfolding first_faults
+faults-stop earlier rest s f fs h = rw h refl
+
+pub first-after : (earlier done rest : List Placed) → all_right_after earlier done ≡ true → first_faults earlier (done ++ rest) ≡ first_faults (earlier ++ done) rest
+first-after earlier [] rest h = ap (λ es. first_faults es rest) (sym (append-nil earlier))
+first-after earlier (s ∷ done) rest h =
+    let later = all_right_after (earlier ++ (s ∷ [])) done in
+    faults-pass earlier (done ++ rest) s (right-none earlier s (and_left (is_right_after earlier s) later h))
+    ∙ first-after (earlier ++ (s ∷ [])) done rest (and_right (is_right_after earlier s) later h)
+    ∙ ap (λ es. first_faults es rest) (append_assoc earlier (s ∷ []) done)
+
+pub first-among : (earlier rest : List Placed) (s : Placed) (f : Fault) → Among f (faults_in earlier s) → Among f (first_faults earlier (s ∷ rest))
+first-among earlier rest s f h = by_faults (faults_in earlier s) refl h
+  where
+    by_faults : (fs : List Fault) → faults_in earlier s ≡ fs → Among f fs → Among f (first_faults earlier (s ∷ rest))
+    by_faults [] e h = absurd h
+    by_faults (g ∷ gs) e h = subst (Among f) (sym (faults-stop earlier rest s g gs e)) h
+
+pub right-append : (earlier xs ys : List Placed) → all_right_after earlier (xs ++ ys) ≡ (all_right_after earlier xs && all_right_after (earlier ++ xs) ys)
+right-append earlier [] ys = ap (λ es. all_right_after es ys) (sym (append-nil earlier))
+right-append earlier (s ∷ xs) ys =
+    ap (λ b. is_right_after earlier s && b)
+    (right-append (earlier ++ (s ∷ [])) xs ys ∙ ap (λ es. all_right_after (earlier ++ (s ∷ [])) xs && all_right_after es ys) (append_assoc earlier (s ∷ []) xs))
+    ∙ sym (and-assoc (is_right_after earlier s) (all_right_after (earlier ++ (s ∷ [])) xs) (all_right_after (earlier ++ (s ∷ xs)) ys))
+
+-- ---- a statement among others
+
+pub placed-append : (c : Context) (xs ys : List Statement) → placed_from c (xs ++ ys) ≡ placed_from c xs ++ placed_from (context_from c xs) ys
+placed-append c [] ys = refl
+placed-append c (s ∷ xs) ys = ap (λ ps. placed_at c s ∷ ps) (placed-append (context_after c s) xs ys)
+
+-- A statement that isn't right after the right ones before it is the first faulty one, and what stands in it are the faults.
+pub stops : (d : Document) (done : List Statement) (s : Statement) (rest : List Statement) (f : Fault) → d.statements ≡ done ++ (s ∷ rest)
+    → all_right_after [] (done_places d done) ≡ true → is_right_after (done_places d done) (placed_at (context_behind d done) s) ≡ false
+    → Among f (faults_in (done_places d done) (placed_at (context_behind d done) s)) → (is_accepted d ≡ false) × Among f (first_faults [] (placed d))
+unfolding is_accepted
+stops d done s rest f is right wrong among =
+    let here = placed_at (context_behind d done) s in
+    let later = placed_from (context_after (context_behind d done) s) rest in
+    let all : placed d ≡ done_places d done ++ (here ∷ later) = ap (placed_from (start_context d)) is ∙ placed-append (start_context d) done (s ∷ rest) in (
+      ap (all_right_after []) all
+          ∙ right-append [] (done_places d done) (here ∷ later)
+          ∙ ap (λ b. all_right_after [] (done_places d done) && (b && all_right_after (done_places d done ++ (here ∷ [])) later)) wrong
+          ∙ and-false (all_right_after [] (done_places d done)),
+      subst (λ ps. Among f (first_faults [] ps)) (sym all)
+          (subst (Among f) (sym (first-after [] (done_places d done) (here ∷ later) right)) (first-among (done_places d done) later here f among)),
+    )
+
+-- one that doesn't agree with them isn't right
+pub off-wrong : (earlier : List Placed) (here : Placed) → agree may_meet (mentions_in earlier) here.mentions ≡ false → is_right_after earlier here ≡ false
+off-wrong earlier here off =
+    ap (λ b. is_sound here.source.statement && b) (agree-each earlier here.mentions ∙ off) ∙ and-false (is_sound here.source.statement)
+
+refused : (d : Document) (done : List Statement) (s : Statement) (rest : List Statement) (f : Fault) → d.statements ≡ done ++ (s ∷ rest)
+    → all_right_after [] (done_places d done) ≡ true → agree may_meet (mentions_in (done_places d done)) (mentions_of (context_behind d done) s) ≡ false
+    → Among f (faults_in (done_places d done) (placed_at (context_behind d done) s)) → (is_accepted d ≡ false) × Among f (first_faults [] (placed d))
+refused d done s rest f is right off among =
+    stops d done s rest f is right (off-wrong (done_places d done) (placed_at (context_behind d done) s) off) among
+
+-- A header that can't be added after right statements makes the document faulty, and its fault is one of those.
+pub header_refused : (d : Document) (done : List Statement) (h : Header) (end : Text) (rest : List Statement) (ss : Slots) (x : Mention Source × Node)
+    → d.statements ≡ done ++ (header h end ∷ rest) → AllByRecursion HasKey done → all_right_after [] (done_places d done) ≡ true
+    → AreSlotsOf spanned_form (mentions_in (done_places d done)) (kept (mentions_in (done_places d done))) ss
+    → header_clash h.is_array (own_mentions (context_behind d done) (header h end)) ss ≡ Some x
+    → (is_accepted d ≡ false) × Among (table_way_fault x) (first_faults [] (placed d))
+header_refused d done h end rest ss x is keyed right slots clashes =
+    let c = context_behind d done in
+    let before = before_all (start_context d) done [] keyed (before_none d) right in
+    let off : agree may_meet (mentions_in (done_places d done)) (mentions_of c (header h end)) ≡ false =
+    header_agrees h.is_array (source_of c (header h end)) c.arrays (c.start + path_start (header h end)) h.path (mentions_in (done_places d done)) ss before.statements before.counted slots
+    ∙ ap is_none clashes in
+    let faults = header_fault c h end (done_places d done) ss before.statements before.counted slots ∙ ap (λ o. own_faults c.start (header h end) ++ table_way_faults o) clashes in
+    refused d done (header h end) rest (table_way_fault x) is right off
+    (subst (Among (table_way_fault x)) (sym faults) (among-right (table_way_fault x) (own_faults c.start (header h end)) (table_way_fault x ∷ []) (inl refl)))
+
+-- So does a key line that can't be added to the slots of its block's table.
+pub line_refused : (d : Document) (done : List Statement) (f : Frame) (v : Value) (end : Text) (rest : List Statement) (ss : Slots) (x : Mention Source × Node)
+    → d.statements ≡ done ++ (key_line f v end ∷ rest) → AllByRecursion HasKey done → all_right_after [] (done_places d done) ≡ true
+    → AreSlotsOf spanned_form (under_path (context_behind d done).block (mentions_in (done_places d done))) (kept (under_path (context_behind d done).block (mentions_in (done_places d done)))) ss
+    → line_clash (own_mentions (context_behind d done) (key_line f v end)) ss ≡ Some x
+    → (is_accepted d ≡ false) × Among (table_way_fault x) (first_faults [] (placed d))
+line_refused d done f v end rest ss x is keyed right slots clashes =
+    let c = context_behind d done in
+    let ms = mentions_in (done_places d done) in
+    let source = source_of c (key_line f v end) in
+    let start = c.start + path_start (key_line f v end) in
+    let before = before_all (start_context d) done [] keyed (before_none d) right in
+    let here = statements-under_path c.block ms before.statements in
+    let off : agree may_meet ms (mentions_of c (key_line f v end)) ≡ false =
+    agree-below c.block source start f.path ms ∙ line_agrees source start f.path (under_path c.block ms) ss here slots ∙ ap is_none clashes in
+    let faults = line_fault c f v end (done_places d done) ss here slots ∙ ap (λ o. own_faults c.start (key_line f v end) ++ table_way_faults o) clashes in
+    refused d done (key_line f v end) rest (table_way_fault x) is right off
+    (subst (Among (table_way_fault x)) (sym faults) (among-right (table_way_fault x) (own_faults c.start (key_line f v end)) (table_way_fault x ∷ []) (inl refl)))

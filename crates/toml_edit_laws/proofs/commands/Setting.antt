@@ -1,0 +1,192 @@
+-- `set` at a value of a table that the walk enters, or inside it.
+use Rattle.std.proofs.Common.{◌≡◌, refl, sym, ◌∙◌, ap, subst, Bool, true, false, List, [], ◌∷◌, ◌++◌, Some}
+use Rattle.std.specs.Prelude.{not}
+use Rattle.toml_edit_model.specs.Text.{Text, newline}
+use Rattle.toml_edit_model.specs.Syntax.{Statement, key_line, Document}
+use Rattle.toml_edit_model.specs.Paths.{Path, to_key}
+use Rattle.toml_edit_model.specs.Tree.{Decor, Key, Node, nothing, leaf, list, inline, table, tables, Tree, node_decor, is_value_node, SlotsAreWellMade}
+use Rattle.toml_edit_model.specs.HeaderOrder.{Visit}
+use Rattle.toml_edit_model.specs.Fits.{is_dotted_inline, is_steady}
+use Rattle.toml_edit_model.specs.Print.{Printed, printed, printed_line, printed_table, frame_of, value_of, line_statement}
+use Rattle.toml_edit_model.specs.Conversions.{with_decor}
+use Rattle.toml_edit_model.specs.SlotLists.{Slot, slot_list, item_list, slot_of, changed, new_key}
+use Rattle.toml_edit_laws.specs.Locality.{Turn, root_visit, edited, slots_from, items_from, is_plain_value, value_line, statements, OneChanges, OneMore, StaysSteady}
+use Rattle.toml_edit_laws.specs.Commands.{Answer, done, refused, mapped, element_of, change_slot, change_element, below, root_item, set_below, with_slots}
+use Rattle.toml_edit_laws.specs.CommandLaws.{IsRead, NamesTable, text_with, ChangesStatement, SetChanges, made_below, AddsStatement, SetAdds}
+use Rattle.toml_edit_laws.proofs.locality.Slots.{Found, found}
+use Rattle.toml_edit_laws.proofs.locality.Sound.{Steady, steady-parts, leads-made, leads-sound, sound-slot}
+use Rattle.toml_edit_laws.proofs.locality.Values.{keeps_frame}
+use Rattle.toml_edit_laws.proofs.locality.Replacing.{replaced}
+use Rattle.toml_edit_laws.proofs.locality.Adding.{added}
+use Rattle.toml_edit_laws.proofs.commands.Going.{goes-along}
+use Rattle.toml_edit_laws.proofs.commands.Reading.{statements-read, edited-text}
+use Rattle.toml_edit_laws.proofs.normal_texts.SteadyTrees.{steady-tree}
+use Rattle.toml_edit_laws.proofs.common.Statements.{statements-append}
+
+-- what an answer was made of
+pub record WasMapped {A B : Type 0} (f : A → B) (a : Answer A) (b : B) : Type 0 where
+  pub from : A
+  pub is : a ≡ done from
+  pub gives : b ≡ f from
+
+pub done-is : {A : Type 0} (a b : A) → done a ≡ done b → a ≡ b
+done-is a b h = cc
+
+pub was-mapped : {A B : Type 0} (f : A → B) (a : Answer A) (b : B) → mapped f a ≡ done b → WasMapped f a b
+was-mapped f (done x) b h = record { from = x; is = refl; gives = sym (done-is (f x) b h) }
+was-mapped f (refused r) b h = absurd cc
+
+-- ---- a value, changed
+
+-- it is plain, and has the decor of the old one
+abbrev pub Stands : Node → Node → Type 0
+Stands old n = (is_plain_value n ≡ true) × (node_decor n ≡ node_decor old)
+
+with-decor-stands : (d : Decor) (v old : Node) → is_plain_value v ≡ true → d ≡ node_decor old → Stands old (with_decor d v)
+with-decor-stands d (leaf s r e) old h is = (h, is)
+with-decor-stands d (list f xs) old h is = (h, is)
+with-decor-stands d (inline f ss) old h is = (h, is)
+with-decor-stands d (table f ss) old h is = absurd cc
+with-decor-stands d (tables e xs) old h is = absurd cc
+with-decor-stands d nothing old h is = absurd cc
+
+-- the value after a change inside it
+pub below-stands : (makes : Bool) (k : Text) (go : Node → Answer Node) (old n : Node) → is_value_node old ≡ true → is_dotted_inline old ≡ false
+    → below makes k go old ≡ done n → Stands old n
+below-stands makes k go (leaf s r d) n is undotted h = absurd cc
+below-stands makes k go (list f xs) n is undotted h =
+    let w = was-mapped (λ ns. list f (items_from ns)) (change_element go (item_list xs) (element_of is_value_node k (item_list xs))) n h in
+    subst (Stands (list f xs)) (sym w.gives) (refl, refl)
+below-stands makes k go (inline f ss) n is undotted h =
+    let w = was-mapped (λ xs. inline f (slots_from xs)) (change_slot makes k go (slot_list ss) (slot_of k (slot_list ss))) n h in
+    subst (Stands (inline f ss)) (sym w.gives) (ap not undotted, refl)
+below-stands makes k go (table f ss) n is undotted h = absurd cc
+below-stands makes k go (tables e xs) n is undotted h = absurd cc
+below-stands makes k go nothing n is undotted h = absurd cc
+
+-- the value after `set` at it, or inside it
+set-stands : (value : Node) (inner : List Text) (old n : Node) → is_value_node old ≡ true → is_dotted_inline old ≡ false → is_plain_value value ≡ true
+    → set_below value inner old ≡ done n → Stands old n
+set-stands value [] (leaf s r d) n is undotted plain h = subst (Stands (leaf s r d)) (done-is (with_decor d value) n h) (with-decor-stands d value (leaf s r d) plain refl)
+set-stands value [] (list f xs) n is undotted plain h = subst (Stands (list f xs)) (done-is (with_decor f.decor value) n h) (with-decor-stands f.decor value (list f xs) plain refl)
+set-stands value [] (inline f ss) n is undotted plain h = subst (Stands (inline f ss)) (done-is (with_decor f.decor value) n h) (with-decor-stands f.decor value (inline f ss) plain refl)
+set-stands value (k ∷ inner) old n is undotted plain h = below-stands true k (set_below value inner) old n is undotted h
+set-stands value [] (table f ss) n is undotted plain h = absurd cc
+set-stands value [] (tables e xs) n is undotted plain h = absurd cc
+set-stands value [] nothing n is undotted plain h = absurd cc
+
+-- ---- the statement that changes
+
+module _ (d : Document) (t : Tree) (read : IsRead d t) (way : List Turn) (g : List Slot → List Slot) (p : Path) (l : Key) (old n : Node)
+    (same : node_decor n ≡ node_decor old) (one : OneChanges t (edited way g t) p l l old n) where
+  abbrev at_end : List Key
+  at_end = one.keys ++ (l ∷ [])
+
+  framed-old : line_statement (value_line at_end old) ≡ key_line (frame_of [] [] (value_line at_end old)) (value_of old) newline
+  framed-old = (keeps_frame at_end old n same).0
+
+  framed-new : line_statement (value_line at_end n) ≡ key_line (frame_of [] [] (value_line at_end old)) (value_of n) newline
+  framed-new = (keeps_frame at_end old n same).1
+
+  abbrev as_printed : Path → Statement → Printed
+  as_printed q s = record { block = one.block; path = q; statement = s }
+
+  first-is : printed t ≡ one.before ++ (as_printed p (key_line (frame_of [] [] (value_line at_end old)) (value_of old) newline) ∷ one.after)
+  first-is =
+      one.first ∙ ap (λ q. one.before ++ (as_printed q (line_statement (value_line at_end old)) ∷ one.after)) one.path
+      ∙ ap (λ s. one.before ++ (as_printed p s ∷ one.after)) framed-old
+
+  second-is : printed (edited way g t) ≡ one.before ++ (as_printed p (key_line (frame_of [] [] (value_line at_end old)) (value_of n) newline) ∷ one.after)
+  second-is =
+      one.second ∙ ap (λ q. one.before ++ (as_printed q (line_statement (value_line at_end n)) ∷ one.after)) one.other_path
+      ∙ ap (λ s. one.before ++ (as_printed p s ∷ one.after)) framed-new
+
+  pub changes-statement : ChangesStatement d t (edited way g t) p old n
+  changes-statement =
+      let frame = frame_of [] [] (value_line at_end old) in
+      let x = as_printed p (key_line frame (value_of old) newline) in
+      let y = as_printed p (key_line frame (value_of n) newline) in
+      record {
+        before = one.before;
+        after = one.after;
+        block = one.block;
+        frame = frame;
+        first = first-is;
+        second = second-is;
+        others_before = one.others_before;
+        others_after = one.others_after;
+        read = statements-read d t read ∙ ap statements first-is ∙ statements-append one.before (x ∷ one.after);
+        text = edited-text d t read way g ∙ ap (λ ss. text_with d (statements ss)) second-is ∙ ap (text_with d) (statements-append one.before (y ∷ one.after));
+      }
+
+-- a command that changes a value of a table that the walk enters, on its way inside
+module _ (makes : Bool) (run : List Text → Node → Answer Node) (rest : List Text)
+    (goes_down : (k : Text) (path : List Text) (n : Node) → run (k ∷ (path ++ rest)) n ≡ below makes k (run (path ++ rest)) n) where
+  pub value-changes : (d : Document) (t : Tree) (path : List Text) (v : Visit) (k : Text) (l : Key) (old n : Node)
+      → IsRead d t → (names : NamesTable t path v) → slot_of k (slot_list v.slots) ≡ Some (l, old) → is_value_node old ≡ true
+      → (is_dotted_inline old ≡ false → Stands old n)
+      → run rest (table v.fields v.slots) ≡ done (table v.fields (slots_from (changed k (λ (s : Slot). (s.0, n)) (slot_list v.slots))))
+      → (u : Tree) × (mapped (with_slots t) (run (path ++ rest) (root_item t)) ≡ done u) × ChangesStatement d t u (to_key v.path l.name) old n × StaysSteady t u
+  value-changes d t path v k l old n read names is_there is_value stands here =
+      let way = names.way in
+      let g : List Slot → List Slot = changed k (λ s. (s.0, n)) in
+      let u : Tree = edited way g t in
+      let steady : is_steady t ≡ true = steady-tree d t read.tree in
+      let st : Steady t = steady-parts t steady in
+      let well : SlotsAreWellMade v.slots = leads-made way (root_visit t) v read.made names.leads in
+      let fd : Found k (l, old) (slot_list v.slots) = found k v.slots (l, old) well is_there in
+      let parts = sound-slot k (l, old) v.slots fd (leads-sound way (root_visit t) v read.made st.sound names.leads) in
+      let new : Stands old n = stands parts.1 in
+      let law = replaced t way v k (λ x. x) l old n read.made steady names.leads is_there is_value new.0 refl in
+      let along = goes-along makes run rest goes_down g way path (root_visit t) v names.goes names.leads here in
+      (u, ap (mapped (with_slots t)) along, changes-statement d t read way g (to_key v.path l.name) l old n new.1 law.0, law.1)
+
+pub set_changes : SetChanges
+set_changes d t path v k l old inner value n read names is_there is_value plain set =
+    value-changes true (set_below value) (k ∷ inner) (λ j more n. refl) d t path v k l old n read names is_there is_value
+    (λ undotted. set-stands value inner old n is_value undotted plain set)
+    (ap (λ o. mapped (λ xs. table v.fields (slots_from xs)) (change_slot true k (set_below value inner) (slot_list v.slots) o)) is_there
+    ∙ ap (λ a. mapped (λ xs. table v.fields (slots_from xs)) (mapped (λ m. changed k (λ (old : Slot). (old.0, m)) (slot_list v.slots)) a)) set)
+
+-- ---- a new key
+
+pub made-below-is : (value : Node) (more : List Text) → set_below value more nothing ≡ done (made_below more value)
+made-below-is value [] = refl
+made-below-is value (k ∷ more) = rw (made-below-is value more) refl
+
+made-below-plain : (value : Node) (more : List Text) → is_plain_value value ≡ true → is_plain_value (made_below more value) ≡ true
+made-below-plain value [] h = h
+made-below-plain value (k ∷ more) h = refl
+
+module _ (d : Document) (t : Tree) (read : IsRead d t) (way : List Turn) (g : List Slot → List Slot) (v : Visit) (k : Key) (n : Node)
+    (one : OneMore t (edited way g t) v k n) where
+  pub adds-statement : AddsStatement d t (edited way g t) v k n
+  adds-statement =
+      let block = printed_table true v in
+      let line = printed_line v.path (value_line (k ∷ []) n) in
+      record {
+        before = one.before;
+        after = one.after;
+        first = one.first;
+        second = one.second;
+        others_before = one.others_before;
+        others_in = one.others_in;
+        others_after = one.others_after;
+        read = statements-read d t read ∙ ap statements one.first ∙ statements-append one.before (block ++ one.after)
+            ∙ ap (λ z. statements one.before ++ z) (statements-append block one.after);
+        text = edited-text d t read way g ∙ ap (λ ss. text_with d (statements ss)) one.second
+            ∙ ap (text_with d) (statements-append one.before (block ++ (line ∷ one.after))
+            ∙ ap (λ z. statements one.before ++ z) (statements-append block (line ∷ one.after)));
+      }
+
+pub set_adds : SetAdds
+set_adds d t path v k more value read names is_new plain has =
+    let way = names.way in
+    let n : Node = made_below more value in
+    let g : List Slot → List Slot = λ ss. ss ++ ((new_key k, n) ∷ []) in
+    let law = added t way v (new_key k) n read.made (steady-tree d t read.tree) names.leads is_new (made-below-plain value more plain) has in
+    let here : set_below value (k ∷ more) (table v.fields v.slots) ≡ done (table v.fields (slots_from (g (slot_list v.slots)))) =
+    ap (λ o. mapped (λ xs. table v.fields (slots_from xs)) (change_slot true k (set_below value more) (slot_list v.slots) o)) is_new
+    ∙ ap (λ a. mapped (λ xs. table v.fields (slots_from xs)) (mapped (λ m. slot_list v.slots ++ ((new_key k, m) ∷ [])) a)) (made-below-is value more) in
+    let along = goes-along true (set_below value) (k ∷ more) (λ j rest n. refl) g way path (root_visit t) v names.goes names.leads here in
+    (edited way g t, ap (mapped (with_slots t)) along, adds-statement d t read way g v (new_key k) n law.0, law.1)

@@ -1,0 +1,15 @@
+pub mod EntryMentions
+pub mod SlotsOfEntries
+pub mod AgreeLaws
+pub mod PairMentions
+pub mod AgreeingPairs
+pub mod EntrySlots
+pub mod MentionSources
+pub mod InlineBuild
+pub mod InlineClash
+pub mod InlinePairs
+pub mod InlineFaults
+pub mod InlineLines
+pub mod PairLines
+pub mod PairPlaces
+pub mod InlineLoop

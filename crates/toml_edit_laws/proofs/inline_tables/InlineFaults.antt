@@ -1,0 +1,237 @@
+-- The first fault among the pairs of an inline table is where one can't be added to the slots of those before it.
+use Rattle.std.proofs.Common.{◌≡◌, refl, sym, ◌∙◌, ap, subst, ℕ, suc, ◌+◌, Bool, true, false, List, [], ◌∷◌, ◌++◌, append_assoc, length, Option, Some, None}
+use Rattle.std.specs.Prelude.{◌&&◌, MatchBool, if◌then◌else◌, map, is_some, option_map}
+use Rattle.std.specs.List.{list_all}
+use Rattle.std.proofs.lemmas.List.{map-append}
+use Rattle.toml_edit_model.specs.Text.{Text}
+use Rattle.toml_edit_model.specs.Syntax.{Frame, Value, scalar, array, inline_table, Pairs, no_pairs, pair}
+use Rattle.toml_edit_model.specs.Paths.{Role, may_meet_inline, Mention, PairSource, line_mentions, pair_mentions}
+use Rattle.toml_edit_model.specs.Accepted.{agree, all_agree}
+use Rattle.toml_edit_model.specs.Faults.{Fault, fault, first_clash, type_name, scalar_type, duplicate_key, cannot_extend, extends, is_value_role, is_inline, clash_message, pair_clash, pair_clashes}
+use Rattle.toml_edit_model.specs.Tree.{Node, leaf, list, inline, Items, no_items, item, Slots, no_slots}
+use Rattle.toml_edit_model.specs.TreeOf.{Form, Entry, kept, entry_of, entries, IsValueNode, AreEntrySlots}
+use Rattle.toml_edit_laws.specs.InlineTree.{add_entry, entry_clash, pair_path, next_pair, followed_by, end_of_pairs, AreKeyed, ArePairNodes, clash_or_later, entries_clash, way_message, way_fault, BeginWith}
+use Rattle.toml_edit_laws.proofs.common.Tests.{append-nil, and_left, and_right, and_both, true-false}
+use Rattle.toml_edit_laws.proofs.inline_tables.AgreeLaws.{agree-clash, all_agree-next}
+use Rattle.toml_edit_laws.proofs.inline_tables.AgreeingPairs.{AreAgreeing, agreeing-none, agreeing-line, agreeing-both}
+use Rattle.toml_edit_laws.proofs.inline_tables.InlineBuild.{entry_added}
+use Rattle.toml_edit_laws.proofs.inline_tables.InlineClash.{IsDotted, IsInTheWay, IsSameClash, same-none, entry_clashes, entry_goes}
+use Rattle.toml_edit_laws.proofs.inline_tables.InlinePairs.{entry_paths, agreement-of, all-with-none}
+use Rattle.toml_edit_laws.proofs.inline_tables.MentionSources.{sourced, both_sourced, line-sourced, clash-sourced}
+use Rattle.toml_edit_laws.proofs.common.OptionSteps.{is_none}
+
+-- ---- by the values of pairs alone
+
+abbrev value_clash : Option (Mention Value × Mention Value) → List Fault
+value_clash None = []
+value_clash (Some c) =
+    fault (if is_inline c.1.source then duplicate_key else clash_message c.1.role c.0.role (type_name c.1.source)) c.0.start (length c.0.segment.spelled) ∷ []
+
+abbrev value_clashes : List (Mention Value) → List (List (Mention Value)) → List Fault
+value_clashes earlier [] = []
+value_clashes earlier (m ∷ rest) = value_clash (first_clash may_meet_inline earlier m) ++ value_clashes (earlier ++ m) rest
+
+abbrev value_paths : ℕ → Pairs → List (List (Mention Value))
+value_paths start no_pairs = []
+value_paths start (pair f v ps) = line_mentions v (start + length f.leading) [] f.path ∷ value_paths (next_pair start f v) ps
+
+abbrev value_of_pair : PairSource → Value
+value_of_pair s = s.value
+
+abbrev value_of_entry : Entry → Value
+value_of_entry e = e.value
+
+clash-of-values : (o : Option (Mention PairSource × Mention PairSource)) → pair_clash o ≡ value_clash (option_map (both_sourced value_of_pair) o)
+clash-of-values None = refl
+clash-of-values (Some c) = refl
+
+clashes-of-values : (earlier : List (Mention PairSource)) (start number : ℕ) (ps : Pairs)
+    → pair_clashes earlier (pair_mentions start number ps) ≡ value_clashes (map (sourced value_of_pair) earlier) (value_paths start ps)
+clashes-of-values earlier start number no_pairs = refl
+clashes-of-values earlier start number (pair f v ps) =
+    let source : PairSource = record { number = number; frame = f; value = v } in
+    let m = line_mentions source (start + length f.leading) [] f.path in
+    let values = line_mentions v (start + length f.leading) [] f.path in
+    let here : map (sourced value_of_pair) m ≡ values = line-sourced value_of_pair source (start + length f.leading) [] f.path in
+    ap (λ fs. fs ++ pair_clashes (earlier ++ m) (pair_mentions (next_pair start f v) (suc number) ps))
+    (clash-of-values (first_clash may_meet_inline earlier m)
+    ∙ ap value_clash (sym (clash-sourced value_of_pair may_meet_inline earlier m) ∙ ap (first_clash may_meet_inline (map (sourced value_of_pair) earlier)) here))
+    ∙ ap (λ fs. value_clash (first_clash may_meet_inline (map (sourced value_of_pair) earlier) values) ++ fs)
+    (clashes-of-values (earlier ++ m) (next_pair start f v) (suc number) ps
+    ∙ ap (λ es. value_clashes es (value_paths (next_pair start f v) ps))
+    (map-append (sourced value_of_pair) earlier m ∙ ap (λ es. map (sourced value_of_pair) earlier ++ es) here))
+
+-- ---- what is said of a clash
+
+-- what to say where the earlier role is a value's, or isn't
+abbrev said : Bool → Role → Value → Text
+said is_value later v = if is_inline v then duplicate_key else if is_value && extends later then cannot_extend (type_name v) else duplicate_key
+
+said-other : (later : Role) (v : Value) → duplicate_key ≡ said false later v
+said-other later v = by_inline (is_inline v)
+  where
+    by_inline : (b : Bool) → duplicate_key ≡ (if b then duplicate_key else duplicate_key)
+    by_inline true = refl
+    by_inline false = refl
+
+module _ (form : Form) where
+  said-value : (later : Role) (v : Value) (i : ℕ) (before after : Text) (n : Node) → IsValueNode form v i before after n → way_message later n ≡ said true later v
+  said-value later (scalar s t) i before after (leaf r spelling d) h = ap (λ x. if extends later then cannot_extend (scalar_type x) else duplicate_key) h.0
+  said-value later (scalar s t) i before after n h = absurd h
+  said-value later (array es comma t) i before after (list f xs) h = refl
+  said-value later (array es comma t) i before after n h = absurd h
+  said-value later (inline_table ps comma t) i before after (inline f ss) h = refl
+  said-value later (inline_table ps comma t) i before after n h = absurd h
+
+  said-dotted : (later : Role) (n : Node) → IsDotted form n → way_message later n ≡ duplicate_key
+  said-dotted later (inline f ss) h = refl
+  said-dotted later n h = absurd h
+
+  said-way : (later : Role) (e : Mention Entry) (n : Node) → IsInTheWay form e n → way_message later n ≡ said (is_value_role e.role) later e.source.value
+  said-way later e n h = by_value (is_value_role e.role) h
+    where
+      by_value : (b : Bool) → MatchBool b (IsValueNode form e.source.value e.source.start e.source.before e.source.after n) (IsDotted form n) → way_message later n ≡ said b later e.source.value
+      by_value true h = said-value later e.source.value e.source.start e.source.before e.source.after n h
+      by_value false h = said-dotted later n h ∙ said-other later e.source.value
+
+  path-values : (f : Frame) (v : Value) (start : ℕ) → map (sourced value_of_entry) (pair_path form start f v) ≡ line_mentions v (start + length f.leading) [] f.path
+  path-values f v start = line-sourced value_of_entry (entry_of form start f v) (start + length f.leading) [] f.path
+
+  values-after : (f : Frame) (v : Value) (start : ℕ) (ms : List (Mention Entry))
+      → map (sourced value_of_entry) (ms ++ pair_path form start f v) ≡ map (sourced value_of_entry) ms ++ line_mentions v (start + length f.leading) [] f.path
+  values-after f v start ms =
+      map-append (sourced value_of_entry) ms (pair_path form start f v) ∙ ap (λ es. map (sourced value_of_entry) ms ++ es) (path-values f v start)
+
+  -- the fault of a clash with slots
+  abbrev way_faults : Option (Mention Entry × Node) → List Fault
+  way_faults None = []
+  way_faults (Some c) = way_fault c ∷ []
+
+  same-fault : (o : Option (Mention Entry × Node)) (c : Option (Mention Entry × Mention Entry)) → IsSameClash form o c
+      → value_clash (option_map (both_sourced value_of_entry) c) ≡ way_faults o
+  same-fault None None h = refl
+  same-fault None (Some d) h = absurd h
+  same-fault (Some c) None h = absurd h
+  same-fault (Some c) (Some d) h =
+      ap (λ t. fault t d.0.start (length d.0.segment.spelled) ∷ []) (sym (said-way d.0.role d.1 c.1 h.1))
+      ∙ ap (λ (m : Mention Entry). fault (way_message m.role c.1) m.start (length m.segment.spelled) ∷ []) (sym h.0)
+
+  -- ---- one pair
+
+  -- the fault of a pair after agreeing ones is that of its clash with their slots
+  one-fault : (f : Frame) (v : Value) (start : ℕ) (ms : List (Mention Entry)) (ss : Slots) → AreAgreeing ms → AreEntrySlots form ms (kept ms) ss
+      → value_clash (first_clash may_meet_inline (map (sourced value_of_entry) ms) (line_mentions v (start + length f.leading) [] f.path))
+      ≡ way_faults (entry_clash (pair_path form start f v) ss)
+  one-fault f v start ms ss are h =
+      let path = pair_path form start f v in
+      ap (λ p. value_clash (first_clash may_meet_inline (map (sourced value_of_entry) ms) p)) (sym (path-values f v start))
+      ∙ ap value_clash (clash-sourced value_of_entry may_meet_inline ms path)
+      ∙ same-fault (entry_clash path ss) (first_clash may_meet_inline ms path)
+      (entry_clashes form (entry_of form start f v) (start + length f.leading) f.path ms ss are h)
+
+  -- ---- pair by pair
+
+  first-all : (ps : Pairs) (start : ℕ) (ns : Items) (ms : List (Mention Entry)) (ss : Slots) → AreKeyed ps → ArePairNodes form ps start ns
+      → AreAgreeing ms → AreEntrySlots form ms (kept ms) ss
+      → BeginWith (entries_clash form ps start ns ss) (value_clashes (map (sourced value_of_entry) ms) (value_paths start ps))
+  first-all no_pairs start ns ms ss keyed nodes are h = refl
+  first-all (pair f v ps) start no_items ms ss keyed nodes are h = absurd nodes
+  first-all (pair f v ps) start (item n ns) ms ss keyed nodes are h =
+      subst (λ fs. BeginWith (clash_or_later (entry_clash path ss) (add_entry form path n ss) (entries_clash form ps (next_pair start f v) ns)) (fs ++ others)) (sym (one-fault f v start ms ss are h))
+      (by_clash (entry_clash path ss) refl (add_entry form path n ss) refl
+      (λ between added agreed. subst (λ es. BeginWith (entries_clash form ps (next_pair start f v) ns between) (value_clashes es (value_paths (next_pair start f v) ps))) (values-after f v start ms)
+      (first-all ps (next_pair start f v) ns (ms ++ path) between keyed.1 nodes.1
+      (agreeing-both ms path are (agreeing-line (entry_of form start f v) (start + length f.leading) f.path) agreed)
+      (entry_added form start f v ms n ss between nodes.0 are.pairs h added))))
+    where
+      path : List (Mention Entry)
+      path = pair_path form start f v
+
+      values : List (Mention Value)
+      values = line_mentions v (start + length f.leading) [] f.path
+
+      others : List Fault
+      others = value_clashes (map (sourced value_of_entry) ms ++ values) (value_paths (next_pair start f v) ps)
+
+      alike : IsSameClash form (entry_clash path ss) (first_clash may_meet_inline ms path)
+      alike = entry_clashes form (entry_of form start f v) (start + length f.leading) f.path ms ss are h
+
+      agreement : agree may_meet_inline ms path ≡ is_none (entry_clash path ss)
+      agreement = agree-clash may_meet_inline ms path ∙ sym (same-none form (entry_clash path ss) (first_clash may_meet_inline ms path) alike)
+
+      by_clash : (o : Option (Mention Entry × Node)) → entry_clash path ss ≡ o → (added : Option Slots) → add_entry form path n ss ≡ added
+          → ((between : Slots) → add_entry form path n ss ≡ Some between → agree may_meet_inline ms path ≡ true → BeginWith (entries_clash form ps (next_pair start f v) ns between) others)
+          → BeginWith (clash_or_later o added (entries_clash form ps (next_pair start f v) ns)) (way_faults o ++ others)
+      by_clash (Some c) e added g on = (others, refl)
+      by_clash None e (Some between) g on = on between g (agreement ∙ ap is_none e)
+      by_clash None e None g on =
+          true-false (agree may_meet_inline ms path) (agreement ∙ ap is_none e)
+          (sym (entry_goes form (entry_of form start f v) (start + length f.leading) f.path ms n ss keyed.0 are h) ∙ ap is_some g)
+
+  -- Where the pairs clash, the first fault is that of the first that can't be added; else there is none.
+  pub entries_fault : (ps : Pairs) (start number : ℕ) (ns : Items) → AreKeyed ps → ArePairNodes form ps start ns
+      → BeginWith (entries_clash form ps start ns no_slots) (pair_clashes [] (pair_mentions start number ps))
+  entries_fault ps start number ns keyed nodes =
+      subst (BeginWith (entries_clash form ps start ns no_slots)) (sym (clashes-of-values [] start number ps))
+      (first-all ps start ns [] no_slots keyed nodes agreeing-none tt)
+
+  -- ---- pairs after pairs
+
+  no-faults : (ps : Pairs) (start : ℕ) (ms : List (Mention Entry))
+      → (list_all (agree may_meet_inline ms) (entry_paths form ps start) && all_agree may_meet_inline (entry_paths form ps start)) ≡ true
+      → value_clashes (map (sourced value_of_entry) ms) (value_paths start ps) ≡ []
+  no-faults no_pairs start ms h = refl
+  no-faults (pair f v ps) start ms h =
+      let path = pair_path form start f v in
+      let others = entry_paths form ps (next_pair start f v) in
+      let here = all_agree-next may_meet_inline ms path others ∙ h in
+      let rest = list_all (agree may_meet_inline (ms ++ path)) others && all_agree may_meet_inline others in
+      ap (λ o. value_clash o ++ value_clashes (map (sourced value_of_entry) ms ++ line_mentions v (start + length f.leading) [] f.path) (value_paths (next_pair start f v) ps))
+      (ap (first_clash may_meet_inline (map (sourced value_of_entry) ms)) (sym (path-values f v start))
+      ∙ clash-sourced value_of_entry may_meet_inline ms path
+      ∙ ap (option_map (both_sourced value_of_entry))
+      (none-is (first_clash may_meet_inline ms path) (sym (agree-clash may_meet_inline ms path) ∙ and_left (agree may_meet_inline ms path) rest here)))
+      ∙ ap (λ es. value_clashes es (value_paths (next_pair start f v) ps)) (sym (values-after f v start ms))
+      ∙ no-faults ps (next_pair start f v) (ms ++ path) (and_right (agree may_meet_inline ms path) rest here)
+    where
+      none-is : {A : Type 0} (o : Option A) → is_none o ≡ true → o ≡ None
+      none-is None h = refl
+      none-is (Some a) h = absurd cc
+
+  clashes-followed : (ps qs : Pairs) (start : ℕ) (ms : List (Mention Entry))
+      → value_clashes (map (sourced value_of_entry) ms) (value_paths start (followed_by ps qs))
+      ≡ value_clashes (map (sourced value_of_entry) ms) (value_paths start ps)
+      ++ value_clashes (map (sourced value_of_entry) (ms ++ entries form ps start)) (value_paths (end_of_pairs start ps) qs)
+  clashes-followed no_pairs qs start ms = ap (λ es. value_clashes (map (sourced value_of_entry) es) (value_paths start qs)) (sym (append-nil ms))
+  clashes-followed (pair f v ps) qs start ms =
+      let path = pair_path form start f v in
+      let values = line_mentions v (start + length f.leading) [] f.path in
+      let here = value_clash (first_clash may_meet_inline (map (sourced value_of_entry) ms) values) in
+      let more = value_clashes (map (sourced value_of_entry) ms ++ values) (value_paths (next_pair start f v) ps) in
+      ap (λ fs. here ++ fs)
+      (ap (λ es. value_clashes es (value_paths (next_pair start f v) (followed_by ps qs))) (sym (values-after f v start ms))
+      ∙ clashes-followed ps qs (next_pair start f v) (ms ++ path)
+      ∙ ap (λ es. value_clashes es (value_paths (next_pair start f v) ps) ++ value_clashes (map (sourced value_of_entry) ((ms ++ path) ++ entries form ps (next_pair start f v))) (value_paths (end_of_pairs (next_pair start f v) ps) qs))
+      (values-after f v start ms)
+      ∙ ap (λ us. more ++ value_clashes (map (sourced value_of_entry) us) (value_paths (end_of_pairs (next_pair start f v) ps) qs))
+      (append_assoc ms path (entries form ps (next_pair start f v))))
+      ∙ sym (append_assoc here more (value_clashes (map (sourced value_of_entry) (ms ++ (path ++ entries form ps (next_pair start f v)))) (value_paths (end_of_pairs (next_pair start f v) ps) qs)))
+
+  -- A pair that clashes with the slots of agreeing pairs before it is the first fault.
+  pub clash_fault : (ps : Pairs) (f : Frame) (v : Value) (more : Pairs) (start number : ℕ) (ss : Slots) (c : Mention Entry × Node)
+      → all_agree may_meet_inline (pair_mentions start number ps) ≡ true → AreAgreeing (entries form ps start)
+      → AreEntrySlots form (entries form ps start) (kept (entries form ps start)) ss → entry_clash (pair_path form (end_of_pairs start ps) f v) ss ≡ Some c
+      → BeginWith (Some c) (pair_clashes [] (pair_mentions start number (followed_by ps (pair f v more))))
+  clash_fault ps f v more start number ss c right are h e =
+      let end = end_of_pairs start ps in
+      let ms = entries form ps start in
+      let others = value_clashes (map (sourced value_of_entry) ms ++ line_mentions v (end + length f.leading) [] f.path) (value_paths (next_pair end f v) more) in (
+        others,
+        clashes-of-values [] start number (followed_by ps (pair f v more))
+            ∙ clashes-followed ps (pair f v more) start []
+            ∙ ap (λ fs. fs ++ value_clashes (map (sourced value_of_entry) ms) (value_paths end (pair f v more)))
+            (no-faults ps start []
+            (and_both (list_all (agree may_meet_inline []) (entry_paths form ps start)) (all_agree may_meet_inline (entry_paths form ps start))
+            (all-with-none form (entry_paths form ps start)) (agreement-of form ps start start number ∙ right)))
+            ∙ ap (λ fs. fs ++ others) (one-fault f v end ms ss are h ∙ ap way_faults e),
+      )

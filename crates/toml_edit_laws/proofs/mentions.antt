@@ -1,0 +1,16 @@
+pub mod KeyMentions
+pub mod KeptMentions
+pub mod TurnedMentions
+pub mod GatherLaws
+pub mod GatheredLines
+pub mod Leaders
+pub mod MentionGroups
+pub mod KeptPaths
+pub mod RankLaws
+pub mod KeptOrder
+pub mod OneHeaderLaws
+pub mod KeptOfPaths
+pub mod Placed
+pub mod RoleTests
+pub mod SomeAt
+pub mod Named

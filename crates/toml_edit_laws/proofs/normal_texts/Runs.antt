@@ -1,0 +1,164 @@
+-- Statements in a run, each in the context that those before it leave; a line goes over lines, and spelling makes no difference.
+use Rattle.std.proofs.Common.{◌≡◌, refl, sym, ◌∙◌, ap, subst, ℕ, ◌+◌, Bool, true, false, List, [], ◌∷◌, ◌++◌, inl, inr}
+use Rattle.std.specs.Prelude.{◌||◌, not, map, if◌then◌else◌}
+use Rattle.std.proofs.lemmas.Bool.{cases_Bool}
+use Rattle.toml_edit_model.specs.Syntax.{Segment, Statement, key_line, header}
+use Rattle.toml_edit_model.specs.Paths.{at_key, Path, to_element, Mention, Source, Placed, Context, elements_at, header_path, header_role_of, keys_of, path_start, source_of, mentions_of, context_after, placed_from}
+use Rattle.toml_edit_model.specs.Normal.{stands_before, rank, insert_by, own_path, kept_path, is_line, line_before, ordered, normal_statement}
+use Rattle.toml_edit_laws.proofs.normal_texts.SettledStays.{own-line, own-header}
+use Rattle.toml_edit_laws.proofs.normal_texts.Cores.{header_cores, header_place, line-cores, header-cores, header-place, AreKeyed, statement-keyed, kept-path-keys}
+use Rattle.toml_edit_laws.proofs.common.Cores.{cores, keys_of_segments, line_cores}
+use Rattle.toml_edit_laws.proofs.mentions.Placed.{placed_at, source-statement}
+
+-- ---- runs
+
+-- each statement is in its place, after so many headers, with these arrays, in this block
+abbrev pub Run : ℕ → List Path → Path → List Placed → Type 0
+Run n arrays block [] = Unit {0}
+Run n arrays block (x ∷ xs) =
+    (c : Context) × (s : Statement) × (x ≡ placed_at c s) × (c.headers ≡ n) × (c.arrays ≡ arrays) × (c.block ≡ block)
+    × Run (context_after c s).headers (context_after c s).arrays (context_after c s).block xs
+
+pub placed-run : (c : Context) (ss : List Statement) → Run c.headers c.arrays c.block (placed_from c ss)
+placed-run c [] = tt
+placed-run c (s ∷ ss) = (c, s, refl, refl, refl, refl, placed-run (context_after c s) ss)
+
+line-same : (c : Context) (s : Statement) → is_line s ≡ true
+    → ((context_after c s).headers ≡ c.headers) × ((context_after c s).arrays ≡ c.arrays) × ((context_after c s).block ≡ c.block)
+line-same c (key_line f v end) h = (refl, refl, refl)
+line-same c (header g end) h = absurd cc
+
+run-at : {n m : ℕ} {a b : List Path} {p q : Path} (xs : List Placed) → n ≡ m → a ≡ b → p ≡ q → Run n a p xs → Run m b q xs
+run-at {n} {m} {a} {b} {p} {q} xs e f g h =
+    subst (λ r. Run m b r xs) g (subst (λ r. Run m r p xs) f (subst (λ r. Run r a p xs) e h))
+
+-- a line and what goes on after it
+pub is-placed-line : (x : Placed) (c : Context) (s : Statement) → x ≡ placed_at c s → is_line x.source.statement ≡ true → is_line s ≡ true
+is-placed-line x c s e h = sym (ap is_line (ap (λ y. y.source.statement) e ∙ source-statement c s)) ∙ h
+
+-- after a line the run goes on as before it
+line-rest : (n : ℕ) (arrays : List Path) (block : Path) (x : Placed) (xs : List Placed) → is_line x.source.statement ≡ true → Run n arrays block (x ∷ xs) → Run n arrays block xs
+line-rest n arrays block x xs h (c, s, e, f, g, k, rest) =
+    let same = line-same c s (is-placed-line x c s e h) in
+    run-at xs (same.0 ∙ f) (same.1 ∙ g) (same.2 ∙ k) rest
+
+line-front : (n : ℕ) (arrays : List Path) (block : Path) (x : Placed) (xs ys : List Placed) → is_line x.source.statement ≡ true → Run n arrays block (x ∷ xs) → Run n arrays block ys
+    → Run n arrays block (x ∷ ys)
+line-front n arrays block x xs ys h (c, s, e, f, g, k, rest) r =
+    let same = line-same c s (is-placed-line x c s e h) in
+    (c, s, e, f, g, k, run-at ys (sym (same.0 ∙ f)) (sym (same.1 ∙ g)) (sym (same.2 ∙ k)) r)
+
+-- a line isn't before a line only
+pub not-before : (mss : List (List (Mention Source))) (x y : Placed) → line_before mss x y ≡ false → is_line y.source.statement ≡ true
+not-before mss x y h = by_kind (is_line y.source.statement) (stands_before (rank mss) x.mentions y.mentions) h
+  where
+    by_kind : (b r : Bool) → (not b || r) ≡ false → b ≡ true
+    by_kind true r h = refl
+    by_kind false r h = absurd cc
+
+insert-run : (mss : List (List (Mention Source))) (n : ℕ) (arrays : List Path) (block : Path) (x : Placed) (ys xs : List Placed) → is_line x.source.statement ≡ true
+    → Run n arrays block (x ∷ xs) → Run n arrays block ys → Run n arrays block (insert_by (line_before mss) x ys)
+insert-run mss n arrays block x [] xs h r u = line-front n arrays block x xs [] h r tt
+insert-run mss n arrays block x (y ∷ ys) xs h r u =
+    elim (cases_Bool (line_before mss x y)) [
+      | inl e ↦ rw e (line-front n arrays block x xs (y ∷ ys) h r u)
+      | inr e ↦
+          let is : is_line y.source.statement ≡ true = not-before mss x y e in
+          rw e
+          (line-front n arrays block y ys (insert_by (line_before mss) x ys) is u
+          (insert-run mss n arrays block x ys xs h r (line-rest n arrays block y ys is u)))
+    ]
+
+pub ordered-run : (mss : List (List (Mention Source))) (n : ℕ) (arrays : List Path) (block : Path) (xs : List Placed) → Run n arrays block xs → Run n arrays block (ordered mss xs)
+ordered-run mss n arrays block [] r = tt
+ordered-run mss n arrays block (x ∷ xs) r =
+    elim (cases_Bool (is_line x.source.statement)) [
+      | inl e ↦
+          rw e (insert-run mss n arrays block x (ordered mss xs) xs e r (ordered-run mss n arrays block xs (line-rest n arrays block x xs e r)))
+      | inr e ↦ rw e (r.0, r.1, r.2, r.3, r.4, r.5, ordered-run mss (context_after r.0 r.1).headers (context_after r.0 r.1).arrays (context_after r.0 r.1).block xs r.6)
+    ]
+
+-- ---- spelled as their kept keys
+
+-- the statement in its place is the normal form of another
+pub record IsNormal (ms : List (Mention Source)) (x y : Placed) : Type 0 where
+  pub statement : y.source.statement ≡ normal_statement ms x x.source.statement
+  pub path : y.source.path ≡ x.source.path
+  pub cores : cores y.mentions ≡ cores x.mentions
+  pub segments : own_path y.mentions ≡ kept_path ms x.mentions
+
+abbrev pub AreNormal : List (Mention Source) → List Placed → List Placed → Type 0
+AreNormal ms [] [] = Unit {0}
+AreNormal ms [] (y ∷ ys) = ⊥
+AreNormal ms (x ∷ xs) [] = ⊥
+AreNormal ms (x ∷ xs) (y ∷ ys) = IsNormal ms x y × AreNormal ms xs ys
+
+-- two contexts are alike but for places
+abbrev pub AreAlike : Context → Context → Type 0
+AreAlike c d = (d.arrays ≡ c.arrays) × (d.block ≡ c.block)
+
+keys-of : (ss : List Segment) → keys_of ss ≡ map at_key (keys_of_segments ss)
+keys-of [] = refl
+keys-of (s ∷ ss) = ap (λ p. at_key s.key ∷ p) (keys-of ss)
+
+pub normal-place : (ms : List (Mention Source)) (c d : Context) (s : Statement) → AreAlike c d → AreKeyed ms
+    → IsNormal ms (placed_at c s) (placed_at d (normal_statement ms (placed_at c s) s)) × AreAlike (context_after c s) (context_after d (normal_statement ms (placed_at c s) s))
+normal-place ms c d (key_line f v end) h g =
+    let own : List (Mention Source) = mentions_of c (key_line f v end) in
+    let to : Statement = normal_statement ms (placed_at c (key_line f v end)) (key_line f v end) in
+    let same : keys_of_segments (kept_path ms own) ≡ keys_of_segments f.path =
+    kept-path-keys ms own g (statement-keyed c (key_line f v end))
+    ∙ ap keys_of_segments (own-line (source_of c (key_line f v end)) (c.start + path_start (key_line f v end)) c.block f.path) in (
+      record {
+        statement = refl;
+        path =
+            ap (λ p. p ++ keys_of (kept_path ms own)) h.1
+            ∙ ap (λ q. c.block ++ q) (keys-of (kept_path ms own) ∙ ap (map at_key) same ∙ sym (keys-of f.path));
+        cores =
+            line-cores (source_of d to) (d.start + path_start to) d.block (kept_path ms own)
+            ∙ ap (λ p. line_cores p (keys_of_segments (kept_path ms own))) h.1 ∙ ap (line_cores c.block) same
+            ∙ sym (line-cores (source_of c (key_line f v end)) (c.start + path_start (key_line f v end)) c.block f.path);
+        segments = own-line (source_of d to) (d.start + path_start to) d.block (kept_path ms own);
+      },
+      (h.0, h.1),
+    )
+normal-place ms c d (header e end) h g =
+    let own : List (Mention Source) = mentions_of c (header e end) in
+    let to : Statement = normal_statement ms (placed_at c (header e end)) (header e end) in
+    let same : keys_of_segments (kept_path ms own) ≡ keys_of_segments e.path =
+    kept-path-keys ms own g (statement-keyed c (header e end))
+    ∙ ap keys_of_segments (own-header (source_of c (header e end)) c.arrays (header_role_of e) (c.start + path_start (header e end)) [] e.path) in
+    let path_is : header_path d.arrays [] (kept_path ms own) ≡ header_path c.arrays [] e.path =
+    header-place d.arrays [] (kept_path ms own)
+    ∙ ap (λ a. header_place a [] (keys_of_segments (kept_path ms own))) h.0 ∙ ap (header_place c.arrays []) same
+    ∙ sym (header-place c.arrays [] e.path) in (
+      record {
+        statement = refl;
+        path = path_is;
+        cores =
+            header-cores (source_of d to) d.arrays (header_role_of e) (d.start + path_start to) [] (kept_path ms own)
+            ∙ ap (λ a. header_cores a (header_role_of e) [] (keys_of_segments (kept_path ms own))) h.0 ∙ ap (header_cores c.arrays (header_role_of e) []) same
+            ∙ sym (header-cores (source_of c (header e end)) c.arrays (header_role_of e) (c.start + path_start (header e end)) [] e.path);
+        segments = own-header (source_of d to) d.arrays (header_role_of e) (d.start + path_start to) [] (kept_path ms own);
+      },
+      (
+        ap (λ p. if e.is_array then p ∷ d.arrays else d.arrays) path_is ∙ ap (λ a. if e.is_array then header_path c.arrays [] e.path ∷ a else a) h.0,
+        ap (λ p. if e.is_array then to_element p (elements_at d.arrays p) else p) path_is
+            ∙ ap (λ a. if e.is_array then to_element (header_path c.arrays [] e.path) (elements_at a (header_path c.arrays [] e.path)) else header_path c.arrays [] e.path) h.0,
+      ),
+    )
+
+-- The normal forms of a run stand in their places as the run does.
+pub normal-run : (ms : List (Mention Source)) (n : ℕ) (arrays : List Path) (block : Path) (d : Context) (xs : List Placed) → AreKeyed ms → Run n arrays block xs
+    → d.arrays ≡ arrays → d.block ≡ block
+    → AreNormal ms xs (placed_from d (map (λ s. normal_statement ms s s.source.statement) xs))
+normal-run ms n arrays block d [] g r e f = tt
+normal-run ms n arrays block d (x ∷ xs) g (c, s, is, a, b, k, rest) e f =
+    let first = normal-place ms c d s (e ∙ sym b, f ∙ sym k) g in
+    let to : normal_statement ms x x.source.statement ≡ normal_statement ms (placed_at c s) s =
+    ap (λ (y : Placed). normal_statement ms y y.source.statement) is ∙ ap (normal_statement ms (placed_at c s)) (source-statement c s) in
+    let here : IsNormal ms (placed_at c s) (placed_at d (normal_statement ms (placed_at c s) s)) = first.0 in
+    subst (λ t. AreNormal ms (x ∷ xs) (placed_at d t ∷ placed_from (context_after d t) (map (λ s. normal_statement ms s s.source.statement) xs))) (sym to) (
+      subst (λ y. IsNormal ms y (placed_at d (normal_statement ms (placed_at c s) s))) (sym is) here,
+      normal-run ms (context_after c s).headers (context_after c s).arrays (context_after c s).block (context_after d (normal_statement ms (placed_at c s) s)) xs g rest first.1.0 first.1.1,
+    )

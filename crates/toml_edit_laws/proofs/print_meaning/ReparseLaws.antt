@@ -1,0 +1,6 @@
+-- The print of a tree that fits means what the tree shows.
+use Rattle.toml_edit_laws.specs.Reparse.{PrintsMeanWhatIsShown}
+use Rattle.toml_edit_laws.proofs.print_meaning.PrintFacts.{meaning-of-print}
+
+pub prints-mean-what-is-shown : PrintsMeanWhatIsShown
+prints-mean-what-is-shown = meaning-of-print

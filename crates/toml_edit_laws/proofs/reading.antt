@@ -1,0 +1,17 @@
+pub mod Steps
+pub mod RunLaws
+pub mod FieldLaws
+pub mod TimeLaws
+pub mod OffsetLaws
+pub mod DatetimeLaws
+pub mod FloatLaws
+pub mod StringLaws
+pub mod NumberLaws
+pub mod BlockSteps
+pub mod BlockParts
+pub mod BlockForms
+pub mod BlockLaws
+pub mod WordLaws
+pub mod Begins
+pub mod TokenLaws
+pub mod Marks

@@ -1,0 +1,85 @@
+-- One function for key lines, headers and headers in double brackets: what is added at the end of a path of keys, key by key. The laws
+-- of building don't cite it: it is for code that goes down a path one key at a time.
+use Rattle.std.specs.Prelude.{Bool, true, false, if◌then◌else◌, List, [], Option, Some, None, option_map}
+use Rattle.toml_edit_model.specs.Text.{Text}
+use Rattle.toml_edit_model.specs.Syntax.{Statement, key_line, header}
+use Rattle.toml_edit_model.specs.Paths.{Mention, Source}
+use Rattle.toml_edit_model.specs.Tree.{Node, table, Items, no_items, item, Slots}
+use Rattle.toml_edit_model.specs.TreeOf.{spanned_form, key_at}
+use Rattle.toml_edit_laws.specs.InlineTree.{add_last}
+use Rattle.toml_edit_laws.specs.TableTree.{open_table, open_element, add_line, add_header}
+use Rattle.toml_edit_laws.specs.TableClash.{extend_clash, pass_clash, table_clash, element_clash, line_clash, header_clash}
+use Rattle.toml_edit_laws.specs.Building.{Builder, change_in}
+
+-- what is added at the end of a path: the item of a key line, the table of a header, or an element of one in double brackets
+pub data Addition : Type 0 where
+  a_value : Node → Addition
+  a_table : Addition
+  an_element : Addition
+
+abbrev pub add_path : Addition → List (Mention Source) → Slots → Option Slots
+add_path (a_value n) ms ss = add_line ms n ss
+add_path a_table ms ss = add_header false ms ss
+add_path an_element ms ss = add_header true ms ss
+
+-- what stands in its way
+abbrev pub path_clash : Addition → List (Mention Source) → Slots → Option (Mention Source × Node)
+path_clash (a_value n) ms ss = line_clash ms ss
+path_clash a_table ms ss = header_clash false ms ss
+path_clash an_element ms ss = header_clash true ms ss
+
+-- ---- a key before the last
+
+-- whether a table that it makes is dotted
+abbrev pub makes_dotted : Addition → Bool
+makes_dotted (a_value n) = true
+makes_dotted _ = false
+
+-- a change in the item at a key of a line: a table without a header, which becomes dotted
+abbrev pub extend_in : (Slots → Option Slots) → Node → Option Node
+extend_in change (table f inner) = if f.is_implicit then option_map (table (record f { is_dotted = true })) (change inner) else None
+extend_in change n = None
+
+-- a change in the item at a key: of a header in that of any table, and in the last element of an array of tables
+abbrev pub inside : Addition → (Slots → Option Slots) → Node → Option Node
+inside (a_value n) change old = extend_in change old
+inside _ change old = change_in change old
+
+-- what stands in its way at or below the item at a key
+abbrev pub clash_inside : Addition → Mention Source → (Slots → Option (Mention Source × Node)) → Node → Option (Mention Source × Node)
+clash_inside (a_value n) m further old = extend_clash m further (Some old)
+clash_inside _ m further old = pass_clash m further (Some old)
+
+-- the last element, and the elements with another in its place
+abbrev pub last_item : Items → Option Node
+last_item no_items = None
+last_item (item n no_items) = Some n
+last_item (item n (item m xs)) = last_item (item m xs)
+
+abbrev pub with_last : Node → Items → Items
+with_last new no_items = no_items
+with_last new (item n no_items) = item new no_items
+with_last new (item n (item m xs)) = item n (with_last new (item m xs))
+
+-- ---- the last key
+
+abbrev pub put_last_key : Addition → Mention Source → Slots → Option Node → Option Slots
+put_last_key (a_value n) m ss o = add_last ss (key_at spanned_form m) n o
+put_last_key a_table m ss o = open_table m ss o
+put_last_key an_element m ss o = open_element m ss o
+
+abbrev pub last_key_clash : Addition → Mention Source → Option Node → Option (Mention Source × Node)
+last_key_clash (a_value n) m o = option_map (λ old. (m, old)) o
+last_key_clash a_table m o = table_clash m o
+last_key_clash an_element m o = element_clash m o
+
+-- ---- a statement
+
+-- what it adds, where its value has this item, and below which keys
+abbrev pub addition_of : Statement → Node → Addition
+addition_of (key_line f v end) n = a_value n
+addition_of (header h end) n = if h.is_array then an_element else a_table
+
+abbrev pub block_for : Builder → Statement → List Text
+block_for b (key_line f v end) = b.block
+block_for b (header h end) = []
