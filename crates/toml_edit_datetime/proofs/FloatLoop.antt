@@ -4,7 +4,7 @@ use Rattle.std.specs.Char.{is_digit, is_ascii_digit}
 use Rattle.std.proofs.lemmas.Bool.{eq-eqb, ne_eqb}
 use Rattle.std.proofs.lemmas.Bool.Decides.{nat_tests}
 use Rattle.std.proofs.lemmas.List.{drop_more, drop_all}
-use Rattle.toml_edit_datetime.specs.FloatReading.{after_digits}
+use Rattle.toml_edit_laws.specs.reading.FloatReading.{after_digits}
 
 -- the two tests of a digit
 pub digit_decimal : (c : ℕ) (b : Bool) → is_ascii_digit c ≡ b → is_digit c 10 ≡ b

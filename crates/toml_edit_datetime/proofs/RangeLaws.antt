@@ -6,16 +6,15 @@ use Rattle.std.proofs.lemmas.Bool.{false≢true, cases_Bool}
 use Rattle.toml_edit_model.specs.Scalars.{Date as DateRecord, Time as TimeRecord, Offset as OffsetData, Datetime as DatetimeRecord, datetime, is_real_date, is_real_time, is_absent_or}
 use Rattle.toml_edit_model.specs.Spelling.{SpellsDatetime, is_in_range}
 use Rattle.toml_edit_model.specs.Tree.{has_real_parts}
-use Rattle.toml_edit_datetime.specs.declared.parts.OffsetParts.{OffsetParts}
-use Rattle.toml_edit_datetime.specs.declared.parts.Parts.{Parts}
 use Rattle.toml_edit_datetime.specs.declared.datetime.Datetime.{Datetime}
 use Rattle.toml_edit_datetime.specs.declared.datetime.DatetimeFault.{DatetimeFault}
-use Rattle.toml_edit_datetime.specs.OffsetView.{offset_view}
 use Rattle.toml_edit_datetime.specs.DatetimeView.{datetime_view}
-use Rattle.toml_edit_datetime.specs.DatetimeReading.{parts_of, date_of, time_of, parts_datetime, datetime_of, ranged_of, are_real}
+use Rattle.toml_edit_laws.specs.reading.DatetimeReading.{OffsetParts, Parts, parts_of, parts_datetime, datetime_of, ranged_of, are_real}
 use Rattle.toml_edit_datetime.specs.ReadsDatetime.{ReadsDatetime}
-use Rattle.toml_edit_datetime.proofs.Steps.{bind_some, guard_some}
-use Rattle.toml_edit_datetime.proofs.DatetimeLaws.{parts_take, datetime_takes, datetime_again, real_offset}
+use Rattle.toml_edit_laws.proofs.common.OptionSteps.{bind_some}
+use Rattle.toml_edit_laws.proofs.reading.Steps.{guard_some}
+use Rattle.toml_edit_laws.proofs.reading.DatetimeLaws.{parts_take, datetime_takes, datetime_again}
+use Rattle.toml_edit_laws.proofs.spellings.OffsetLaws.{real_parts}
 
 -- ---- tests
 
@@ -40,10 +39,10 @@ ranged_none t e = rw e refl
 
 -- the parts, and which of them exist
 abbrev date_is_real : Parts → Bool
-date_is_real p = is_absent_or is_real_date (option_map date_of p.date)
+date_is_real p = is_absent_or is_real_date p.date
 
 abbrev time_is_real : Parts → Bool
-time_is_real p = is_absent_or is_real_time (option_map time_of p.time)
+time_is_real p = is_absent_or is_real_time p.time
 
 abbrev offset_is_real : Parts → Bool
 offset_is_real p = is_absent_or (λ (o : OffsetParts). o.is_real) p.offset
@@ -59,33 +58,33 @@ refused_last false p = refl
 abbrev made : Option DateRecord → Option TimeRecord → Option OffsetData → DatetimeRecord
 made date time offset = record { date = date; time = time; offset = offset }
 
-pub date_refused : (t : List ℕ) (p : Parts) → parts_of t ≡ Some p → None ≡ cond (date_is_real p) (Some (option_map date_of p.date)) None → None ≡ ranged_of t
-date_refused t p e none = let bad = held_back (date_is_real p) (option_map date_of p.date) none in sym (ranged_step t p e ∙ rw bad refl)
+pub date_refused : (t : List ℕ) (p : Parts) → parts_of t ≡ Some p → None ≡ cond (date_is_real p) (Some p.date) None → None ≡ ranged_of t
+date_refused t p e none = let bad = held_back (date_is_real p) p.date none in sym (ranged_step t p e ∙ rw bad refl)
 
-pub time_refused : (t : List ℕ) (p : Parts) → parts_of t ≡ Some p → None ≡ cond (time_is_real p) (Some (option_map time_of p.time)) None → None ≡ ranged_of t
+pub time_refused : (t : List ℕ) (p : Parts) → parts_of t ≡ Some p → None ≡ cond (time_is_real p) (Some p.time) None → None ≡ ranged_of t
 time_refused t p e none =
-    let bad = held_back (time_is_real p) (option_map time_of p.time) none in
+    let bad = held_back (time_is_real p) p.time none in
     sym (ranged_step t p e ∙ rw bad (refused_right (date_is_real p) (offset_is_real p) p))
 
-pub offset_refused : (t : List ℕ) (p : Parts) → parts_of t ≡ Some p → None ≡ cond (offset_is_real p) (Some (option_map (λ o. offset_view o.offset) p.offset)) None → None ≡ ranged_of t
+pub offset_refused : (t : List ℕ) (p : Parts) → parts_of t ≡ Some p → None ≡ cond (offset_is_real p) (Some (option_map (λ o. o.offset) p.offset)) None → None ≡ ranged_of t
 offset_refused t p e none =
-    let bad = held_back (offset_is_real p) (option_map (λ o. offset_view o.offset) p.offset) none in
+    let bad = held_back (offset_is_real p) (option_map (λ o. o.offset) p.offset) none in
     sym (ranged_step t p e ∙ rw bad (refused_last (date_is_real p && time_is_real p) p))
 
 -- all parts exist
 pub joined : (t : List ℕ) (p : Parts) (date : Option DateRecord) (time : Option TimeRecord) (offset : Option OffsetData) (r : Option DatetimeRecord) → parts_of t ≡ Some p
-    → Some date ≡ cond (date_is_real p) (Some (option_map date_of p.date)) None
-    → Some time ≡ cond (time_is_real p) (Some (option_map time_of p.time)) None
-    → Some offset ≡ cond (offset_is_real p) (Some (option_map (λ o. offset_view o.offset) p.offset)) None
+    → Some date ≡ cond (date_is_real p) (Some p.date) None
+    → Some time ≡ cond (time_is_real p) (Some p.time) None
+    → Some offset ≡ cond (offset_is_real p) (Some (option_map (λ o. o.offset) p.offset)) None
     → r ≡ cond (has_real_parts date time offset) (Some (made date time offset)) None → r ≡ ranged_of t
 joined t p date time offset r e has_date has_time has_offset made_it =
-    let (rd, ed) = let_through (date_is_real p) (option_map date_of p.date) date has_date in
-    let (rt, et) = let_through (time_is_real p) (option_map time_of p.time) time has_time in
-    let (ro, eo) = let_through (offset_is_real p) (option_map (λ o. offset_view o.offset) p.offset) offset has_offset in
+    let (rd, ed) = let_through (date_is_real p) p.date date has_date in
+    let (rt, et) = let_through (time_is_real p) p.time time has_time in
+    let (ro, eo) = let_through (offset_is_real p) (option_map (λ o. o.offset) p.offset) offset has_offset in
     let all : are_real p ≡ true = rw (rd, rt, ro) refl in
     let (spells, range) = parts_take t p e in
-    let real : has_real_parts (option_map date_of p.date) (option_map time_of p.time) (option_map (λ o. offset_view o.offset) p.offset) ≡ true =
-    real_offset (parts_datetime p) t spells (range ∙ all) in
+    let real : has_real_parts p.date p.time (option_map (λ o. o.offset) p.offset) ≡ true =
+    real_parts (parts_datetime p) t spells (range ∙ all) in
     let here : has_real_parts date time offset ≡ true = rw (← ed, ← et, ← eo) real in
     let one : r ≡ Some (made date time offset) = made_it ∙ rw here refl in
     let same : Some (made date time offset) ≡ Some (parts_datetime p) = rw (← ed, ← et, ← eo) refl in

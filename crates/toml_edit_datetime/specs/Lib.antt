@@ -3,7 +3,6 @@ pub mod DateView
 pub mod TimeView
 pub mod OffsetView
 pub mod DatetimeView
-pub mod DatetimeReading
+pub mod PartsView
 pub mod ReadsDatetime
 pub mod FractionText
-pub mod FloatReading

@@ -7,7 +7,7 @@ use Rattle.toml_edit_model.specs.Spelling.{SpellsDatetime, SpellsInRange, is_in_
 use Rattle.toml_edit_datetime.specs.declared.datetime.Datetime.{Datetime}
 use Rattle.toml_edit_datetime.specs.declared.datetime.DatetimeFault.{DatetimeFault}
 use Rattle.toml_edit_datetime.specs.DatetimeView.{datetime_view}
-use Rattle.toml_edit_datetime.specs.DatetimeReading.{ranged_of}
+use Rattle.toml_edit_laws.specs.reading.DatetimeReading.{ranged_of}
 
 -- what it spells, where that is in range, and else the fault
 pub record ReadsDatetime (text : Text) (r : Result Datetime DatetimeFault) : Type 0 where

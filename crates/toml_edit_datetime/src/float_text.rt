@@ -7,7 +7,7 @@ ghost use Rattle.std.specs.Cmp.Lexicographic.{pointwise, nat_list_eq_equiv};
 ghost use Rattle.std.specs.Cmp.Rules.{hashing};
 ghost use Rattle.std.proofs.Common.{rules};
 ghost use Rattle.toml_edit_model.specs.Spelling.{IsFloat};
-ghost use Rattle.toml_edit_datetime.specs.FloatReading as spec;
+ghost use Rattle.toml_edit_laws.specs.reading.FloatReading as spec;
 
 use std::alloc::{AllocError, Global};
 use std::fmt;
@@ -100,7 +100,7 @@ fn is_unsigned_float(text: &[u8]) -> bool
 
 /// Whether the text is a TOML float: decimal digits with a fraction, an exponent or both, or `inf` or `nan`, with an optional sign.
 /// How large the number is does not matter.
-#[tactic(auto, unfolding(crate::specs::FloatReading::is_float_text))]
+#[tactic(auto, unfolding(toml_edit_laws::specs::reading::FloatReading::is_float_text))]
 pub fn is_float(text: &str) -> bool
     ensures test { result ≡ spec.is_float_text text.now }
     ensures float { IsTrue result ↔ IsFloat text.now }
@@ -117,7 +117,7 @@ pub struct FloatText {
 impl Model for FloatText {
     ghost use Rattle.std.specs.Prelude.{◌≡◌, true, string_bytes};
     ghost use Rattle.toml_edit_model.specs.Text.{Text};
-    ghost use Rattle.toml_edit_datetime.specs.FloatReading.{is_float_text};
+    ghost use Rattle.toml_edit_laws.specs.reading.FloatReading.{is_float_text};
 
     ghost Value = { Text };
 

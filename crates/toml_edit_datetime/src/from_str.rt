@@ -6,7 +6,8 @@ ghost use Rattle.toml_edit_datetime.specs.DateView.{date_view};
 ghost use Rattle.toml_edit_datetime.specs.TimeView.{time_view};
 ghost use Rattle.toml_edit_datetime.specs.OffsetView.{offset_view};
 ghost use Rattle.toml_edit_datetime.specs.DatetimeView.{datetime_view};
-ghost use Rattle.toml_edit_datetime.specs.DatetimeReading as spec;
+ghost use Rattle.toml_edit_laws.specs.reading.DatetimeReading as spec;
+ghost use Rattle.toml_edit_datetime.specs.PartsView.{date_parts_view, time_parts_view, offset_parts_view};
 
 use crate::date::Date;
 use crate::datetime::{Datetime, DatetimeFault, Offset};
@@ -51,7 +52,7 @@ fn real_datetime(text: &str) -> Option<Datetime>
 /// The date, if there is one, unless the calendar has no such day.
 fn real_date(parts: Option<DateParts>) -> Option<Option<Date>>
     ensures { option_map (option_map date_view) result
-        ≡ (if is_absent_or is_real_date (option_map spec.date_of parts) then Some (option_map spec.date_of parts) else None) }
+        ≡ (if is_absent_or is_real_date (option_map date_parts_view parts) then Some (option_map date_parts_view parts) else None) }
 {
     let Some(parts) = parts else {
         return Some(None);
@@ -63,7 +64,7 @@ fn real_date(parts: Option<DateParts>) -> Option<Option<Date>>
 /// The time, if there is one, unless no day has it.
 fn real_time(parts: Option<TimeParts>) -> Option<Option<Time>>
     ensures { option_map (option_map time_view) result
-        ≡ (if is_absent_or is_real_time (option_map spec.time_of parts) then Some (option_map spec.time_of parts) else None) }
+        ≡ (if is_absent_or is_real_time (option_map time_parts_view parts) then Some (option_map time_parts_view parts) else None) }
 {
     let Some(parts) = parts else {
         return Some(None);
@@ -75,7 +76,7 @@ fn real_time(parts: Option<TimeParts>) -> Option<Option<Time>>
 /// The offset, if there is one, unless its hours or minutes are not those of a day.
 fn real_offset(parts: Option<OffsetParts>) -> Option<Option<Offset>>
     ensures { option_map (option_map offset_view) result
-        ≡ (if is_absent_or (λ o. o.is_real) parts then Some (option_map (λ o. offset_view o.offset) parts) else None) }
+        ≡ (if is_absent_or (λ o. o.is_real) (option_map offset_parts_view parts) then Some (option_map (λ o. o.offset) (option_map offset_parts_view parts)) else None) }
 {
     match parts {
         None => Some(None),

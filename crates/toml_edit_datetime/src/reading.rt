@@ -1,18 +1,19 @@
 //! Reading a date-time. Each function here reads a part from the front of the text, and gives it with the rest.
-ghost use Rattle.std.specs.Prelude.{◌≡◌, ℕ, ◌<◌, ◌≤◌, true, length, is_some, slice_index, IfSome};
+ghost use Rattle.std.specs.Prelude.{◌≡◌, ℕ, ◌<◌, ◌≤◌, true, length, is_some, slice_index, IfSome, option_map};
 ghost use Rattle.std.specs.List.{prefix_len};
 ghost use Rattle.std.specs.Option.{option_copied};
 ghost use Rattle.std.specs.Char.{is_ascii_digit};
 ghost use Rattle.toml_edit_model.specs.Spelling.{nanoseconds};
-ghost use Rattle.toml_edit_datetime.specs.DatetimeReading as spec;
+ghost use Rattle.toml_edit_laws.specs.reading.DatetimeReading as spec;
+ghost use Rattle.toml_edit_datetime.specs.PartsView.{date_parts_view, time_parts_view, offset_parts_view, parts_view, read_as, read_of};
 
 use crate::datetime::Offset;
 use crate::parts::{DateParts, OffsetParts, Parts, TimeParts};
 
 /// What a text reads as that is a date-time, in range or not.
-#[tactic(auto, unfolding(crate::specs::DatetimeReading::parts_of))]
+#[tactic(auto, unfolding(toml_edit_laws::specs::reading::DatetimeReading::parts_of))]
 pub(crate) fn read(text: &[u8]) -> Option<Parts>
-    ensures { result ≡ spec.parts_of text.now }
+    ensures { option_map parts_view result ≡ spec.parts_of text.now }
 {
     if byte_at(text, 2) == b':' {
         let time = whole(time(text))?;
@@ -27,9 +28,9 @@ pub(crate) fn read(text: &[u8]) -> Option<Parts>
 }
 
 /// What follows a date: nothing, or a time and perhaps an offset.
-#[tactic(auto, unfolding(crate::specs::DatetimeReading::after_date))]
+#[tactic(auto, unfolding(toml_edit_laws::specs::reading::DatetimeReading::after_date))]
 fn after_date(date: DateParts, text: &[u8]) -> Option<Parts>
-    ensures { result ≡ spec.after_date date text.now }
+    ensures { option_map parts_view result ≡ spec.after_date (date_parts_view date) text.now }
 {
     let [mark, rest @ ..] = text else {
         return Some(Parts {
@@ -54,9 +55,9 @@ fn after_date(date: DateParts, text: &[u8]) -> Option<Parts>
     })
 }
 
-#[tactic(auto, unfolding(crate::specs::DatetimeReading::date_at))]
+#[tactic(auto, unfolding(toml_edit_laws::specs::reading::DatetimeReading::date_at))]
 fn date(text: &[u8]) -> Option<(DateParts, &[u8])>
-    ensures { spec.read_of result ≡ spec.date_at text.now }
+    ensures { read_as date_parts_view result ≡ spec.date_at text.now }
 {
     let (century, rest) = two_digits(text)?;
     let (year, rest) = two_digits(rest)?;
@@ -70,9 +71,9 @@ fn date(text: &[u8]) -> Option<(DateParts, &[u8])>
     Some((date, rest))
 }
 
-#[tactic(auto, unfolding(crate::specs::DatetimeReading::time_at))]
+#[tactic(auto, unfolding(toml_edit_laws::specs::reading::DatetimeReading::time_at))]
 fn time(text: &[u8]) -> Option<(TimeParts, &[u8])>
-    ensures { spec.read_of result ≡ spec.time_at text.now }
+    ensures { read_as time_parts_view result ≡ spec.time_at text.now }
 {
     let ((hour, minute), rest) = clock(text)?;
     let ((second, nanosecond), rest) = seconds(rest)?;
@@ -86,9 +87,9 @@ fn time(text: &[u8]) -> Option<(TimeParts, &[u8])>
 }
 
 /// `hh:mm`.
-#[tactic(auto, unfolding(crate::specs::DatetimeReading::clock_at))]
+#[tactic(auto, unfolding(toml_edit_laws::specs::reading::DatetimeReading::clock_at))]
 fn clock(text: &[u8]) -> Option<((u8, u8), &[u8])>
-    ensures value { spec.read_of result ≡ spec.clock_at text.now }
+    ensures value { read_of result ≡ spec.clock_at text.now }
     ensures small { IfSome result (λ p. (p.0.0 < 100) × (p.0.1 < 100)) }
 {
     let (hour, rest) = two_digits(text)?;
@@ -97,9 +98,9 @@ fn clock(text: &[u8]) -> Option<((u8, u8), &[u8])>
 }
 
 /// Nothing, or `:ss` and perhaps a fraction.
-#[tactic(auto, unfolding(crate::specs::DatetimeReading::seconds_at))]
+#[tactic(auto, unfolding(toml_edit_laws::specs::reading::DatetimeReading::seconds_at))]
 fn seconds(text: &[u8]) -> Option<((Option<u8>, Option<u32>), &[u8])>
-    ensures { spec.read_of result ≡ spec.seconds_at text.now }
+    ensures { read_of result ≡ spec.seconds_at text.now }
 {
     if byte_at(text, 0) != b':' {
         return Some(((None, None), text));
@@ -113,9 +114,9 @@ fn seconds(text: &[u8]) -> Option<((Option<u8>, Option<u32>), &[u8])>
 }
 
 /// The digits behind a point, as nanoseconds.
-#[tactic(auto, unfolding(crate::specs::DatetimeReading::fraction_at))]
+#[tactic(auto, unfolding(toml_edit_laws::specs::reading::DatetimeReading::fraction_at))]
 fn fraction(text: &[u8]) -> Option<(u32, &[u8])>
-    ensures { spec.read_of result ≡ spec.fraction_at text.now }
+    ensures { read_of result ≡ spec.fraction_at text.now }
 {
     let len = digits_len(text);
     if len == 0 {
@@ -150,9 +151,9 @@ fn digits_len(text: &[u8]) -> usize
 }
 
 /// `Z`, `z`, or a sign and `hh:mm`.
-#[tactic(auto, unfolding(crate::specs::DatetimeReading::offset_at))]
+#[tactic(auto, unfolding(toml_edit_laws::specs::reading::DatetimeReading::offset_at))]
 fn offset(text: &[u8]) -> Option<(OffsetParts, &[u8])>
-    ensures { spec.read_of result ≡ spec.offset_at text.now }
+    ensures { read_as offset_parts_view result ≡ spec.offset_at text.now }
 {
     match text {
         [b'Z' | b'z', rest @ ..] => {
@@ -178,7 +179,7 @@ fn offset(text: &[u8]) -> Option<(OffsetParts, &[u8])>
 
 /// So many minutes, written by these hours and minutes.
 fn shift(all: i16, hours: u8, minutes: u8) -> OffsetParts
-    ensures { result ≡ spec.shift_parts all hours minutes }
+    ensures { offset_parts_view result ≡ spec.shift_parts all hours minutes }
 {
     OffsetParts {
         offset: Offset::Custom { minutes: all },
@@ -186,9 +187,9 @@ fn shift(all: i16, hours: u8, minutes: u8) -> OffsetParts
     }
 }
 
-#[tactic(auto, unfolding(crate::specs::DatetimeReading::two_at))]
+#[tactic(auto, unfolding(toml_edit_laws::specs::reading::DatetimeReading::two_at))]
 fn two_digits(text: &[u8]) -> Option<(u8, &[u8])>
-    ensures value { spec.read_of result ≡ spec.two_at text.now }
+    ensures value { read_of result ≡ spec.two_at text.now }
     ensures small { IfSome result (λ p. p.0 < 100) }
 {
     match text {
@@ -215,7 +216,7 @@ fn byte_at(text: &[u8], index: usize) -> u8
 }
 
 fn whole<T: Copy>(read: Option<(T, &[u8])>) -> Option<T>
-    ensures { result ≡ spec.whole (spec.read_of read.entry) }
+    ensures { result ≡ spec.whole (read_of read.entry) }
 {
     match read {
         Some((value, [])) => Some(value),

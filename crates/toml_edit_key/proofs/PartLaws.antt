@@ -6,9 +6,9 @@ use Rattle.std.proofs.lemmas.List.{length-append}
 use Rattle.std.proofs.lemmas.Str.{IsCharBoundary-at_seam}
 use Rattle.toml_edit_model.specs.Text.{Text}
 use Rattle.toml_edit_model.specs.Spelling.{SpellsKey}
-use Rattle.toml_edit_syntax.specs.Tokens.{key_at}
-use Rattle.toml_edit_syntax.proofs.Steps.{map_some}
-use Rattle.toml_edit_syntax.proofs.TokenLaws.{key_takes}
+use Rattle.toml_edit_laws.specs.reading.Tokens.{key_at}
+use Rattle.toml_edit_laws.proofs.common.OptionSteps.{map_some}
+use Rattle.toml_edit_laws.proofs.reading.TokenLaws.{key_takes}
 use Rattle.toml_edit_key.specs.PathReading.{front, front_key}
 
 pub front_of : (text t rest : Text) → text ≡ t ++ rest → front text rest ≡ t

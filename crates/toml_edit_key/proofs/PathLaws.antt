@@ -11,11 +11,12 @@ use Rattle.toml_edit_model.specs.Spelling.{is_bare_byte, SpellsKey}
 use Rattle.toml_edit_model.specs.Syntax.{Segment, segment_text, path_text, IsPath, IsSpacedSegment, IsSpelledSegment, ends_bare}
 use Rattle.toml_edit_model.specs.Tree.{Key, unset}
 use Rattle.toml_edit_model.specs.Lone.{path_key, lone_keys}
-use Rattle.toml_edit_syntax.specs.Runs.{first, split_while}
-use Rattle.toml_edit_syntax.specs.Tokens.{ends_key, key_at}
-use Rattle.toml_edit_syntax.proofs.Steps.{chosen, bind_some, map_some, guard_some, starts, split_parts}
-use Rattle.toml_edit_syntax.proofs.RunLaws.{Each-run, split_while-run}
-use Rattle.toml_edit_syntax.proofs.TokenLaws.{key_takes, key_again}
+use Rattle.toml_edit_laws.specs.reading.Runs.{first, split_while}
+use Rattle.toml_edit_laws.specs.reading.Tokens.{ends_key, key_at}
+use Rattle.toml_edit_laws.proofs.reading.Steps.{chosen, guard_some, starts, split_parts}
+use Rattle.toml_edit_laws.proofs.common.OptionSteps.{bind_some, map_some}
+use Rattle.toml_edit_laws.proofs.reading.RunLaws.{Each-run, split_while-run}
+use Rattle.toml_edit_laws.proofs.reading.TokenLaws.{key_takes, key_again}
 use Rattle.toml_edit_key.specs.PathReading.{front, front_key, after_dot, segment, outer, keys_at, lone_at}
 use Rattle.toml_edit_key.proofs.PartLaws.{front_of}
 

@@ -5,7 +5,7 @@ use Rattle.toml_edit_model.specs.Text.{Text}
 use Rattle.toml_edit_model.specs.Trivia.{is_blank}
 use Rattle.toml_edit_model.specs.Tree.{Key, unset}
 use Rattle.toml_edit_model.specs.Lone.{path_key}
-use Rattle.toml_edit_syntax.specs.Runs.{split_while}
+use Rattle.toml_edit_laws.specs.reading.Runs.{split_while}
 use Rattle.toml_edit_key.specs.PathReading.{front_key, after_dot, segment, outer, keys_at, lone_at}
 use Rattle.toml_edit_key.proofs.PathLaws.{StepAt, Step, keys_step}
 

@@ -5,8 +5,8 @@ use Rattle.toml_edit_model.specs.Trivia.{is_blank}
 use Rattle.toml_edit_model.specs.Syntax.{Segment}
 use Rattle.toml_edit_model.specs.Tree.{Decor, unset, Key}
 use Rattle.toml_edit_model.specs.Lone.{some_text, path_key}
-use Rattle.toml_edit_syntax.specs.Runs.{first, split_while}
-use Rattle.toml_edit_syntax.specs.Tokens.{key_at}
+use Rattle.toml_edit_laws.specs.reading.Runs.{first, split_while}
+use Rattle.toml_edit_laws.specs.reading.Tokens.{key_at}
 
 -- what stands in the text before its rest
 abbrev pub front : Text → Text → Text

@@ -18,7 +18,7 @@ use std::fmt::{Formatter, Write};
 use std::hash::{Hash, Hasher};
 use std::marker::Model;
 use std::ops::Range;
-use toml_edit_syntax::write_string;
+use toml_edit_token::write_string;
 
 /// The spelling of a scalar or a key: a text, or a span of the source.
 #[derive(Debug, Drop)]

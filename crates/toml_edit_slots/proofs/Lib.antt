@@ -1,3 +1,2 @@
 -- Lemmas of this crate.
 pub mod SlotLaws
-pub mod SlotMaps

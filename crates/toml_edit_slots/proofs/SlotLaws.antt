@@ -1,8 +1,8 @@
 -- What a place says of the slots: its slot, and the slots once that one is another or gone.
-use Rattle.std.proofs.Common.{◌≡◌, Result, Ok, Err, OnOk, ℕ, zero, suc, ◌+◌, ◌<◌, false, cond, nat_lt, List, [], ◌∷◌, ◌++◌, Option, Some, None, option_map, length, get_or, set, remove, refl, sym, ap, subst, ◌∙◌, inl, inr, arith, rules, position, slice_get}
+use Rattle.std.proofs.Common.{◌≡◌, Result, Ok, Err, OnOk, ℕ, zero, suc, ◌+◌, ◌<◌, false, cond, nat_lt, List, [], ◌∷◌, ◌++◌, Option, Some, None, option_map, length, get_or, set, remove, refl, sym, ap, subst, ◌∙◌, inl, inr, arith, rules, position, slice_get, take, option_and_then}
 use Rattle.std.proofs.lemmas.Bool.{cases_Bool}
 use Rattle.std.proofs.lemmas.Cmp.{nat_list_eq_equiv}
-use Rattle.std.proofs.lemmas.Option.{none-some, same_Some}
+use Rattle.std.proofs.lemmas.Option.{none-some, same_Some, slice_get_cases, slice_get-get_or, slice_get_within, get_or_from_slice_get}
 use Rattle.std.specs.List.{position_or_len, IsDistinct, AllByRecursion}
 use Rattle.toml_edit_model.specs.Text.{Text, same_text}
 use Rattle.toml_edit_model.specs.Tree.{Key}
@@ -178,6 +178,47 @@ lookup-at t (s ∷ es) i h =
       | inl same ↦ let e : 0 ≡ i = same_Some 0 i (rw same at h) in rw (same, ← e) refl
       | inr other ↦ let (j, at, e) = some_next (place t es) i (rw other at h) in rw (other, e) (lookup-at t es j at)
     ]
+
+-- ---- what the calls answer of a place
+
+-- what holds of all names holds of the one at a place
+pub all_at : {T : Type 0} (P : Text → Type 0) (es : List (Slot T)) (i : ℕ) (d : Slot T) → i < length es → AllByRecursion P (names es) → P (get_or es i d).key.name
+all_at P [] i d h a = absurd (omega arith)
+all_at P (s ∷ es) zero d h a = a.0
+all_at P (s ∷ es) (suc i) d h a = all_at P es i d (omega arith) a.1
+
+-- a key of slots that are apart has no slot before its own
+pub place-apart : {T : Type 0} (es : List (Slot T)) (i : ℕ) (d : Slot T) → i < length es → AreApart es → place (get_or es i d).key.name (take i es) ≡ None
+unfolding IsDistinct
+place-apart [] i d h a = absurd (omega arith)
+place-apart (s ∷ es) zero d h a = refl
+place-apart (s ∷ es) (suc i) d h a =
+    let u = (get_or es i d).key.name in
+    let other : same_text u s.key.name ≡ false = nat_list_eq_equiv.symm u s.key.name ∙ all_at (λ y. same_text s.key.name y ≡ false) es i d (omega arith) a.0 in
+    rw (other, place-apart es i d (omega arith) a.1) refl
+
+-- a place is below the number of slots
+pub place-within : {T : Type 0} (t : Text) (es : List (Slot T)) (i : ℕ) → place t es ≡ Some i → i < length es
+place-within t [] i h = absurd (none-some i h)
+place-within t (s ∷ es) i h =
+    elim (cases_Bool (is_at t s)) [
+      | inl same ↦ let e : 0 ≡ i = same_Some 0 i (rw same at h) in omega (arith, e)
+      | inr other ↦ let (j, at, e) = some_next (place t es) i (rw other at h) in omega (arith, e, place-within t es j at)
+    ]
+
+-- the slot at the place, if there is one, is the one that is found
+pub slot-at : {T : Type 0} (t : Text) (es : List (Slot T)) (o : Option ℕ) → place t es ≡ o → option_and_then (slice_get es) o ≡ lookup_slot t es
+slot-at t es None h = sym (lookup_slot-absent t es h)
+slot-at t es (Some i) h =
+    elim (slice_get_cases es i).1 [
+      | inl (x, below, is, same) ↦ slice_get-get_or es i x below ∙ sym (lookup_slot-present t es i x h)
+      | inr (past, none) ↦ absurd (omega (arith, place-within t es i h))
+    ]
+
+-- no slot has the name of one before it
+pub apart-at : {T : Type 0} (es : List (Slot T)) (i : ℕ) (s : Slot T) → AreApart es → slice_get es i ≡ Some s → place s.key.name (take i es) ≡ None
+apart-at es i s a is =
+    subst (λ (x : Slot _). place x.key.name (take i es) ≡ None) (get_or_from_slice_get es i s s is) (place-apart es i s (slice_get_within es i s is) a)
 
 -- ---- another slot at a place, whose key has the name of the one there
 module _ {T : Type 0} where

@@ -6,6 +6,11 @@ use Rattle.toml_edit_model.specs.Tree.{Key}
 use Rattle.toml_edit_model.specs.SlotLists.{new_key, reset_key}
 use Rattle.toml_edit_slots.specs.declared.slots.Slot.{Slot}
 
+-- the place of the first of these texts that is this one
+abbrev pub place_in : Text → List Text → Option ℕ
+place_in t [] = None
+place_in t (u ∷ us) = if same_text t u then Some 0 else option_map suc (place_in t us)
+
 module _ {T : Type 0} where
   -- the slot is that of the text
   abbrev pub is_at : Text → Slot T → Bool
@@ -20,8 +25,7 @@ module _ {T : Type 0} where
 
   -- the place of the first slot of the text
   abbrev pub place : Text → List (Slot T) → Option ℕ
-  place t [] = None
-  place t (s ∷ es) = if is_at t s then Some 0 else option_map suc (place t es)
+  place t es = place_in t (names es)
 
   abbrev pub lookup_slot : Text → List (Slot T) → Option (Slot T)
   lookup_slot t [] = None

@@ -1,5 +1,5 @@
 //! The slots of a table: keys with their items, in order, where no two keys have one name.
-ghost use Rattle.std.specs.Prelude.{◌≡◌, ◌<◌, ◌↔◌, IsTrue, [], ◌∷◌, ◌++◌, None, Some, IsSome, IsOk, length, IfOk, IfErr, IfSome, OnOk, OnErr, slice_get, option_map, position};
+ghost use Rattle.std.specs.Prelude.{◌≡◌, ◌<◌, ◌↔◌, ℕ, IsTrue, [], ◌∷◌, ◌++◌, None, Some, IsSome, IsOk, length, IfOk, IfErr, IfSome, OnOk, OnErr, slice_get, option_and_then, option_map, position, take};
 ghost use Rattle.std.specs.Option.{ForSome, option_copied, option_copied_mut};
 
 use std::alloc::{AllocError, Global};
@@ -80,7 +80,8 @@ impl<T> Slots<T> {
     /// The slots in order.
     pub fn as_slice(&self) -> &[Slot<T>]
         ensures slots { result.now ≡ self.now }
-        ensures apart { AreApart self.now }
+        // No slot has the name of one before it.
+        ensures apart { (at : ℕ) → ForSome (slice_get self.now at) (λ slot. place slot.key.name (take at self.now) ≡ None) }
     {
         self.entries.as_slice()
     }
@@ -102,6 +103,7 @@ impl<T> Slots<T> {
     /// The place of the slot whose key has the name, if there is one.
     pub fn find(&self, text: &str) -> Option<usize>
         ensures place { result ≡ place text.now self.now }
+        ensures slot { option_and_then (slice_get self.now) result ≡ lookup_slot text.now self.now }
         ensures within { IfSome result (λ at. at < length self.now) }
     {
         Slots::place_in(&self.entries, text)

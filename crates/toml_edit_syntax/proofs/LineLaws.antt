@@ -1,151 +1,52 @@
--- What reads as a line is one, and a line is read again.
-use Rattle.std.proofs.Common.{◌≡◌, ℕ, suc, ◌-◌, Bool, true, false, ◌==◌, ◌&&◌, [], ◌∷◌, ◌++◌, ◌⊎◌, length, drop, take, Some, refl, sym, ap, subst, ◌∙◌, inl, inr, arith, append_assoc, append-nil, take_at, drop_at, eqb-true}
-use Rattle.std.specs.List.{prefix_len, list_all}
-use Rattle.std.proofs.lemmas.Bool.{cases_Bool, and_parts}
+-- What reads as a line is one, and a line is read again, up to a bracket that is one too many.
+use Rattle.std.proofs.Common.{◌≡◌, ℕ, suc, ◌+◌, ◌-◌, ◌*◌, List, [], ◌∷◌, ◌++◌, length, Option, Some, refl, sym, ap, subst, ◌∙◌, arith, append_assoc}
 use Rattle.std.proofs.lemmas.Bool.Decides.{nat_tests}
 use Rattle.std.proofs.lemmas.List.{length-append}
 use Rattle.toml_edit_model.specs.Text.{Text}
-use Rattle.toml_edit_model.specs.Trivia.{is_blank, is_visible, lf, crlf, comment, IsWhiteSpace, IsWholeTrivia, IsNewline, IsLineEnd}
-use Rattle.toml_edit_model.specs.Scalars.{Scalar}
-use Rattle.toml_edit_model.specs.Spelling.{SpellsKey, Spells}
-use Rattle.toml_edit_model.specs.Flat.{Line}
-use Rattle.toml_edit_syntax.specs.Runs.{first}
-use Rattle.toml_edit_syntax.specs.Tokens.{ends_key, key_at}
-use Rattle.toml_edit_syntax.specs.ScalarReading.{ends_scalar, scalar_at}
-use Rattle.toml_edit_syntax.specs.Reading.{front, equals_at, line_end_rest, newline_rest, entry_at}
-use Rattle.toml_edit_syntax.proofs.Steps.{chosen, bind_some, guard_some, starts, split_parts}
-use Rattle.toml_edit_syntax.proofs.RunLaws.{Each-run, prefix_len-run}
-use Rattle.toml_edit_syntax.proofs.TokenLaws.{key_takes, key_again, scalar_takes, scalar_again}
-use Rattle.toml_edit_syntax.proofs.Begins.{scalar_begins, begins_not}
+use Rattle.toml_edit_model.specs.Trivia.{is_blank, IsWhiteSpace, IsWholeTrivia, IsLineEnd}
+use Rattle.toml_edit_model.specs.Syntax.{Value, value_text, IsValue, depth, most}
+use Rattle.toml_edit_model.specs.Spelling.{SpellsKey}
+use Rattle.toml_edit_model.specs.Flat.{Line, line_frame}
+use Rattle.toml_edit_syntax.specs.declared.event.Event.{Event}
+use Rattle.toml_edit_laws.specs.reading.Tokens.{ends_key, key_at}
+use Rattle.toml_edit_syntax.specs.Scanning.{front, equals_at, line_end_rest, newline_rest}
+use Rattle.toml_edit_syntax.specs.ValueEvents.{frame_events, value_at_byte, value_events, shortened}
+use Rattle.toml_edit_syntax.specs.ValueReading.{Reading, got, follow, changed, behind, reading, trivia_at, value_at}
+use Rattle.toml_edit_syntax.specs.Reading.{key_frame, end_at, entry_at}
+use Rattle.toml_edit_laws.proofs.common.OptionSteps.{map_some}
+use Rattle.toml_edit_laws.proofs.reading.Begins.{key_begins}
+use Rattle.toml_edit_syntax.proofs.ValueLaws.{value_unlimited}
+use Rattle.toml_edit_laws.proofs.reading.TokenLaws.{key_takes, key_again}
+use Rattle.toml_edit_syntax.proofs.ScanningLaws.{front_is, front_of, blank_first, AreBlanks, equals_takes, equals_again, line_end_takes, line_end_again, line_end_first, IsEnding, newline_takes, newline_again, ending_first, ending_ends}
+use Rattle.toml_edit_syntax.proofs.ReadingSteps.{same_got, trivia_again, follow_got, changed_got, behind_got, reading_got}
+use Rattle.toml_edit_syntax.proofs.ValueTakes.{ValueTook, value_takes}
+use Rattle.toml_edit_syntax.proofs.ValueAgain.{value_begins, value_begins_not, outcome, has_room, behind_outcome, follow_outcome, value_reads}
 
--- what stands before the rest
-pub front_is : (t rest : Text) → front (t ++ rest) rest ≡ t
-front_is t rest =
-    let len : length t ≡ length (t ++ rest) - length rest = omega (arith, length-append t rest) in
-    take_at t rest _ len
+-- ---- the end of a line and its newline
 
-pub front_of : (text t rest : Text) → text ≡ t ++ rest → front text rest ≡ t
-front_of text t rest e = ap (λ (x : Text). front x rest) e ∙ front_is t rest
+pub record EndTook (t : Text) (e : Text × Text) (rest : Text) : Type 0 where
+  pub ends : IsLineEnd e.0
+  pub newline : IsEnding e.1 rest
+  pub parts : t ≡ e.0 ++ (e.1 ++ rest)
 
--- ---- between the parts
+pub end_takes : (t rest : Text) (e : Text × Text) → end_at t ≡ Some (e, rest) → EndTook t e rest
+end_takes t rest e h =
+    let last = line_end_rest t in
+    let (r, found, same) = map_some (newline_rest last) (λ (r : Text). ((front t last, front last r), r)) (e, rest) h in
+    let (lt, ends, lparts) = line_end_takes t in
+    let (nt, newline, nparts) = newline_takes last r found in
+    let both : ◌≡◌ {A = Text × Text} (lt, nt) (front t last, front last r) = ap (λ (x : Text). (x, nt)) (sym (front_of t lt last lparts)) ∙ ap (λ (x : Text). (front t last, x)) (sym (front_of last nt r nparts)) in
+    let made : EndTook t (lt, nt) r = record { ends = ends; newline = newline; parts = lparts ∙ ap (λ (x : Text). lt ++ x) nparts } in
+    subst (λ (y : (Text × Text) × Text). EndTook t y.0 y.1) same (subst (λ (x : Text × Text). EndTook t x r) both made)
 
--- what stands at the front of blanks and then of this
-blank_first : (p : ℕ → Bool) (b rest : Text) → ((c : ℕ) → is_blank c ≡ true → p c ≡ true) → IsWhiteSpace b → p (first rest) ≡ true → p (first (b ++ rest)) ≡ true
-blank_first p [] rest apart each h = h
-blank_first p (c ∷ cs) rest apart each h = apart c (and_parts (is_blank c) (list_all is_blank cs) each).0
-
--- the white space on both sides of `=`, and what they stand in
-abbrev pub AreBlanks : Text × Text → Text → Text → Type 0
-AreBlanks e text rest = IsWhiteSpace e.0 × IsWhiteSpace e.1 × (text ≡ e.0 ++ (61 ∷ (e.1 ++ rest)))
-
-pub equals_takes : (text rest : Text) (e : Text × Text) → equals_at text ≡ Some (e, rest) → AreBlanks e text rest
-unfolding equals_at
-equals_takes text rest e h =
-    let n = prefix_len is_blank text in
-    let after = drop 1 (drop n text) in
-    let m = prefix_len is_blank after in
-    let (sign, same) = guard_some (first (drop n text) == 61) ((take n text, take m after), drop m after) (e, rest) h in
-    let whole : text ≡ take n text ++ (61 ∷ (take m after ++ drop m after)) = split_parts is_blank text ∙ ap (λ (x : Text). take n text ++ x) (starts (drop n text) 61 sign (omega arith) ∙ ap (λ (x : Text). 61 ∷ x) (split_parts is_blank after)) in
-    subst (λ (y : (Text × Text) × Text). AreBlanks y.0 text y.1) same (Each-run is_blank text, Each-run is_blank after, whole)
-
-equals_again : (before after rest : Text) → IsWhiteSpace before → IsWhiteSpace after → is_blank (first rest) ≡ false
-    → equals_at (before ++ (61 ∷ (after ++ rest))) ≡ Some ((before, after), rest)
-unfolding equals_at
-equals_again before after rest a b stop =
-    rw (
-      prefix_len-run is_blank before (61 ∷ (after ++ rest)) a refl,
-      take_at before (61 ∷ (after ++ rest)) _ refl,
-      drop_at before (61 ∷ (after ++ rest)) _ refl,
-      prefix_len-run is_blank after rest b stop,
-      take_at after rest _ refl,
-      drop_at after rest _ refl,
-    ) refl
-
--- ---- the end of a line
-
-pub line_end_takes : (text : Text) → (t : Text) × IsLineEnd t × (text ≡ t ++ line_end_rest text)
-unfolding line_end_rest
-line_end_takes text =
-    let n = prefix_len is_blank text in
-    let after = drop 1 (drop n text) in
-    let m = prefix_len is_visible after in
-    elim (cases_Bool (first (drop n text) == 35)) [
-      | inl hash ↦
-          let body = comment (take m after) in
-          let whole : text ≡ take n text ++ (35 ∷ (take m after ++ drop m after)) = split_parts is_blank text ∙ ap (λ (x : Text). take n text ++ x) (starts (drop n text) 35 hash (omega arith) ∙ ap (λ (x : Text). 35 ∷ x) (split_parts is_visible after)) in
-          (take n text ++ body, (take n text, body, Each-run is_blank text, inr (take m after, Each-run is_visible after, refl), refl), rw hash (whole ∙ sym (append_assoc (take n text) body (drop m after))))
-      | inr none ↦ (take n text, (take n text, [], Each-run is_blank text, inl refl, sym (append-nil (take n text))), rw none (split_parts is_blank text))
-    ]
-
-line_end_again : (t rest : Text) → IsLineEnd t → is_visible (first rest) ≡ false → line_end_rest (t ++ rest) ≡ rest
-unfolding line_end_rest
-line_end_again t rest (white, none, each, inl empty, whole) stop =
-    let same : t ++ rest ≡ white ++ rest = ap (λ (x : Text). x ++ rest) (whole ∙ ap (λ (x : Text). white ++ x) empty ∙ append-nil white) in
-    let no_white : is_blank (first rest) ≡ false = grind (arith, nat_tests) in
-    let hash : (first rest == 35) ≡ false = grind (arith, nat_tests) in
-    rw (same, prefix_len-run is_blank white rest each no_white, drop_at white rest _ refl, hash) refl
-line_end_again t rest (white, last, each, inr (body, visible, is), whole) stop =
-    let same : t ++ rest ≡ white ++ (35 ∷ (body ++ rest)) = ap (λ (x : Text). x ++ rest) (whole ∙ ap (λ (x : Text). white ++ x) is) ∙ append_assoc white (comment body) rest in
-    rw (same, prefix_len-run is_blank white (35 ∷ (body ++ rest)) each refl, drop_at white (35 ∷ (body ++ rest)) _ refl, prefix_len-run is_visible body rest visible stop, drop_at body rest _ refl) refl
-
--- blanks and then what ends a scalar
-blank_ends : (b rest : Text) → IsWhiteSpace b → ends_scalar rest ≡ true → ends_scalar (b ++ rest) ≡ true
-blank_ends [] rest each h = h
-blank_ends (c ∷ cs) rest each h =
-    let (white, more) = and_parts (is_blank c) (list_all is_blank cs) each in
-    rw white (blank_ends cs rest more h)
-
-line_end_first : (t rest : Text) → IsLineEnd t → ends_scalar rest ≡ true → ends_scalar (t ++ rest) ≡ true
-line_end_first t rest (white, none, each, inl empty, whole) stop =
-    let same : t ++ rest ≡ white ++ rest = ap (λ (x : Text). x ++ rest) (whole ∙ ap (λ (x : Text). white ++ x) empty ∙ append-nil white) in
-    ap ends_scalar same ∙ blank_ends white rest each stop
-line_end_first t rest (white, last, each, inr (body, visible, is), whole) stop =
-    let same : t ++ rest ≡ white ++ (35 ∷ (body ++ rest)) = ap (λ (x : Text). x ++ rest) (whole ∙ ap (λ (x : Text). white ++ x) is) ∙ append_assoc white (comment body) rest in
-    ap ends_scalar same ∙ blank_ends white (35 ∷ (body ++ rest)) each refl
-
--- a newline, or nothing at the end
-abbrev pub IsEnding : Text → Text → Type 0
-IsEnding t rest = IsNewline t ⊎ ((t ≡ []) × (rest ≡ []))
-
-newline_takes : (text rest : Text) → newline_rest text ≡ Some rest → (t : Text) × IsEnding t rest × (text ≡ t ++ rest)
-unfolding newline_rest
-newline_takes [] rest e = ([], inr (refl, cc), cc)
-newline_takes (c ∷ cs) rest e =
-    elim (chosen (c == 10) (Some cs) _ (Some rest) e) [
-      | inl (is_lf, h) ↦
-          let after : cs ≡ rest = cc in
-          (10 ∷ [], inl (lf, refl), ap (λ (x : ℕ). x ∷ cs) (eqb-true c 10 is_lf) ∙ ap (λ (x : Text). 10 ∷ x) after)
-      | inr (other, h) ↦ elim (chosen (c == 13 && first cs == 10) (Some (drop 1 cs)) _ (Some rest) h) [
-        | inl (both, g) ↦
-            let (is_cr, is_lf) = and_parts (c == 13) (first cs == 10) both in
-            let same : drop 1 cs ≡ rest = cc in
-            (13 ∷ 10 ∷ [], inl (crlf, refl), ap (λ (x : ℕ). x ∷ cs) (eqb-true c 13 is_cr) ∙ ap (λ (x : Text). 13 ∷ x) (starts cs 10 is_lf (omega arith) ∙ ap (λ (x : Text). 10 ∷ x) same))
-        | inr (neither, g) ↦
-            let (ended, same) = guard_some (suc (length cs) == 0) (c ∷ cs) rest g in
-            absurd (omega (arith, eqb-true (suc (length cs)) 0 ended))
-      ]
-    ]
-
-newline_again : (t rest : Text) → IsEnding t rest → newline_rest (t ++ rest) ≡ Some rest
-unfolding newline_rest
-newline_again t rest (inl (lf, same)) = rw same refl
-newline_again t rest (inl (crlf, same)) = rw same refl
-newline_again t rest (inr (nothing, ended)) = rw (nothing, ended) refl
-
-ending_first : (t rest : Text) → IsEnding t rest → is_visible (first (t ++ rest)) ≡ false
-ending_first t rest (inl (lf, same)) = rw same refl
-ending_first t rest (inl (crlf, same)) = rw same refl
-ending_first t rest (inr (nothing, ended)) = rw (nothing, ended) refl
-
-ending_ends : (t rest : Text) → IsEnding t rest → ends_scalar (t ++ rest) ≡ true
-ending_ends t rest (inl (lf, same)) = rw same refl
-ending_ends t rest (inl (crlf, same)) = rw same refl
-ending_ends t rest (inr (nothing, ended)) = rw (nothing, ended) refl
+pub end_again : (t e rest : Text) → IsLineEnd t → IsEnding e rest → end_at (t ++ (e ++ rest)) ≡ Some ((t, e), rest)
+end_again t e rest ends newline =
+    rw (line_end_again t (e ++ rest) ends (ending_first e rest newline), newline_again e rest newline, front_is t (e ++ rest), front_is e rest) refl
 
 -- ---- a line behind its trivia
 
 abbrev pub line_text : Line → Text
-line_text l = l.leading ++ (l.spelled ++ (l.before_equals ++ (61 ∷ (l.after_equals ++ (l.spelling ++ (l.trailing ++ l.end))))))
+line_text l = l.leading ++ (l.spelled ++ (l.before_equals ++ (61 ∷ (l.after_equals ++ (value_text l.value ++ (l.trailing ++ l.end))))))
 
 -- the line in the grammar, but for its end
 pub record IsLine (l : Line) : Type 0 where
@@ -153,7 +54,7 @@ pub record IsLine (l : Line) : Type 0 where
   pub key : SpellsKey l.key l.spelled
   pub before_equals : IsWhiteSpace l.before_equals
   pub after_equals : IsWhiteSpace l.after_equals
-  pub value : Spells l.value l.spelling
+  pub value : IsValue l.value
   pub trailing : IsLineEnd l.trailing
 
 -- a line at the front, and what ends it
@@ -162,83 +63,141 @@ Entry text l rest = IsLine l × IsEnding l.end rest × (text ≡ line_text l ++ 
 
 -- the parts behind the trivia, and then this
 abbrev pub tail_text : Line → Text → Text
-tail_text l rest = l.spelled ++ (l.before_equals ++ (61 ∷ (l.after_equals ++ (l.spelling ++ (l.trailing ++ (l.end ++ rest))))))
+tail_text l rest = l.spelled ++ (l.before_equals ++ (61 ∷ (l.after_equals ++ (value_text l.value ++ (l.trailing ++ (l.end ++ rest))))))
 
 pub line_then : (l : Line) (rest : Text) → line_text l ++ rest ≡ l.leading ++ tail_text l rest
 line_then l rest = simp append_assoc
 
-entry_made : (leading text : Text) (k : Text × Text) (e : (Text × Text) × Text) (v : Scalar × Text) (rest : Text)
-    → IsWholeTrivia leading → key_at text ≡ Some k → equals_at k.1 ≡ Some e → scalar_at e.1 ≡ Some v → newline_rest (line_end_rest v.1) ≡ Some rest
-    → Entry (leading ++ text) (record {
-      leading = leading;
-      key = k.0;
-      spelled = front text k.1;
-      before_equals = e.0.0;
-      after_equals = e.0.1;
-      value = v.0;
-      spelling = front e.1 v.1;
-      trailing = front v.1 (line_end_rest v.1);
-      end = front (line_end_rest v.1) rest;
-    }) rest
-entry_made leading text k e v rest whole hk he hv hn =
-    let (kt, key, kparts) = key_takes text k.1 k.0 hk in
-    let (before, after, eparts) = equals_takes k.1 e.1 e.0 he in
-    let (vt, value, vparts) = scalar_takes e.1 v.1 v.0 hv in
-    let (lt, ends, lparts) = line_end_takes v.1 in
-    let (nt, newline, nparts) = newline_takes (line_end_rest v.1) rest hn in
-    let k-is = sym (front_of text kt k.1 kparts) in
-    let v-is = sym (front_of e.1 vt v.1 vparts) in
-    let l-is = sym (front_of v.1 lt (line_end_rest v.1) lparts) in
-    let n-is = sym (front_of (line_end_rest v.1) nt rest nparts) in
-    let regroup : leading ++ (kt ++ (e.0.0 ++ (61 ∷ (e.0.1 ++ (vt ++ (lt ++ (nt ++ rest)))))))
-    ≡ (leading ++ (kt ++ (e.0.0 ++ (61 ∷ (e.0.1 ++ (vt ++ (lt ++ nt))))))) ++ rest = simp append_assoc in
-    let parts : leading ++ text ≡ (leading ++ (kt ++ (e.0.0 ++ (61 ∷ (e.0.1 ++ (vt ++ (lt ++ nt))))))) ++ rest =
-    ap (λ (x : Text). leading ++ x) (kparts ∙ ap (λ (x : Text). kt ++ x) (eparts ∙ ap (λ (x : Text). e.0.0 ++ (61 ∷ (e.0.1 ++ x))) (vparts ∙ ap (λ (x : Text). vt ++ x) (lparts ∙ ap (λ (x : Text). lt ++ x) nparts)))) ∙ regroup in
-    subst (λ (x : Text). Entry (leading ++ text) (record { leading = leading; key = k.0; spelled = x; before_equals = e.0.0; after_equals = e.0.1; value = v.0; spelling = front e.1 v.1; trailing = front v.1 (line_end_rest v.1); end = front (line_end_rest v.1) rest }) rest) k-is
-    (subst (λ (x : Text). Entry (leading ++ text) (record { leading = leading; key = k.0; spelled = kt; before_equals = e.0.0; after_equals = e.0.1; value = v.0; spelling = x; trailing = front v.1 (line_end_rest v.1); end = front (line_end_rest v.1) rest }) rest) v-is
-    (subst (λ (x : Text). Entry (leading ++ text) (record { leading = leading; key = k.0; spelled = kt; before_equals = e.0.0; after_equals = e.0.1; value = v.0; spelling = vt; trailing = x; end = front (line_end_rest v.1) rest }) rest) l-is
-    (subst (λ (x : Text). Entry (leading ++ text) (record { leading = leading; key = k.0; spelled = kt; before_equals = e.0.0; after_equals = e.0.1; value = v.0; spelling = vt; trailing = lt; end = x }) rest) n-is
-    (record { leading = whole; key = key; before_equals = before; after_equals = after; value = value; trailing = ends }, newline, parts))))
+pub line_length : (l : Line) → length (line_text l) ≡ length l.leading + (length l.spelled + (length l.before_equals + (1 + (length l.after_equals + (length (value_text l.value) + (length l.trailing + length l.end))))))
+line_length l =
+    let v = value_text l.value in
+    omega (
+      arith,
+      length-append l.leading (l.spelled ++ (l.before_equals ++ (61 ∷ (l.after_equals ++ (v ++ (l.trailing ++ l.end)))))),
+      length-append l.spelled (l.before_equals ++ (61 ∷ (l.after_equals ++ (v ++ (l.trailing ++ l.end))))),
+      length-append l.before_equals (61 ∷ (l.after_equals ++ (v ++ (l.trailing ++ l.end)))),
+      length-append l.after_equals (v ++ (l.trailing ++ l.end)),
+      length-append v (l.trailing ++ l.end),
+      length-append l.trailing l.end,
+    )
 
-pub entry_takes : (leading text : Text) (l : Line) (rest : Text) → IsWholeTrivia leading → entry_at leading text ≡ Some (l, rest) → Entry (leading ++ text) l rest
-unfolding entry_at
-entry_takes leading text l rest whole h =
-    let (k, hk, h1) = bind_some (key_at text) _ (l, rest) h in
-    let (e, he, h2) = bind_some (equals_at k.1) _ (l, rest) h1 in
-    let (v, hv, h3) = bind_some (scalar_at e.1) _ (l, rest) h2 in
-    let (r, hr, h4) = bind_some (newline_rest (line_end_rest v.1)) _ (l, rest) h3 in
-    let made : Line = record {
+-- the line with these parts
+abbrev made_line : Text → Text → Text → Text × Text → Value → Text × Text → Line
+made_line leading key spelled white v e =
+    record {
       leading = leading;
-      key = k.0;
-      spelled = front text k.1;
-      before_equals = e.0.0;
-      after_equals = e.0.1;
-      value = v.0;
-      spelling = front e.1 v.1;
-      trailing = front v.1 (line_end_rest v.1);
-      end = front (line_end_rest v.1) r;
-    } in
-    let same : ◌≡◌ {A = Line × Text} (made, r) (l, rest) = cc in
-    subst (λ (y : Line × Text). Entry (leading ++ text) y.0 y.1) same (entry_made leading text k e v r whole hk he hv hr)
+      key = key;
+      spelled = spelled;
+      before_equals = white.0;
+      after_equals = white.1;
+      value = v;
+      trailing = e.0;
+      end = e.1;
+    }
 
-pub entry_again : (l : Line) (rest : Text) → IsLine l → IsEnding l.end rest → entry_at l.leading (tail_text l rest) ≡ Some (l, rest)
+regroup : (a b c d v e f rest : Text) → a ++ (b ++ (c ++ (61 ∷ (d ++ (v ++ (e ++ (f ++ rest))))))) ≡ (a ++ (b ++ (c ++ (61 ∷ (d ++ (v ++ (e ++ f))))))) ++ rest
+regroup a b c d v e f rest = simp append_assoc
+
+entry_made : (leading text key after_key : Text) (white : Text × Text) (t : Text) (v : Value) (after : Text) (e : Text × Text) (rest : Text)
+    → IsWholeTrivia leading → key_at text ≡ Some (key, after_key) → AreBlanks white after_key t → ValueTook 0 t v after → EndTook after e rest
+    → Entry (leading ++ text) (made_line leading key (front text after_key) white v e) rest
+entry_made leading text key after_key white t v after e rest whole found (before, behind_sign, blanks) here ending =
+    let (kt, spells, kparts) = key_takes text after_key key found in
+    let is = sym (front_of text kt after_key kparts) in
+    let parts : leading ++ text ≡ line_text (made_line leading key kt white v e) ++ rest =
+    ap (λ (x : Text). leading ++ x) (kparts ∙ ap (λ (x : Text). kt ++ x) (blanks ∙ ap (λ (x : Text). white.0 ++ (61 ∷ (white.1 ++ x))) (here.parts ∙ ap (λ (x : Text). value_text v ++ x) ending.parts)))
+    ∙ regroup leading kt white.0 white.1 (value_text v) e.0 e.1 rest in
+    let made : Entry (leading ++ text) (made_line leading key kt white v e) rest =
+    (record { leading = whole; key = spells; before_equals = before; after_equals = behind_sign; value = here.is; trailing = ending.ends }, ending.newline, parts) in
+    subst (λ (x : Text). Entry (leading ++ text) (made_line leading key x white v e) rest) is made
+
+pub entry_takes : (at : ℕ) (leading text : Text) (l : Line) (rest : Text) → IsWholeTrivia leading → entry_at at leading text ≡ got l rest → Entry (leading ++ text) l rest
 unfolding entry_at
-entry_again l rest is ending =
-    let r4 = l.trailing ++ (l.end ++ rest) in
-    let r3 = l.spelling ++ r4 in
-    let r2 = l.before_equals ++ (61 ∷ (l.after_equals ++ r3)) in
-    let ends = ending_first l.end rest ending in
-    let past_value = line_end_first l.trailing (l.end ++ rest) is.trailing (ending_ends l.end rest ending) in
-    let past_space = begins_not is_blank l.spelling r4 (λ c h. grind (arith, nat_tests)) (scalar_begins l.value l.spelling is.value) in
-    let past_key = blank_first (λ c. ends_key (c ∷ [])) l.before_equals (61 ∷ (l.after_equals ++ r3)) (λ c h. grind (arith, nat_tests)) is.before_equals refl in
+entry_takes at leading text l rest whole h =
+    let (key, after_key, found_key, h1) = follow_got (reading (key_at text)) _ l rest h in
+    let (white, t, found_sign, h2) = follow_got (reading (equals_at after_key)) _ l rest h1 in
+    let start = at + (length text + length leading) - length t in
+    let (v, after, found, h3) = follow_got (value_at (2 * length t + 2) 0 start t) _ l rest (behind_got (frame_events at (key_frame leading key (front text after_key) white)) _ l rest h2) in
+    let (e, ended, same) = changed_got (made_line leading key (front text after_key) white v) (reading (end_at after)) l rest h3 in
+    let here = value_takes (2 * length t + 2) 0 start t v after (omega arith) found in
+    subst (λ (y : Line). Entry (leading ++ text) y rest) same
+    (entry_made leading text key after_key white t v after e rest whole (reading_got (key_at text) key after_key found_key) (equals_takes after_key t white (reading_got (equals_at after_key) white t found_sign)) here
+    (end_takes after rest e (reading_got (end_at after) e rest ended)))
+
+-- ---- a line is read again
+
+-- what stands behind the key and its sign, and then this
+abbrev value_tail : Line → Text → Text
+value_tail l rest = value_text l.value ++ (l.trailing ++ (l.end ++ rest))
+
+abbrev value_then : Line → Value → Text → Reading Line
+value_then l v after = changed (made_line l.leading l.key l.spelled (l.before_equals, l.after_equals) v) (reading (end_at after))
+
+entry_open : (at : ℕ) (l : Line) (rest : Text) → IsLine l
+    → entry_at at l.leading (tail_text l rest)
+    ≡ behind (frame_events at (line_frame l)) (follow (value_at (2 * length (value_tail l rest) + 2) 0 (at + (length (tail_text l rest) + length l.leading) - length (value_tail l rest)) (value_tail l rest)) (value_then l))
+unfolding entry_at
+entry_open at l rest is =
+    let t = value_tail l rest in
+    let past_space = value_begins_not is_blank (value_text l.value) (l.trailing ++ (l.end ++ rest)) (λ c h. grind (arith, nat_tests)) (value_begins l.value is.value) in
+    let past_key = blank_first (λ c. ends_key (c ∷ [])) l.before_equals (61 ∷ (l.after_equals ++ t)) (λ c h. grind (arith, nat_tests)) is.before_equals refl in
     rw (
-      key_again l.key l.spelled r2 is.key past_key,
-      equals_again l.before_equals l.after_equals r3 is.before_equals is.after_equals past_space,
-      scalar_again l.value l.spelling r4 is.value past_value,
-      line_end_again l.trailing (l.end ++ rest) is.trailing ends,
-      newline_again l.end rest ending,
-      front_is l.spelled r2,
-      front_is l.spelling r4,
-      front_is l.trailing (l.end ++ rest),
-      front_is l.end rest,
+      key_again l.key l.spelled (l.before_equals ++ (61 ∷ (l.after_equals ++ t))) is.key past_key,
+      equals_again l.before_equals l.after_equals t is.before_equals is.after_equals past_space,
+      front_is l.spelled (l.before_equals ++ (61 ∷ (l.after_equals ++ t))),
     ) refl
+
+value_place : (at : ℕ) (l : Line) (rest : Text) → at + (length (tail_text l rest) + length l.leading) - length (value_tail l rest) ≡ value_at_byte at (line_frame l)
+value_place at l rest =
+    let t = value_tail l rest in
+    omega (arith, length-append l.spelled (l.before_equals ++ (61 ∷ (l.after_equals ++ t))), length-append l.before_equals (61 ∷ (l.after_equals ++ t)), length-append l.after_equals t, length-append l.spelled [])
+
+-- the events of a line up to its end, up to a bracket that is one too many
+abbrev pub entry_events : ℕ → Line → List Event
+entry_events at l = frame_events at (line_frame l) ++ shortened 0 (value_events (value_at_byte at (line_frame l)) l.value)
+
+pub entry_reads : (at : ℕ) (l : Line) (rest : Text) → IsLine l → IsEnding l.end rest → entry_at at l.leading (tail_text l rest) ≡ outcome (has_room 0 (depth l.value)) l rest (entry_events at l)
+entry_reads at l rest is ending =
+    let t = value_tail l rest in
+    let start = value_at_byte at (line_frame l) in
+    let fits = has_room 0 (depth l.value) in
+    let vs = shortened 0 (value_events start l.value) in
+    let more = l.trailing ++ (l.end ++ rest) in
+    let past_value = line_end_first l.trailing (l.end ++ rest) is.trailing (ending_ends l.end rest ending) in
+    let read = value_reads (2 * length t + 2) l.value 0 start more is.value past_value (omega arith) in
+    let last : value_then l l.value more ≡ got l rest = ap (λ (o : Option ((Text × Text) × Text)). changed (made_line l.leading l.key l.spelled (l.before_equals, l.after_equals) l.value) (reading o)) (end_again l.trailing l.end rest is.trailing ending) in
+    entry_open at l rest is
+    ∙ ap (λ (n : ℕ). behind (frame_events at (line_frame l)) (follow (value_at (2 * length t + 2) 0 n t) (value_then l))) (value_place at l rest)
+    ∙ ap (λ (r : Reading Value). behind (frame_events at (line_frame l)) (follow r (value_then l))) read
+    ∙ ap (behind (frame_events at (line_frame l))) (follow_outcome (value_then l) fits l.value more vs l rest last)
+    ∙ behind_outcome (frame_events at (line_frame l)) fits l rest vs
+
+-- ---- two lines at the front of a text are one
+
+-- a line at the front, where no bracket is one too many
+line_at : Text → Reading Line
+line_at text =
+    follow (trivia_at text) (λ leading t. follow (reading (key_at t)) (λ key rest. follow (reading (equals_at rest)) (λ white u.
+    follow (value_at (2 * length u) (suc most) 0 u) (λ v after. changed (made_line leading key (front t rest) white v) (reading (end_at after))))))
+
+line_again : (l : Line) (rest : Text) → IsLine l → IsEnding l.end rest → line_at (line_text l ++ rest) ≡ got l rest
+unfolding line_at
+line_again l rest is ending =
+    let t = value_tail l rest in
+    let r2 = l.before_equals ++ (61 ∷ (l.after_equals ++ t)) in
+    let past_space = value_begins_not is_blank (value_text l.value) (l.trailing ++ (l.end ++ rest)) (λ c h. grind (arith, nat_tests)) (value_begins l.value is.value) in
+    let past_key = blank_first (λ c. ends_key (c ∷ [])) l.before_equals (61 ∷ (l.after_equals ++ t)) (λ c h. grind (arith, nat_tests)) is.before_equals refl in
+    let past_value = line_end_first l.trailing (l.end ++ rest) is.trailing (ending_ends l.end rest ending) in
+    let (c, cs, begins, opening) = key_begins l.key l.spelled is.key in
+    rw (
+      line_then l rest,
+      trivia_again l.leading (l.spelled ++ r2) c (cs ++ r2) is.leading (ap (λ (x : Text). x ++ r2) begins) (grind (arith, nat_tests)),
+      key_again l.key l.spelled r2 is.key past_key,
+      equals_again l.before_equals l.after_equals t is.before_equals is.after_equals past_space,
+      front_is l.spelled r2,
+      value_unlimited (2 * length t) 0 l.value (l.trailing ++ (l.end ++ rest)) is.value past_value (omega arith),
+      end_again l.trailing l.end rest is.trailing ending,
+    ) refl
+
+pub one_line : (l m : Line) (rest more : Text) → IsLine l → IsLine m → IsEnding l.end rest → IsEnding m.end more → line_text l ++ rest ≡ line_text m ++ more → (l ≡ m) × (rest ≡ more)
+one_line l m rest more is other ending last same = same_got l m rest more (sym (line_again l rest is ending) ∙ ap line_at same ∙ line_again m more other last)

@@ -4,11 +4,11 @@ use Rattle.std.proofs.lemmas.Bool.{and_parts, and_from, or_cases, cases_eq, fals
 use Rattle.std.proofs.lemmas.Bool.Decides.{nat_tests}
 use Rattle.std.proofs.lemmas.List.{drop_more, drop_all, length-append}
 use Rattle.std.specs.List.{flat_map, AllByRecursion, list_all}
-use Rattle.toml_edit_syntax.specs.Runs.{first}
+use Rattle.toml_edit_laws.specs.reading.Runs.{first}
 use Rattle.toml_edit_model.specs.Text.{Text}
 use Rattle.toml_edit_model.specs.Trivia.{is_blank, is_visible, Each, Newline, lf, crlf, newline_text, comment, Piece, blank, break, remark, piece_text, IsPiece, IsWholeTrivia}
-use Rattle.toml_edit_syntax.specs.Reading.{turn, scan}
-use Rattle.toml_edit_syntax.proofs.Steps.{chosen}
+use Rattle.toml_edit_syntax.specs.Scanning.{turn, scan}
+use Rattle.toml_edit_laws.proofs.reading.Steps.{chosen}
 
 -- ---- the loop, a turn at a time
 

@@ -1,16 +1,31 @@
 -- How a result stands to what reading gives.
-use Rattle.std.specs.Prelude.{◌≡◌, List, Option, Some, None, Result, Vec, MatchResult}
+use Rattle.std.specs.Prelude.{◌≡◌, ℕ, List, Option, Some, None, Result, MatchResult}
 use Rattle.std.specs.Borrow.{Bor}
-use Rattle.std.specs.Global.{Global}
 use Rattle.toml_edit_syntax.specs.declared.event.Event.{Event}
 use Rattle.toml_edit_syntax.specs.declared.lexer.Stop.{Stop}
-use Rattle.toml_edit_syntax.specs.declared.lexer.Stop.TheVariants.{Memory}
+use Rattle.toml_edit_syntax.specs.declared.lexer.Stop.TheVariants.{Memory, Before, TooDeep}
 use Rattle.toml_edit_model.specs.Text.{Text}
+use Rattle.toml_edit_syntax.specs.ValueReading.{Reading, got, deep, wrong}
+use Rattle.toml_edit_syntax.specs.EventReading.{preceded}
 
 -- The result, seen by `view`, is the value and the text after it that reading gives, and an error where it gives none.
 abbrev pub Reads : {A B E : Type 0} → (A → B) → Result (A × Bor Text) E → Option (B × Text) → Type 0
 Reads view r expected = MatchResult r (λ p. expected ≡ Some (view p.0, p.1.now)) (λ _. expected ≡ None)
 
--- the result has the events that reading gives, unless memory ran out
-abbrev pub GivesEvents : Result (Vec Event Global) Stop → Option (List Event) → Type 0
-GivesEvents r expected = MatchResult r (λ v. expected ≡ Some v.items) (λ e. (e ≡ Memory → ⊥) → expected ≡ None)
+-- reading stops so, where these are the events up to there
+abbrev pub StopsAs : List Event → Reading (List Event) → Stop → Type 0
+StopsAs es expected Memory = Unit {0}
+StopsAs es expected (Before left) = expected ≡ wrong
+StopsAs es expected TooDeep = expected ≡ deep es
+
+-- the text is not one that is read
+abbrev pub IsBefore : Stop → Type 0
+IsBefore stop = (left : ℕ) × (stop ≡ Before left)
+
+-- The result is the text after what was read, and these are its events; at a bracket that is one too many, those up to there.
+abbrev pub Leaves : List Event → Result (Bor Text) Stop → Reading (List Event) → Type 0
+Leaves es result expected = MatchResult result (λ rest. expected ≡ got es rest.now) (λ stop. StopsAs es expected stop)
+
+-- the events that reading gives were added
+abbrev pub Adds : List Event → List Event → Result (Bor Text) Stop → Reading (List Event) → Type 0
+Adds old new result expected = Leaves new result (preceded old expected)

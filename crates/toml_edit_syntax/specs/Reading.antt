@@ -1,162 +1,98 @@
--- Reading a text from left to right, and the events that the parts make.
-use Rattle.std.specs.Prelude.{ℕ, zero, suc, ◌+◌, ◌-◌, Bool, true, false, not, ◌&&◌, ◌||◌, ◌==◌, if◌then◌else◌, List, [], ◌∷◌, ◌++◌, length, take, drop, slice_index, Option, Some, None, is_some, unwrap_or, option_map, option_and_then}
+-- Reading a text from left to right.
+use Rattle.std.specs.Prelude.{ℕ, zero, suc, ◌+◌, ◌*◌, ◌-◌, Bool, false, ◌&&◌, ◌==◌, if◌then◌else◌, List, [], ◌∷◌, ◌++◌, length, map, take, drop, slice_index, Option, Some, None, option_map}
 use Rattle.toml_edit_model.specs.Text.{Text}
-use Rattle.toml_edit_model.specs.Trivia.{is_blank, is_visible}
-use Rattle.toml_edit_model.specs.Syntax.{Document}
-use Rattle.toml_edit_model.specs.Flat.{Line, flat_document}
-use Rattle.toml_edit_syntax.specs.declared.event.EventKind.TheVariants.{Leading, Key, BeforeEquals, AfterEquals, Scalar, LineEnd, Final}
+use Rattle.toml_edit_model.specs.Trivia.{is_blank}
+use Rattle.toml_edit_model.specs.Syntax.{Frame, Value, Document, mark_text}
+use Rattle.toml_edit_model.specs.Flat.{Line, line_frame, line_statement, flat_document}
+use Rattle.toml_edit_syntax.specs.declared.event.EventKind.TheVariants.{Final}
 use Rattle.toml_edit_syntax.specs.declared.event.Event.{Event}
-use Rattle.toml_edit_syntax.specs.declared.line.LinePlaces.{LinePlaces}
-use Rattle.toml_edit_syntax.specs.Events.{event}
-use Rattle.toml_edit_syntax.specs.Runs.{first, split_while}
-use Rattle.toml_edit_syntax.specs.Tokens.{key_at}
-use Rattle.toml_edit_syntax.specs.ScalarReading.{scalar_at}
-
-infixl 10 ◌>>=◌
-abbrev pub ◌>>=◌ : {A B : Type 0} → Option A → (A → Option B) → Option B
-o >>= f = option_and_then f o
-
--- what stands before this rest
-abbrev pub front : Text → Text → Text
-front t rest = take (length t - length rest) t
-
--- ---- trivia
-
--- whether a comment has begun after the byte c, which `next` follows; none where trivia stops
-abbrev pub turn : Bool → ℕ → ℕ → Option Bool
-turn inside c next =
-    if c == 10 || (c == 13 && next == 10) then Some false
-    else if (if inside then is_visible c else is_blank c) then Some inside
-    else if not inside && c == 35 then Some true
-    else None
-
--- how far trivia goes, and whether it stops inside a comment
-unfoldable pub scan : Bool → Text → ℕ × Bool
-scan inside [] = (0, inside)
-scan inside (c ∷ cs) =
-    let state = turn inside c (first cs) in
-    if is_some state then (suc (scan (unwrap_or state false) cs).0, (scan (unwrap_or state false) cs).1) else (0, inside)
-
--- behind white space and a comment
-unfoldable pub line_end_rest : Text → Text
-line_end_rest t =
-    let rest = (split_while is_blank t).1 in
-    if first rest == 35 then (split_while is_visible (drop 1 rest)).1 else rest
-
--- behind a newline, or at the end
-unfoldable pub newline_rest : Text → Option Text
-newline_rest t =
-    if first t == 10 then Some (drop 1 t)
-    else if first t == 13 && slice_index t 1 == 10 then Some (drop 2 t)
-    else if length t == 0 then Some t
-    else None
+use Rattle.toml_edit_laws.specs.reading.Runs.{first, split_while, Read}
+use Rattle.toml_edit_laws.specs.reading.Tokens.{key_at}
+use Rattle.toml_edit_syntax.specs.Scanning.{front, scan, line_end_rest, newline_rest, equals_at}
+use Rattle.toml_edit_syntax.specs.ValueEvents.{event, frame_events, value_events}
+use Rattle.toml_edit_syntax.specs.ValueReading.{Reading, got, deep, wrong, follow, changed, behind, reading, value_at}
+use Rattle.toml_edit_syntax.specs.Events.{line_events, events_from, events_of}
 
 -- ---- lines
 
--- the white space before `=`, and the white space after it
-unfoldable pub equals_at : Text → Option ((Text × Text) × Text)
-equals_at t =
-    let before = split_while is_blank t in
-    let after = split_while is_blank (drop 1 before.1) in
-    if first before.1 == 61 then Some ((before.0, after.0), after.1) else None
-
--- the rest of a line behind its trivia
-unfoldable pub entry_at : Text → Text → Option (Line × Text)
-entry_at leading t = do
-  k ← key_at t
-  e ← equals_at k.1
-  v ← scalar_at e.1
-  rest ← newline_rest (line_end_rest v.1)
-  Some (
+-- a line up to its value, of a simple key that is spelled so, with this white space round `=`
+abbrev pub key_frame : Text → Text → Text → Text × Text → Frame
+key_frame leading key spelled white =
     record {
       leading = leading;
-      key = k.0;
-      spelled = front t k.1;
-      before_equals = e.0.0;
-      after_equals = e.0.1;
-      value = v.0;
-      spelling = front e.1 v.1;
-      trailing = front v.1 (line_end_rest v.1);
-      end = front (line_end_rest v.1) rest;
-    },
-    rest,
-  )
+      path = record { before = []; key = key; spelled = spelled; after = [] } ∷ [];
+      before_equals = white.0;
+      after_equals = white.1;
+      trailing = [];
+    }
 
--- the lines of a text of fewer than n lines, and its final trivia
-unfoldable pub lines_at : ℕ → Text → Option (List Line × Text)
-lines_at zero t = None
-lines_at (suc n) t =
+-- what follows a value in its line, and the newline
+abbrev pub end_at : Text → Read (Text × Text)
+end_at t = option_map (λ rest. ((front t (line_end_rest t), front (line_end_rest t) rest), rest)) (newline_rest (line_end_rest t))
+
+-- the rest of a line behind its trivia, which begins at this byte
+unfoldable pub entry_at : ℕ → Text → Text → Reading Line
+entry_at at leading t =
+    follow (reading (key_at t)) (λ key rest. follow (reading (equals_at rest)) (λ white value.
+    let start = at + (length t + length leading) - length value in
+    behind (frame_events at (key_frame leading key (front t rest) white)) (follow (value_at (2 * length value + 2) 0 start value) (λ v after. changed (λ e. record {
+      leading = leading;
+      key = key;
+      spelled = front t rest;
+      before_equals = white.0;
+      after_equals = white.1;
+      value = v;
+      trailing = e.0;
+      end = e.1;
+    }) (reading (end_at after))))))
+
+-- the lines of a text of fewer than n lines, which begins at this byte, and its final trivia
+unfoldable pub lines_at : ℕ → ℕ → Text → Reading (List Line)
+lines_at zero at t = wrong
+lines_at (suc n) at t =
     let len = (scan false t).0 in
-    if length (drop len t) == 0 then Some ([], t)
-    else if (scan false t).1 then None
-    else entry_at (take len t) (drop len t) >>= (λ e. option_map (λ c. (e.0 ∷ c.0, c.1)) (lines_at n e.1))
+    if length (drop len t) == 0 then got [] t
+    else if (scan false t).1 then wrong
+    else follow (entry_at at (take len t) (drop len t)) (λ l rest.
+    behind (line_events at (line_frame l) l.value) (changed (λ ls. l ∷ ls) (lines_at n (at + (length t - length rest)) rest)))
 
 abbrev pub is_marked : Text → Bool
 is_marked t = (first t == 0xEF && slice_index t 1 == 0xBB) && slice_index t 2 == 0xBF
 
-unfoldable pub cut_of : Text → Option Document
+-- the flat cut of a whole text
+unfoldable pub cut_of : Text → Reading Document
 cut_of t =
-    option_map (λ c. flat_document (is_marked t) c.0 c.1)
-    (lines_at (suc (length t)) (if is_marked t then drop 3 t else t))
+    follow (lines_at (suc (length t)) (length (mark_text (is_marked t))) (if is_marked t then drop 3 t else t))
+    (λ ls final. got (flat_document (is_marked t) ls final) [])
 
--- ---- places
+-- ---- events
 
--- the places of a line's parts, where the line begins at this byte
-abbrev pub places_of : ℕ → Line → LinePlaces
-places_of at l =
-    let key = at + length l.leading in
-    let before_equals = key + length l.spelled in
-    let equals = before_equals + length l.before_equals in
-    let value = equals + 1 + length l.after_equals in
-    let line_end = value + length l.spelling in
-    record {
-      leading = at;
-      key = key;
-      before_equals = before_equals;
-      equals = equals;
-      after_equals = equals + 1;
-      value = value;
-      line_end = line_end;
-      end = line_end + length l.trailing;
-    }
+-- the parts of these lines, of which the first begins at this byte, and of the final trivia of a text of so many bytes
+abbrev pub events_with_final : ℕ → ℕ → List Line → Text → List Event
+events_with_final whole at ls final = events_from at (map line_statement ls) ++ event Final (whole - length final) final ∷ []
 
--- the rest of a line behind `leading` bytes of trivia, where the whole text has so many bytes: its places alone
-unfoldable pub places_at : ℕ → ℕ → Text → Option (LinePlaces × Text)
-places_at whole leading t = do
-  key_rest ← option_map (λ p. p.1) (key_at t)
-  e ← equals_at key_rest
-  value_rest ← option_map (λ p. p.1) (scalar_at e.1)
-  rest ← newline_rest (line_end_rest value_rest)
-  Some (
-    record {
-      leading = whole - length t - leading;
-      key = whole - length t;
-      before_equals = whole - length key_rest;
-      equals = whole - length key_rest + length e.0.0;
-      after_equals = whole - length key_rest + length e.0.0 + 1;
-      value = whole - length e.1;
-      line_end = whole - length value_rest;
-      end = whole - length (line_end_rest value_rest);
-    },
-    rest,
-  )
+-- the events of what reading gives: of all parts, or of those up to a bracket that is one too many
+abbrev pub events_seen : {A : Type 0} → (A → Text → List Event) → Reading A → Option (List Event)
+events_seen events (got a rest) = Some (events a rest)
+events_seen events (deep es) = Some es
+events_seen events wrong = None
 
--- the parts of a line with these places
-abbrev pub events_at : LinePlaces → List Event
-events_at p =
-    record { kind = Leading; span = record { start = p.leading; end = p.key } }
-    ∷ record { kind = Key; span = record { start = p.key; end = p.before_equals } }
-    ∷ record { kind = BeforeEquals; span = record { start = p.before_equals; end = p.equals } }
-    ∷ record { kind = AfterEquals; span = record { start = p.after_equals; end = p.value } }
-    ∷ record { kind = Scalar; span = record { start = p.value; end = p.line_end } }
-    ∷ record { kind = LineEnd; span = record { start = p.line_end; end = p.end } }
-    ∷ []
+-- the events of a text that begins at this byte and ends a text of so many bytes, in fewer than n lines
+abbrev pub lines_read : ℕ → ℕ → ℕ → Text → Option (List Event)
+lines_read n whole at t = events_seen (events_with_final whole at) (lines_at n at t)
 
--- the parts of these lines, of which the first begins at this byte
-abbrev pub events_of_lines : ℕ → List Line → List Event
-events_of_lines at [] = []
-events_of_lines at (l ∷ ls) = events_at (places_of at l) ++ events_of_lines ((places_of at l).end + length l.end) ls
+-- the events of a whole text
+abbrev pub text_read : Text → Option (List Event)
+text_read t = events_seen (λ d _. events_of d) (cut_of t)
 
--- the parts of lines and final trivia that end a text of so many bytes
-abbrev pub events_with_final : ℕ → ℕ → List Line × Text → List Event
-events_with_final whole at c = events_of_lines at c.0 ++ event Final (whole - length c.1) c.1 ∷ []
+-- ---- lone values
+
+-- white space, a value, white space
+unfoldable pub lone_at : Text → Reading Value
+lone_at t =
+    let white = split_while is_blank t in
+    follow (value_at (2 * length white.1 + 2) 0 (length white.0) white.1) (λ v rest. if length (split_while is_blank rest).1 == 0 then got v rest else wrong)
+
+-- the events of a lone value
+abbrev pub lone_read : Text → Option (List Event)
+lone_read t = events_seen (λ v _. value_events (length (split_while is_blank t).0) v) (lone_at t)

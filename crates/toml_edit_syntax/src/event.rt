@@ -10,16 +10,38 @@ pub struct Span {
 /// What a part of a text is.
 #[derive(Clone, Copy, Debug, PartialEq, Eq)]
 pub enum EventKind {
-    /// The white space, newlines and comments before a statement.
+    /// The white space, newlines and comments before a statement, or before a pair of an inline table.
     Leading,
     /// A simple key, as it is spelled.
     Key,
+    /// The white space between a simple key and the dot after it.
+    BeforeDot,
+    /// The white space between a dot and the simple key after it.
+    AfterDot,
     /// The white space between a key and `=`.
     BeforeEquals,
     /// The white space between `=` and a value.
     AfterEquals,
     /// A scalar, as it is spelled.
     Scalar,
+    /// The bracket that opens an array.
+    ArrayOpen,
+    /// The bracket that closes an array.
+    ArrayClose,
+    /// The bracket that opens an inline table.
+    InlineTableOpen,
+    /// The bracket that closes an inline table.
+    InlineTableClose,
+    /// The white space, newlines and comments before an element of an array.
+    Before,
+    /// The white space, newlines and comments after an element of an array, or after a pair of an inline table.
+    After,
+    /// The comma after the last element or pair.
+    Comma,
+    /// The white space, newlines and comments before a closing bracket, behind a comma or where nothing stands inside.
+    Inner,
+    /// An opening bracket inside as many as may be open: nothing follows it.
+    TooDeep,
     /// The white space and the comment after a statement.
     LineEnd,
     /// What follows the last statement.

@@ -1,18 +1,18 @@
 //! Text to events.
-ghost use Rattle.std.specs.Prelude.{◌≡◌, ◌⊎◌, ◌++◌, ◌-◌, ◌<◌, ◌≤◌, ℕ, drop, if◌then◌else◌, length, option_map, IfOk, IsOk, IsErrOf, MatchResult};
+ghost use Rattle.std.specs.Prelude.{◌≡◌, ◌⊎◌, ℕ, ◌-◌, ◌<◌, ◌≤◌, drop, if◌then◌else◌, length, IfOk, IsOk, IsErrOf};
 ghost use Rattle.std.specs.List.{AllByRecursion};
-ghost use Rattle.std.specs.Str.{IsCharBoundary};
 ghost use Rattle.toml_edit_model.specs.Syntax.{Document};
 ghost use Rattle.toml_edit_model.specs.Flat.{IsFlatCut};
-ghost use Rattle.toml_edit_syntax.specs.Events.{AreEventsOf, IsSpanOf, events_of};
+ghost use Rattle.toml_edit_syntax.specs.Events.{AreEventsOf, IsSpanOf};
 ghost use Rattle.toml_edit_syntax.specs.Faults.{HasSpanIn};
-ghost use Rattle.toml_edit_syntax.specs.Gives.{GivesEvents};
+ghost use Rattle.toml_edit_syntax.specs.Gives.{Adds};
+ghost use Rattle.toml_edit_syntax.specs.LineReading as read;
 ghost use Rattle.toml_edit_syntax.specs.Reading as spec;
 
 use crate::event::{Event, EventKind, Span};
-use crate::line::{LinePlaces, line, trivia};
-use crate::run::{byte_at, first};
+use crate::line::{line, trivia};
 use std::alloc::{AllocError, AllocFailed, Global};
+use toml_edit_token::run::{byte_at, first};
 
 /// Why there are no events.
 #[derive(Clone, Copy, Debug, PartialEq, Eq)]
@@ -30,6 +30,8 @@ pub(crate) enum Stop {
     Memory,
     /// The text is not one that is read, where so many bytes of it are left.
     Before(usize),
+    /// A bracket is one too many: its event is the last of those that were added.
+    TooDeep,
 }
 
 impl From<AllocError> for Stop {
@@ -67,7 +69,7 @@ fn unmarked(s: &str) -> &str
 }
 
 /// The part of this kind from `start` up to `end`.
-fn part(kind: EventKind, start: usize, end: usize) -> Event
+pub(crate) fn part(kind: EventKind, start: usize, end: usize) -> Event
     ensures { result ≡ record { kind = kind; span = record { start = start; end = end } } }
 {
     Event {
@@ -76,45 +78,23 @@ fn part(kind: EventKind, start: usize, end: usize) -> Event
     }
 }
 
-/// Adds the parts of a line.
-fn push_line(events: &mut Vec<Event>, places: &LinePlaces) -> Result<(), AllocError>
-    ensures { IfOk result (λ _. events.new.items ≡ events.old.items ++ spec.events_at places.now) }
-{
-    events.extend_from_slice(&[
-        part(EventKind::Leading, places.leading, places.key),
-        part(EventKind::Key, places.key, places.before_equals),
-        part(EventKind::BeforeEquals, places.before_equals, places.equals),
-        part(EventKind::AfterEquals, places.after_equals, places.value),
-        part(EventKind::Scalar, places.value, places.line_end),
-        part(EventKind::LineEnd, places.line_end, places.end),
-    ])
-}
-
-/// The events of a text that ends a text of `whole` bytes.
-fn parts(alloc: Global, whole: usize, s: &str) -> Result<Vec<Event>, Stop>
+/// Adds the events of a text that ends a text of `whole` bytes.
+fn parts<'a>(events: &mut Vec<Event>, whole: usize, s: &'a str) -> Result<&'a str, Stop>
     requires { length s.now ≤ whole }
-    ensures { (n : ℕ) → length s.now < n
-        → GivesEvents result (option_map (spec.events_with_final whole (whole - length s.now)) (spec.lines_at n s.now)) }
+    ensures { (n : ℕ) → length s.now < n → Adds events.old.items events.new.items result (read.rest_read n whole s.now) }
 {
-    let mut events = Vec::new(alloc);
     let mut rest = s;
     'lines: loop {
         let (len, inside) = trivia(rest);
         let (leading, statement) = rest.split_at(len);
         if statement.is_empty() {
             events.push(part(EventKind::Final, whole - rest.len(), whole))?;
-            return Ok(events);
+            return Ok(rest);
         }
         if inside {
             return Err(Stop::Before(statement.len()));
         }
-        match line(whole, leading.len(), statement) {
-            Ok((places, next)) => {
-                push_line(&mut events, &places)?;
-                rest = next;
-            }
-            Err(left) => return Err(Stop::Before(left)),
-        }
+        rest = line(events, whole, leading, statement)?;
     }
 }
 
@@ -133,7 +113,7 @@ pub(crate) fn place(source: &str, left: usize) -> Span
     }
 }
 
-/// The events of a text: the parts of its one cut, in order.
+/// The events of a text: the parts of its one cut, in order, up to a bracket that is one too many.
 pub fn events(alloc: Global, source: &str) -> Result<Vec<Event>, SyntaxFault>
     ensures cut { IfOk result (λ es. AreEventsOf source.now es.items) }
     ensures spans { IfOk result (λ es. AllByRecursion (λ e. IsSpanOf source.now e.span) es.items) }
@@ -141,8 +121,10 @@ pub fn events(alloc: Global, source: &str) -> Result<Vec<Event>, SyntaxFault>
     ensures every { (d : Document) → IsFlatCut d source.now → IsOk result ⊎ IsErrOf result SyntaxFault.Memory }
     ensures fault { HasSpanIn source.now result }
 {
-    match parts(alloc, source.len(), unmarked(source)) {
-        Ok(events) => Ok(events),
+    let mut events = Vec::new(alloc);
+    match parts(&mut events, source.len(), unmarked(source)) {
+        Ok(_) => Ok(events),
+        Err(Stop::TooDeep) => Ok(events),
         Err(Stop::Memory) => Err(SyntaxFault::Memory),
         Err(Stop::Before(left)) => Err(SyntaxFault::Text(place(source, left))),
     }

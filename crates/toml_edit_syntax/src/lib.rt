@@ -1,21 +1,12 @@
-//! Text to events with spans, and the decoding of keys and scalars.
+//! Text to events with spans.
 #![tactic(auto)]
 
-mod block_string;
-pub mod decode;
 pub mod event;
 pub mod lexer;
 mod line;
-pub mod lone;
-mod number;
-mod run;
-pub mod spelling;
-mod string;
-mod token;
+pub mod lone_value;
+mod value;
 
-pub use decode::{Scalar, decode_key, decode_scalar};
 pub use event::{Event, EventKind, Span};
 pub use lexer::{SyntaxFault, events};
-pub use lone::{lone_scalar, range_message};
-pub use spelling::{write_key, write_string};
-pub use token::after_key;
+pub use lone_value::lone_events;

@@ -1,24 +1,15 @@
 //! A statement behind its leading trivia.
-ghost use Rattle.std.specs.Prelude.{◌≡◌, false, ◌+◌, ◌-◌, ◌<◌, ◌≤◌, length, option_map, IfOk, IfSome};
+ghost use Rattle.std.specs.Prelude.{◌≡◌, false, ◌+◌, ◌<◌, ◌≤◌, length, option_map, IfOk, IfSome};
 ghost use Rattle.std.specs.Str.{IsCharBoundary};
-ghost use Rattle.toml_edit_syntax.specs.Gives.{Reads};
-ghost use Rattle.toml_edit_syntax.specs.Reading as spec;
+ghost use Rattle.toml_edit_syntax.specs.Gives.{Reads, Adds};
+ghost use Rattle.toml_edit_syntax.specs.LineReading as read;
+ghost use Rattle.toml_edit_syntax.specs.Scanning as spec;
 
-use crate::run::{Class, byte_at, first, is_blank, is_visible, skip, split_run};
-use crate::token::{after_key, after_scalar};
-
-/// Where the parts of a line begin, in bytes of the whole text. Each ends where the next begins.
-#[derive(Clone, Copy, Debug)]
-pub(crate) struct LinePlaces {
-    pub(crate) leading: usize,
-    pub(crate) key: usize,
-    pub(crate) before_equals: usize,
-    pub(crate) equals: usize,
-    pub(crate) after_equals: usize,
-    pub(crate) value: usize,
-    pub(crate) line_end: usize,
-    pub(crate) end: usize,
-}
+use crate::event::{Event, EventKind};
+use crate::lexer::{Stop, part};
+use crate::value::{sides, value};
+use toml_edit_token::after_key;
+use toml_edit_token::run::{Class, byte_at, first, is_blank, is_visible, skip, split_run};
 
 fn turn(inside: bool, byte: u8, next: u8) -> Option<bool>
     ensures { result ≡ spec.turn inside byte next }
@@ -52,8 +43,8 @@ pub(crate) fn trivia(s: &str) -> (usize, bool)
 }
 
 /// The white space before `=` and the white space after it, or how many bytes are left where `=` should stand.
-#[tactic(auto, unfolding(crate::specs::Reading::equals_at))]
-fn equals(s: &str) -> Result<((&str, &str), &str), usize>
+#[tactic(auto, unfolding(crate::specs::Scanning::equals_at))]
+pub(crate) fn equals(s: &str) -> Result<((&str, &str), &str), usize>
     ensures value { Reads (λ p. (p.0.now, p.1.now)) result (spec.equals_at s.now) }
     ensures lens { IfOk result (λ p. length p.0.0.now + 1 + length p.0.1.now + length p.1.now ≡ length s.now) }
 {
@@ -66,7 +57,7 @@ fn equals(s: &str) -> Result<((&str, &str), &str), usize>
 }
 
 /// Behind white space and a comment.
-#[tactic(auto, unfolding(crate::specs::Reading::line_end_rest))]
+#[tactic(auto, unfolding(crate::specs::Scanning::line_end_rest))]
 fn after_line_end(s: &str) -> &str
     ensures rest { result.now ≡ spec.line_end_rest s.now }
     ensures within { length result.now ≤ length s.now }
@@ -80,7 +71,7 @@ fn after_line_end(s: &str) -> &str
 }
 
 /// Behind a newline, or at the end.
-#[tactic(auto, unfolding(crate::specs::Reading::newline_rest))]
+#[tactic(auto, unfolding(crate::specs::Scanning::newline_rest))]
 fn after_newline(s: &str) -> Option<&str>
     ensures value { option_map (λ r. r.now) result ≡ spec.newline_rest s.now }
     ensures within { IfSome result (λ r. length r.now ≤ length s.now) }
@@ -96,35 +87,55 @@ fn after_newline(s: &str) -> Option<&str>
     }
 }
 
-/// A line behind `leading` bytes of trivia, and the text after it, in a text of `whole` bytes that ends as `s` does; or how many
-/// bytes are left where reading stops.
-#[tactic(auto, unfolding(crate::specs::Reading::places_at))]
-pub(crate) fn line(whole: usize, leading: usize, s: &str) -> Result<(LinePlaces, &str), usize>
-    requires { leading + length s.now ≤ whole }
-    ensures value { Reads (λ p. p) result (spec.places_at whole leading s.now) }
-    ensures shorter { IfOk result (λ p. length p.1.now < length s.now) }
+/// Adds the parts of a line up to its value, behind its trivia.
+fn entry<'a>(
+    events: &mut Vec<Event>,
+    whole: usize,
+    leading: &str,
+    s: &'a str,
+) -> Result<&'a str, Stop>
+    requires { length leading.now + length s.now ≤ whole }
+    ensures adds { Adds events.old.items events.new.items result (read.front_read whole leading.now s.now) }
+    ensures within { IfOk result (λ r. length r.now ≤ length s.now) }
 {
-    let Some(key_rest) = after_key(s) else {
-        return Err(s.len());
+    let Some(rest) = after_key(s) else {
+        return Err(Stop::Before(s.len()));
     };
-    let ((before, _), value) = equals(key_rest)?;
-    let Some(value_rest) = after_scalar(value) else {
-        return Err(value.len());
+    events.push(part(
+        EventKind::Leading,
+        whole - s.len() - leading.len(),
+        whole - s.len(),
+    ))?;
+    events.push(part(EventKind::Key, whole - s.len(), whole - rest.len()))?;
+    sides(events, whole, rest)
+}
+
+/// Adds what follows the value of a line.
+fn end<'a>(events: &mut Vec<Event>, whole: usize, s: &'a str) -> Result<&'a str, Stop>
+    requires { length s.now ≤ whole }
+    ensures adds { Adds events.old.items events.new.items result (read.end_read whole s.now) }
+    ensures within { IfOk result (λ r. length r.now ≤ length s.now) }
+{
+    let end = after_line_end(s);
+    let Some(rest) = after_newline(end) else {
+        return Err(Stop::Before(end.len()));
     };
-    let end = after_line_end(value_rest);
-    let Some(next) = after_newline(end) else {
-        return Err(end.len());
-    };
-    let equals = whole - key_rest.len() + before.len();
-    let places = LinePlaces {
-        leading: whole - s.len() - leading,
-        key: whole - s.len(),
-        before_equals: whole - key_rest.len(),
-        equals,
-        after_equals: equals + 1,
-        value: whole - value.len(),
-        line_end: whole - value_rest.len(),
-        end: whole - end.len(),
-    };
-    Ok((places, next))
+    events.push(part(EventKind::LineEnd, whole - s.len(), whole - end.len()))?;
+    Ok(rest)
+}
+
+/// Adds the parts of a line behind its trivia.
+pub(crate) fn line<'a>(
+    events: &mut Vec<Event>,
+    whole: usize,
+    leading: &str,
+    s: &'a str,
+) -> Result<&'a str, Stop>
+    requires { length leading.now + length s.now ≤ whole }
+    ensures adds { Adds events.old.items events.new.items result (read.line_read whole leading.now s.now) }
+    ensures shorter { IfOk result (λ r. length r.now < length s.now) }
+{
+    let text = entry(events, whole, leading, s)?;
+    let rest = value(events, whole, 0, text)?;
+    end(events, whole, rest)
 }

@@ -8,7 +8,7 @@ ghost use Rattle.toml_edit_model.specs.Spelling.{SpellsKey};
 ghost use Rattle.toml_edit_model.specs.Lone.{IsLonePath, lone_keys, path_key};
 ghost use Rattle.toml_edit_error.specs.Fault.{IfToml};
 ghost use Rattle.toml_edit_error.specs.Report.{SpanIsIn};
-ghost use Rattle.toml_edit_syntax.specs.Runs.{split_while};
+ghost use Rattle.toml_edit_laws.specs.reading.Runs.{split_while};
 ghost use Rattle.toml_edit_key.specs.Keys.{lone_key};
 ghost use Rattle.toml_edit_key.specs.PathReading as spec;
 ghost use Rattle.toml_edit_key.specs.ReadKeys.{GivesValue, IsSyntaxFault, limit_fault, IsLongPath, AreLoneKeys, IsPathRefusal};
@@ -17,7 +17,7 @@ use super::Key;
 use std::alloc::Global;
 use toml_edit_error::{ParseFault, TomlError};
 use toml_edit_repr::{Decor, Mem, RawString, Repr};
-use toml_edit_syntax::{after_key, decode_key};
+use toml_edit_token::{after_key, decode_key};
 
 /// The most segments of a path.
 const MOST_SEGMENTS: usize = 80;

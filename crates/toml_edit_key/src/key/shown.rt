@@ -13,7 +13,7 @@ use std::borrow::CowStr;
 use std::fmt;
 use std::fmt::{Formatter, Write};
 use toml_edit_repr::{Mem, RawString, Repr};
-use toml_edit_syntax::write_key;
+use toml_edit_token::write_key;
 
 impl Key {
     /// The spelling of the name that a key without one of its own has: a function of the name. The only error is want of memory.

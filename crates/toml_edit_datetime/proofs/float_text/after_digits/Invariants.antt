@@ -1,6 +1,6 @@
 -- What is left is read as it is within the whole.
 use Rattle.std.proofs.Common.{◌≡◌, false, drop}
-use Rattle.toml_edit_datetime.specs.FloatReading.{after_digits}
+use Rattle.toml_edit_laws.specs.reading.FloatReading.{after_digits}
 use Rattle.toml_edit_datetime.proofs.float_text.after_digits.Given as goal
 
 abbrev pub invariant-digits : goal.invariant-digits

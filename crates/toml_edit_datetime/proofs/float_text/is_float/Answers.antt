@@ -1,7 +1,7 @@
 -- What passes the test is a float, and a float passes it.
 use Rattle.std.proofs.Common.{◌≡◌, rules, sym, ◌∙◌}
-use Rattle.toml_edit_datetime.specs.FloatReading.{is_float_text}
-use Rattle.toml_edit_datetime.proofs.FloatLaws.{float_takes, float_again}
+use Rattle.toml_edit_laws.specs.reading.FloatReading.{is_float_text}
+use Rattle.toml_edit_laws.proofs.reading.FloatLaws.{float_takes, float_again}
 use Rattle.toml_edit_datetime.proofs.float_text.is_float.Goals as goal
 
 pub returns-clause-float : goal.returns-clause-float

@@ -1,7 +1,7 @@
 -- What is read is spelled, and what is spelled is read.
 use Rattle.std.proofs.Common.{arith}
 use Rattle.std.proofs.lemmas.Grind.{common_steps}
-use Rattle.toml_edit_datetime.specs.DatetimeReading.{datetime_of}
+use Rattle.toml_edit_laws.specs.reading.DatetimeReading.{datetime_of}
 use Rattle.toml_edit_datetime.proofs.RangeLaws.{spelled_or_not}
 use Rattle.toml_edit_datetime.proofs.from_str.is_datetime.Goals as goal
 

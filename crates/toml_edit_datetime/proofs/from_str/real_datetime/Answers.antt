@@ -1,7 +1,8 @@
 -- Each part that exists is taken on, and one that doesn't makes the date-time one out of range.
 use Rattle.std.proofs.Common.{◌≡◌, Some, None, arith}
 use Rattle.std.proofs.lemmas.Grind.{common_steps}
-use Rattle.toml_edit_datetime.specs.DatetimeReading.{parts_of}
+use Rattle.toml_edit_laws.specs.reading.DatetimeReading.{parts_of}
+use Rattle.toml_edit_datetime.specs.PartsView.{parts_view}
 use Rattle.toml_edit_datetime.proofs.RangeLaws.{ranged_none, date_refused, time_refused, offset_refused, joined}
 use Rattle.toml_edit_datetime.proofs.from_str.real_datetime.Goals as goal
 
@@ -12,20 +13,20 @@ returns-in_err-parts c =
 
 pub returns-in_err-date : goal.returns-in_err-date
 returns-in_err-date c =
-    let some : parts_of c.args.text.now ≡ Some c.in_ok-parts.parts = grind (arith, common_steps) in
-    rw c.from_residual-in_err-date.ensures (date_refused c.args.text.now c.in_ok-parts.parts some c.in_err-date.ensures)
+    let some : parts_of c.args.text.now ≡ Some (parts_view c.in_ok-parts.parts) = grind (arith, common_steps) in
+    rw c.from_residual-in_err-date.ensures (date_refused c.args.text.now (parts_view c.in_ok-parts.parts) some c.in_err-date.ensures)
 
 pub returns-in_err-time : goal.returns-in_err-time
 returns-in_err-time c =
-    let some : parts_of c.args.text.now ≡ Some c.in_ok-parts.parts = grind (arith, common_steps) in
-    rw c.from_residual-in_err-time.ensures (time_refused c.args.text.now c.in_ok-parts.parts some c.in_err-time.ensures)
+    let some : parts_of c.args.text.now ≡ Some (parts_view c.in_ok-parts.parts) = grind (arith, common_steps) in
+    rw c.from_residual-in_err-time.ensures (time_refused c.args.text.now (parts_view c.in_ok-parts.parts) some c.in_err-time.ensures)
 
 pub returns-in_err-offset : goal.returns-in_err-offset
 returns-in_err-offset c =
-    let some : parts_of c.args.text.now ≡ Some c.in_ok-parts.parts = grind (arith, common_steps) in
-    rw c.from_residual-in_err-offset.ensures (offset_refused c.args.text.now c.in_ok-parts.parts some c.in_err-offset.ensures)
+    let some : parts_of c.args.text.now ≡ Some (parts_view c.in_ok-parts.parts) = grind (arith, common_steps) in
+    rw c.from_residual-in_err-offset.ensures (offset_refused c.args.text.now (parts_view c.in_ok-parts.parts) some c.in_err-offset.ensures)
 
 pub returns : goal.returns
 returns c =
-    let some : parts_of c.args.text.now ≡ Some c.in_ok-parts.parts = grind (arith, common_steps) in
-    joined c.args.text.now c.in_ok-parts.parts _ _ _ _ some c.in_ok-date.ensures c.in_ok-time.ensures c.in_ok-offset.ensures c.new.ensures
+    let some : parts_of c.args.text.now ≡ Some (parts_view c.in_ok-parts.parts) = grind (arith, common_steps) in
+    joined c.args.text.now (parts_view c.in_ok-parts.parts) _ _ _ _ some c.in_ok-date.ensures c.in_ok-time.ensures c.in_ok-offset.ensures c.new.ensures

@@ -1,5 +1,5 @@
 -- The default spelling spells the integer, which has 64 bits.
-use Rattle.toml_edit_laws.proofs.DefaultLaws.{default_integer_spells}
+use Rattle.toml_edit_laws.proofs.spellings.DefaultLaws.{default_integer_spells}
 use Rattle.toml_edit_repr.proofs.Integers.{integer_fits}
 use Rattle.toml_edit_repr.proofs.repr.integer_repr.Goals as goal
 

@@ -1,13 +1,16 @@
-use Rattle.std.proofs.Common.{ℕ, ◌<◌, ◌≤◌, length}
+use Rattle.std.proofs.Common.{◌≡◌, ℕ, ◌<◌, ◌≤◌, length}
 use denote.Text.{Utf8}
 use denote.Shadow.{shadow}
-use Rattle.toml_edit_syntax.proofs.Loop.{HasRead}
+use Rattle.toml_edit_syntax.specs.EventReading.{preceded}
+use Rattle.toml_edit_syntax.specs.LineReading.{rest_read}
 use Rattle.toml_edit_syntax.proofs.lexer.parts.Given as goal
 
 abbrev pub invariant-lines : goal.invariant-lines
-invariant-lines l =
-    shadow (Utf8 l.rest) × (length l.rest ≤ length l.fn.s)
-    × ((n : ℕ) → length l.fn.s < n → HasRead n l.whole l.fn.s l.events.items l.rest)
+invariant-lines l = record {
+  utf8 : shadow (Utf8 l.rest);
+  shorter : length l.rest ≤ length l.fn.s;
+  read : (n : ℕ) → length l.fn.s < n → (k : ℕ) × (length l.rest < k) × (preceded l.fn.events.items (rest_read n l.whole l.fn.s) ≡ preceded l.events.items (rest_read k l.whole l.rest));
+}
 
 abbrev pub decreases-lines : goal.decreases-lines
 decreases-lines l = length l.rest

@@ -2,7 +2,7 @@ use Rattle.std.proofs.Common.{◌≡◌, ◌+◌, ◌<◌, zero-add, length, get
 use Rattle.std.proofs.lemmas.Bool.{cases_Bool}
 use Rattle.std.proofs.lemmas.Grind.{common_steps}
 use Rattle.std.proofs.lemmas.Str.{IsCharBoundary-start, IsCharBoundary-before_ascii, IsCharBoundary-after_ascii}
-use Rattle.toml_edit_syntax.specs.Reading.{turn}
+use Rattle.toml_edit_syntax.specs.Scanning.{turn}
 use Rattle.std.proofs.Common.{Some, None}
 use Rattle.toml_edit_syntax.proofs.TriviaLaws.{scan_stops, scan_goes, scan_ends, turn_ascii, turn_stops}
 use Rattle.toml_edit_syntax.proofs.line.trivia.Goals as goal

@@ -1,6 +1,6 @@
 use Rattle.std.proofs.Common.{◌≡◌, ◌+◌, false, drop}
 use Rattle.std.specs.Str.{IsCharBoundary}
-use Rattle.toml_edit_syntax.specs.Reading.{scan}
+use Rattle.toml_edit_syntax.specs.Scanning.{scan}
 use Rattle.toml_edit_syntax.proofs.line.trivia.Given as goal
 
 abbrev pub invariant-bytes : goal.invariant-bytes

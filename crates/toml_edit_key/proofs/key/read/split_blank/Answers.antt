@@ -2,7 +2,7 @@
 use Rattle.std.proofs.Common.{arith}
 use Rattle.std.proofs.lemmas.Bool.Decides.{nat_tests}
 use Rattle.toml_edit_model.specs.Trivia.{is_blank}
-use Rattle.toml_edit_syntax.proofs.RunLaws.{IsCharBoundary-ascii_run}
+use Rattle.toml_edit_laws.proofs.reading.RunLaws.{IsCharBoundary-ascii_run}
 use Rattle.toml_edit_key.proofs.key.read.split_blank.Goals as goal
 
 pub split_at-requires : goal.split_at-requires

@@ -1,5 +1,5 @@
 -- The default spelling spells the date or time, which exists.
-use Rattle.toml_edit_laws.proofs.DefaultLaws.{default_datetime_spells}
+use Rattle.toml_edit_laws.proofs.spellings.DefaultLaws.{default_datetime_spells}
 use Rattle.toml_edit_datetime.specs.DatetimeView.{datetime_view}
 use Rattle.toml_edit_repr.proofs.float_datetime.DatetimeValueRepr.to_repr.Goals as goal
 

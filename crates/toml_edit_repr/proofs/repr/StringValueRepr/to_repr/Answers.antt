@@ -1,6 +1,6 @@
 -- The default spelling spells the value.
 use Rattle.std.proofs.Common.{string_bytes}
-use Rattle.toml_edit_laws.proofs.DefaultLaws.{default_string_spells}
+use Rattle.toml_edit_laws.proofs.spellings.DefaultLaws.{default_string_spells}
 use Rattle.toml_edit_repr.proofs.repr.StringValueRepr.to_repr.Goals as goal
 
 pub returns-clause-spelled : goal.returns-clause-spelled

@@ -1,6 +1,0 @@
--- A word ends where a character does.
-use Rattle.toml_edit_syntax.proofs.WordLaws.{IsCharBoundary-word}
-use Rattle.toml_edit_syntax.proofs.token.split_word.Goals as goal
-
-pub split_at-requires : goal.split_at-requires
-split_at-requires c = rw c.word_len.ensures.len (IsCharBoundary-word c.args.s.now c.utf8.s)

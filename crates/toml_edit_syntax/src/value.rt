@@ -1,0 +1,275 @@
+//! The end of a value, and the events of its parts.
+ghost use Rattle.std.specs.Prelude.{◌≡◌, ℕ, ◌+◌, ◌*◌, ◌-◌, ◌++◌, [], ◌∷◌, ◌<◌, ◌≤◌, false, true, length, drop, option_map, IfOk, IfErr, MatchResult};
+ghost use Rattle.toml_edit_syntax.specs.Gives.{Adds, IsBefore};
+ghost use Rattle.toml_edit_laws.specs.reading.Runs.{first};
+ghost use Rattle.toml_edit_syntax.specs.ValueReading as spec;
+ghost use Rattle.toml_edit_syntax.specs.EventReading as read;
+
+use crate::event::{Event, EventKind};
+use crate::lexer::{Stop, part};
+use crate::line::{equals, trivia};
+use std::alloc::AllocError;
+use toml_edit_token::run::{Class, first, skip, split_run};
+use toml_edit_token::{after_key, after_scalar};
+
+/// How many arrays and inline tables may be open at once.
+const MOST: usize = 80;
+
+/// The brackets round elements or pairs.
+#[derive(Clone, Copy)]
+enum Brackets {
+    Array,
+    InlineTable,
+}
+
+impl Brackets {
+    fn opened_by(byte: u8) -> Option<Brackets>
+        ensures { read.OpenedBy byte result }
+    {
+        match byte {
+            b'[' => Some(Brackets::Array),
+            b'{' => Some(Brackets::InlineTable),
+            _ => None,
+        }
+    }
+
+    fn opening(self) -> EventKind
+        ensures { result ≡ read.opening self }
+    {
+        match self {
+            Brackets::Array => EventKind::ArrayOpen,
+            Brackets::InlineTable => EventKind::InlineTableOpen,
+        }
+    }
+
+    fn closing(self) -> EventKind
+        ensures { result ≡ read.closing self }
+    {
+        match self {
+            Brackets::Array => EventKind::ArrayClose,
+            Brackets::InlineTable => EventKind::InlineTableClose,
+        }
+    }
+
+    fn closing_byte(self) -> u8
+        ensures { result ≡ read.closing_byte self }
+    {
+        match self {
+            Brackets::Array => b']',
+            Brackets::InlineTable => b'}',
+        }
+    }
+}
+
+/// Trivia, and the text after it, or how many bytes are left where it stops inside a comment.
+#[tactic(auto, unfolding(crate::specs::ValueReading::trivia_at))]
+fn whole_trivia(s: &str) -> Result<(&str, &str), Stop>
+    ensures value { MatchResult result (λ p. spec.trivia_at s.now ≡ spec.got p.0.now p.1.now) (λ _. spec.trivia_at s.now ≡ spec.wrong) }
+    ensures before { IfErr result IsBefore }
+    ensures lens { IfOk result (λ p. length p.0.now + length p.1.now ≡ length s.now) }
+{
+    let (len, inside) = trivia(s);
+    let (front, rest) = s.split_at(len);
+    if inside {
+        return Err(Stop::Before(rest.len()));
+    }
+    Ok((front, rest))
+}
+
+/// Adds the end of a list, whose closing bracket is at the front of `s`, with `inner` before it and perhaps a comma before that.
+fn close<'a>(
+    events: &mut Vec<Event>,
+    whole: usize,
+    brackets: Brackets,
+    comma: bool,
+    inner: &str,
+    s: &'a str,
+) -> Result<&'a str, Stop>
+    requires here { first s.now ≡ read.closing_byte brackets }
+    requires fits { length inner.now + length s.now ≤ whole }
+    requires before { comma ≡ true → length inner.now + length s.now < whole }
+    ensures adds { Adds events.old.items events.new.items result (spec.got (read.close_read brackets whole comma inner.now s.now) (drop 1 s.now)) }
+    ensures shorter { IfOk result (λ r. length r.now < length s.now) }
+{
+    let start = whole - s.len() - inner.len();
+    if comma {
+        events.push(part(EventKind::Comma, start - 1, start))?;
+    }
+    let rest = skip(s, 1);
+    events.push(part(EventKind::Inner, start, whole - s.len()))?;
+    events.push(part(brackets.closing(), whole - s.len(), whole - rest.len()))?;
+    Ok(rest)
+}
+
+/// Adds the parts of the key at the front.
+fn path<'a>(events: &mut Vec<Event>, whole: usize, s: &'a str) -> Result<&'a str, Stop>
+    requires { length s.now ≤ whole }
+    ensures adds { Adds events.old.items events.new.items result (read.path_read (length s.now) whole [] s.now) }
+    ensures within { IfOk result (λ r. length r.now ≤ length s.now) }
+{
+    let mut rest = s;
+    'segments: loop {
+        let Some(end) = after_key(rest) else {
+            return Err(Stop::Before(rest.len()));
+        };
+        events.push(part(EventKind::Key, whole - rest.len(), whole - end.len()))?;
+        let (before, dot) = split_run(end, Class::Blank);
+        if first(dot) != b'.' {
+            return Ok(end);
+        }
+        let (after, next) = split_run(skip(dot, 1), Class::Blank);
+        events.push(part(EventKind::BeforeDot, whole - end.len(), whole - dot.len()))?;
+        events.push(part(
+            EventKind::AfterDot,
+            whole - next.len() - after.len(),
+            whole - next.len(),
+        ))?;
+        rest = next;
+    }
+}
+
+/// Adds the white space on both sides of `=`.
+pub(crate) fn sides<'a>(events: &mut Vec<Event>, whole: usize, s: &'a str) -> Result<&'a str, Stop>
+    requires { length s.now ≤ whole }
+    ensures adds { Adds events.old.items events.new.items result (read.equals_read whole s.now) }
+    ensures within { IfOk result (λ r. length r.now ≤ length s.now) }
+{
+    let ((before, after), rest) = match equals(s) {
+        Ok(found) => found,
+        Err(left) => return Err(Stop::Before(left)),
+    };
+    events.push(part(
+        EventKind::BeforeEquals,
+        whole - s.len(),
+        whole - s.len() + before.len(),
+    ))?;
+    events.push(part(
+        EventKind::AfterEquals,
+        whole - rest.len() - after.len(),
+        whole - rest.len(),
+    ))?;
+    Ok(rest)
+}
+
+/// Adds the parts of a pair up to its value, behind its trivia.
+fn frame<'a>(
+    events: &mut Vec<Event>,
+    whole: usize,
+    leading: &str,
+    s: &'a str,
+) -> Result<&'a str, Stop>
+    requires { length leading.now + length s.now ≤ whole }
+    ensures adds { Adds events.old.items events.new.items result (read.frame_read whole leading.now s.now) }
+    ensures within { IfOk result (λ r. length r.now ≤ length s.now) }
+{
+    events.push(part(
+        EventKind::Leading,
+        whole - s.len() - leading.len(),
+        whole - s.len(),
+    ))?;
+    let rest = path(events, whole, s)?;
+    sides(events, whole, rest)
+}
+
+/// Adds what stands before the value of an element or a pair, behind its trivia.
+fn head<'a>(
+    events: &mut Vec<Event>,
+    whole: usize,
+    brackets: Brackets,
+    leading: &str,
+    s: &'a str,
+) -> Result<&'a str, Stop>
+    requires { length leading.now + length s.now ≤ whole }
+    ensures adds { Adds events.old.items events.new.items result (read.head_read brackets whole leading.now s.now) }
+    ensures within { IfOk result (λ r. length r.now ≤ length s.now) }
+{
+    match brackets {
+        Brackets::Array => {
+            events.push(part(
+                EventKind::Before,
+                whole - s.len() - leading.len(),
+                whole - s.len(),
+            ))?;
+            Ok(s)
+        }
+        Brackets::InlineTable => frame(events, whole, leading, s),
+    }
+}
+
+/// Adds the scalar at the front.
+fn scalar<'a>(events: &mut Vec<Event>, whole: usize, s: &'a str) -> Result<&'a str, Stop>
+    requires { length s.now ≤ whole }
+    ensures adds { Adds events.old.items events.new.items result (read.scalar_read whole s.now) }
+    ensures shorter { IfOk result (λ r. length r.now < length s.now) }
+{
+    let Some(rest) = after_scalar(s) else {
+        return Err(Stop::Before(s.len()));
+    };
+    events.push(part(EventKind::Scalar, whole - s.len(), whole - rest.len()))?;
+    Ok(rest)
+}
+
+/// Adds the parts of the value at the front, inside so many brackets.
+#[cycle(value)]
+pub(crate) fn value<'a>(
+    events: &mut Vec<Event>,
+    whole: usize,
+    level: usize,
+    s: &'a str,
+) -> Result<&'a str, Stop>
+    requires fits { length s.now ≤ whole }
+    requires level { level ≤ 80 }
+    ensures adds { (n : ℕ) → 2 * length s.now + 2 ≤ n → Adds events.old.items events.new.items result (read.value_read n level whole s.now) }
+    ensures shorter { IfOk result (λ r. length r.now < length s.now) }
+{
+    let Some(brackets) = Brackets::opened_by(first(s)) else {
+        return scalar(events, whole, s);
+    };
+    let rest = skip(s, 1);
+    if level == MOST {
+        events.push(part(EventKind::TooDeep, whole - s.len(), whole - rest.len()))?;
+        return Err(Stop::TooDeep);
+    }
+    events.push(part(brackets.opening(), whole - s.len(), whole - rest.len()))?;
+    items(events, whole, level + 1, brackets, rest)
+}
+
+/// Adds the elements or the pairs behind an opening bracket, and the closing bracket.
+#[cycle(value)]
+fn items<'a>(
+    events: &mut Vec<Event>,
+    whole: usize,
+    level: usize,
+    brackets: Brackets,
+    s: &'a str,
+) -> Result<&'a str, Stop>
+    requires fits { length s.now ≤ whole }
+    requires level { level ≤ 80 }
+    ensures adds { (n : ℕ) → 2 * length s.now + 3 ≤ n → Adds events.old.items events.new.items result (read.items_read brackets n level whole false s.now) }
+    ensures shorter { IfOk result (λ r. length r.now < length s.now) }
+{
+    let mut rest = s;
+    let mut comma = false;
+    'items: loop {
+        let (before, start) = whole_trivia(rest)?;
+        if first(start) == brackets.closing_byte() {
+            return close(events, whole, brackets, comma, before, start);
+        }
+        let start = head(events, whole, brackets, before, start)?;
+        let end = value(events, whole, level, start)?;
+        let (after, next) = whole_trivia(end)?;
+        events.push(part(
+            EventKind::After,
+            whole - next.len() - after.len(),
+            whole - next.len(),
+        ))?;
+        if first(next) == brackets.closing_byte() {
+            return close(events, whole, brackets, false, "", next);
+        }
+        if first(next) != b',' {
+            return Err(Stop::Before(next.len()));
+        }
+        rest = skip(next, 1);
+        comma = true;
+    }
+}

@@ -1,0 +1,8 @@
+-- Lemmas of this crate.
+pub mod ClassLaws
+pub mod BlockLoop
+pub mod BasicLoop
+pub mod NumberLoop
+pub mod Decoding
+pub mod Escaping
+pub mod LoneLaws

@@ -1,0 +1,79 @@
+-- The loop over the digits of a number, a turn at a time.
+use Rattle.std.proofs.Common.{◌≡◌, ℕ, ◌+◌, ◌*◌, ◌<◌, ◌≤◌, Bool, true, false, cond, ◌==◌, ◌&&◌, List, length, get_or, drop, Option, Some, None, is_some, refl, ap, inl, inr, arith, mul-le-mul_left, le_trans, nat_lt, ◌∙◌, eqb-true}
+use Rattle.std.specs.Char.{is_digit, digit_value}
+use Rattle.std.proofs.lemmas.Bool.{eq-eqb, le-ltb}
+use Rattle.std.proofs.lemmas.List.{drop_more, drop_all}
+use Rattle.toml_edit_laws.specs.reading.Tokens.{digits_at, natural_of, below}
+use Rattle.toml_edit_laws.proofs.reading.Steps.{chosen}
+use Rattle.toml_edit_laws.proofs.common.OptionSteps.{guard_read}
+use Rattle.std.specs.Prelude.{[], ◌∷◌}
+
+-- a test of two that do not both hold
+none_of : {A : Type 0} (o : Option A) (a b : Bool) → (a ≡ true → b ≡ true → ⊥) → cond (a && b) o None ≡ None
+none_of o true true h = absurd (h refl refl)
+none_of o true false h = refl
+none_of o false b h = refl
+
+module _ (base : ℕ) (after_digit : Bool) (n : ℕ) (ds : List ℕ) (i : ℕ) (within : i < length ds) where
+  -- a digit
+  pub turn_digit : is_digit (get_or ds i 0) base ≡ true → digits_at base after_digit n (drop i ds) ≡ digits_at base true (n * base + digit_value (get_or ds i 0)) (drop (i + 1) ds)
+  unfolding digits_at
+  turn_digit h = ap (digits_at base after_digit n) (drop_more ds i 0 within) ∙ rw h refl
+
+  -- an underscore behind a digit
+  pub turn_under : is_digit (get_or ds i 0) base ≡ false → after_digit ≡ true → get_or ds i 0 ≡ 0x5F → digits_at base after_digit n (drop i ds) ≡ digits_at base false n (drop (i + 1) ds)
+  unfolding digits_at
+  turn_under h after under = ap (digits_at base after_digit n) (drop_more ds i 0 within) ∙ rw (h, after, eq-eqb (get_or ds i 0) 0x5F under) refl
+
+  -- any other byte
+  pub turn_bad : is_digit (get_or ds i 0) base ≡ false → (after_digit ≡ true → get_or ds i 0 ≡ 0x5F → ⊥) → digits_at base after_digit n (drop i ds) ≡ None
+  unfolding digits_at
+  turn_bad h other = ap (digits_at base after_digit n) (drop_more ds i 0 within) ∙ rw h (none_of _ after_digit (get_or ds i 0 == 0x5F) (λ a b. other a (eqb-true (get_or ds i 0) 0x5F b)))
+
+-- where the digits end there is a number behind a digit
+pub turn_end : (base : ℕ) (after_digit : Bool) (n : ℕ) (ds : List ℕ) (i : ℕ) → length ds ≤ i → digits_at base after_digit n (drop i ds) ≡ cond after_digit (Some n) None
+unfolding digits_at
+turn_end base after_digit n ds i past = ap (digits_at base after_digit n) (drop_all i ds past) ∙ refl
+
+-- whether a choice by a test gave something
+pub is_some_choice : (b : Bool) (n : ℕ) (o : Option ℕ) → cond b (Some n) None ≡ o → b ≡ is_some o
+is_some_choice true n o e = ap is_some e
+is_some_choice false n o e = ap is_some e
+
+-- ---- numbers below a limit
+
+-- the number only grows
+digits_grow : (base : ℕ) (after_digit : Bool) (n m : ℕ) (ds : List ℕ) → 1 ≤ base → digits_at base after_digit n ds ≡ Some m → n ≤ m
+unfolding digits_at
+digits_grow base true n m [] h e = let same : n ≡ m = cc in omega arith
+digits_grow base false n m [] h e = absurd cc
+digits_grow base after_digit n m (c ∷ cs) h e =
+    elim (chosen (is_digit c base) (digits_at base true (n * base + digit_value c) cs) _ (Some m) e) [
+      | inl (has, f) ↦
+          let step : n ≤ n * base + digit_value c = omega (arith, mul-le-mul_left n h) in
+          le_trans step (digits_grow base true (n * base + digit_value c) m cs h f)
+      | inr (none, f) ↦
+          let (under, g) = guard_read (after_digit && c == 0x5F) (digits_at base false n cs) m f in
+          digits_grow base false n m cs h g
+    ]
+
+-- a number that is not below the limit
+limited : (limit : ℕ) (o : Option ℕ) → ((m : ℕ) → o ≡ Some m → limit ≤ m) → below limit o ≡ None
+limited limit None h = refl
+limited limit (Some m) h = rw (le-ltb m limit (h m refl)) refl
+
+-- past the limit there is no number below it
+pub below_past : (base : ℕ) (after_digit : Bool) (n limit : ℕ) (ds whole : List ℕ) → 1 ≤ base → limit ≤ n
+    → digits_at base after_digit n ds ≡ digits_at base false 0 whole → below limit (natural_of base whole) ≡ None
+below_past base after_digit n limit ds whole h past e =
+    limited limit (digits_at base false 0 whole) (λ m found. le_trans past (digits_grow base after_digit n m ds h (e ∙ found)))
+
+-- no number, and so none below the limit
+pub below_none : (base limit : ℕ) (whole : List ℕ) → digits_at base false 0 whole ≡ None → below limit (natural_of base whole) ≡ None
+below_none base limit whole e = rw e refl
+
+-- where the digits end there is a number below the limit, if a digit stands last and the number is
+pub below_end : (base limit : ℕ) (after_digit : Bool) (n : ℕ) (whole : List ℕ) → cond after_digit (Some n) None ≡ digits_at base false 0 whole
+    → below limit (natural_of base whole) ≡ cond (after_digit && nat_lt n limit) (Some n) None
+below_end base limit true n whole e = rw (← e) refl
+below_end base limit false n whole e = rw (← e) refl

@@ -1,0 +1,4 @@
+-- What the contracts of this crate cite.
+pub mod Classes
+pub mod BlockPieces
+pub mod Decoded

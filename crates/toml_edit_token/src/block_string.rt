@@ -1,0 +1,216 @@
+//! Strings of several lines.
+ghost use Rattle.std.specs.Prelude.{◌≡◌, ℕ, ◌<◌, ◌≤◌, length, drop, option_map, string_bytes, IfOk, IfSome, MatchOption};
+ghost use Rattle.toml_edit_model.specs.Text.{line_feed, has_byte};
+ghost use Rattle.toml_edit_laws.specs.reading.Tokens.{whole};
+ghost use Rattle.toml_edit_laws.specs.reading.BlockReading as spec;
+ghost use Rattle.toml_edit_token.specs.BlockPieces as pieces;
+
+use crate::run::{Class, byte_at, first, is_blank, skip, split_run};
+use crate::string::escape;
+use std::alloc::{AllocError, Global};
+
+/// The form of a string of several lines.
+#[derive(Clone, Copy)]
+enum Form {
+    /// Between double quotes, with escapes.
+    Basic,
+    /// Between single quotes.
+    Literal,
+}
+
+/// What stands next in a string of several lines.
+#[derive(Drop)]
+enum Piece<'a> {
+    /// Text that says itself.
+    Own(&'a str),
+    /// A character, or nothing where a backslash drops white space and newlines.
+    Escaped(Option<char>),
+    /// The closing quotes, and the quotes of the string before them.
+    Last(&'a str),
+}
+
+fn delimiter(form: Form) -> u8
+    ensures { result ≡ pieces.delimiter_of form }
+{
+    match form {
+        Form::Basic => b'"',
+        Form::Literal => b'\'',
+    }
+}
+
+fn class(form: Form) -> Class
+    ensures { result ≡ pieces.class_of form }
+{
+    match form {
+        Form::Basic => Class::Plain,
+        Form::Literal => Class::Literal,
+    }
+}
+
+fn has_three(s: &str, delimiter: u8) -> bool
+    ensures { result ≡ spec.has_three delimiter s.now }
+{
+    first(s) == delimiter && byte_at(s, 1) == delimiter && byte_at(s, 2) == delimiter
+}
+
+/// How many bytes the newline at the front has, or 0.
+#[tactic(auto, unfolding(toml_edit_laws::specs::reading::BlockReading::newline_len))]
+fn newline_len(s: &str) -> usize
+    ensures { result ≡ spec.newline_len s.now }
+{
+    match first(s) {
+        b'\n' => 1,
+        b'\r' if byte_at(s, 1) == b'\n' => 2,
+        _ => 0,
+    }
+}
+
+/// The text behind the newline at the front, or the whole of it.
+fn behind_newline(s: &str) -> &str
+    ensures rest { result.now ≡ drop (spec.newline_len s.now) s.now }
+    ensures within { length result.now ≤ length s.now }
+{
+    let len = newline_len(s);
+    if len > 0 { skip(s, len) } else { s }
+}
+
+/// How many of the delimiter stand at the front.
+fn quote_len(bytes: &[u8], delimiter: u8) -> usize
+    ensures { result ≡ spec.run_of delimiter bytes.now }
+{
+    bytes.iter().take_while(|b| **b == delimiter).count()
+}
+
+/// Whether `byte`, which `next` follows, is white space or of a newline.
+fn is_gap_byte(byte: u8, next: u8) -> bool
+    ensures { result ≡ spec.is_gap_byte byte next }
+{
+    is_blank(byte) || byte == b'\n' || (byte == b'\r' && next == b'\n')
+}
+
+/// How far white space and newlines go.
+fn gap_len(s: &str) -> usize
+    ensures len { result ≡ spec.gap_len s.now }
+    ensures within { result ≤ length s.now }
+{
+    for i in 0..s.len() {
+        if !is_gap_byte(byte_at(s, i), byte_at(s, i + 1)) {
+            return i;
+        }
+    }
+    s.len()
+}
+
+fn has_line_feed(bytes: &[u8]) -> bool
+    ensures { result ≡ has_byte line_feed bytes.now }
+{
+    bytes.iter().any(|b| *b == b'\n')
+}
+
+/// The form of the string that opens here, and the text behind its opening and the newline there.
+#[tactic(auto, unfolding(crate::specs::BlockPieces::opening_at))]
+fn opening(s: &str) -> Option<(Form, &str)>
+    ensures value { option_map (λ p. (p.0, p.1.now)) result ≡ pieces.opening_at s.now }
+    ensures within { IfSome result (λ p. length p.1.now < length s.now) }
+{
+    let form = if has_three(s, b'"') {
+        Form::Basic
+    } else if has_three(s, b'\'') {
+        Form::Literal
+    } else {
+        return None;
+    };
+    Some((form, behind_newline(skip(s, 3))))
+}
+
+/// The character that a backslash and what follows stand for, or nothing where they drop white space and newlines, and the text after
+/// them. It is read from behind the backslash.
+#[tactic(auto, unfolding(toml_edit_laws::specs::reading::BlockReading::escaped_at))]
+fn escaped(s: &str) -> Option<(Option<char>, &str)>
+    ensures value { option_map (λ p. (pieces.escaped_text p.0, p.1.now)) result ≡ spec.escaped_at s.now }
+    ensures within { IfSome result (λ p. length p.1.now ≤ length s.now) }
+{
+    let len = gap_len(s);
+    if has_line_feed(&s.as_bytes()[..len]) {
+        return Some((None, skip(s, len)));
+    }
+    let (c, rest) = escape(s)?;
+    Some((Some(c), rest))
+}
+
+/// What stands next in a string of this form, and the text after it, or `None` where no string goes on so.
+fn next_piece(form: Form, s: &str) -> Option<(Piece<'_>, &str)>
+    ensures piece { (n : ℕ) → length s.now < n → MatchOption result (pieces.form_at form n s.now ≡ None) (λ p. pieces.ReadsPiece form (pieces.form_at form n s.now) p.0 p.1.now) }
+    ensures within { IfSome result (λ p. length p.1.now < length s.now) }
+{
+    let (own, rest) = split_run(s, class(form));
+    if !own.is_empty() {
+        return Some((Piece::Own(own), rest));
+    }
+    let quotes = quote_len(s.as_bytes(), delimiter(form));
+    if quotes >= 3 {
+        let end = quotes.min(5);
+        let (own, _) = s.split_at(end - 3);
+        return Some((Piece::Last(own), skip(s, end)));
+    }
+    if quotes > 0 {
+        let (own, rest) = s.split_at(quotes);
+        return Some((Piece::Own(own), rest));
+    }
+    let newline = newline_len(s);
+    if newline > 0 {
+        let (own, rest) = s.split_at(newline);
+        return Some((Piece::Own(own), rest));
+    }
+    if first(s) != b'\\' {
+        return None;
+    }
+    match form {
+        Form::Literal => None,
+        Form::Basic => {
+            let (c, rest) = escaped(skip(s, 1))?;
+            Some((Piece::Escaped(c), rest))
+        }
+    }
+}
+
+/// The text after the string of several lines at the front, or `None` if there is none.
+pub(crate) fn after_block(s: &str) -> Option<&str>
+    ensures rest { option_map (λ r. r.now) result ≡ option_map (λ p. p.1) (spec.block_at s.now) }
+    ensures within { IfSome result (λ r. length r.now ≤ length s.now) }
+{
+    let (form, mut rest) = opening(s)?;
+    'pieces: loop {
+        let (piece, next) = next_piece(form, rest)?;
+        if let Piece::Last(_) = piece {
+            return Some(next);
+        }
+        rest = next;
+    }
+}
+
+/// What a text says that is a string of several lines.
+pub(crate) fn read_block(alloc: Global, text: &str) -> Result<Option<String>, AllocError>
+    ensures { IfOk result (λ o. option_map string_bytes o ≡ whole (spec.block_at text.now)) }
+{
+    let Some((form, mut rest)) = opening(text) else {
+        return Ok(None);
+    };
+    // No piece says more bytes than it takes.
+    let mut value = String::with_capacity(alloc, text.len())?;
+    'pieces: loop {
+        let Some((piece, next)) = next_piece(form, rest) else {
+            return Ok(None);
+        };
+        match piece {
+            Piece::Own(own) => value.push_str(own)?,
+            Piece::Escaped(Some(c)) => value.push(c)?,
+            Piece::Escaped(None) => {}
+            Piece::Last(own) => {
+                value.push_str(own)?;
+                return Ok(if next.is_empty() { Some(value) } else { None });
+            }
+        }
+        rest = next;
+    }
+}

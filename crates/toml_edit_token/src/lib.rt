@@ -1,0 +1,16 @@
+//! Keys and scalars in a text: where they end, what they say, and how they are spelled by default.
+#![tactic(auto)]
+
+mod block_string;
+pub mod decode;
+pub mod lone;
+mod number;
+pub mod run;
+pub mod spelling;
+mod string;
+pub mod token;
+
+pub use decode::{Scalar, decode_key, decode_scalar};
+pub use lone::range_message;
+pub use spelling::{write_key, write_string};
+pub use token::{after_key, after_scalar};

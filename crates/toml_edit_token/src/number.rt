@@ -1,0 +1,148 @@
+//! Integers, as whole words.
+ghost use Rattle.std.specs.Prelude.{◌≡◌, ◌+◌, ◌<◌, ◌≤◌, ◌^◌, slice_index, is_some, option_map, pos, IfSome};
+ghost use Rattle.toml_edit_laws.specs.reading.Tokens as spec;
+ghost use Rattle.toml_edit_model.specs.Spelling.{plus, minus, unsigned};
+
+fn byte_at(bytes: &[u8], index: usize) -> u8
+    ensures { result ≡ slice_index bytes.now index }
+{
+    bytes.get(index).copied().unwrap_or(0)
+}
+
+/// Whether these are digits of the base, with single underscores between them.
+fn is_natural(digits: &[u8], base: u32) -> bool
+    requires low { 2 ≤ base }
+    requires high { base ≤ 16 }
+    ensures { result ≡ is_some (spec.natural_of base digits.now) }
+{
+    let mut follows_digit = false;
+    'digits: for byte in digits {
+        if char::from(*byte).is_digit(base) {
+            follows_digit = true;
+        } else if follows_digit && *byte == b'_' {
+            follows_digit = false;
+        } else {
+            return false;
+        }
+    }
+    follows_digit
+}
+
+fn leads_with_zero(digits: &[u8]) -> bool
+    ensures { result ≡ spec.leads_with_zero digits.now }
+{
+    byte_at(digits, 0) == b'0' && digits.len() > 1
+}
+
+/// Whether these are decimal digits, of which no 0 stands before another.
+#[tactic(auto, unfolding(toml_edit_laws::specs::reading::Tokens::decimal_of))]
+fn is_decimal(digits: &[u8]) -> bool
+    ensures plus { result ≡ is_some (spec.decimal_of plus digits.now) }
+    ensures minus { result ≡ is_some (spec.decimal_of minus digits.now) }
+    ensures unsigned { result ≡ is_some (spec.decimal_of unsigned digits.now) }
+{
+    !leads_with_zero(digits) && is_natural(digits, 10)
+}
+
+/// Whether a word spells an integer, however large.
+#[tactic(auto, unfolding(toml_edit_laws::specs::reading::Tokens::integer_of, toml_edit_laws::specs::reading::Tokens::prefixed_of))]
+pub(crate) fn is_integer(word: &[u8]) -> bool
+    ensures { result ≡ is_some (spec.integer_of word.now) }
+{
+    match (byte_at(word, 0), byte_at(word, 1)) {
+        (b'0', b'x') => is_natural(&word[2..], 16),
+        (b'0', b'o') => is_natural(&word[2..], 8),
+        (b'0', b'b') => is_natural(&word[2..], 2),
+        (b'+' | b'-', _) => is_decimal(&word[1..]),
+        _ => is_decimal(word),
+    }
+}
+
+/// The number that digits of the base write, with single underscores between them, where it is below the limit.
+fn natural(digits: &[u8], base: u32, limit: u64) -> Option<u64>
+    requires low { 2 ≤ base }
+    requires high { base ≤ 16 }
+    requires limit { limit ≤ 2 ^ 63 + 1 }
+    ensures value { result ≡ spec.below limit (spec.natural_of base digits.now) }
+    ensures below { IfSome result (λ n. n < limit) }
+{
+    let mut value = 0u64;
+    let mut after_digit = false;
+    'digits: for byte in digits {
+        match char::from(*byte).to_digit(base) {
+            Some(digit) => {
+                let next = u128::from(value) * u128::from(base) + u128::from(digit);
+                if next >= u128::from(limit) {
+                    return None;
+                }
+                value = next as u64;
+                after_digit = true;
+            }
+            None => {
+                if !after_digit || *byte != b'_' {
+                    return None;
+                }
+                after_digit = false;
+            }
+        }
+    }
+    if after_digit && value < limit {
+        Some(value)
+    } else {
+        None
+    }
+}
+
+/// The integer that decimal digits write without a minus sign.
+#[tactic(auto, unfolding(toml_edit_laws::specs::reading::Tokens::decimal_of))]
+fn positive(digits: &[u8]) -> Option<i64>
+    ensures unsigned { result ≡ spec.fitting (spec.decimal_of unsigned digits.now) }
+    ensures plus { result ≡ spec.fitting (spec.decimal_of plus digits.now) }
+{
+    if leads_with_zero(digits) {
+        return None;
+    }
+    let n = natural(digits, 10, 1 << 63)?;
+    Some(n as i64)
+}
+
+/// The integer that decimal digits write behind a minus sign.
+#[tactic(auto, unfolding(toml_edit_laws::specs::reading::Tokens::decimal_of))]
+fn negative(digits: &[u8]) -> Option<i64>
+    ensures { result ≡ spec.fitting (spec.decimal_of minus digits.now) }
+{
+    if leads_with_zero(digits) {
+        return None;
+    }
+    let n = natural(digits, 10, (1 << 63) + 1)?;
+    if n == 1 << 63 {
+        Some(i64::MIN)
+    } else {
+        Some(-(n as i64))
+    }
+}
+
+/// The integer that digits of the base write.
+fn prefixed(digits: &[u8], base: u32) -> Option<i64>
+    requires low { 2 ≤ base }
+    requires high { base ≤ 16 }
+    ensures { result ≡ spec.fitting (option_map pos (spec.natural_of base digits.now)) }
+{
+    let n = natural(digits, base, 1 << 63)?;
+    Some(n as i64)
+}
+
+/// The integer that a word spells, or `None` if it spells none or one that 64 bits don't hold.
+#[tactic(auto, unfolding(toml_edit_laws::specs::reading::Tokens::integer_of, toml_edit_laws::specs::reading::Tokens::prefixed_of))]
+pub(crate) fn decode_integer(word: &[u8]) -> Option<i64>
+    ensures { result ≡ spec.fitting (spec.integer_of word.now) }
+{
+    match (byte_at(word, 0), byte_at(word, 1)) {
+        (b'0', b'x') => prefixed(&word[2..], 16),
+        (b'0', b'o') => prefixed(&word[2..], 8),
+        (b'0', b'b') => prefixed(&word[2..], 2),
+        (b'+', _) => positive(&word[1..]),
+        (b'-', _) => negative(&word[1..]),
+        _ => positive(word),
+    }
+}

@@ -1,0 +1,106 @@
+//! Single bytes and runs of bytes.
+ghost use Rattle.std.specs.Prelude.{◌≡◌, ◌+◌, ◌-◌, ◌<◌, ◌≤◌, length, drop, slice_index};
+ghost use Rattle.std.specs.List.{prefix_len};
+ghost use Rattle.toml_edit_model.specs.Trivia as trivia;
+ghost use Rattle.toml_edit_model.specs.Spelling as spelling;
+ghost use Rattle.toml_edit_laws.specs.reading.Runs.{is_word_byte, split_while};
+ghost use Rattle.toml_edit_token.specs.Classes.{class_test};
+
+/// The byte at `index`, or 0 past the end.
+pub fn byte_at(s: &str, index: usize) -> u8
+    ensures { result ≡ slice_index s.now index }
+{
+    s.as_bytes().get(index).copied().unwrap_or(0)
+}
+
+/// The first byte, or 0.
+pub fn first(s: &str) -> u8
+    ensures { result ≡ slice_index s.now 0 }
+{
+    byte_at(s, 0)
+}
+
+/// What follows the first `n` bytes, of which the last is ASCII.
+pub fn skip(s: &str, n: usize) -> &str
+    requires some { 0 < n }
+    requires there { 0 < slice_index s.now (n - 1) }
+    requires ascii { slice_index s.now (n - 1) < 128 }
+    ensures rest { result.now ≡ drop n s.now }
+    ensures len { length result.now + n ≡ length s.now }
+{
+    &s[n..]
+}
+
+/// A set of bytes, to find a run of them.
+#[derive(Clone, Copy)]
+pub enum Class {
+    /// Space and tab.
+    Blank,
+    /// No control character but tab.
+    Visible,
+    /// Stands for itself between double quotes.
+    Plain,
+    /// Stands between single quotes.
+    Literal,
+    /// Stands in a bare key.
+    Bare,
+    /// Stands in a number, a truth value, a date or a time.
+    Word,
+}
+
+/// Whether it is a space or a tab.
+pub fn is_blank(byte: u8) -> bool
+    ensures { result ≡ trivia.is_blank byte }
+{
+    byte == b' ' || byte == b'\t'
+}
+
+/// Whether it is no control character but tab.
+pub fn is_visible(byte: u8) -> bool
+    ensures { result ≡ trivia.is_visible byte }
+{
+    byte == b'\t' || (byte >= 0x20 && byte != 0x7F)
+}
+
+/// Whether it may stand in a bare key.
+pub fn is_bare(byte: u8) -> bool
+    ensures { result ≡ spelling.is_bare_byte byte }
+{
+    byte.is_ascii_alphanumeric() || byte == b'-' || byte == b'_'
+}
+
+/// Whether it may stand in a number, a truth value, a date or a time.
+pub fn is_word(byte: u8) -> bool
+    ensures { result ≡ is_word_byte byte }
+{
+    is_bare(byte) || byte == b'+' || byte == b'.' || byte == b':'
+}
+
+fn is_in(class: Class, byte: u8) -> bool
+    ensures { result ≡ class_test class byte }
+{
+    match class {
+        Class::Blank => is_blank(byte),
+        Class::Visible => is_visible(byte),
+        Class::Plain => is_visible(byte) && byte != b'"' && byte != b'\\',
+        Class::Literal => is_visible(byte) && byte != b'\'',
+        Class::Bare => is_bare(byte),
+        Class::Word => is_word(byte),
+    }
+}
+
+/// How many bytes at the front are of the class.
+pub fn run_len(bytes: &[u8], class: Class) -> usize
+    ensures len { result ≡ prefix_len (class_test class) bytes.now }
+    ensures within { result ≤ length bytes.now }
+{
+    bytes.iter().take_while(|b| is_in(class, **b)).count()
+}
+
+/// The bytes of the class at the front, and the rest.
+pub fn split_run(s: &str, class: Class) -> (&str, &str)
+    ensures parts { (result.0.now, result.1.now) ≡ split_while (class_test class) s.now }
+    ensures lens { length result.0.now + length result.1.now ≡ length s.now }
+{
+    s.split_at(run_len(s.as_bytes(), class))
+}

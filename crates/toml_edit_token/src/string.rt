@@ -1,0 +1,150 @@
+//! Strings of one line.
+ghost use Rattle.std.specs.Prelude.{◌≡◌, ℕ, ◌<◌, ◌≤◌, length, string_bytes, option_map, IfOk, IfSome};
+ghost use Rattle.toml_edit_laws.specs.reading.Tokens as spec;
+
+use crate::run::{Class, first, skip, split_run};
+use std::alloc::{AllocError, Global};
+
+/// What a literal string says, and the text after it. It is read from behind its opening quote.
+#[tactic(auto, unfolding(toml_edit_laws::specs::reading::Tokens::literal_at))]
+pub(crate) fn literal(s: &str) -> Option<(&str, &str)>
+    ensures value { option_map (λ p. (p.0.now, p.1.now)) result ≡ spec.literal_at s.now }
+    ensures within { IfSome result (λ p. length p.1.now ≤ length s.now) }
+{
+    let (value, rest) = split_run(s, Class::Literal);
+    if first(rest) == b'\'' {
+        Some((value, skip(rest, 1)))
+    } else {
+        None
+    }
+}
+
+/// The text after a basic string, from behind its opening quote.
+fn after_basic(s: &str) -> Option<&str>
+    ensures rest { (n : ℕ) → length s.now < n → option_map (λ r. r.now) result ≡ option_map (λ p. p.1) (spec.basic_at n s.now) }
+    ensures within { IfSome result (λ r. length r.now ≤ length s.now) }
+{
+    let mut rest = s;
+    'parts: loop {
+        let (_, after) = split_run(rest, Class::Plain);
+        let byte = first(after);
+        if byte == b'"' {
+            return Some(skip(after, 1));
+        }
+        if byte != b'\\' {
+            return None;
+        }
+        let (_, next) = escape(skip(after, 1))?;
+        rest = next;
+    }
+}
+
+/// The character that an escape stands for, and the text after it. It is read from behind its backslash.
+#[tactic(auto, unfolding(toml_edit_laws::specs::reading::Tokens::escape_at))]
+pub(crate) fn escape(s: &str) -> Option<(char, &str)>
+    ensures value { option_map (λ p. (p.0, p.1.now)) result ≡ spec.escape_at s.now }
+    ensures within { IfSome result (λ p. length p.1.now ≤ length s.now) }
+{
+    let c = match first(s) {
+        b'x' => return hex(skip(s, 1), 2),
+        b'u' => return hex(skip(s, 1), 4),
+        b'U' => return hex(skip(s, 1), 8),
+        b'b' => '\u{8}',
+        b'e' => '\u{1b}',
+        b'f' => '\u{c}',
+        b'n' => '\n',
+        b'r' => '\r',
+        b't' => '\t',
+        b'"' => '"',
+        b'\\' => '\\',
+        _ => return None,
+    };
+    Some((c, skip(s, 1)))
+}
+
+/// The character whose number stands in `len` hexadecimal digits, and the text after them.
+#[tactic(auto, unfolding(toml_edit_laws::specs::reading::Tokens::hex_at))]
+fn hex(s: &str, len: usize) -> Option<(char, &str)>
+    requires some { 0 < len }
+    requires fits { len ≤ 8 }
+    ensures value { option_map (λ p. (p.0, p.1.now)) result ≡ spec.hex_at len s.now }
+    ensures within { IfSome result (λ p. length p.1.now ≤ length s.now) }
+{
+    let bytes = s.as_bytes();
+    if bytes.len() < len {
+        return None;
+    }
+    let value = hex_value(&bytes[..len])?;
+    let c = char::from_u32(value)?;
+    Some((c, skip(s, len)))
+}
+
+/// The number that at most eight hexadecimal digits write.
+fn hex_value(digits: &[u8]) -> Option<u32>
+    requires { length digits.now ≤ 8 }
+    ensures { result ≡ spec.hex_value digits.now }
+{
+    let mut value = 0u32;
+    'digits: for byte in digits {
+        let digit = char::from(*byte).to_digit(16)?;
+        value = value * 16 + digit;
+    }
+    Some(value)
+}
+
+/// The text after a basic or a literal string.
+#[tactic(auto, unfolding(toml_edit_laws::specs::reading::Tokens::string_at))]
+pub(crate) fn after_string(s: &str) -> Option<&str>
+    ensures rest { option_map (λ r. r.now) result ≡ option_map (λ p. p.1) (spec.string_at s.now) }
+    ensures within { IfSome result (λ r. length r.now ≤ length s.now) }
+{
+    match first(s) {
+        b'\'' => Some(literal(skip(s, 1))?.1),
+        b'"' => after_basic(skip(s, 1)),
+        _ => None,
+    }
+}
+
+/// What a basic string says that ends the text. It is read from behind its opening quote.
+fn decode_basic(alloc: Global, s: &str) -> Result<Option<String>, AllocError>
+    ensures { IfOk result (λ o. (n : ℕ) → length s.now < n → option_map string_bytes o ≡ spec.whole (spec.basic_at n s.now)) }
+{
+    // No escape says more bytes than it takes.
+    let mut value = String::with_capacity(alloc, s.len())?;
+    let mut rest = s;
+    'parts: loop {
+        let (plain, after) = split_run(rest, Class::Plain);
+        value.push_str(plain)?;
+        let byte = first(after);
+        if byte == b'"' {
+            return Ok(if skip(after, 1).is_empty() {
+                Some(value)
+            } else {
+                None
+            });
+        }
+        if byte != b'\\' {
+            return Ok(None);
+        }
+        let Some((c, next)) = escape(skip(after, 1)) else {
+            return Ok(None);
+        };
+        value.push(c)?;
+        rest = next;
+    }
+}
+
+/// What a text says that is a basic or a literal string.
+#[tactic(auto, unfolding(toml_edit_laws::specs::reading::Tokens::string_at))]
+pub(crate) fn decode_string(alloc: Global, s: &str) -> Result<Option<String>, AllocError>
+    ensures { IfOk result (λ o. option_map string_bytes o ≡ spec.whole (spec.string_at s.now)) }
+{
+    match first(s) {
+        b'\'' => match literal(skip(s, 1)) {
+            Some((value, rest)) if rest.is_empty() => Ok(Some(String::from_str(alloc, value)?)),
+            _ => Ok(None),
+        },
+        b'"' => decode_basic(alloc, skip(s, 1)),
+        _ => Ok(None),
+    }
+}

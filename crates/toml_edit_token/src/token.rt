@@ -1,0 +1,90 @@
+//! The ends of keys and scalars.
+ghost use Rattle.std.specs.Prelude.{◌≡◌, ◌≤◌, length, take, drop, is_some, option_map, IfSome};
+ghost use Rattle.toml_edit_laws.specs.reading.BlockReading as block;
+ghost use Rattle.toml_edit_laws.specs.reading.ScalarReading as scalar;
+ghost use Rattle.toml_edit_laws.specs.reading.Tokens as spec;
+
+use crate::block_string::after_block;
+use crate::number::is_integer;
+use crate::run::{Class, byte_at, first, is_bare, is_word, run_len, split_run};
+use crate::string::after_string;
+use toml_edit_datetime::{is_datetime, is_float};
+
+/// The text after the simple key at the front, or `None` if there is none.
+#[tactic(auto, unfolding(toml_edit_laws::specs::reading::Tokens::key_at))]
+pub fn after_key(s: &str) -> Option<&str>
+    ensures rest { option_map (λ r. r.now) result ≡ option_map (λ p. p.1) (spec.key_at s.now) }
+    ensures within { IfSome result (λ r. length r.now ≤ length s.now) }
+{
+    if is_bare(first(s)) {
+        let (_, rest) = split_run(s, Class::Bare);
+        Some(rest)
+    } else {
+        after_string(s)
+    }
+}
+
+/// How many bytes the word at the front has: a run, or a date, a space and the run of a time.
+#[tactic(auto, unfolding(toml_edit_laws::specs::reading::ScalarReading::word_len))]
+fn word_len(s: &str) -> usize
+    ensures len { result ≡ scalar.word_len s.now }
+    ensures within { result ≤ length s.now }
+{
+    let run = run_len(s.as_bytes(), Class::Word);
+    let is_date = run == 10 && byte_at(s, 4) == b'-' && byte_at(s, 7) == b'-';
+    if is_date && byte_at(s, 10) == b' ' && byte_at(s, 11).is_ascii_digit() {
+        11 + run_len(&s.as_bytes()[11..], Class::Word)
+    } else {
+        run
+    }
+}
+
+/// The word at the front, and the rest.
+pub(crate) fn split_word(s: &str) -> (&str, &str)
+    ensures word { result.0.now ≡ take (scalar.word_len s.now) s.now }
+    ensures rest { result.1.now ≡ drop (scalar.word_len s.now) s.now }
+    ensures within { length result.1.now ≤ length s.now }
+{
+    s.split_at(word_len(s))
+}
+
+/// Whether a word spells a truth value, a number, a date or a time, in range or not.
+#[tactic(auto, unfolding(toml_edit_laws::specs::reading::ScalarReading::word_scalar))]
+fn is_scalar_word(word: &str) -> bool
+    ensures { result ≡ is_some (scalar.word_scalar word.now) }
+{
+    word == "true"
+        || word == "false"
+        || is_integer(word.as_bytes())
+        || is_float(word)
+        || is_datetime(word)
+}
+
+/// Whether three quotes of one kind stand at the front.
+pub(crate) fn opens_block(s: &str) -> bool
+    ensures { result ≡ block.opens_block s.now }
+{
+    let quote = first(s);
+    (quote == b'"' || quote == b'\'') && byte_at(s, 1) == quote && byte_at(s, 2) == quote
+}
+
+/// The text after the scalar at the front, or `None` if there is none.
+#[tactic(auto, unfolding(toml_edit_laws::specs::reading::ScalarReading::scalar_at))]
+pub fn after_scalar(s: &str) -> Option<&str>
+    ensures rest { option_map (λ r. r.now) result ≡ option_map (λ p. p.1) (scalar.scalar_at s.now) }
+    ensures within { IfSome result (λ r. length r.now ≤ length s.now) }
+{
+    if !is_word(first(s)) {
+        return if opens_block(s) {
+            after_block(s)
+        } else {
+            after_string(s)
+        };
+    }
+    let (word, rest) = split_word(s);
+    if is_scalar_word(word) {
+        Some(rest)
+    } else {
+        None
+    }
+}
