@@ -1,210 +1,112 @@
--- Slots that are put in owned form place by place.
+-- Items and slots that are put in owned form place by place.
 use mathlib.Core.Logic.{∥∥₁_map}
-use Rattle.std.proofs.Common.{◌≡◌, Result, Ok, Err, OnOk, ℕ, zero, suc, ◌<◌, ◌≤◌, List, [], ◌∷◌, length, Option, Some, None, slice_get, IfSome, option_map, refl, sym, ap, subst, ◌∙◌, arith}
+use denote.Param.Weighed.{most, at_most}
+use Rattle.std.proofs.Common.{◌≡◌, ℕ, zero, suc, ◌<◌, ◌≤◌, max, List, [], ◌∷◌, length, map, Some, get_or, set, slice_get, option_map, refl, sym, ap, arith}
 use Rattle.std.proofs.lemmas.Option.{same_Some}
-use Rattle.std.specs.Option.{ForSome}
-use Rattle.toml_edit_model.specs.Text.{Text}
+use Rattle.toml_edit_model.specs.SlotLists.{new_key}
 use Rattle.toml_edit_model.specs.Spelling.{SpellsKey}
-use Rattle.toml_edit_model.specs.Tree.{Key, Node, Slots, no_slots, slot, HasTrueSpelling, IsWellMade, SlotsAreWellMade}
-use Rattle.toml_edit_model.specs.TreeOf.{KeyFits, NodeFits, SlotsFit, owned_raw, owned_key, owned_node, owned_slots}
+use Rattle.toml_edit_model.specs.Text.{Text}
+use Rattle.toml_edit_model.specs.Tree.{Key, Node, HasTrueSpelling, IsWellMade, ItemsAreWellMade, SlotsAreWellMade, item, slot}
+use Rattle.toml_edit_model.specs.TreeOf.{ItemsFit, KeyFits, NodeFits, SlotsFit, owned_items, owned_key, owned_node, owned_raw, owned_slots}
 use Rattle.toml_edit_slots.specs.declared.slots.Slot.{Slot}
-use Rattle.toml_edit_slots.specs.Slots.{with_item, on_key, items_of}
-use Rattle.toml_edit.specs.declared.item.Item.{Item}
-use Rattle.toml_edit.specs.Places.{on_node}
-use Rattle.toml_edit.specs.View.{item_view, slots_view}
+use Rattle.toml_edit_slots.specs.Slots.{items_of, on_key, with_item}
+use Rattle.toml_edit.specs.Containers.{items_from, slots_from}
+use Rattle.toml_edit.specs.declared.item.Item.{Item, size-Item, None as placeholder}
+use Rattle.toml_edit.specs.View.{item_view, items_view, slots_view}
 
--- ---- one place of slots
+-- ---- items
 
--- an item put at a place is seen there
-pub view-with_item : (es : List (Slot Item)) (i : ℕ) (x old : Item) (h : Node → Node) → Some old ≡ slice_get (items_of es) i
-    → item_view x ≡ h (item_view old) → slots_view (with_item i x es) ≡ on_node i h (slots_view es)
-view-with_item [] i x old h at e = refl
-view-with_item (s ∷ es) zero x old h at e =
-    ap (λ n. slot s.key n (slots_view es)) (e ∙ ap (λ y. h (item_view y)) (same_Some old s.item at))
-view-with_item (s ∷ es) (suc i) x old h at e = ap (slot s.key (item_view s.item)) (view-with_item es i x old h at e)
+-- the items in owned form, one by one
+pub owned-items : (t : Text) (ns : List Node) → items_from (map (owned_node t) ns) ≡ owned_items t (items_from ns)
+owned-items t [] = refl
+owned-items t (n ∷ ns) = ap (item (owned_node t n)) (owned-items t ns)
 
--- the slots, with the key at the place changed
-abbrev pub on_key_view : ℕ → (Key → Key) → Slots → Slots
-on_key_view i h no_slots = no_slots
-on_key_view zero h (slot k n ss) = slot (h k) n ss
-on_key_view (suc i) h (slot k n ss) = slot k n (on_key_view i h ss)
+-- each fits, and each is well made in owned form
+pub item-fits : (t : Text) (xs : List Item) (i : ℕ) (d : Item) → i < length xs → ItemsFit t (items_view xs) → NodeFits t (item_view (get_or xs i d))
+item-fits t [] i d h f = absurd (omega (arith, h))
+item-fits t (x ∷ xs) zero d h f = f.0
+item-fits t (x ∷ xs) (suc i) d h f = item-fits t xs i d (omega (arith, h)) f.1
 
--- a key changed at a place is seen there
-view-on_key : (es : List (Slot Item)) (i : ℕ) (h : Key → Key) → slots_view (on_key i h es) ≡ on_key_view i h (slots_view es)
-view-on_key [] i h = refl
-view-on_key (s ∷ es) zero h = refl
-view-on_key (s ∷ es) (suc i) h = ap (slot s.key (item_view s.item)) (view-on_key es i h)
+item-true : (t : Text) (xs : List Item) (i : ℕ) (d : Item) → i < length xs → ItemsAreWellMade (owned_items t (items_view xs))
+    → IsWellMade (owned_node t (item_view (get_or xs i d)))
+item-true t [] i d h f = absurd (omega (arith, h))
+item-true t (x ∷ xs) zero d h f = f.0
+item-true t (x ∷ xs) (suc i) d h f = item-true t xs i d (omega (arith, h)) f.1
 
--- ---- the slots before a place in owned form
+pub item-spelled : (t : Text) (xs : List Item) (i : ℕ) (d : Item) → i < length xs → ∥ ItemsAreWellMade (owned_items t (items_view xs)) ∥₁
+    → ∥ IsWellMade (owned_node t (item_view (get_or xs i d))) ∥₁
+item-spelled t xs i d h f = ∥∥₁_map f (item-true t xs i d h)
 
--- the first slots in owned form, the others as they are
-abbrev pub owned_up_to : Text → ℕ → Slots → Slots
-owned_up_to t i no_slots = no_slots
-owned_up_to t zero (slot k n ss) = slot k n ss
-owned_up_to t (suc i) (slot k n ss) = slot (owned_key t k) (owned_node t n) (owned_up_to t i ss)
+-- ---- slots
 
--- how many slots there are
-abbrev count : Slots → ℕ
-count no_slots = 0
-count (slot k n ss) = suc (count ss)
+-- a slot in owned form
+abbrev pub owned_slot : Text → Slot Node → Slot Node
+owned_slot t s = record { key = owned_key t s.key; item = owned_node t s.item }
 
--- the slots seen are as many
-count-view : (es : List (Slot Item)) → count (slots_view es) ≡ length es
-count-view [] = refl
-count-view (s ∷ es) = ap suc (count-view es)
+pub owned-slots : (t : Text) (es : List (Slot Node)) → slots_from (map (owned_slot t) es) ≡ owned_slots t (slots_from es)
+owned-slots t [] = refl
+owned-slots t (s ∷ es) = ap (slot (owned_key t s.key) (owned_node t s.item)) (owned-slots t es)
 
--- as many are left in owned form
-count-owned : (t : Text) (i : ℕ) (ss : Slots) → count (owned_up_to t i ss) ≡ count ss
-count-owned t i no_slots = refl
-count-owned t zero (slot k n ss) = refl
-count-owned t (suc i) (slot k n ss) = ap suc (count-owned t i ss)
+-- any slot, for places past the last
+abbrev pub no_slot : Slot Item
+no_slot = record { key = new_key []; item = placeholder }
 
--- at the first place none is owned
-none-owned : (t : Text) (ss : Slots) → owned_up_to t 0 ss ≡ ss
-none-owned t no_slots = refl
-none-owned t (slot k n ss) = refl
+pub slot-fits : (t : Text) (es : List (Slot Item)) (i : ℕ) (d : Slot Item) → i < length es → SlotsFit t (slots_view es)
+    → KeyFits t (get_or es i d).key × NodeFits t (item_view (get_or es i d).item)
+slot-fits t [] i d h f = absurd (omega (arith, h))
+slot-fits t (s ∷ es) zero d h f = (f.0, f.1)
+slot-fits t (s ∷ es) (suc i) d h f = slot-fits t es i d (omega (arith, h)) f.2
 
--- past the last all are
-all-owned : (t : Text) (i : ℕ) (ss : Slots) → count ss ≤ i → owned_up_to t i ss ≡ owned_slots t ss
-all-owned t i no_slots h = refl
-all-owned t zero (slot k n ss) h = absurd (omega (arith, h))
-all-owned t (suc i) (slot k n ss) h = ap (slot (owned_key t k) (owned_node t n)) (all-owned t i ss (omega (arith, h)))
+-- the key's spelling is true in owned form, and the item well made
+abbrev IsTrue : Text → Slot Item → Type 0
+IsTrue t s = HasTrueSpelling (SpellsKey s.key.name) (option_map (owned_raw t) s.key.spelling) × IsWellMade (owned_node t (item_view s.item))
 
--- putting the slot at the place in owned form is one step
-next-owned : (t : Text) (i : ℕ) (ss : Slots)
-    → on_node i (owned_node t) (on_key_view i (owned_key t) (owned_up_to t i ss)) ≡ owned_up_to t (suc i) ss
-next-owned t i no_slots = refl
-next-owned t zero (slot k n ss) = ap (slot (owned_key t k) (owned_node t n)) (sym (none-owned t ss))
-next-owned t (suc i) (slot k n ss) = ap (slot (owned_key t k) (owned_node t n)) (next-owned t i ss)
+slot-true : (t : Text) (es : List (Slot Item)) (i : ℕ) (d : Slot Item) → i < length es → SlotsAreWellMade (owned_slots t (slots_view es))
+    → IsTrue t (get_or es i d)
+slot-true t [] i d h f = absurd (omega (arith, h))
+slot-true t (s ∷ es) zero d h f = (f.1, f.2)
+slot-true t (s ∷ es) (suc i) d h f = slot-true t es i d (omega (arith, h)) f.3
 
--- a fact about the key and the item at a place
-abbrev At : (Key → Node → Type 0) → ℕ → Slots → Type 0
-At P i no_slots = ⊥
-At P zero (slot k n ss) = P k n
-At P (suc i) (slot k n ss) = At P i ss
+module _ (t : Text) (es : List (Slot Item)) (i : ℕ) (d : Slot Item) (h : i < length es) (f : ∥ SlotsAreWellMade (owned_slots t (slots_view es)) ∥₁) where
+  pub key-spelled : ∥ HasTrueSpelling (SpellsKey (get_or es i d).key.name) (option_map (owned_raw t) (get_or es i d).key.spelling) ∥₁
+  key-spelled = ∥∥₁_map f (λ made. (slot-true t es i d h made).0)
 
--- it holds at each place where it holds of each slot
-fits-at : (t : Text) (ss : Slots) (i : ℕ) → i < count ss → SlotsFit t ss → At (λ k n. KeyFits t k × NodeFits t n) i ss
-fits-at t no_slots i h f = absurd (omega (arith, h))
-fits-at t (slot k n ss) zero h f = (f.0, f.1)
-fits-at t (slot k n ss) (suc i) h f = fits-at t ss i (omega (arith, h)) f.2
+  pub slot-spelled : ∥ IsWellMade (owned_node t (item_view (get_or es i d).item)) ∥₁
+  slot-spelled = ∥∥₁_map f (λ made. (slot-true t es i d h made).1)
 
--- the key's spelling and the item, in owned form, are true
-abbrev IsTrueAt : Text → Key → Node → Type 0
-IsTrueAt t k n = HasTrueSpelling (SpellsKey k.name) (option_map (owned_raw t) k.spelling) × IsWellMade (owned_node t n)
+-- the slot that is at a place
+pub slot-there : (es : List (Slot Item)) (i : ℕ) (d s : Slot Item) → slice_get es i ≡ Some s → s ≡ get_or es i d
+slot-there [] i d s e = absurd cc
+slot-there (x ∷ es) zero d s e = sym (same_Some x s e)
+slot-there (x ∷ es) (suc i) d s e = slot-there es i d s e
 
--- the same of true spellings
-true-at : (t : Text) (ss : Slots) (i : ℕ) → i < count ss → SlotsAreWellMade (owned_slots t ss) → At (IsTrueAt t) i ss
-true-at t no_slots i h f = absurd (omega (arith, h))
-true-at t (slot k n ss) zero h f = (f.1, f.2)
-true-at t (slot k n ss) (suc i) h f = true-at t ss i (omega (arith, h)) f.3
+-- the item there, once the key was changed
+pub item-there : (es : List (Slot Item)) (i : ℕ) (d : Slot Item) (h : Key → Key) (x : Item) → i < length es
+    → Some x ≡ slice_get (items_of (on_key i h es)) i → x ≡ (get_or es i d).item
+item-there [] i d h x l e = absurd (omega (arith, l))
+item-there (s ∷ es) zero d h x l e = same_Some x s.item e
+item-there (s ∷ es) (suc i) d h x l e = item-there es i d h x (omega (arith, l)) e
 
--- the slot at the place isn't owned yet
-at-owned : (P : Key → Node → Type 0) (t : Text) (ss : Slots) (i : ℕ) → At P i ss → At P i (owned_up_to t i ss)
-at-owned P t no_slots i h = h
-at-owned P t (slot k n ss) zero h = h
-at-owned P t (slot k n ss) (suc i) h = at-owned P t ss i h
+-- another key and another item at a place
+pub both-changed : (es : List (Slot Item)) (i : ℕ) (d : Slot Item) (h : Key → Key) (y : Item)
+    → with_item i y (on_key i h es) ≡ set es i (record { key = h (get_or es i d).key; item = y })
+both-changed [] i d h y = refl
+both-changed (s ∷ es) zero d h y = refl
+both-changed (s ∷ es) (suc i) d h y = ap (λ l. s ∷ l) (both-changed es i d h y)
 
--- the fact, of the slot that stands at the place
-key-at : (P : Key → Node → Type 0) (es : List (Slot Item)) (i : ℕ) → At P i (slots_view es) → (s : Slot Item)
-    → slice_get es i ≡ Some s → P s.key (item_view s.item)
-key-at P [] i h s e = absurd h
-key-at P (x ∷ es) zero h s e = subst (λ y. P y.key (item_view y.item)) (same_Some x s e) h
-key-at P (x ∷ es) (suc i) h s e = key-at P es i h s e
+-- ---- the measure
 
--- the fact, of the item at the place once its key was changed
-node-at : (P : Key → Node → Type 0) (h : Key → Key) (es : List (Slot Item)) (i : ℕ) → At P i (slots_view es)
-    → IfSome (slice_get (on_key i h es) i) (λ s. (k : Key) × P k (item_view s.item))
-node-at P h [] i at = absurd at
-node-at P h (x ∷ es) zero at = (x.key, at)
-node-at P h (x ∷ es) (suc i) at = node-at P h es i at
+-- how deep a slot is
+abbrev pub slot_depth : Slot Item → ℕ
+slot_depth s = max 0 (size-Item s.item)
 
--- what holds of a value that is there, by another fact about it
-if_some-map : {X : Type 0} (P Q : X → Type 0) (o : Option X) → ((x : X) → P x → Q x) → IfSome o P → IfSome o Q
-if_some-map P Q None f h = h
-if_some-map P Q (Some x) f h = f x h
+-- an item is no deeper than its slots
+pub deepest : (es : List (Slot Item)) (i : ℕ) (d : Slot Item) → i < length es → size-Item (get_or es i d).item ≤ most slot_depth es
+deepest es i d h = omega (arith, at_most slot_depth es i d h)
 
--- ---- a loop over the places
+-- the same of items
+abbrev pub item_depth : Item → ℕ
+item_depth x = size-Item x
 
--- the slots now are those at first, of which those before the place are in owned form
-pub record AreOwnedBefore (t : Text) (first now : List (Slot Item)) (i : ℕ) : Type 0 where
-  pub slots : slots_view now ≡ owned_up_to t i (slots_view first)
-
--- it begins so
-pub owned-at-first : (t : Text) (es : List (Slot Item)) → AreOwnedBefore t es es 0
-owned-at-first t es = record { slots = sym (none-owned t (slots_view es)) }
-
-module _ (t : Text) (first now : List (Slot Item)) (i : ℕ) (h : AreOwnedBefore t first now i) where
-  -- the places of the slots at first are those of the view
-  count-first : count (slots_view first) ≡ length first
-  count-first = count-view first
-
-  -- there are as many as at first
-  pub as_long : length now ≡ length first
-  as_long = sym (count-view now) ∙ ap count h.slots ∙ count-owned t i (slots_view first) ∙ count-view first
-
-  -- what held at the place at first holds there now
-  at-now : (P : Key → Node → Type 0) → At P i (slots_view first) → At P i (slots_view now)
-  at-now P at = subst (At P i) (sym h.slots) (at-owned P t (slots_view first) i at)
-
-  -- the place is within the view
-  within : i < length first → i < count (slots_view first)
-  within below = omega (arith, below, count-first)
-
-  -- what `despan_key` asks for
-  pub key-fits : i < length first → SlotsFit t (slots_view first) → ForSome (slice_get now i) (λ s. KeyFits t s.key)
-  key-fits below f s e =
-      (key-at (λ k n. KeyFits t k × NodeFits t n) now i (at-now (λ k n. KeyFits t k × NodeFits t n) (fits-at t (slots_view first) i (within below) f)) s e).0
-
-  pub key-true : i < length first → ∥ SlotsAreWellMade (owned_slots t (slots_view first)) ∥₁
-      → ForSome (slice_get now i) (λ s. ∥ HasTrueSpelling (SpellsKey s.key.name) (option_map (owned_raw t) s.key.spelling) ∥₁)
-  key-true below f s e =
-      ∥∥₁_map f (λ made. (key-at (IsTrueAt t) now i (at-now (IsTrueAt t) (true-at t (slots_view first) i (within below) made)) s e).0)
-
-  -- what despanning the item asks for, once its key is in owned form
-  pub item-fits : i < length first → SlotsFit t (slots_view first) → (h : Key → Key)
-      → IfSome (slice_get (on_key i h now) i) (λ s. NodeFits t (item_view s.item))
-  item-fits below f h =
-      if_some-map (λ s. (k : Key) × (KeyFits t k × NodeFits t (item_view s.item))) (λ s. NodeFits t (item_view s.item))
-      (slice_get (on_key i h now) i) (λ s p. p.1.1)
-      (node-at (λ k n. KeyFits t k × NodeFits t n) h now i
-      (at-now (λ k n. KeyFits t k × NodeFits t n) (fits-at t (slots_view first) i (within below) f)))
-
-  pub item-true : i < length first → ∥ SlotsAreWellMade (owned_slots t (slots_view first)) ∥₁ → (h : Key → Key)
-      → ∥ IfSome (slice_get (on_key i h now) i) (λ s. IsWellMade (owned_node t (item_view s.item))) ∥₁
-  item-true below f h =
-      ∥∥₁_map f (λ made.
-      if_some-map (λ s. (k : Key) × IsTrueAt t k (item_view s.item)) (λ s. IsWellMade (owned_node t (item_view s.item)))
-      (slice_get (on_key i h now) i) (λ s p. p.1.1)
-      (node-at (IsTrueAt t) h now i (at-now (IsTrueAt t) (true-at t (slots_view first) i (within below) made))))
-
-  -- the next place is put in owned form
-  pub owned-next : (keyed after : List (Slot Item)) → keyed ≡ on_key i (owned_key t) now
-      → slots_view after ≡ on_node i (owned_node t) (slots_view keyed) → AreOwnedBefore t first after (suc i)
-  owned-next keyed after k a =
-      record {
-        slots =
-            a ∙ ap (λ es. on_node i (owned_node t) (slots_view es)) k
-            ∙ ap (on_node i (owned_node t)) (view-on_key now i (owned_key t) ∙ ap (on_key_view i (owned_key t)) h.slots)
-            ∙ next-owned t i (slots_view first);
-      }
-
-  -- past the last place all slots are in owned form
-  pub owned-whole : length first ≤ i → slots_view now ≡ owned_slots t (slots_view first)
-  owned-whole past = h.slots ∙ all-owned t i (slots_view first) (omega (arith, past, count-first))
-
-  -- changing a key leaves their number
-  pub long-keyed : (g : Key → Key) → length (on_key i g now) ≡ length first
-  long-keyed g = on_key-long now i ∙ as_long
-    where
-      on_key-long : (es : List (Slot Item)) (j : ℕ) → length (on_key j g es) ≡ length es
-      on_key-long [] j = refl
-      on_key-long (s ∷ es) zero = refl
-      on_key-long (s ∷ es) (suc j) = ap suc (on_key-long es j)
-
--- ---- answers
-
--- what holds after success, by another fact that holds after it
-pub on_ok : {X E : Type 0} {A B : Type 0} (r : Result X E) → (A → B) → OnOk r A → OnOk r B
-on_ok (Ok x) f h = f h
-on_ok (Err e) f h = h
+pub deepest_item : (xs : List Item) (i : ℕ) (d : Item) → i < length xs → size-Item (get_or xs i d) ≤ most item_depth xs
+deepest_item xs i d h = omega (arith, at_most item_depth xs i d h)

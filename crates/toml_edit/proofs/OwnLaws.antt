@@ -8,7 +8,8 @@ use Rattle.toml_edit_model.specs.Normal.{normal_text}
 use Rattle.toml_edit_model.specs.Print.{print}
 use Rattle.toml_edit_model.specs.Tree.{Tree, SlotsAreWellMade}
 use Rattle.toml_edit_model.specs.TreeOf.{spanned_form, owned_form, IsTreeOf, IsOver, DecorFits, SlotsFit, RawFits, owned_raw, owned_fields, owned_slots, owned_tree}
-use Rattle.toml_edit_laws.proofs.FlatLaws.{flat_owned, flat_normal}
+use Rattle.toml_edit_laws.proofs.read_trees.ReadLaws.{owned_trees}
+use Rattle.toml_edit_laws.proofs.print_of_read.PrintOfRead.{print_normal}
 use Rattle.toml_edit.proofs.SpanProps.{DecorFits-prop, SlotsFit-prop, RawFits-prop}
 
 -- ---- what is known of a tree over its text
@@ -45,4 +46,5 @@ owned-parts t u x y same root slots trailing =
 pub stays-tree : (t : Text) (x y : Tree) → y ≡ owned_tree t x → (d : Document) → FlatAs t d → IsTreeOf spanned_form d x
     → IsTreeOf owned_form d y × (print y ≡ normal_text d)
 stays-tree t x y e d flat is =
-    let own = subst (IsTreeOf owned_form d) (sym e) (flat_owned t d flat x is) in (own, flat_normal t d flat y own)
+    let cut = flat.cut.cut in
+    let own = subst (IsTreeOf owned_form d) (sym e) (owned_trees t d cut x is) in (own, print_normal d cut.0 flat.accepted y own)

@@ -6,7 +6,7 @@ use Rattle.toml_edit_model.specs.TreeOf.{KeyFits, NodeFits, SlotsFit}
 use Rattle.toml_edit_slots.specs.declared.slots.Slot as repr
 use Rattle.toml_edit_slots.specs.Slots.{is_at, place}
 use Rattle.toml_edit.specs.declared.item.Item.{Item}
-use Rattle.toml_edit.specs.Lines.{with_slot}
+use Rattle.toml_edit_laws.specs.FlatTree.{with_slot}
 use Rattle.toml_edit.specs.View.{item_view, slots_view}
 
 pub slots_view-append : (es : List (repr.Slot Item)) (s : repr.Slot Item) → slots_view (es ++ s ∷ []) ≡ with_slot (slots_view es) s.key (item_view s.item)

@@ -1,11 +1,15 @@
 pub mod View
+pub mod ScalarRead
+pub mod ValueRead
+pub mod PairRead
 pub mod Lines
 pub mod Parsed
 pub mod Held
 pub mod Split
 pub mod DocumentView
 pub mod Documents
-pub mod Places
 pub mod Printing
 pub mod Casts
-pub mod LoneScalar
+pub mod LoneValue
+pub mod Containers
+pub mod ContainerParts

@@ -1,12 +1,12 @@
 //! Tables.
-ghost use Rattle.std.specs.Prelude.{◌≡◌, ◌<◌, length, slice_get, IfSome, OnOk, option_map};
+ghost use Rattle.std.specs.Prelude.{◌≡◌, ◌<◌, OnOk, option_map};
 ghost use Rattle.std.specs.Iterator.{YieldsFirstBy, item_count};
-ghost use Rattle.toml_edit_model.specs.Tree.{IsWellMade, SlotsAreWellMade};
-ghost use Rattle.toml_edit_model.specs.TreeOf.{root_fields, spanned_form, DecorFits, NodeFits, SlotsFit, owned_node, owned_slots, owned_fields};
+ghost use Rattle.toml_edit_model.specs.Tree.{SlotsAreWellMade};
+ghost use Rattle.toml_edit_model.specs.TreeOf.{root_fields, spanned_form, DecorFits, SlotsFit, owned_slots, owned_fields};
 ghost use Rattle.toml_edit.specs.Held.{held, held_left, held_at, pair_read};
-ghost use Rattle.toml_edit.specs.Places.{on_node};
 ghost use Rattle.toml_edit.specs.View.{item_view, slots_view, fields_view};
 
+use crate::despan::despan_slots;
 use crate::item::Item;
 use std::alloc::Global;
 use std::slice;
@@ -49,7 +49,7 @@ impl Table {
         ensures fields { OnOk result (fields_view self.new ≡ owned_fields source.now (fields_view self.old)) }
         ensures slots { OnOk result (slots_view self.new.slots ≡ owned_slots source.now (slots_view self.old.slots)) }
     {
-        despan_slots(alloc, source, &mut self.slots)?;
+        despan_slots(&mut self.slots, alloc, source)?;
         self.decor.despan(alloc, source)?;
         self.span = None;
         Ok(())
@@ -71,29 +71,6 @@ impl Table {
             slots: self.slots.as_slice().iter(),
         }
     }
-}
-
-fn despan_slots(alloc: Global, source: &str, slots: &mut Slots<Item>) -> Mem<()>
-    requires fits { SlotsFit source.now (slots_view slots.old) }
-    requires spelled { ∥ SlotsAreWellMade (owned_slots source.now (slots_view slots.old)) ∥₁ }
-    ensures { OnOk result (slots_view slots.new ≡ owned_slots source.now (slots_view slots.old)) }
-{
-    for at in 0..slots.len() {
-        slots.despan_key(at, alloc, source)?;
-        despan_item(alloc, source, slots, at)?;
-    }
-    Ok(())
-}
-
-/// Turns the spans of the item at the place.
-fn despan_item(alloc: Global, source: &str, slots: &mut Slots<Item>, at: usize) -> Mem<()>
-    requires at { at < length slots.old }
-    requires fits { IfSome (slice_get slots.old at) (λ slot. NodeFits source.now (item_view slot.item)) }
-    requires spelled { ∥ IfSome (slice_get slots.old at) (λ slot. IsWellMade (owned_node source.now (item_view slot.item))) ∥₁ }
-    ensures { OnOk result (slots_view slots.new ≡ on_node at (owned_node source.now) (slots_view slots.old)) }
-{
-    let item = slots.item_mut(at);
-    item.despan(alloc, source)
 }
 
 /// The slots of a table that hold an item: the texts of their keys, and the items, in order.

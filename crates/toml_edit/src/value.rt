@@ -1,34 +1,43 @@
 //! Values.
-ghost use Rattle.std.specs.Prelude.{◌≡◌, ◌⊎◌, ◌+◌, true, None, Some, OnOk, IfOk, IfErr, IsOk, IsErrOf, length, option_map, is_some, string_bytes};
+ghost use Rattle.std.specs.Prelude.{◌≡◌, ◌⊎◌, true, None, Some, OnOk, IfOk, IfErr, IsOk, IsErrOf, option_map, is_some, string_bytes};
 ghost use Rattle.std.specs.Borrow.{sem};
-ghost use Rattle.toml_edit_model.specs.Scalars as scalars;
 ghost use Rattle.toml_edit_model.specs.Scalars.{string, integer, float, boolean, datetime};
 ghost use Rattle.toml_edit_datetime.specs.DateView.{date_view};
 ghost use Rattle.toml_edit_datetime.specs.TimeView.{time_view};
 ghost use Rattle.toml_edit_datetime.specs.DatetimeView.{datetime_view};
 ghost use Rattle.toml_edit_model.specs.Tree.{leaf, span, unset, node_decor, IsWellMade};
 ghost use Rattle.toml_edit_model.specs.Conversions.{with_decor};
-ghost use Rattle.toml_edit.specs.Casts.{type_of, text_in, integer_in, float_in, truth_in, datetime_in, of_date, of_time, span_in, both_sides, LendsDecor};
+ghost use Rattle.toml_edit.specs.Casts.{type_of, text_in, integer_in, float_in, truth_in, datetime_in, of_date, of_time, array_in, inline_in, span_in, both_sides, LendsDecor};
+ghost use Rattle.toml_edit.specs.ContainerParts.{LendsArray, LendsInline};
+ghost use Rattle.toml_edit.specs.Containers.{array_node, inline_node};
 ghost use Rattle.toml_edit_model.specs.TreeOf.{NodeFits, owned_node};
-ghost use Rattle.toml_edit_syntax.specs.Decoded.{scalar_view};
-ghost use Rattle.toml_edit_model.specs.Text.{Text};
-ghost use Rattle.toml_edit_model.specs.Syntax.{scalar};
+ghost use Rattle.toml_edit_token.specs.Decoded.{scalar_view};
+ghost use Rattle.toml_edit_model.specs.Syntax as syntax;
 ghost use Rattle.toml_edit_model.specs.Lone.{IsLoneValue, is_accepted_value};
 ghost use Rattle.toml_edit_error.specs.Fault.{IfToml};
-ghost use Rattle.toml_edit_syntax.specs.Lone.{StandsAlone};
-ghost use Rattle.toml_edit.specs.LoneScalar.{IsLoneScalar, IsLoneRefusal, ReadsLone};
-ghost use Rattle.toml_edit.specs.View.{value_view};
+ghost use Rattle.toml_edit_syntax.specs.LoneEvents.{AreLoneEvents};
+ghost use Rattle.toml_edit.specs.LoneValue.{IsLoneReading, IsLoneRefusal};
+ghost use Rattle.toml_edit.specs.ValueRead.{AreIn};
+ghost use Rattle.toml_edit.specs.View.{array_view, inline_view, value_view};
 
-use crate::parser::{read_value, refusal};
+use crate::array::Array;
+use crate::copy::copy_value;
+use crate::despan::despan_value;
+use crate::encode::{write_array, write_inline};
+use crate::inline_table::InlineTable;
+use crate::parser::are_cut_short;
+use crate::reader::{read_value, refusal, refusal_of_all};
 use std::alloc::Global;
 use std::fmt;
 use std::ops::Range;
 use toml_edit_datetime::{Date, Datetime, FloatText, Time};
 use toml_edit_error::ParseFault;
 use toml_edit_repr::{Decor, Formatted, Mem, RawString};
-use toml_edit_syntax::{Scalar, Span, lone_scalar};
+use toml_edit_syntax::{Event, Span, SyntaxFault, lone_events};
+use toml_edit_token::Scalar;
 
 /// A value, with its spelling and what stands around it.
+#[cycle(tree)]
 #[derive(Debug, Drop)]
 pub enum Value {
     /// A string.
@@ -41,6 +50,10 @@ pub enum Value {
     Boolean(Formatted<bool>),
     /// A date, a time, or both.
     Datetime(Formatted<Datetime>),
+    /// Values in order.
+    Array(Array),
+    /// Keys with values, in one place.
+    InlineTable(InlineTable),
 }
 
 impl Value {
@@ -68,27 +81,29 @@ impl Value {
         requires spelled { ∥ IsWellMade (owned_node source.now (value_view self.old)) ∥₁ }
         ensures { OnOk result (value_view self.new ≡ owned_node source.now (value_view self.old)) }
     {
-        match self {
-            Value::String(scalar) => scalar.despan(alloc, source),
-            Value::Integer(scalar) => scalar.despan(alloc, source),
-            Value::Float(scalar) => scalar.despan(alloc, source),
-            Value::Boolean(scalar) => scalar.despan(alloc, source),
-            Value::Datetime(scalar) => scalar.despan(alloc, source),
-        }
+        despan_value(self, alloc, source)
     }
 
-    /// Reads a lone scalar: a scalar with white space around it. The value keeps the spelling, and its decor is unset. An integer that
-    /// 64 bits don't hold is refused with `integer number overflowed`, a date, a time or an offset that doesn't exist with
-    /// `invalid date-time`, at the span of the scalar; any other text at a place in it.
+    /// Reads a lone value: a value with white space around it, and nothing else. The value holds its own texts, each as it is spelled,
+    /// and its own decor is unset. A text that is a value is refused for a fault of it: an integer that 64 bits don't hold
+    /// (`integer number overflowed`), a date, a time or an offset that doesn't exist (`invalid date-time`), a key that stands twice in
+    /// an inline table (`duplicate key`) or is extended there, and more than 80 brackets or keys in one another (`recursion limit`).
     pub fn from_str(alloc: Global, text: &str) -> Result<Value, ParseFault>
-        ensures read { IfOk result (λ v. IsLoneScalar text.now (value_view v)) }
-        ensures every { (s : scalars.Scalar) (spelled : Text) → IsLoneValue text.now (scalar s spelled)
-            → is_accepted_value (scalar s spelled) ≡ true → IsOk result ⊎ IsErrOf result ParseFault.Memory }
+        ensures read { IfOk result (λ v. IsLoneReading text.now (value_view v)) }
+        // An accepted value is never refused.
+        ensures every { (v : syntax.Value) → IsLoneValue text.now v → is_accepted_value v ≡ true
+            → IsOk result ⊎ IsErrOf result ParseFault.Memory }
         ensures refused { IfErr result (λ e. IfToml e (IsLoneRefusal text.now)) }
     {
-        match lone_scalar(text) {
-            Ok(span) => read_lone(alloc, text, span),
-            Err(span) => Err(refusal(alloc, text, lone_message(text, span), span)),
+        match lone_events(alloc, text) {
+            Ok(events) => read_lone(alloc, text, events.as_slice()),
+            Err(SyntaxFault::Memory) => Err(ParseFault::Memory),
+            Err(SyntaxFault::Text(span)) => Err(refusal(
+                alloc,
+                text,
+                lone_message(text, span),
+                span,
+            )),
         }
     }
 
@@ -96,13 +111,7 @@ impl Value {
     pub fn clone(&self, alloc: Global) -> Mem<Value>
         ensures { IfOk result (λ copy. value_view copy ≡ value_view self.now) }
     {
-        match self {
-            Value::String(scalar) => Ok(Value::String(scalar.clone(alloc)?)),
-            Value::Integer(scalar) => Ok(Value::Integer(scalar.clone(alloc)?)),
-            Value::Float(scalar) => Ok(Value::Float(scalar.clone(alloc)?)),
-            Value::Boolean(scalar) => Ok(Value::Boolean(scalar.clone(alloc)?)),
-            Value::Datetime(scalar) => Ok(Value::Datetime(scalar.clone(alloc)?)),
-        }
+        copy_value(self, alloc)
     }
 
     /// The name of its type in TOML's words, as error messages have it.
@@ -115,6 +124,8 @@ impl Value {
             Value::Float(_) => "float",
             Value::Boolean(_) => "boolean",
             Value::Datetime(_) => "datetime",
+            Value::Array(_) => "array",
+            Value::InlineTable(_) => "inline table",
         }
     }
 
@@ -203,6 +214,62 @@ impl Value {
         self.as_bool().is_some()
     }
 
+    /// The array, if it is one.
+    pub fn as_array(&self) -> Option<&Array>
+        ensures { option_map (λ a. array_view a.now) result ≡ array_in (value_view self.now) }
+    {
+        match self {
+            Value::Array(array) => Some(array),
+            _ => None,
+        }
+    }
+
+    /// The array, to be changed, if it is one.
+    pub fn as_array_mut(&mut self) -> Option<&mut Array>
+        ensures* writes_back { sem 𝓛 (LendsArray self.entry result) }
+        ensures array { option_map (λ a. array_view a.now) result ≡ array_in (value_view self.old) }
+    {
+        match self {
+            Value::Array(lent) => Some(lent),
+            _ => None,
+        }
+    }
+
+    /// Whether it is an array.
+    pub fn is_array(&self) -> bool
+        ensures { result ≡ is_some (array_in (value_view self.now)) }
+    {
+        self.as_array().is_some()
+    }
+
+    /// The inline table, if it is one.
+    pub fn as_inline_table(&self) -> Option<&InlineTable>
+        ensures { option_map (λ t. inline_view t.now) result ≡ inline_in (value_view self.now) }
+    {
+        match self {
+            Value::InlineTable(table) => Some(table),
+            _ => None,
+        }
+    }
+
+    /// The inline table, to be changed, if it is one.
+    pub fn as_inline_table_mut(&mut self) -> Option<&mut InlineTable>
+        ensures* writes_back { sem 𝓛 (LendsInline self.entry result) }
+        ensures table { option_map (λ t. inline_view t.now) result ≡ inline_in (value_view self.old) }
+    {
+        match self {
+            Value::InlineTable(lent) => Some(lent),
+            _ => None,
+        }
+    }
+
+    /// Whether it is an inline table.
+    pub fn is_inline_table(&self) -> bool
+        ensures { result ≡ is_some (inline_in (value_view self.now)) }
+    {
+        self.as_inline_table().is_some()
+    }
+
     /// What stands around it.
     pub fn decor(&self) -> &Decor
         ensures { result.now ≡ node_decor (value_view self.now) }
@@ -213,6 +280,8 @@ impl Value {
             Value::Float(scalar) => scalar.decor(),
             Value::Boolean(scalar) => scalar.decor(),
             Value::Datetime(scalar) => scalar.decor(),
+            Value::Array(array) => array.decor(),
+            Value::InlineTable(table) => table.decor(),
         }
     }
 
@@ -227,6 +296,8 @@ impl Value {
             Value::Float(scalar) => scalar.decor_mut(),
             Value::Boolean(scalar) => scalar.decor_mut(),
             Value::Datetime(scalar) => scalar.decor_mut(),
+            Value::Array(array) => array.decor_mut(),
+            Value::InlineTable(table) => table.decor_mut(),
         }
     }
 
@@ -239,7 +310,17 @@ impl Value {
         value
     }
 
-    /// The bytes of the source that its spelling stands at, if that is a span.
+    /// The value with its decor unset.
+    fn undecorated(self) -> Value
+        ensures { value_view result ≡ with_decor unset (value_view self) }
+    {
+        let mut value = self;
+        *value.decor_mut() = Decor::default();
+        value
+    }
+
+    /// The bytes of the source that it stands at: those of a scalar's spelling, if that is a span, and those from bracket to
+    /// bracket of an array or inline table.
     pub fn span(&self) -> Option<Range<usize>>
         ensures { result ≡ span_in (value_view self.now) }
     {
@@ -249,6 +330,8 @@ impl Value {
             Value::Float(scalar) => scalar.as_repr()?.span(),
             Value::Boolean(scalar) => scalar.as_repr()?.span(),
             Value::Datetime(scalar) => scalar.as_repr()?.span(),
+            Value::Array(array) => array.span(),
+            Value::InlineTable(table) => table.span(),
         }
     }
 
@@ -260,26 +343,33 @@ impl Value {
     }
 }
 
-/// The scalar that stands alone at the span.
-fn read_lone(alloc: Global, text: &str, span: Span) -> Result<Value, ParseFault>
-    requires { StandsAlone text.now span }
-    ensures { (s : scalars.Scalar) (spelled : Text) (lone : IsLoneValue text.now (scalar s spelled))
-        → span.start ≡ length lone.before → span.end ≡ length lone.before + length spelled
-        → ReadsLone text.now lone.before s spelled result }
+/// The value that the text is but for white space around it, by these events.
+fn read_lone(alloc: Global, text: &str, events: &[Event]) -> Result<Value, ParseFault>
+    requires cut { AreLoneEvents text.now events.now }
+    requires spans { AreIn text.now events.now }
+    ensures read { IfOk result (λ v. IsLoneReading text.now (value_view v)) }
+    ensures every { (v : syntax.Value) → IsLoneValue text.now v → is_accepted_value v ≡ true
+        → IsOk result ⊎ IsErrOf result ParseFault.Memory }
+    ensures refused { IfErr result (λ e. IfToml e (IsLoneRefusal text.now)) }
 {
-    let mut value = read_value(alloc, text, span, Decor::default())?;
+    let (value, _rest) = read_value(alloc, text, events)?;
+    if are_cut_short(events) {
+        return Err(refusal_of_all(alloc, text, "recursion limit"));
+    }
+    let mut value = value.undecorated();
     value.despan(alloc, text)?;
     Ok(value)
 }
 
-/// What to say of a text that is no lone scalar, where this is in the way.
+/// What to say of a text that is no lone value, where this is in the way.
 fn lone_message(text: &str, span: Span) -> &'static str {
     let before = text.as_bytes().get(..span.start).unwrap_or(&[]);
     if !before.iter().all(|byte| *byte == b' ' || *byte == b'\t') {
         return "unexpected character";
     }
     match text.as_bytes().get(span.start) {
-        Some(b'[' | b'{') => "not yet",
+        Some(b'[') => "unclosed array",
+        Some(b'{') => "unclosed inline table",
         Some(b'"' | b'\'') => "unclosed string",
         Some(b'0'..=b'9' | b'+' | b'-') => "invalid number",
         _ => "expected a value",
@@ -299,6 +389,8 @@ impl fmt::Display for Value {
             Value::Float(scalar) => scalar.fmt(f),
             Value::Boolean(scalar) => scalar.fmt(f),
             Value::Datetime(scalar) => scalar.fmt(f),
+            Value::Array(array) => write_array(f, array),
+            Value::InlineTable(table) => write_inline(f, table),
         }
     }
 }
@@ -356,5 +448,21 @@ impl From<Time> for Value {
 
     fn from(time: Time) -> Value {
         Value::from(Datetime::from(time))
+    }
+}
+
+impl From<Array> for Value {
+    ghost from_gives = { λ array v. value_view v ≡ array_node (array_view array) };
+
+    fn from(array: Array) -> Value {
+        Value::Array(array)
+    }
+}
+
+impl From<InlineTable> for Value {
+    ghost from_gives = { λ table v. value_view v ≡ inline_node (inline_view table) };
+
+    fn from(table: InlineTable) -> Value {
+        Value::InlineTable(table)
     }
 }

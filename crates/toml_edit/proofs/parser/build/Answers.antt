@@ -1,5 +1,4 @@
 use Rattle.std.proofs.Common.{◌≡◌, ◌+◌, ◌-◌, List, length, slice_get, Option, Some, None, sym, ap, subst, ◌∙◌}
-use Rattle.std.specs.List.{AllByRecursion}
 use Rattle.std.proofs.lemmas.Result.{err_from_is_err_and}
 use Rattle.toml_edit_model.specs.Flat.{flat_document}
 use Rattle.toml_edit_model.specs.Tree.{Raw}
@@ -7,40 +6,44 @@ use Rattle.toml_edit_model.specs.TreeOf.{RawFits, span_of}
 use Rattle.toml_edit_laws.specs.FlatTree.{end_of}
 use Rattle.toml_edit_syntax.specs.declared.event.Event.{Event}
 use Rattle.toml_edit_syntax.specs.declared.event.EventKind.TheVariants.{Final}
-use Rattle.toml_edit_syntax.specs.Events.{event, IsSpanOf}
+use Rattle.toml_edit_syntax.specs.Events.{IsSpanOf}
+use Rattle.toml_edit_syntax.specs.ValueEvents.{event}
 use Rattle.toml_edit.specs.Lines.{NamesFault}
 use Rattle.toml_edit.specs.Parsed.{Refuses}
+use Rattle.toml_edit.specs.ValueRead.{AreIn}
 use Rattle.toml_edit.specs.View.{slots_view}
-use Rattle.toml_edit.proofs.BuildLaws.{spans_split, next, added, refused, ended}
-use Rattle.toml_edit.proofs.LineLaws.{mapped}
+use Rattle.toml_edit.proofs.BuildLaws.{next, after_next, added, refused, ended}
+use Rattle.toml_edit.proofs.ReadLaws.{mapped}
 use Rattle.toml_edit.proofs.parser.build.Goals as goal
 use Rattle.toml_edit.proofs.parser.build.Goals.{in-Some-first, in-None}
 
-pub returns-in_err-push_line : goal.returns-in_err-push_line
-returns-in_err-push_line c =
+pub returns-in_err-rest-clause-built : goal.returns-in_err-rest-clause-built
+returns-in_err-rest-clause-built c =
     let p = err_from_is_err_and c.from_residual.result c.from_residual.ensures.1 in
     rw (p.1, p.2) (λ m lines final h.
     let n = next c.args.source.now m lines final c.args.events.now c.lines.rest.now (slots_view c.lines.slots) c.in-Some.line c.in-Some.tail.now h
     (c.lines.invariant.progress m lines final h) (sym c.in-Some.ensures) in
-    mapped c.in_err-push_line.field-0.0 (NamesFault c.args.source.now (end_of m n.done) n.own (slots_view c.lines.slots))
+    mapped c.in_err-rest.field-0.0 (NamesFault c.args.source.now (end_of m n.done) n.own (slots_view c.lines.slots))
     (Refuses c.args.source.now (flat_document m lines final))
     (refused c.args.source.now m lines final c.in-Some.line c.in-Some.tail.now (slots_view c.lines.slots) n)
-    (c.in_err-push_line.ensures.line n.own (end_of m n.done) n.spelled n.stands n.line_is))
+    (c.in_err-rest.ensures.line n.own (end_of m n.done)
+    (after_next c.args.source.now m lines final c.in-Some.line c.in-Some.tail.now (slots_view c.lines.slots) n) n.spelled n.stands n.line_is n.tail_is))
 
 pub lines-preserved : goal.lines-preserved
 lines-preserved c =
     record {
-      fits = c.in_ok-push_line.ensures.fits c.lines.invariant.fits;
-      spans = (spans_split c.args.source.now c.lines.rest.now c.in-Some.line c.in-Some.tail.now (sym c.in-Some.ensures) c.lines.invariant.spans).1;
+      fits = c.in_ok-rest.ensures.fits c.lines.invariant.fits;
+      spans = c.in_ok-rest.ensures.rest.0;
       progress = λ m lines final h.
           let n = next c.args.source.now m lines final c.args.events.now c.lines.rest.now (slots_view c.lines.slots) c.in-Some.line c.in-Some.tail.now h
           (c.lines.invariant.progress m lines final h) (sym c.in-Some.ensures) in
-          added c.args.source.now m lines final c.in-Some.line c.in-Some.tail.now (slots_view c.lines.slots) (slots_view c.push_line.new.slots) n
-          (c.in_ok-push_line.ensures.line n.own (end_of m n.done) n.spelled n.stands n.line_is);
+          added c.args.source.now m lines final c.in-Some.line c.in-Some.tail.now _ (slots_view c.lines.slots) (slots_view c.read_line.new.slots) n
+          (c.in_ok-rest.ensures.line n.own (end_of m n.done)
+          (after_next c.args.source.now m lines final c.in-Some.line c.in-Some.tail.now (slots_view c.lines.slots) n) n.spelled n.stands n.line_is n.tail_is);
     }
 
-pub returns : goal.returns
-returns c =
+pub returns-clause-built : goal.returns-clause-built
+returns-clause-built c =
     λ m lines final h.
     let end = ended c.args.source.now m lines final c.lines.rest.now (slots_view c.lines.slots) (c.lines.invariant.progress m lines final h)
     (sym c.in_default.ensures) in
@@ -50,10 +53,11 @@ returns c =
       | in-Some-first w ↦
           let value : ◌≡◌ {A = Option Event} (Some w.in-Some-first.last.now) (Some last) = w.in-Some-first.ensures.value ∙ only in
           let is : w.in-Some-first.last.now ≡ last = cc in
-          let P : List Event → Type 0 = λ es. AllByRecursion (λ e. IsSpanOf c.args.source.now e.span) es in
+          let P : List Event → Type 0 = λ es. AreIn c.args.source.now es in
           let Q : Event → Type 0 = λ e. IsSpanOf c.args.source.now e.span in
           let R : Raw → Type 0 = λ r. RawFits c.args.source.now r in
           record {
+            spelled = h.spelled;
             right = end.right;
             slots_are = end.slots_are;
             slots_fit = c.lines.invariant.fits;

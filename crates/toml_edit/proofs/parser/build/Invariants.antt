@@ -1,10 +1,9 @@
 use Rattle.std.proofs.Common.{List, Bool, length}
-use Rattle.std.specs.List.{AllByRecursion}
 use Rattle.toml_edit_model.specs.Text.{Text}
 use Rattle.toml_edit_model.specs.Flat.{Line}
 use Rattle.toml_edit_model.specs.TreeOf.{SlotsFit}
-use Rattle.toml_edit_syntax.specs.Events.{IsSpanOf}
 use Rattle.toml_edit.specs.Parsed.{AreEventsIn}
+use Rattle.toml_edit.specs.ValueRead.{AreIn}
 use Rattle.toml_edit.specs.View.{slots_view}
 use Rattle.toml_edit.proofs.BuildLaws.{Progress}
 use Rattle.toml_edit.proofs.parser.build.Given as goal
@@ -14,7 +13,7 @@ abbrev pub invariant-lines : goal.invariant-lines
 invariant-lines l =
     record {
       fits : SlotsFit l.source (slots_view l.slots);
-      spans : AllByRecursion (λ e. IsSpanOf l.source e.span) l.rest;
+      spans : AreIn l.source l.rest;
       progress : (m : Bool) (lines : List Line) (final : Text) → AreEventsIn l.source m lines final l.events
           → Progress l.source m lines final l.rest (slots_view l.slots);
     }

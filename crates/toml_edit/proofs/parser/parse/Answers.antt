@@ -1,24 +1,9 @@
-use Rattle.std.proofs.Common.{List, sym, subst}
-use Rattle.toml_edit_syntax.specs.declared.event.Event.{Event}
-use Rattle.toml_edit_syntax.specs.Events.{AreEventsOf}
-use Rattle.toml_edit.specs.View.{slots_view}
-use Rattle.toml_edit.proofs.WholeLaws.{events_in, parsed, every, refused}
+-- A text with no events has no flat cut.
+use Rattle.std.proofs.Common.{refl}
+use Rattle.toml_edit.proofs.WholeLaws.{not_text, refused_whole}
 use Rattle.toml_edit.proofs.parser.parse.Goals as goal
 
-pub returns-in-Ok-clause-parsed : goal.returns-in-Ok-clause-parsed
-returns-in-Ok-clause-parsed c =
-    let P : List Event → Type 0 = λ es. AreEventsOf c.args.source.now es in
-    let h = subst P (sym c.as_slice.ensures.value) c.in-Ok.ensures.cut in
-    parsed c.args.source.now c.as_slice.result.now h slots_view c.build.result (c.build.ensures _ _ _ (events_in c.args.source.now c.as_slice.result.now h))
-
-pub returns-in-Ok-clause-every : goal.returns-in-Ok-clause-every
-returns-in-Ok-clause-every c =
-    let P : List Event → Type 0 = λ es. AreEventsOf c.args.source.now es in
-    let h = subst P (sym c.as_slice.ensures.value) c.in-Ok.ensures.cut in
-    every c.args.source.now c.as_slice.result.now h slots_view c.build.result (c.build.ensures _ _ _ (events_in c.args.source.now c.as_slice.result.now h))
-
-pub returns-in-Ok-clause-refused : goal.returns-in-Ok-clause-refused
-returns-in-Ok-clause-refused c =
-    let P : List Event → Type 0 = λ es. AreEventsOf c.args.source.now es in
-    let h = subst P (sym c.as_slice.ensures.value) c.in-Ok.ensures.cut in
-    refused c.args.source.now c.as_slice.result.now h slots_view c.build.result (c.build.ensures _ _ _ (events_in c.args.source.now c.as_slice.result.now h))
+pub returns-in-Err-Text-clause-refused : goal.returns-in-Err-Text-clause-refused
+returns-in-Err-Text-clause-refused c =
+    refused_whole c.args.source.now _ _ c.refusal.result
+    (λ d is. not_text _ c.in-Err-Text.field-0 c.in-Err-Text.span refl c.in-Err-Text.field-0-is (c.in-Err-Text.ensures.every d is)) c.refusal.ensures

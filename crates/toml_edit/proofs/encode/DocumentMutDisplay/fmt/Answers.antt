@@ -3,9 +3,12 @@ use Rattle.std.proofs.Common.{◌≡◌, [], if◌then◌else◌, sym, ap, ◌�
 use Rattle.std.proofs.Output.{has_written_append, has_written_of_eq}
 use Rattle.std.specs.Option.{option_copied}
 use Rattle.toml_edit_model.specs.Tree.{shown_side, shown_prefix, shown_suffix, shown_raw}
-use Rattle.toml_edit_laws.specs.FlatTree.{leaf_lines}
+use Rattle.toml_edit_model.specs.Print.{inside_lines}
+use Rattle.toml_edit.specs.DocumentView.{tree_owned}
+use Rattle.toml_edit.specs.Printing.{lines_text}
 use Rattle.toml_edit.specs.View.{slots_view}
-use Rattle.toml_edit.proofs.PrintingLaws.{print_owned, in_four}
+use Rattle.toml_edit.proofs.NoTables.{no_tables}
+use Rattle.toml_edit.proofs.PrintingLaws.{in_four, print-parts}
 use Rattle.toml_edit.proofs.encode.DocumentMutDisplay.fmt.Goals as goal
 
 pub returns-clause-writes : goal.returns-clause-writes
@@ -18,5 +21,6 @@ returns-clause-writes g c plain ok =
     let prefix : shown_side [] (option_copied c.prefix.result) ≡ shown_prefix [] d.root.decor = ap (shown_side []) c.prefix.ensures in
     let suffix : shown_side [] (option_copied c.suffix.result) ≡ shown_suffix [] d.root.decor = ap (shown_side []) c.suffix.ensures in
     has_written_of_eq _ _ _ _ _
-    (rw (prefix, suffix) (in_four (shown_prefix [] d.root.decor) (if d.root.dotted then [] else leaf_lines (slots_view d.root.slots)) (shown_suffix [] d.root.decor) (shown_raw d.trailing)) ∙ sym (print_owned d))
+    (rw (prefix, suffix) (in_four (shown_prefix [] d.root.decor) (if d.root.dotted then [] else lines_text (inside_lines (slots_view d.root.slots) [])) (shown_suffix [] d.root.decor) (shown_raw d.trailing))
+    ∙ sym (print-parts (tree_owned d) (no_tables d.root.slots)))
     (has_written_append _ _ _ _ _ _ (has_written_append _ _ _ _ _ _ (has_written_append _ _ _ _ _ _ one two) three) four)
