@@ -1,26 +1,19 @@
-//! Tests that cross crates: worked examples, with their expected texts, and each call once.
+//! Tests of what no row of `toml_edit_rows` can say: equality, order and hash, streams that fail, and calls that leave something behind
+//! when memory is refused.
 #![tactic(auto)]
 
 #[cfg(test)]
-mod datetimes;
+mod comparisons;
 #[cfg(test)]
-mod flat;
+mod makers;
 #[cfg(test)]
-mod formatted;
-#[cfg(test)]
-mod keys;
-#[cfg(test)]
-mod memory;
-#[cfg(test)]
-mod reading;
-#[cfg(test)]
-mod scalars;
+mod runs;
 #[cfg(test)]
 mod slots;
 #[cfg(test)]
-mod texts;
+mod spans;
 #[cfg(test)]
-mod tokens;
+mod streams;
 
 use std::hash::{DefaultHasher, Hash, Hasher};
 
@@ -29,4 +22,9 @@ pub fn hash_of<T: Hash>(value: &T) -> u64 {
     let mut state = DefaultHasher::new();
     value.hash(&mut state);
     state.finish()
+}
+
+/// Whether the two are equal, and their hashes are.
+pub fn are_alike<T: Hash + Eq>(one: &T, other: &T) -> bool {
+    one == other && hash_of(one) == hash_of(other)
 }

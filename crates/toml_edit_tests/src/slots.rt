@@ -1,81 +1,113 @@
-//! The container of keyed slots: each call once, with ample memory.
-use std::alloc::Global;
-use std::test::Fail;
+//! The container of keyed slots at a concrete type: each call once. Those that take memory hold whichever allocation fails.
+use std::alloc::{AllocError, Global};
 use toml_edit::{Decor, Key, Mem};
 use toml_edit_slots::{Slot, Slots};
 
-/// Slots `a` with 1, `b` with 2 and `c` with 3.
-fn three(alloc: Global) -> Mem<Slots<u8>> {
-    let mut slots = Slots::new(alloc);
-    for (key, item) in [("a", 1), ("b", 2), ("c", 3)] {
-        match slots.insert(alloc, key, item) {
-            Ok(_) => {}
-            Err(_) => return Ok(slots),
-        }
+fn is_next(slots: &Slots<u8>, name: &str, before: usize) -> bool {
+    slots.find(name) == Some(before) && slots.len().checked_sub(before) == Some(1)
+}
+
+/// Whether the item is put in behind the others, or is given back where there is no memory.
+fn inserts(alloc: Global, slots: &mut Slots<u8>, name: &str, item: u8) -> bool {
+    let before = slots.len();
+    match slots.insert(alloc, name, item) {
+        Ok(old) => old.is_none() && is_next(slots, name, before),
+        Err(refused) => refused.0 == item && slots.len() == before,
     }
-    Ok(slots)
 }
 
 #[test]
-fn starts_empty(rt: HostRuntime) {
-    let slots: Slots<u8> = Slots::new(rt.alloc());
+fn inserts_slots(rt: HostRuntime) {
+    let mut slots: Slots<u8> = Slots::new(rt.alloc());
     assert!(rt; slots.is_empty());
-    assert_eq!(rt; slots.len(), 0);
+    for name in ["a", "b", "c", "d", "e"] {
+        assert!(rt; inserts(rt.alloc(), &mut slots, name, 7), "{name}");
+    }
+}
+
+fn pushes(alloc: Global, slots: &mut Slots<u8>, name: &str) -> Mem<bool> {
+    let key = Key::from_text(alloc, name)?;
+    let before = slots.len();
+    let None = slots.find(name) else {
+        return Ok(false);
+    };
+    match slots.push(Slot { key, item: 7 }) {
+        Ok(()) => Ok(is_next(slots, name, before)),
+        Err(refused) => Ok(refused.0.key.get() == name && slots.len() == before),
+    }
 }
 
 #[test]
-fn finds_slots(rt: HostRuntime) -> Result<(), Fail> {
-    let slots = three(rt.alloc())?;
-    assert_eq!(rt; slots.len(), 3);
-    assert_eq!(rt; slots.find("c"), Some(2));
-    assert_eq!(rt; slots.find("d"), None);
-    assert_eq!(rt; slots.get("b"), Some(&2));
-    Ok(())
+fn pushes_slots(rt: HostRuntime) {
+    let mut slots: Slots<u8> = Slots::new(rt.alloc());
+    for name in ["a", "b", "c", "d", "e"] {
+        // A key that no memory was left for isn't pushed.
+        let pushed = pushes(rt.alloc(), &mut slots, name);
+        assert!(rt; pushed == Ok(true) || pushed == Err(AllocError), "{name}");
+    }
 }
 
-#[test]
-fn replaces_items(rt: HostRuntime) -> Result<(), Fail> {
-    let mut slots = three(rt.alloc())?;
-    assert_eq!(rt; slots.insert(rt.alloc(), "b", 4)?, Some(2));
-    assert_eq!(rt; slots.get("b"), Some(&4));
-    assert_eq!(rt; slots.find("b"), Some(1));
-    Ok(())
-}
-
-#[test]
-fn lends_items(rt: HostRuntime) -> Result<(), Fail> {
-    let mut slots = three(rt.alloc())?;
-    assert_eq!(rt; slots.len(), 3);
-    *slots.item_mut(0) = 7;
-    assert_eq!(rt; slots.get("a"), Some(&7));
-    if let Some(item) = slots.get_mut("c") {
+/// Whether the items of `a` and `b` are found, replaced and lent.
+fn changes(alloc: Global, slots: &mut Slots<u8>) -> bool {
+    let is_found = slots.get("a") == Some(&1) && slots.find("c").is_none();
+    let is_replaced = match slots.insert(alloc, "b", 4) {
+        Ok(old) => old == Some(2),
+        Err(_) => true,
+    };
+    if let Some(item) = slots.get_mut("a") {
         *item = 5;
     }
-    assert_eq!(rt; slots.get("c"), Some(&5));
-    Ok(())
+    is_found && is_replaced && slots.get("a") == Some(&5)
+}
+
+fn lends_first(slots: &mut Slots<u8>) -> bool {
+    if slots.is_empty() {
+        return false;
+    }
+    *slots.item_mut(0) = 9;
+    slots.get("a") == Some(&9)
+}
+
+fn removes(slots: &mut Slots<u8>) -> bool {
+    match slots.remove("a") {
+        Some(slot) => slot.key.get() == "a" && slot.into_item() == 9 && slots.find("b") == Some(0),
+        None => false,
+    }
 }
 
 #[test]
-fn removes_slots(rt: HostRuntime) -> Result<(), Fail> {
-    let mut slots = three(rt.alloc())?;
-    let removed = slots.remove("b").ok_or("present")?;
-    assert_eq!(rt; removed.key.get(), "b");
-    assert_eq!(rt; removed.into_item(), 2);
-    assert_eq!(rt; slots.find("c"), Some(1));
-    Ok(())
+fn changes_slots(rt: HostRuntime) {
+    let alloc = rt.alloc();
+    let mut slots: Slots<u8> = Slots::new(alloc);
+    let is_filled = inserts(alloc, &mut slots, "a", 1) && inserts(alloc, &mut slots, "b", 2);
+    // Where no memory was left there may be nothing to change.
+    if is_filled && slots.len() == 2 {
+        assert!(rt; changes(alloc, &mut slots));
+        assert!(rt; lends_first(&mut slots));
+        assert!(rt; removes(&mut slots));
+    }
 }
 
 fn spelled(slots: &Slots<u8>) -> Option<&str> {
     slots.as_slice().first()?.key.as_repr()?.as_raw().as_str()
 }
 
+fn cuts(alloc: Global, slots: &mut Slots<u8>) -> bool {
+    if slots.is_empty() {
+        return true;
+    }
+    match slots.despan_key(0, alloc, "k = 1") {
+        Ok(()) => spelled(slots) == Some("k"),
+        Err(AllocError) => slots.get("k") == Some(&1),
+    }
+}
+
 #[test]
-fn cuts_keys(rt: HostRuntime) -> Result<(), Fail> {
-    let name = String::from_str(rt.alloc(), "k")?;
-    let key = Key::spanned(name, 0, 1, Decor::default(), Decor::default());
+fn cuts_keys(rt: HostRuntime) {
     let mut slots: Slots<u8> = Slots::new(rt.alloc());
-    slots.push(Slot { key, item: 1 })?;
-    slots.despan_key(0, rt.alloc(), "k = 1")?;
-    assert_eq!(rt; spelled(&slots), Some("k"));
-    Ok(())
+    if let Ok(name) = String::from_str(rt.alloc(), "k") {
+        let key = Key::spanned(name, 0, 1, Decor::default(), Decor::default());
+        let _ = slots.push(Slot { key, item: 1 });
+        assert!(rt; cuts(rt.alloc(), &mut slots));
+    }
 }
