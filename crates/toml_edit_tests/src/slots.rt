@@ -1,4 +1,5 @@
 //! The container of keyed slots at a concrete type: each call once. Those that take memory hold whichever allocation fails.
+use crate::spans::is_yes;
 use std::alloc::{AllocError, Global};
 use toml_edit::{Decor, Key, Mem};
 use toml_edit_slots::{Slot, Slots};
@@ -88,26 +89,22 @@ fn changes_slots(rt: HostRuntime) {
     }
 }
 
-fn spelled(slots: &Slots<u8>) -> Option<&str> {
-    slots.as_slice().first()?.key.as_repr()?.as_raw().as_str()
+fn spelled(key: &Key) -> Option<&str> {
+    key.as_repr()?.as_raw().as_str()
 }
 
-fn cuts(alloc: Global, slots: &mut Slots<u8>) -> bool {
-    if slots.is_empty() {
-        return true;
-    }
+fn cuts_key(alloc: Global) -> Mem<bool> {
+    let name = String::from_str(alloc, "k")?;
+    let key = Key::spanned(name, 0, 1, Decor::default(), Decor::default());
+    let mut slots: Slots<u8> = Slots::new(alloc);
+    slots.push(Slot { key, item: 7 })?;
     match slots.despan_key(0, alloc, "k = 1") {
-        Ok(()) => spelled(slots) == Some("k"),
-        Err(AllocError) => slots.get("k") == Some(&1),
+        Ok(()) => Ok(slots.as_slice().first().and_then(|slot| spelled(&slot.key)) == Some("k")),
+        Err(AllocError) => Ok(slots.get("k") == Some(&7)),
     }
 }
 
 #[test]
 fn cuts_keys(rt: HostRuntime) {
-    let mut slots: Slots<u8> = Slots::new(rt.alloc());
-    if let Ok(name) = String::from_str(rt.alloc(), "k") {
-        let key = Key::spanned(name, 0, 1, Decor::default(), Decor::default());
-        let _ = slots.push(Slot { key, item: 1 });
-        assert!(rt; cuts(rt.alloc(), &mut slots));
-    }
+    assert!(rt; is_yes(cuts_key(rt.alloc())));
 }
