@@ -1,0 +1,22 @@
+-- Worked examples of the definitions. Nothing of them is cited by a contract: a reader need not believe them.
+pub mod ComputedTree
+pub mod FirstFaults
+pub mod Parts
+pub mod Texts
+pub mod Refusals
+pub mod Roles
+pub mod Limits
+pub mod NamedFaults
+pub mod Settled
+pub mod Excerpts
+pub mod Trees
+pub mod Tokens
+pub mod Spellings
+pub mod Cuts
+pub mod Fits
+pub mod Modes
+pub mod Versions
+pub mod TreesOfTexts
+pub mod WholeTexts
+pub mod EditedTrees
+pub mod LoneTexts
