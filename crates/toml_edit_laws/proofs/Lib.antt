@@ -1,4 +1,5 @@
 pub mod common
+pub mod one_by_one
 pub mod spellings
 pub mod values
 pub mod mentions
@@ -12,6 +13,7 @@ pub mod print_meaning
 pub mod print_of_read
 pub mod locality
 pub mod normal_texts
+pub mod versions
 pub mod read_trees
 pub mod print_by_visits
 pub mod commands

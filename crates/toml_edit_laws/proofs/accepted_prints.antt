@@ -1,6 +1,7 @@
 pub mod EachPrintedValue
 pub mod PrintedValues
 pub mod PrintedCut
+pub mod OpenEnds
 pub mod Spots
 pub mod WalkPlaces
 pub mod WalkPaths

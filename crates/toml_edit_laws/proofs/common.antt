@@ -10,6 +10,8 @@ pub mod Each
 pub mod Visits
 pub mod Cores
 pub mod Trivia
+pub mod LineEnds
+pub mod Returns
 pub mod Statements
 pub mod Lists
 pub mod TablesAlong
@@ -17,3 +19,4 @@ pub mod Pairs
 pub mod Agreement
 pub mod Sorting
 pub mod Searches
+pub mod InOrder

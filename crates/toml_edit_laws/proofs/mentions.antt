@@ -14,3 +14,4 @@ pub mod Placed
 pub mod RoleTests
 pub mod SomeAt
 pub mod Named
+pub mod KeptKeys

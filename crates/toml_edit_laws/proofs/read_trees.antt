@@ -16,3 +16,4 @@ pub mod TextFacts
 pub mod MeaningOfTrees
 pub mod WithoutGrammar
 pub mod ToldBelowKeys
+pub mod TreeExtents

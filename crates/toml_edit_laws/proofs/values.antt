@@ -16,3 +16,5 @@ pub mod ClosingLaws
 pub mod ValueNormal
 pub mod TextsLie
 pub mod ValueKinds
+pub mod ValueExtents
+pub mod FaultMessages

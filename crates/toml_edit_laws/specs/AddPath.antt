@@ -1,11 +1,12 @@
 -- One function for key lines, headers and headers in double brackets: what is added at the end of a path of keys, key by key. The laws
 -- of building don't cite it: it is for code that goes down a path one key at a time.
 use Rattle.std.specs.Prelude.{Bool, true, false, if◌then◌else◌, List, [], Option, Some, None, option_map}
+use Rattle.toml_edit_model.specs.Mode.{Mode}
 use Rattle.toml_edit_model.specs.Text.{Text}
 use Rattle.toml_edit_model.specs.Syntax.{Statement, key_line, header}
 use Rattle.toml_edit_model.specs.Paths.{Mention, Source}
 use Rattle.toml_edit_model.specs.Tree.{Node, table, Items, no_items, item, Slots}
-use Rattle.toml_edit_model.specs.TreeOf.{spanned_form, key_at}
+use Rattle.toml_edit_model.specs.TreeOf.{spanned_in, key_at}
 use Rattle.toml_edit_laws.specs.InlineTree.{add_last}
 use Rattle.toml_edit_laws.specs.TableTree.{open_table, open_element, add_line, add_header}
 use Rattle.toml_edit_laws.specs.TableClash.{extend_clash, pass_clash, table_clash, element_clash, line_clash, header_clash}
@@ -17,12 +18,7 @@ pub data Addition : Type 0 where
   a_table : Addition
   an_element : Addition
 
-abbrev pub add_path : Addition → List (Mention Source) → Slots → Option Slots
-add_path (a_value n) ms ss = add_line ms n ss
-add_path a_table ms ss = add_header false ms ss
-add_path an_element ms ss = add_header true ms ss
-
--- what stands in its way
+-- what stands in the way of it
 abbrev pub path_clash : Addition → List (Mention Source) → Slots → Option (Mention Source × Node)
 path_clash (a_value n) ms ss = line_clash ms ss
 path_clash a_table ms ss = header_clash false ms ss
@@ -61,12 +57,20 @@ with_last new no_items = no_items
 with_last new (item n no_items) = item new no_items
 with_last new (item n (item m xs)) = item n (with_last new (item m xs))
 
--- ---- the last key
+-- ---- the slots with it added
 
-abbrev pub put_last_key : Addition → Mention Source → Slots → Option Node → Option Slots
-put_last_key (a_value n) m ss o = add_last ss (key_at spanned_form m) n o
-put_last_key a_table m ss o = open_table m ss o
-put_last_key an_element m ss o = open_element m ss o
+module _ (mode : Mode) where
+  -- at the end of a path
+  abbrev pub add_path : Addition → List (Mention Source) → Slots → Option Slots
+  add_path (a_value n) ms ss = add_line mode ms n ss
+  add_path a_table ms ss = add_header mode false ms ss
+  add_path an_element ms ss = add_header mode true ms ss
+
+  -- at the last key
+  abbrev pub put_last_key : Addition → Mention Source → Slots → Option Node → Option Slots
+  put_last_key (a_value n) m ss o = add_last ss (key_at (spanned_in mode) m) n o
+  put_last_key a_table m ss o = open_table mode m ss o
+  put_last_key an_element m ss o = open_element mode m ss o
 
 abbrev pub last_key_clash : Addition → Mention Source → Option Node → Option (Mention Source × Node)
 last_key_clash (a_value n) m o = option_map (λ old. (m, old)) o

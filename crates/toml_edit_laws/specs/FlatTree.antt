@@ -3,6 +3,7 @@
 -- whole documents comes. No law cites them.
 use Rattle.std.specs.Prelude.{◌≡◌, ℕ, ◌+◌, ◌-◌, Bool, true, not, ◌&&◌, nat_le, List, [], ◌∷◌, ◌++◌, length, map, Some, if◌then◌else◌}
 use Rattle.std.specs.List.{list_any}
+use Rattle.toml_edit_model.specs.Mode.{with_return}
 use Rattle.toml_edit_model.specs.Text.{Text, same_text, one, joined}
 use Rattle.toml_edit_model.specs.Spelling.{SpellsKey}
 use Rattle.toml_edit_model.specs.Syntax.{Value, value_text, statement_text, mark_text, document_text, IsValue, depth, most, has_short_keys, keeps_ranges}
@@ -86,7 +87,7 @@ module _ (form : Form) where
 
   -- the item is of its value
   abbrev pub IsNodeOfLine : ℕ → Line → Node → Type 0
-  IsNodeOfLine start l n = IsValueNode form l.value (after_equals_start start l) l.after_equals l.trailing n
+  IsNodeOfLine start l n = IsValueNode form l.value (after_equals_start start l) l.after_equals (with_return form.mode l.trailing l.end) n
 
   -- the slots are of lines, the first of which begins at this byte
   abbrev pub AreLineSlots : ℕ → List Line → Slots → Type 0

@@ -2,6 +2,7 @@
 -- keys and scalars cut their spellings.
 use Rattle.std.specs.Prelude.{◌≡◌, true, Option, Some, None}
 use Rattle.std.specs.Str.{IsUtf8}
+use Rattle.toml_edit_model.specs.Mode.{Mode}
 use Rattle.toml_edit_model.specs.Text.{Text}
 use Rattle.toml_edit_model.specs.Spelling.{SpellsKey, SpellsInRange}
 use Rattle.toml_edit_model.specs.Syntax.{Document, IsDocument, IsCut}
@@ -9,19 +10,11 @@ use Rattle.toml_edit_model.specs.Accepted.{is_accepted, AcceptedAs}
 use Rattle.toml_edit_model.specs.Meaning.{SameFacts, meaning}
 use Rattle.toml_edit_model.specs.Shown.{shown_meaning}
 use Rattle.toml_edit_model.specs.Tree.{Raw, owned, span, Node, nothing, leaf, list, inline, table, tables, Items, no_items, item, Slots, no_slots, slot, Tree}
-use Rattle.toml_edit_model.specs.TreeOf.{Form, spanned_form, owned_form, IsTreeOf, cut_out, owned_tree, RawFits, IsOver}
+use Rattle.toml_edit_model.specs.TreeOf.{Form, spanned_in, owned_in, IsTreeOf, cut_out, owned_tree, RawFits, IsOver}
 
 -- A document has at most one tree in each form.
 abbrev pub OneTreeOf : Type 0
 OneTreeOf = (form : Form) (d : Document) (t u : Tree) → IsTreeOf form d t → IsTreeOf form d u → t ≡ u
-
--- The tree with spans becomes that with owned texts, by what the spans cut from the text.
-abbrev pub OwnedTrees : Type 0
-OwnedTrees = (text : Text) (d : Document) → IsCut d text → (t : Tree) → IsTreeOf spanned_form d t → IsTreeOf owned_form d (owned_tree text t)
-
--- Where the text is accepted, the spans lie in it on the boundaries of characters, and what they cut is well made.
-abbrev pub TreesOver : Type 0
-TreesOver = (text : Text) (d : Document) → IsUtf8 text → AcceptedAs text d → (t : Tree) → IsTreeOf spanned_form d t → IsOver text t
 
 -- ---- spans of spellings
 
@@ -49,10 +42,23 @@ abbrev mutual
   HaveCutSpellings text no_slots = Unit {0}
   HaveCutSpellings text (slot k n ss) = IsCutAs text (SpellsKey k.name) k.spelling × HasCutSpellings text n × HaveCutSpellings text ss
 
--- The span of each key and each scalar cuts its spelling from the text.
-abbrev pub SpansCutSpellings : Type 0
-SpansCutSpellings =
-    (text : Text) (d : Document) → IsUtf8 text → AcceptedAs text d → (t : Tree) → IsTreeOf spanned_form d t → HaveCutSpellings text t.slots
+-- ---- in each mode
+
+module _ (mode : Mode) where
+  -- The tree with spans becomes that with owned texts, by what the spans cut from the text.
+  abbrev pub OwnedTrees : Type 0
+  OwnedTrees = (text : Text) (d : Document) → IsCut d text → (t : Tree) → IsTreeOf (spanned_in mode) d t → IsTreeOf (owned_in mode) d (owned_tree text t)
+
+  -- Where the text is accepted, the spans lie in it on the boundaries of characters, and what they cut is well made.
+  abbrev pub TreesOver : Type 0
+  TreesOver = (text : Text) (d : Document) → IsUtf8 text → AcceptedAs text d → (t : Tree) → IsTreeOf (spanned_in mode) d t → IsOver text t
+
+  -- The span of each key and each scalar cuts its spelling from the text.
+  abbrev pub SpansCutSpellings : Type 0
+  SpansCutSpellings =
+      (text : Text) (d : Document) → IsUtf8 text → AcceptedAs text d → (t : Tree) → IsTreeOf (spanned_in mode) d t → HaveCutSpellings text t.slots
+
+-- ---- the meaning
 
 -- The tree of an accepted document shows what the document means.
 abbrev pub TreesMean : Type 0

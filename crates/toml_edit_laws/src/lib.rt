@@ -1,17 +1,27 @@
 //! Laws about documents and default spellings, over the definitions alone: `specs/` has words for their trees, and `proofs/` the lemmas.
 #![tactic(auto)]
 
+ghost use Rattle.toml_edit_model.specs.Mode.{Mode};
 ghost use Rattle.toml_edit_laws.specs.AcceptedPrints.{PrintAgrees, PrintIsCut};
 ghost use Rattle.toml_edit_laws.specs.Building.{Building, HasTree, Runs};
 ghost use Rattle.toml_edit_laws.specs.CommandLaws.{DecimalsName, GetAfterSet, OneTextNames, PathsHaveWays, ReadHasNoPlaceholders, RemoveChanges, RemoveDrops, RemoveElementDrops, RemoveFinds, RemoveKeepsItems, RemoveKeepsTheRest, RemoveReadsBack, RemoveRefuses, RemovedWasThere, SetAdds, SetChanges, SetKeepsItems, SetKeepsTheRest, SetReadsBack, SetRefuses, WaysHavePaths};
 ghost use Rattle.toml_edit_laws.specs.DefaultSpellings.{DefaultSpellings};
+ghost use Rattle.toml_edit_laws.specs.Extents.{ExtentsLie};
+ghost use Rattle.toml_edit_laws.specs.FaultMessages.{FaultMessages};
+ghost use Rattle.toml_edit_laws.specs.InOrder.{HeadersInOrder, LinesAreKept, PairsAreKept};
+ghost use Rattle.toml_edit_laws.specs.KeptKeys.{KeptKeys};
 ghost use Rattle.toml_edit_laws.specs.Locality.{Added, AddedStaysMade, CallsOnAbsent, CallsOnPresent, Entered, KeepsFrame, Reached, Removed, RemovedElement, RemovedElementStaysMade, RemovedStaysMade, Replaced, ReplacedStaysMade, TextsAreSteady};
 ghost use Rattle.toml_edit_laws.specs.NormalTexts.{NormalTexts};
+ghost use Rattle.toml_edit_laws.specs.OneByOne.{FaultsOfFirst, FirstFaulty, OneByOne};
+ghost use Rattle.toml_edit_laws.specs.OpenEnds.{OpenEnds, OpenPrints};
 ghost use Rattle.toml_edit_laws.specs.PrintByVisits.{PrintByVisits};
 ghost use Rattle.toml_edit_laws.specs.PrintOfRead.{PrintOfRead};
 ghost use Rattle.toml_edit_laws.specs.ReadTrees.{OneTreeOf, OwnedTrees, SpansCutSpellings, TakenRootsMean, TreesMean, TreesOver};
 ghost use Rattle.toml_edit_laws.specs.Reparse.{PrintsMeanWhatIsShown};
 ghost use Rattle.toml_edit_laws.specs.TextsFit.{SpansFit, TextsFit};
+ghost use Rattle.toml_edit_model.specs.Syntax.{Document};
+ghost use Rattle.toml_edit_model.specs.Version.{Version};
+ghost use Rattle.toml_edit_laws.specs.Versions.{FaultsInVersions, LateHavePlaces, LaterAccepts, NormalTextsStay, PrintsStay};
 
 /// A default spelling is read back: it spells its scalar, in range, or its key.
 pub fn default_spellings()
@@ -20,24 +30,49 @@ pub fn default_spellings()
 
 /// Building a document's tree statement by statement stops exactly at the first faulty statement, and else gives the tree of the text.
 pub fn tree_by_statements()
-    ensures steps { Building }
-    ensures run { Runs }
-    ensures tree { HasTree }
+    ensures steps { (mode : Mode) → Building mode }
+    ensures run { (mode : Mode) → Runs mode }
+    ensures tree { (mode : Mode) → HasTree mode }
+{}
+
+/// A text is accepted where each of its statements is right after those before it. Else there is one first faulty statement, which has
+/// faults, and these are the ones that are found one by one.
+pub fn accepted_one_by_one()
+    ensures steps { (version : Version) → OneByOne version }
+    ensures first { (version : Version) (d : Document) → FirstFaulty version d }
+    ensures faults { FaultsOfFirst }
+{}
+
+/// Each fault of a value has one of the messages of faults.
+pub fn fault_messages()
+    ensures { FaultMessages }
+{}
+
+/// What is computed as being in order is in order.
+pub fn in_order()
+    ensures headers { HeadersInOrder }
+    ensures lines { LinesAreKept }
+    ensures pairs { PairsAreKept }
+{}
+
+/// The kept key of a normal text is the key of the tree's slot.
+pub fn kept_keys()
+    ensures { KeptKeys }
 {}
 
 /// What a tree that fits prints is cut into its printed statements, each within limits and ranges.
 pub fn cut()
-    ensures { PrintIsCut }
+    ensures { (mode : Mode) → PrintIsCut mode }
 {}
 
 /// Every two statements that a tree that fits prints agree, and every two pairs of each inline table in them.
 pub fn agree()
-    ensures { PrintAgrees }
+    ensures { (mode : Mode) → PrintAgrees mode }
 {}
 
 /// The print of a tree that fits means what the tree shows.
 pub fn reparse()
-    ensures { PrintsMeanWhatIsShown }
+    ensures { (mode : Mode) → PrintsMeanWhatIsShown mode }
 {}
 
 /// The ways from the root of a tree lead to the tables that the walk enters, and to no others.
@@ -48,13 +83,13 @@ pub fn ways()
 
 /// The tree of a text, with owned texts, is steady.
 pub fn steady()
-    ensures { TextsAreSteady }
+    ensures { (mode : Mode) → TextsAreSteady mode }
 {}
 
 /// A value of a steady tree is replaced, in a table that the walk enters: one printed statement changes, and the tree is steady.
 pub fn replaced()
-    ensures change { Replaced }
-    ensures frame { KeepsFrame }
+    ensures change { (mode : Mode) → Replaced mode }
+    ensures frame { (mode : Mode) → KeepsFrame mode }
     ensures calls { CallsOnPresent }
     ensures made { ReplacedStaysMade }
 {}
@@ -62,7 +97,7 @@ pub fn replaced()
 /// A value is added under a new key, in the root or in a table that has a header: one statement more is printed, after the others
 /// of that block, and the tree is steady.
 pub fn added()
-    ensures change { Added }
+    ensures change { (mode : Mode) → Added mode }
     ensures calls { CallsOnAbsent }
     ensures made { AddedStaysMade }
 {}
@@ -70,8 +105,8 @@ pub fn added()
 /// A slot is removed, of a table that the walk enters, or an element of an array of tables: its statements are printed no more,
 /// nor those of all below it, and the tree is steady.
 pub fn removed()
-    ensures slot { Removed }
-    ensures element { RemovedElement }
+    ensures slot { (mode : Mode) → Removed mode }
+    ensures element { (mode : Mode) → RemovedElement mode }
     ensures slot_made { RemovedStaysMade }
     ensures element_made { RemovedElementStaysMade }
 {}
@@ -79,18 +114,39 @@ pub fn removed()
 /// The normal text of an accepted text is accepted, means the same and is settled; that of a settled text is the text. The tree of an
 /// accepted document, with owned texts, prints it, and the cut of that print is the normal form.
 pub fn normal()
-    ensures texts { NormalTexts }
-    ensures print { PrintOfRead }
+    ensures texts { (mode : Mode) → NormalTexts mode }
+    ensures print { (mode : Mode) → PrintOfRead mode }
+{}
+
+/// A document whose end is made open, where nothing follows its statements, is in the grammar, is accepted where it was, and means the
+/// same. A print with an open end leaves out the last newline of that without, and nothing else.
+pub fn open_ends()
+    ensures documents { OpenEnds }
+    ensures prints { OpenPrints }
+{}
+
+/// What a version of the grammar accepts, TOML 1.1 accepts by the same cut; what it refuses has a fault in its first faulty statement. The
+/// normal text of what a version accepts, and the print of its tree, are accepted by that version.
+pub fn versions_accept()
+    ensures later { LaterAccepts }
+    ensures faults { FaultsInVersions }
+    ensures normal { (mode : Mode) → NormalTextsStay mode }
+    ensures print { (mode : Mode) → PrintsStay mode }
+{}
+
+/// A statement has a part that needs TOML 1.1 exactly where it needs it.
+pub fn late_places()
+    ensures { LateHavePlaces }
 {}
 
 /// Every tree of an accepted text, with owned texts, fits and is steady.
 pub fn texts_fit()
-    ensures { TextsFit }
+    ensures { (mode : Mode) → TextsFit mode }
 {}
 
 /// Where the owned form of a tree with spans fits, the tree does, and also its root taken as it is, with no trailing text.
 pub fn spans_fit()
-    ensures { SpansFit }
+    ensures { (mode : Mode) → SpansFit mode }
 {}
 
 /// A document has at most one tree in each form.
@@ -100,17 +156,22 @@ pub fn one_tree_of()
 
 /// The tree of a text with spans becomes that with owned texts, by what the spans cut from the text.
 pub fn owned_trees()
-    ensures { OwnedTrees }
+    ensures { (mode : Mode) → OwnedTrees mode }
 {}
 
 /// The spans of the tree of an accepted text lie in it, and what they cut is well made.
 pub fn trees_over()
-    ensures { TreesOver }
+    ensures { (mode : Mode) → TreesOver mode }
+{}
+
+/// The extents of the containers in the tree of a document lie in its text.
+pub fn extents_lie()
+    ensures { (mode : Mode) → ExtentsLie mode }
 {}
 
 /// In the tree of an accepted text the span of each key and each scalar cuts its spelling.
 pub fn spans_cut_spellings()
-    ensures { SpansCutSpellings }
+    ensures { (mode : Mode) → SpansCutSpellings mode }
 {}
 
 /// The tree of an accepted text shows what the text means.
@@ -125,17 +186,17 @@ pub fn taken_roots_mean()
 
 /// The print of a tree, as it is written: what stands around the root, its lines, and the headers that one walk collects, in order of place.
 pub fn written_print()
-    ensures { PrintByVisits }
+    ensures { (mode : Mode) → PrintByVisits mode }
 {}
 
 /// `set` at a path of the tree of what was read changes the statement of the value there, in its frame, or adds one for a new key
 /// in the root or in a table that has a header. All but the item at the path stays, and the print reads back where the tree fits.
 pub fn command_sets()
-    ensures change { SetChanges }
-    ensures new_key { SetAdds }
+    ensures change { (mode : Mode) → SetChanges mode }
+    ensures new_key { (mode : Mode) → SetAdds mode }
     ensures rest { SetKeepsTheRest }
     ensures items { SetKeepsItems }
-    ensures back { SetReadsBack }
+    ensures back { (mode : Mode) → SetReadsBack mode }
     ensures found { GetAfterSet }
     ensures refuses { SetRefuses }
 {}
@@ -143,12 +204,12 @@ pub fn command_sets()
 /// `remove` at a path of the tree of what was read leaves out the statements of the slot or element there, and of all below it, or
 /// changes that of the value that holds it. All else stays, and the print reads back where the tree fits.
 pub fn command_removes()
-    ensures slot { RemoveDrops }
-    ensures element { RemoveElementDrops }
-    ensures inside { RemoveChanges }
+    ensures slot { (mode : Mode) → RemoveDrops mode }
+    ensures element { (mode : Mode) → RemoveElementDrops mode }
+    ensures inside { (mode : Mode) → RemoveChanges mode }
     ensures rest { RemoveKeepsTheRest }
     ensures items { RemoveKeepsItems }
-    ensures back { RemoveReadsBack }
+    ensures back { (mode : Mode) → RemoveReadsBack mode }
     ensures finds { RemoveFinds }
     ensures was_there { RemovedWasThere }
     ensures refuses { RemoveRefuses }
@@ -160,6 +221,6 @@ pub fn command_paths()
     ensures one_text { OneTextNames }
     ensures decimals { DecimalsName }
     ensures ways { WaysHavePaths }
-    ensures tables { PathsHaveWays }
-    ensures filled { ReadHasNoPlaceholders }
+    ensures tables { (mode : Mode) → PathsHaveWays mode }
+    ensures filled { (mode : Mode) → ReadHasNoPlaceholders mode }
 {}

@@ -3,11 +3,11 @@ use Rattle.std.proofs.Common.{◌≡◌, refl, sym, ◌∙◌, ap, subst, ℕ, s
 use Rattle.std.specs.Prelude.{◌&&◌, ◌||◌, not, nat_lt, filter, map, if◌then◌else◌}
 use Rattle.std.specs.List.{list_all, AllByRecursion}
 use Rattle.std.proofs.lemmas.Bool.{cases_eq, lt-ltb}
+use Rattle.toml_edit_model.specs.Mode.{Mode}
 use Rattle.toml_edit_model.specs.Text.{is_empty}
 use Rattle.toml_edit_model.specs.Paths.{at_key, at_element, Path, to_element}
 use Rattle.toml_edit_model.specs.Tree.{Tree, SlotsAreWellMade}
 use Rattle.toml_edit_model.specs.HeaderOrder.{Visit, Placed, walk, place_of, places_from, comes_before, in_header_order}
-use Rattle.toml_edit_model.specs.Normal.{sorted_by}
 use Rattle.toml_edit_model.specs.Print.{has_header, lines_of}
 use Rattle.toml_edit_model.specs.Fits.{is_below, is_after_element, is_too_late, none_too_late, headed}
 use Rattle.toml_edit_laws.specs.AcceptedPrints.{IsFitting}
@@ -23,6 +23,7 @@ use Rattle.toml_edit_laws.proofs.common.Visits.{places-all, before-total, before
 use Rattle.toml_edit_laws.proofs.common.Pairs.{AllPairs, pairs-filter, pairs-of}
 use Rattle.toml_edit_laws.proofs.common.Each.{all-of, all_pass, all-map, all-image, filter-passes}
 use Rattle.toml_edit_laws.proofs.common.Sorting.{pairs-sorted, filter-sorted, sorted-stays}
+use Rattle.toml_edit_model.specs.Order.{sorted_by}
 
 -- ---- the order of headers
 
@@ -93,27 +94,12 @@ counted-late n P (x ∷ xs) h = (
   counted-late (suc n) P xs h.1,
 )
 
--- ---- which tables have headers
-
-module _ (K : Path → Spot) (W : List Visit) where
-  element-keys : (v : Visit) (T : Trail) → v.keys ≡ trail_keys T → EndsAs K W v T → v.is_element ≡ true → is_empty v.keys ≡ false
-  element-keys v start keys ends e = true-false v.is_element e ends
-  element-keys v (to_table r k) keys ends e = true-false v.is_element e ends.0
-  element-keys v (to_item r k n) keys ends e = ap is_empty keys ∙ not_empty-last (trail_keys r) k
-
-  pub element-headed : (v : Visit) → IsAt K W v → v.is_element ≡ true → has_header v ≡ true
-  element-headed v at e =
-      ap (λ b. not b && (v.is_element || not (v.fields.is_implicit && is_empty (lines_of v)))) (element-keys v at.trail at.keys at.ends e)
-      ∙ ap (λ b. b || not (v.fields.is_implicit && is_empty (lines_of v))) e
-
 undotted-elements : (vs : List Visit) → list_all (λ v. not (v.is_element && v.fields.is_dotted)) vs ≡ true
     → AllByRecursion (λ v. v.is_element ≡ true → v.fields.is_dotted ≡ false) vs
 undotted-elements vs h =
     all-map (λ v. not (v.is_element && v.fields.is_dotted) ≡ true) (λ v. v.is_element ≡ true → v.fields.is_dotted ≡ false) vs
     (λ v g e. sym (ap (λ b. b && v.fields.is_dotted) e) ∙ not-true (v.is_element && v.fields.is_dotted) g)
     (all-of (λ v. not (v.is_element && v.fields.is_dotted)) vs h)
-
--- ---- elements among the headers
 
 filter-weaker : {A : Type 0} (test wider : A → Bool) (xs : List A) → AllByRecursion (λ x. test x ≡ true → wider x ≡ true) xs → filter test (filter wider xs) ≡ filter test xs
 filter-weaker test wider [] h = refl
@@ -177,42 +163,58 @@ tree_at t v = IsAt (tree_spot t.slots) (walk t) v
 pub order-at : (t : Tree) → SlotsAreWellMade t.slots → AllByRecursion (λ (v : Placed). tree_at t v.1 × (v.1.fields.is_dotted ≡ false)) (in_header_order t)
 order-at t made = order-all (tree_at t) t (walk-at t made)
 
-pub headed-at : (t : Tree) → SlotsAreWellMade t.slots → AllByRecursion (λ v. (tree_at t v × (v.fields.is_dotted ≡ false)) × (has_header v ≡ true)) (headed t)
-headed-at t made =
-    all_pass (λ v. tree_at t v × (v.fields.is_dotted ≡ false)) has_header (map (λ (v : Placed). v.1) (in_header_order t))
-    (all-image (λ (v : Placed). v.1) (λ v. tree_at t v × (v.fields.is_dotted ≡ false)) (in_header_order t) (order-at t made))
-
 pub order-apart : (t : Tree) → SlotsAreWellMade t.slots → AllPairs (λ (v w : Placed). Apart v.1 w.1) (in_header_order t)
 order-apart t made =
     pairs-sorted (λ (v w : Placed). Apart v.1 w.1) comes_before (λ v w h e. h (sym e)) (places_from (pos 0) (walk t))
     (pairs-places Apart (pos 0) (walk t) (walk-apart t made))
 
--- The elements of an array among the headers are those of the walk, in the same order.
-pub headed-items : (t : Tree) → IsFitting t → (P : Path) → filter (is_item_of P) (headed t) ≡ filter (is_item_of P) (walk t)
-headed-items t fitting P =
-    let f : Placed → Visit = λ v. v.1 in
-    let test : Placed → Bool = λ v. is_item_of P v.1 in
-    let places = places_from (pos 0) (walk t) in
-    let undotted = undotted-elements (walk t) (and_right (not t.root.is_dotted) (list_all (λ v. not (v.is_element && v.fields.is_dotted)) (walk t)) fitting.fits.undotted) in
-    let items : map f (filter test places) ≡ filter (is_item_of P) (walk t) = placed-items P (pos 0) (walk t) undotted in
-    let headers : filter (is_item_of P) (headed t) ≡ map f (filter test (in_header_order t)) =
-    filter-weaker (is_item_of P) has_header (map f (in_header_order t))
-    (all-image f (λ v. is_item_of P v ≡ true → has_header v ≡ true) (in_header_order t)
-    (all-map (λ (v : Placed). tree_at t v.1 × (v.1.fields.is_dotted ≡ false)) (λ (v : Placed). is_item_of P v.1 ≡ true → has_header v.1 ≡ true) (in_header_order t)
-    (λ v h g. element-headed (tree_spot t.slots) (walk t) v.1 h.0 (item-element P v.1 g)) (order-at t fitting.made)))
-    ∙ filter-image f (is_item_of P) (in_header_order t) in
-    let sorted : filter test (in_header_order t) ≡ sorted_by comes_before (filter test places) = filter-sorted comes_before before-trans before-total test places in
-    let counted : Counted 0 P (map f (filter test places)) = subst (Counted 0 P) (sym items) (walk-counted P t fitting.made) in
-    let early : AllPairs (λ g h. is_too_late g h ≡ false) (filter (is_item_of P) (headed t)) =
-    pairs-filter (λ g h. is_too_late g h ≡ false) (is_item_of P) (headed t) (not-late (headed t) fitting.fits.ordered) in
-    let elements : AllByRecursion (λ v. v.is_element ≡ true) (filter (is_item_of P) (headed t)) =
-    all-map (λ v. is_item_of P v ≡ true) (λ v. v.is_element ≡ true) (filter (is_item_of P) (headed t)) (item-element P) (filter-passes (is_item_of P) (headed t)) in
-    let calm : AllPairs (λ g h. is_after_element g.path h.path ≡ true → ⊥) (filter (is_item_of P) (headed t)) =
-    pairs-of (λ v. v.is_element ≡ true) (λ g h. is_too_late g h ≡ false) (λ g h. is_after_element g.path h.path ≡ true → ⊥) (filter (is_item_of P) (headed t))
-    (λ g h e k early. late-element g h early e) elements early in
-    headers ∙ ap (map f) (sorted
-    ∙ sorted-stays comes_before (λ a b. is_after_element a.1.path b.1.path ≡ true) (filter test places)
-    (pairs-unimage f (λ a b. is_after_element b.path a.path ≡ true) (filter test places) (counted-late 0 P (map f (filter test places)) counted))
-    (subst (AllPairs (λ (a b : Placed). is_after_element a.1.path b.1.path ≡ true → ⊥)) sorted
-    (pairs-unimage f (λ a b. is_after_element a.path b.path ≡ true → ⊥) (filter test (in_header_order t))
-    (subst (AllPairs (λ a b. is_after_element a.path b.path ≡ true → ⊥)) headers calm)))) ∙ items
+module _ (mode : Mode) where
+  -- ---- which tables have headers
+
+  module _ (K : Path → Spot) (W : List Visit) where
+    element-keys : (v : Visit) (T : Trail) → v.keys ≡ trail_keys T → EndsAs K W v T → v.is_element ≡ true → is_empty v.keys ≡ false
+    element-keys v start keys ends e = true-false v.is_element e ends
+    element-keys v (to_table r k) keys ends e = true-false v.is_element e ends.0
+    element-keys v (to_item r k n) keys ends e = ap is_empty keys ∙ not_empty-last (trail_keys r) k
+
+    pub element-headed : (v : Visit) → IsAt K W v → v.is_element ≡ true → has_header mode v ≡ true
+    element-headed v at e =
+        ap (λ b. not b && (v.is_element || not (v.fields.is_implicit && is_empty (lines_of mode v)))) (element-keys v at.trail at.keys at.ends e)
+        ∙ ap (λ b. b || not (v.fields.is_implicit && is_empty (lines_of mode v))) e
+
+  -- ---- elements among the headers
+
+  pub headed-at : (t : Tree) → SlotsAreWellMade t.slots → AllByRecursion (λ v. (tree_at t v × (v.fields.is_dotted ≡ false)) × (has_header mode v ≡ true)) (headed mode t)
+  headed-at t made =
+      all_pass (λ v. tree_at t v × (v.fields.is_dotted ≡ false)) (has_header mode) (map (λ (v : Placed). v.1) (in_header_order t))
+      (all-image (λ (v : Placed). v.1) (λ v. tree_at t v × (v.fields.is_dotted ≡ false)) (in_header_order t) (order-at t made))
+
+  -- The elements of an array among the headers are those of the walk, in the same order.
+  pub headed-items : (t : Tree) → IsFitting mode t → (P : Path) → filter (is_item_of P) (headed mode t) ≡ filter (is_item_of P) (walk t)
+  headed-items t fitting P =
+      let f : Placed → Visit = λ v. v.1 in
+      let test : Placed → Bool = λ v. is_item_of P v.1 in
+      let places = places_from (pos 0) (walk t) in
+      let undotted = undotted-elements (walk t) (and_right (not t.root.is_dotted) (list_all (λ v. not (v.is_element && v.fields.is_dotted)) (walk t)) fitting.fits.undotted) in
+      let items : map f (filter test places) ≡ filter (is_item_of P) (walk t) = placed-items P (pos 0) (walk t) undotted in
+      let headers : filter (is_item_of P) (headed mode t) ≡ map f (filter test (in_header_order t)) =
+      filter-weaker (is_item_of P) (has_header mode) (map f (in_header_order t))
+      (all-image f (λ v. is_item_of P v ≡ true → has_header mode v ≡ true) (in_header_order t)
+      (all-map (λ (v : Placed). tree_at t v.1 × (v.1.fields.is_dotted ≡ false)) (λ (v : Placed). is_item_of P v.1 ≡ true → has_header mode v.1 ≡ true) (in_header_order t)
+      (λ v h g. element-headed (tree_spot t.slots) (walk t) v.1 h.0 (item-element P v.1 g)) (order-at t fitting.made)))
+      ∙ filter-image f (is_item_of P) (in_header_order t) in
+      let sorted : filter test (in_header_order t) ≡ sorted_by comes_before (filter test places) = filter-sorted comes_before before-trans before-total test places in
+      let counted : Counted 0 P (map f (filter test places)) = subst (Counted 0 P) (sym items) (walk-counted P t fitting.made) in
+      let early : AllPairs (λ g h. is_too_late g h ≡ false) (filter (is_item_of P) (headed mode t)) =
+      pairs-filter (λ g h. is_too_late g h ≡ false) (is_item_of P) (headed mode t) (not-late (headed mode t) fitting.fits.ordered) in
+      let elements : AllByRecursion (λ v. v.is_element ≡ true) (filter (is_item_of P) (headed mode t)) =
+      all-map (λ v. is_item_of P v ≡ true) (λ v. v.is_element ≡ true) (filter (is_item_of P) (headed mode t)) (item-element P) (filter-passes (is_item_of P) (headed mode t)) in
+      let calm : AllPairs (λ g h. is_after_element g.path h.path ≡ true → ⊥) (filter (is_item_of P) (headed mode t)) =
+      pairs-of (λ v. v.is_element ≡ true) (λ g h. is_too_late g h ≡ false) (λ g h. is_after_element g.path h.path ≡ true → ⊥) (filter (is_item_of P) (headed mode t))
+      (λ g h e k early. late-element g h early e) elements early in
+      headers ∙ ap (map f) (sorted
+      ∙ sorted-stays comes_before (λ a b. is_after_element a.1.path b.1.path ≡ true) (filter test places)
+      (pairs-unimage f (λ a b. is_after_element b.path a.path ≡ true) (filter test places) (counted-late 0 P (map f (filter test places)) counted))
+      (subst (AllPairs (λ (a b : Placed). is_after_element a.1.path b.1.path ≡ true → ⊥)) sorted
+      (pairs-unimage f (λ a b. is_after_element a.path b.path ≡ true → ⊥) (filter test (in_header_order t))
+      (subst (AllPairs (λ a b. is_after_element a.path b.path ≡ true → ⊥)) headers calm)))) ∙ items

@@ -2,6 +2,7 @@
 use Rattle.std.proofs.Common.{◌≡◌, refl, sym, ◌∙◌, ap, subst, ℕ, true, List, [], ◌∷◌, ◌++◌, append_assoc}
 use Rattle.std.specs.Prelude.{map}
 use Rattle.std.specs.List.{AllByRecursion}
+use Rattle.toml_edit_model.specs.Mode.{Mode}
 use Rattle.toml_edit_model.specs.Text.{Text}
 use Rattle.toml_edit_model.specs.Syntax.{Segment}
 use Rattle.toml_edit_model.specs.Paths.{at_key, Path, to_key, Role, dotted_role, value_role, line_mentions, next_start, elements_at, in_last, passing_role, header_mentions, header_path}
@@ -18,15 +19,16 @@ use Rattle.toml_edit_laws.proofs.common.Each.{all-append}
 abbrev pub names : List Key → List Text
 names ks = map (λ k. k.name) ks
 
-pub segments-names : (ks : List Key) → keys_of_segments (segments ks) ≡ names ks
-segments-names [] = refl
-segments-names (k ∷ []) = refl
-segments-names (k ∷ l ∷ ks) = ap (λ ns. k.name ∷ ns) (after (l ∷ ks))
-  where
-    after : (ks : List Key) → keys_of_segments (segments_after ks) ≡ names ks
-    after [] = refl
-    after (k ∷ []) = refl
-    after (k ∷ l ∷ ks) = ap (λ ns. k.name ∷ ns) (after (l ∷ ks))
+module _ (mode : Mode) where
+  pub segments-names : (ks : List Key) → keys_of_segments (segments mode ks) ≡ names ks
+  segments-names [] = refl
+  segments-names (k ∷ []) = refl
+  segments-names (k ∷ l ∷ ks) = ap (λ ns. k.name ∷ ns) (after (l ∷ ks))
+    where
+      after : (ks : List Key) → keys_of_segments (segments_after mode ks) ≡ names ks
+      after [] = refl
+      after (k ∷ []) = refl
+      after (k ∷ l ∷ ks) = ap (λ ns. k.name ∷ ns) (after (l ∷ ks))
 
 pub names-snoc : (ks : List Key) (k : Key) → names (ks ++ (k ∷ [])) ≡ names ks ++ (k.name ∷ [])
 names-snoc [] k = refl

@@ -2,6 +2,7 @@
 use Rattle.std.proofs.Common.{◌≡◌, refl, sym, ◌∙◌, ap, subst, ℕ, suc, ◌+◌, Bool, true, false, List, [], ◌∷◌, ◌++◌, append_assoc, length}
 use Rattle.std.specs.Prelude.{◌||◌, not, map}
 use Rattle.std.specs.List.{list_all, AllByRecursion}
+use Rattle.toml_edit_model.specs.Mode.{Mode}
 use Rattle.toml_edit_model.specs.Text.{Text}
 use Rattle.toml_edit_model.specs.Syntax.{Pairs, no_pairs, pair, value_text, frame_text}
 use Rattle.toml_edit_model.specs.Paths.{at_key, Path, same_path, to_key, Role, dotted_role, implied_role, header_role, array_role, value_role, through_role, may_meet_inline, Mention, line_mentions, pair_mentions}
@@ -98,33 +99,26 @@ abbrev pair_names : Pairs → List (List Text)
 pair_names no_pairs = []
 pair_names (pair f v ps) = keys_of_segments f.path ∷ pair_names ps
 
-all-agree : (start number : ℕ) (ps : Pairs) → AllPairs Parted (pair_names ps) → all_agree may_meet_inline (pair_mentions start number ps) ≡ true
+all-agree : (start number : ℕ) (ps : Pairs) → AllPairs Parted (pair_names ps) → all_agree may_meet_inline (pair_mentions start ps) ≡ true
 all-agree start number no_pairs h = refl
 all-agree start number (pair f v ps) h =
-    and_both (list_all (agree may_meet_inline (line_mentions (record { number = number; frame = f; value = v }) (start + length f.leading) [] f.path))
-    (pair_mentions (start + length (frame_text f (value_text v)) + 1) (suc number) ps)) _
+    and_both (list_all (agree may_meet_inline (line_mentions (record { frame = f; value = v }) (start + length f.leading) [] f.path))
+    (pair_mentions (start + length (frame_text f (value_text v)) + 1) ps)) _
     (each (start + length (frame_text f (value_text v)) + 1) (suc number) ps h.0)
     (all-agree (start + length (frame_text f (value_text v)) + 1) (suc number) ps h.1)
   where
     each : (i j : ℕ) (qs : Pairs) → AllByRecursion (Parted (keys_of_segments f.path)) (pair_names qs)
-        → list_all (agree may_meet_inline (line_mentions (record { number = number; frame = f; value = v }) (start + length f.leading) [] f.path)) (pair_mentions i j qs) ≡ true
+        → list_all (agree may_meet_inline (line_mentions (record { frame = f; value = v }) (start + length f.leading) [] f.path)) (pair_mentions i qs) ≡ true
     each i j no_pairs g = refl
     each i j (pair k w qs) g =
-        let ms = line_mentions (record { number = number; frame = f; value = v }) (start + length f.leading) [] f.path in
-        let ns = line_mentions (record { number = j; frame = k; value = w }) (i + length k.leading) [] k.path in
-        and_both (agree may_meet_inline ms ns) (list_all (agree may_meet_inline ms) (pair_mentions (i + length (frame_text k (value_text w)) + 1) (suc j) qs))
+        let ms = line_mentions (record { frame = f; value = v }) (start + length f.leading) [] f.path in
+        let ns = line_mentions (record { frame = k; value = w }) (i + length k.leading) [] k.path in
+        and_both (agree may_meet_inline ms ns) (list_all (agree may_meet_inline ms) (pair_mentions (i + length (frame_text k (value_text w)) + 1) qs))
         (agree-by may_meet_inline (OnWay (map at_key (keys_of_segments f.path))) (OnWay (map at_key (keys_of_segments k.path)))
         (λ q r s a b. way-meet (keys_of_segments f.path) (keys_of_segments k.path) q r s g.0 a b) ms ns
-        (subst (AllByRecursion (OnWay (map at_key (keys_of_segments f.path)))) (sym (line-told (record { number = number; frame = f; value = v }) (start + length f.leading) [] f.path)) (told-way [] (keys_of_segments f.path)))
-        (subst (AllByRecursion (OnWay (map at_key (keys_of_segments k.path)))) (sym (line-told (record { number = j; frame = k; value = w }) (i + length k.leading) [] k.path)) (told-way [] (keys_of_segments k.path))))
+        (subst (AllByRecursion (OnWay (map at_key (keys_of_segments f.path)))) (sym (line-told (record { frame = f; value = v }) (start + length f.leading) [] f.path)) (told-way [] (keys_of_segments f.path)))
+        (subst (AllByRecursion (OnWay (map at_key (keys_of_segments k.path)))) (sym (line-told (record { frame = k; value = w }) (i + length k.leading) [] k.path)) (told-way [] (keys_of_segments k.path))))
         (each (i + length (frame_text k (value_text w)) + 1) (suc j) qs g.1)
-
--- ---- printed values
-
-lines-names : (ls : List Line) → pair_names (pairs_of_lines ls) ≡ map (λ l. names l.keys) ls
-lines-names [] = refl
-lines-names (l ∷ []) = ap (λ ns. ns ∷ []) (segments-names l.keys)
-lines-names (l ∷ m ∷ ls) = ap (λ ns. ns ∷ pair_names (pairs_of_lines (m ∷ ls))) (segments-names l.keys) ∙ ap (λ nss. names l.keys ∷ nss) (lines-names (m ∷ ls))
 
 after-names : (t : Text) (ps : Pairs) → pair_names (add_after_pairs t ps) ≡ pair_names ps
 after-names t no_pairs = refl
@@ -142,20 +136,28 @@ looks =
       each_pair = λ f v ps. refl;
     }
 
-close-pairs : (comma : Bool) (t : Text) (ps : Pairs) → AllPairs Parted (pair_names ps) → pairs_have_agreeing_pairs ps ≡ true → has_agreeing_pairs (close_inline comma t ps) ≡ true
-close-pairs comma t no_pairs h g = refl
-close-pairs true t (pair f v ps) h g = and_both _ (pairs_have_agreeing_pairs (pair f v ps)) (all-agree 0 0 (pair f v ps) h) g
-close-pairs false t (pair f v ps) h g =
-    and_both _ (pairs_have_agreeing_pairs (add_after_pairs t (pair f v ps)))
-    (all-agree 0 0 (add_after_pairs t (pair f v ps)) (subst (AllPairs Parted) (sym (after-names t (pair f v ps))) h))
-    (after-pairs has_agreeing_pairs elements_have_agreeing_pairs pairs_have_agreeing_pairs looks t (pair f v ps) ∙ g)
+module _ (mode : Mode) where
+  -- ---- printed values
 
--- The pairs of each inline table in a printed value agree.
-pub value-agrees : (n : Node) → IsWellMade n → has_agreeing_pairs (value_of n) ≡ true
-value-agrees =
-    value-passes has_agreeing_pairs elements_have_agreeing_pairs pairs_have_agreeing_pairs looks
-    (λ s r d made. refl)
-    (λ f ss made.
-    close-pairs f.comma (shown_raw f.trailing) (pairs_of_lines (inside_lines ss []))
-    (subst (AllPairs Parted) (sym (lines-names (inside_lines ss []))) (pairs-image (λ (l : Line). names l.keys) Parted (inside_lines ss []) (inside-parted ss [] made))))
-    refl
+  lines-names : (ls : List Line) → pair_names (pairs_of_lines mode ls) ≡ map (λ l. names l.keys) ls
+  lines-names [] = refl
+  lines-names (l ∷ []) = ap (λ ns. ns ∷ []) (segments-names mode l.keys)
+  lines-names (l ∷ m ∷ ls) = ap (λ ns. ns ∷ pair_names (pairs_of_lines mode (m ∷ ls))) (segments-names mode l.keys) ∙ ap (λ nss. names l.keys ∷ nss) (lines-names (m ∷ ls))
+
+  close-pairs : (comma : Bool) (t : Text) (ps : Pairs) → AllPairs Parted (pair_names ps) → pairs_have_agreeing_pairs ps ≡ true → has_agreeing_pairs (close_inline comma t ps) ≡ true
+  close-pairs comma t no_pairs h g = refl
+  close-pairs true t (pair f v ps) h g = and_both _ (pairs_have_agreeing_pairs (pair f v ps)) (all-agree 0 0 (pair f v ps) h) g
+  close-pairs false t (pair f v ps) h g =
+      and_both _ (pairs_have_agreeing_pairs (add_after_pairs t (pair f v ps)))
+      (all-agree 0 0 (add_after_pairs t (pair f v ps)) (subst (AllPairs Parted) (sym (after-names t (pair f v ps))) h))
+      (after-pairs mode has_agreeing_pairs elements_have_agreeing_pairs pairs_have_agreeing_pairs looks t (pair f v ps) ∙ g)
+
+  -- The pairs of each inline table in a printed value agree.
+  pub value-agrees : (n : Node) → IsWellMade n → has_agreeing_pairs (value_of mode n) ≡ true
+  value-agrees =
+      value-passes mode has_agreeing_pairs elements_have_agreeing_pairs pairs_have_agreeing_pairs looks
+      (λ s r d made. refl)
+      (λ f ss made.
+      close-pairs f.comma (shown_raw mode f.trailing) (pairs_of_lines mode (inside_lines mode ss []))
+      (subst (AllPairs Parted) (sym (lines-names (inside_lines mode ss []))) (pairs-image (λ (l : Line). names l.keys) Parted (inside_lines mode ss []) (inside-parted mode ss [] made))))
+      refl

@@ -2,6 +2,7 @@
 use Rattle.std.proofs.Common.{◌≡◌, refl, sym, ◌∙◌, ap, Bool, true, false, List, [], ◌∷◌, ◌++◌, append_assoc, inl, inr}
 use Rattle.std.specs.Prelude.{MatchBool, flat_map, Option, Some, None}
 use Rattle.std.specs.List.{AllByRecursion}
+use Rattle.toml_edit_model.specs.Mode.{Mode}
 use Rattle.toml_edit_model.specs.Text.{Text}
 use Rattle.toml_edit_model.specs.Trivia.{IsWholeTrivia, IsFinalTrivia, Piece, blank, piece_text, IsPiece}
 use Rattle.toml_edit_model.specs.Scalars.{Scalar}
@@ -70,16 +71,6 @@ close_inline-is comma t no_pairs h g = ((h, inl refl), tt)
 close_inline-is true t (pair f v ps) h g = ((h, refl), g)
 close_inline-is false t (pair f v ps) h g = ((empty-trivia, inr refl), add_after_pairs-are t (pair f v ps) h g)
 
--- ---- sides
-
--- a side that suits its place by the empty default suits it by any default that does
-pub side-any : (P : Text → Type 0) (default : Text) (r : Option Raw) → P default → P (shown_side [] r) → P (shown_side default r)
-side-any P default None h g = h
-side-any P default (Some (owned t)) h g = g
-side-any P default (Some (span i j)) h g = h
-
--- ---- keys
-
 abbrev pub KeyIsTrue : Key → Type 0
 KeyIsTrue k = HasTrueSpelling (SpellsKey k.name) k.spelling
 
@@ -110,121 +101,6 @@ key_text-spells k h = by_spelling k.spelling h
     by_spelling (Some (owned t)) h = h
     by_spelling (Some (span i j)) h = key-spells k.name
 
-after-spelled : (ks : List Key) → KeysAreTrue ks → AllByRecursion IsSpelledSegment (segments_after ks)
-after-spelled [] h = tt
-after-spelled (k ∷ []) h = (key_text-spells k h.0, tt)
-after-spelled (k ∷ l ∷ ks) h = (key_text-spells k h.0, after-spelled (l ∷ ks) h.1)
-
-after-ends : (k : Key) (ks : List Key) → ends_bare (segments_after (k ∷ ks)) ≡ true
-after-ends k [] = refl
-after-ends k (l ∷ []) = refl
-after-ends k (l ∷ m ∷ ks) = after-ends l (m ∷ ks)
-
-pub segments-path : (k : Key) (ks : List Key) → KeysAreTrue (k ∷ ks) → IsPath (segments (k ∷ ks))
-segments-path k [] h = record { begins = refl; ends = refl; spelled = (key_text-spells k h.0, tt) }
-segments-path k (l ∷ ks) h =
-    record { begins = refl; ends = ends l ks; spelled = (key_text-spells k h.0, after-spelled (l ∷ ks) h.1) }
-  where
-    ends : (l : Key) (ks : List Key) → ends_bare (segments (k ∷ l ∷ ks)) ≡ true
-    ends l [] = refl
-    ends l (m ∷ ks) = after-ends l (m ∷ ks)
-
-pub path-is : (ks : List Key) (k : Key) → KeysAreTrue (ks ++ (k ∷ [])) → IsPath (segments (ks ++ (k ∷ [])))
-path-is [] k h = segments-path k [] h
-path-is (l ∷ ks) k h = segments-path l (ks ++ (k ∷ [])) h
-
--- ---- lines
-
--- the line is a pair of the grammar, whatever defaults its place has
-abbrev IsPair : Line → Type 0
-IsPair l = ((key_default suffix_default : Text) → IsWholeTrivia key_default → IsWholeTrivia suffix_default
-    → IsFrame IsWholeTrivia (frame_of key_default suffix_default l)) × IsValue l.value
-
-pairs_of_lines-are : (ls : List Line) → AllByRecursion IsPair ls → ArePairs (pairs_of_lines ls)
-pairs_of_lines-are [] h = tt
-pairs_of_lines-are (l ∷ []) h = (h.0.0 print.blank print.blank blank-whole blank-whole, h.0.1, tt)
-pairs_of_lines-are (l ∷ m ∷ ls) h = (h.0.0 print.blank [] blank-whole empty-trivia, h.0.1, pairs_of_lines-are (m ∷ ls) h.1)
-
-line-is : (ks : List Key) (k : Key) (n : Node) (v : Value) → KeysAreTrue (ks ++ (k ∷ [])) → LineSuits IsWholeTrivia (ks ++ (k ∷ [])) n
-    → IsValue v → IsPair (record { keys = ks ++ (k ∷ []); item = n; value = v })
-line-is ks k n v keys suits value = (
-  λ key_default suffix_default kd sd. (
-    record {
-      leading = side-any IsWholeTrivia key_default (last_leaf (ks ++ (k ∷ []))).prefix kd suits.leading;
-      segments = suits.segments;
-      before_equals = suits.before_equals;
-      after_equals = suits.after_equals;
-      trailing = side-any IsWholeTrivia suffix_default (node_decor n).suffix sd suits.trailing;
-    },
-    path-is ks k keys,
-  ),
-  value,
-)
-
-element-is : (is_first : Bool) (d : Decor) (v : Value) (es : Elements)
-    → IsWholeTrivia (shown_prefix [] d) → IsWholeTrivia (shown_suffix [] d) → IsValue v → AreElements es
-    → AreElements (element (around_of is_first d) v es)
-element-is is_first d v es before after value rest =
-    (side-any IsWholeTrivia (element_default is_first) d.prefix (default-is is_first) before, after, value, rest)
-  where
-    default-is : (b : Bool) → IsWholeTrivia (element_default b)
-    default-is true = empty-trivia
-    default-is false = blank-whole
-
--- what holds by the test on a node
-by_value : (n : Node) (is_first : Bool) (es rest : Elements) (b : Bool) → is_value_node n ≡ b → MatchBool b (ElementSuits n × Suits n) (Unit {0})
-    → (is_value_node n ≡ true → Suits n → IsValue (value_of n))
-    → AreElements es → AreElements rest
-    → AreElements (elim b [ true ↦ element (around_of is_first (node_decor n)) (value_of n) es | false ↦ rest ])
-by_value n is_first es rest true e h value hs gs = element-is is_first (node_decor n) (value_of n) es h.0.0 h.0.1 (value e h.1) hs
-by_value n is_first es rest false e h value hs gs = gs
-
-by_line : (n : Node) (ks : List Key) (k : Key) (ls : List Line) (b : Bool) → is_line_node n ≡ b
-    → MatchBool b (LineSuits IsWholeTrivia (ks ++ (k ∷ [])) n × Suits n) (NodeSuitsInside n (ks ++ (k ∷ [])))
-    → KeysAreTrue (ks ++ (k ∷ []))
-    → (is_line_node n ≡ true → Suits n → IsValue (value_of n))
-    → (NodeSuitsInside n (ks ++ (k ∷ [])) → AllByRecursion IsPair ls)
-    → AllByRecursion IsPair (elim b [ true ↦ line_of (ks ++ (k ∷ [])) n (value_of n) | false ↦ ls ])
-by_line n ks k ls true e h keys value inner = (line-is ks k n (value_of n) keys h.0 (value e h.1), tt)
-by_line n ks k ls false e h keys value inner = inner h
-
-mutual
-  pub value-is : (n : Node) → IsWellMade n → is_value_node n ≡ true → Suits n → IsValue (value_of n)
-  value-is (leaf s r d) made shape h = (scalar_text-spells s r made.0 made.1).0
-  value-is (list f xs) made shape h = close_array-is f.comma (shown_raw f.trailing) (elements_of xs true) h.0 (elements-are xs true made h.1)
-  value-is (inline f ss) made shape h =
-      close_inline-is f.comma (shown_raw f.trailing) (pairs_of_lines (inside_lines ss [])) h.0
-      (pairs_of_lines-are (inside_lines ss []) (lines-are ss [] made h.1 tt))
-  value-is (table f ss) made shape h = absurd cc
-  value-is (tables e xs) made shape h = absurd cc
-  value-is nothing made shape h = absurd cc
-
-  elements-are : (xs : Items) (is_first : Bool) → ItemsAreWellMade xs → ItemsSuit xs → AreElements (elements_of xs is_first)
-  elements-are no_items is_first made h = tt
-  elements-are (item n xs) is_first made h =
-      by_value n is_first (elements_of xs false) (elements_of xs is_first) (is_value_node n) refl h.0
-      (value-is n made.0) (elements-are xs false made.1 h.1) (elements-are xs is_first made.1 h.1)
-
-  lines-are : (ss : Slots) (ks : List Key) → SlotsAreWellMade ss → InsideSuits ss ks → KeysAreTrue ks → AllByRecursion IsPair (inside_lines ss ks)
-  lines-are no_slots ks made h keys = tt
-  lines-are (slot k n ss) ks made h keys =
-      let own = keys-snoc ks k keys made.1 in
-      all-append IsPair _ (inside_lines ss ks)
-      (by_line n ks k (lines_inside n (ks ++ (k ∷ []))) (is_line_node n) refl h.0 own
-      (λ line. value-is n made.2 (line-value n line))
-      (λ g. node_lines-are n (ks ++ (k ∷ [])) made.2 g own))
-      (lines-are ss ks made.3 h.1 keys)
-
-  node_lines-are : (n : Node) (ks : List Key) → IsWellMade n → NodeSuitsInside n ks → KeysAreTrue ks → AllByRecursion IsPair (lines_inside n ks)
-  node_lines-are (inline f ss) ks made h keys = lines-are ss ks made h keys
-  node_lines-are (table f ss) ks made h keys = lines-are ss ks made h keys
-  node_lines-are (leaf s r d) ks made h keys = tt
-  node_lines-are (list f xs) ks made h keys = tt
-  node_lines-are (tables e xs) ks made h keys = tt
-  node_lines-are nothing ks made h keys = tt
-
--- ---- ranges
-
 -- the test of ranges looks at each value
 looks : LooksAtEach keeps_ranges elements_keep_ranges pairs_keep_ranges
 looks =
@@ -236,14 +112,140 @@ looks =
       each_pair = λ f v ps. refl;
     }
 
-close_inline-ranges : (comma : Bool) (t : Text) (ps : Pairs) → keeps_ranges (close_inline comma t ps) ≡ pairs_keep_ranges ps
-close_inline-ranges comma t no_pairs = refl
-close_inline-ranges true t (pair f v ps) = refl
-close_inline-ranges false t (pair f v ps) = after-pairs keeps_ranges elements_keep_ranges pairs_keep_ranges looks t (pair f v ps)
+module _ (mode : Mode) where
+  -- ---- sides
 
-pub value-ranges : (n : Node) → IsWellMade n → keeps_ranges (value_of n) ≡ true
-value-ranges =
-    value-passes keeps_ranges elements_keep_ranges pairs_keep_ranges looks
-    (λ s r d made. (scalar_text-spells s r made.0 made.1).1)
-    (λ f ss made pass. close_inline-ranges f.comma (shown_raw f.trailing) (pairs_of_lines (inside_lines ss [])) ∙ pass)
-    refl
+  -- a side that suits its place by the empty default suits it by any default that does
+  pub side-any : (P : Text → Type 0) (default : Text) (r : Option Raw) → P default → P (shown_side mode [] r) → P (shown_side mode default r)
+  side-any P default None h g = h
+  side-any P default (Some (owned t)) h g = g
+  side-any P default (Some (span i j)) h g = h
+
+  -- ---- keys
+
+  after-spelled : (ks : List Key) → KeysAreTrue ks → AllByRecursion IsSpelledSegment (segments_after mode ks)
+  after-spelled [] h = tt
+  after-spelled (k ∷ []) h = (key_text-spells k h.0, tt)
+  after-spelled (k ∷ l ∷ ks) h = (key_text-spells k h.0, after-spelled (l ∷ ks) h.1)
+
+  after-ends : (k : Key) (ks : List Key) → ends_bare (segments_after mode (k ∷ ks)) ≡ true
+  after-ends k [] = refl
+  after-ends k (l ∷ []) = refl
+  after-ends k (l ∷ m ∷ ks) = after-ends l (m ∷ ks)
+
+  pub segments-path : (k : Key) (ks : List Key) → KeysAreTrue (k ∷ ks) → IsPath (segments mode (k ∷ ks))
+  segments-path k [] h = record { begins = refl; ends = refl; spelled = (key_text-spells k h.0, tt) }
+  segments-path k (l ∷ ks) h =
+      record { begins = refl; ends = ends l ks; spelled = (key_text-spells k h.0, after-spelled (l ∷ ks) h.1) }
+    where
+      ends : (l : Key) (ks : List Key) → ends_bare (segments mode (k ∷ l ∷ ks)) ≡ true
+      ends l [] = refl
+      ends l (m ∷ ks) = after-ends l (m ∷ ks)
+
+  pub path-is : (ks : List Key) (k : Key) → KeysAreTrue (ks ++ (k ∷ [])) → IsPath (segments mode (ks ++ (k ∷ [])))
+  path-is [] k h = segments-path k [] h
+  path-is (l ∷ ks) k h = segments-path l (ks ++ (k ∷ [])) h
+
+  -- ---- lines
+
+  -- the line is a pair of the grammar, whatever defaults its place has
+  abbrev IsPair : Line → Type 0
+  IsPair l = ((key_default suffix_default : Text) → IsWholeTrivia key_default → IsWholeTrivia suffix_default
+      → IsFrame IsWholeTrivia (frame_of mode key_default suffix_default l)) × IsValue l.value
+
+  pairs_of_lines-are : (ls : List Line) → AllByRecursion IsPair ls → ArePairs (pairs_of_lines mode ls)
+  pairs_of_lines-are [] h = tt
+  pairs_of_lines-are (l ∷ []) h = (h.0.0 print.blank print.blank blank-whole blank-whole, h.0.1, tt)
+  pairs_of_lines-are (l ∷ m ∷ ls) h = (h.0.0 print.blank [] blank-whole empty-trivia, h.0.1, pairs_of_lines-are (m ∷ ls) h.1)
+
+  line-is : (ks : List Key) (k : Key) (n : Node) (v : Value) → KeysAreTrue (ks ++ (k ∷ [])) → LineSuits mode IsWholeTrivia (ks ++ (k ∷ [])) n
+      → IsValue v → IsPair (record { keys = ks ++ (k ∷ []); item = n; value = v })
+  line-is ks k n v keys suits value = (
+    λ key_default suffix_default kd sd. (
+      record {
+        leading = side-any IsWholeTrivia key_default (last_leaf (ks ++ (k ∷ []))).prefix kd suits.leading;
+        segments = suits.segments;
+        before_equals = suits.before_equals;
+        after_equals = suits.after_equals;
+        trailing = side-any IsWholeTrivia suffix_default (node_decor n).suffix sd suits.trailing;
+      },
+      path-is ks k keys,
+    ),
+    value,
+  )
+
+  element-is : (is_first : Bool) (d : Decor) (v : Value) (es : Elements)
+      → IsWholeTrivia (shown_prefix mode [] d) → IsWholeTrivia (shown_suffix mode [] d) → IsValue v → AreElements es
+      → AreElements (element (around_of mode is_first d) v es)
+  element-is is_first d v es before after value rest =
+      (side-any IsWholeTrivia (element_default is_first) d.prefix (default-is is_first) before, after, value, rest)
+    where
+      default-is : (b : Bool) → IsWholeTrivia (element_default b)
+      default-is true = empty-trivia
+      default-is false = blank-whole
+
+  -- what holds by the test on a node
+  by_value : (n : Node) (is_first : Bool) (es rest : Elements) (b : Bool) → is_value_node n ≡ b → MatchBool b (ElementSuits mode n × Suits mode n) (Unit {0})
+      → (is_value_node n ≡ true → Suits mode n → IsValue (value_of mode n))
+      → AreElements es → AreElements rest
+      → AreElements (elim b [ true ↦ element (around_of mode is_first (node_decor n)) (value_of mode n) es | false ↦ rest ])
+  by_value n is_first es rest true e h value hs gs = element-is is_first (node_decor n) (value_of mode n) es h.0.0 h.0.1 (value e h.1) hs
+  by_value n is_first es rest false e h value hs gs = gs
+
+  by_line : (n : Node) (ks : List Key) (k : Key) (ls : List Line) (b : Bool) → is_line_node n ≡ b
+      → MatchBool b (LineSuits mode IsWholeTrivia (ks ++ (k ∷ [])) n × Suits mode n) (NodeSuitsInside mode n (ks ++ (k ∷ [])))
+      → KeysAreTrue (ks ++ (k ∷ []))
+      → (is_line_node n ≡ true → Suits mode n → IsValue (value_of mode n))
+      → (NodeSuitsInside mode n (ks ++ (k ∷ [])) → AllByRecursion IsPair ls)
+      → AllByRecursion IsPair (elim b [ true ↦ line_of (ks ++ (k ∷ [])) n (value_of mode n) | false ↦ ls ])
+  by_line n ks k ls true e h keys value inner = (line-is ks k n (value_of mode n) keys h.0 (value e h.1), tt)
+  by_line n ks k ls false e h keys value inner = inner h
+
+  mutual
+    pub value-is : (n : Node) → IsWellMade n → is_value_node n ≡ true → Suits mode n → IsValue (value_of mode n)
+    value-is (leaf s r d) made shape h = (scalar_text-spells s r made.0 made.1).0
+    value-is (list f xs) made shape h = close_array-is f.comma (shown_raw mode f.trailing) (elements_of mode xs true) h.0 (elements-are xs true made h.1)
+    value-is (inline f ss) made shape h =
+        close_inline-is f.comma (shown_raw mode f.trailing) (pairs_of_lines mode (inside_lines mode ss [])) h.0
+        (pairs_of_lines-are (inside_lines mode ss []) (lines-are ss [] made h.1 tt))
+    value-is (table f ss) made shape h = absurd cc
+    value-is (tables e xs) made shape h = absurd cc
+    value-is nothing made shape h = absurd cc
+
+    elements-are : (xs : Items) (is_first : Bool) → ItemsAreWellMade xs → ItemsSuit mode xs → AreElements (elements_of mode xs is_first)
+    elements-are no_items is_first made h = tt
+    elements-are (item n xs) is_first made h =
+        by_value n is_first (elements_of mode xs false) (elements_of mode xs is_first) (is_value_node n) refl h.0
+        (value-is n made.0) (elements-are xs false made.1 h.1) (elements-are xs is_first made.1 h.1)
+
+    lines-are : (ss : Slots) (ks : List Key) → SlotsAreWellMade ss → InsideSuits mode ss ks → KeysAreTrue ks → AllByRecursion IsPair (inside_lines mode ss ks)
+    lines-are no_slots ks made h keys = tt
+    lines-are (slot k n ss) ks made h keys =
+        let own = keys-snoc ks k keys made.1 in
+        all-append IsPair _ (inside_lines mode ss ks)
+        (by_line n ks k (lines_inside mode n (ks ++ (k ∷ []))) (is_line_node n) refl h.0 own
+        (λ line. value-is n made.2 (line-value n line))
+        (λ g. node_lines-are n (ks ++ (k ∷ [])) made.2 g own))
+        (lines-are ss ks made.3 h.1 keys)
+
+    node_lines-are : (n : Node) (ks : List Key) → IsWellMade n → NodeSuitsInside mode n ks → KeysAreTrue ks → AllByRecursion IsPair (lines_inside mode n ks)
+    node_lines-are (inline f ss) ks made h keys = lines-are ss ks made h keys
+    node_lines-are (table f ss) ks made h keys = lines-are ss ks made h keys
+    node_lines-are (leaf s r d) ks made h keys = tt
+    node_lines-are (list f xs) ks made h keys = tt
+    node_lines-are (tables e xs) ks made h keys = tt
+    node_lines-are nothing ks made h keys = tt
+
+  -- ---- ranges
+
+  close_inline-ranges : (comma : Bool) (t : Text) (ps : Pairs) → keeps_ranges (close_inline comma t ps) ≡ pairs_keep_ranges ps
+  close_inline-ranges comma t no_pairs = refl
+  close_inline-ranges true t (pair f v ps) = refl
+  close_inline-ranges false t (pair f v ps) = after-pairs mode keeps_ranges elements_keep_ranges pairs_keep_ranges looks t (pair f v ps)
+
+  pub value-ranges : (n : Node) → IsWellMade n → keeps_ranges (value_of mode n) ≡ true
+  value-ranges =
+      value-passes mode keeps_ranges elements_keep_ranges pairs_keep_ranges looks
+      (λ s r d made. (scalar_text-spells s r made.0 made.1).1)
+      (λ f ss made pass. close_inline-ranges f.comma (shown_raw mode f.trailing) (pairs_of_lines mode (inside_lines mode ss [])) ∙ pass)
+      refl

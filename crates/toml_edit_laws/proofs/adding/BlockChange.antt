@@ -12,8 +12,9 @@ use Rattle.toml_edit_laws.proofs.mentions.GatherLaws.{all_deeper, own-deeper, fi
 use Rattle.toml_edit_laws.proofs.mentions.KeptOrder.{HaveOneHeader, under-header}
 use Rattle.toml_edit_laws.proofs.adding.TableMentions.{one_slot}
 use Rattle.toml_edit_laws.proofs.adding.TableSlots.{IsFound, slots-find, slots-change, AreAllSlots, ChangesTable, elements-change}
-use Rattle.toml_edit_laws.proofs.adding.DeeperMentions.{below, under_path, own-below, under-more, under-else, kept-more, arrays-more, fields-more}
+use Rattle.toml_edit_laws.proofs.adding.DeeperMentions.{below, own-below, under-more, under-else, kept-more, arrays-more, fields-more}
 use Rattle.toml_edit_laws.proofs.mentions.Named.{AreNamed, under-named}
+use Rattle.toml_edit_laws.specs.KeptKeys.{under_path}
 
 module _ (form : Form) where
   -- ---- the change, step by step

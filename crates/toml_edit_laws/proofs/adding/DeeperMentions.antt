@@ -21,11 +21,6 @@ abbrev pub below : {S : Type 0} → Path → List (Mention S) → List (Mention 
 below [] ns = ns
 below (s ∷ p) ns = all_deeper s (below p ns)
 
--- what is mentioned below a path, from there on
-abbrev pub under_path : {S : Type 0} → Path → List (Mention S) → List (Mention S)
-under_path [] ms = ms
-under_path (s ∷ p) ms = under_path p (under s ms)
-
 -- A key line stands below its block.
 pub line-block : {S : Type 0} (source : S) (start : ℕ) (p : Path) (segments : List Segment)
     → line_mentions source start p segments ≡ below p (line_mentions source start [] segments)

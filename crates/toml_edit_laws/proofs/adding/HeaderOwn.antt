@@ -6,19 +6,19 @@ use Rattle.std.proofs.lemmas.Bool.{or_from}
 use Rattle.std.proofs.lemmas.List.{map-append}
 use Rattle.std.proofs.lemmas.List.Elements.{filter-append}
 use Rattle.std.proofs.lemmas.List.Folds.{list_any-append}
+use Rattle.toml_edit_model.specs.Mode.{Mode}
 use Rattle.toml_edit_model.specs.Text.{is_empty}
 use Rattle.toml_edit_model.specs.Syntax.{Segment}
 use Rattle.toml_edit_model.specs.Paths.{Step, at_key, at_element, Path, same_path, Role, implied_role, array_role, Mention, Source, elements_at}
 use Rattle.toml_edit_model.specs.Normal.{is_header_role, first_of_list}
 use Rattle.toml_edit_model.specs.Tree.{Slots}
-use Rattle.toml_edit_model.specs.TreeOf.{spanned_form, under, own, roles, is_array_role, arrays, some_at, kept}
+use Rattle.toml_edit_model.specs.TreeOf.{spanned_in, under, own, roles, is_array_role, arrays, some_at, kept}
 use Rattle.toml_edit_laws.proofs.common.Tests.{append-nil, or-left, or-right, or-false, true-false}
 use Rattle.toml_edit_laws.proofs.mentions.KeptOrder.{HaveOneHeader}
 use Rattle.toml_edit_laws.proofs.adding.HeaderPaths.{paths_under}
 use Rattle.toml_edit_laws.proofs.adding.HeaderKept.{kept-after}
 use Rattle.toml_edit_laws.proofs.adding.HeaderSlots.{AreSlots, AreAllSlots}
 use Rattle.toml_edit_laws.proofs.adding.HeaderReady.{paths_from, AreArrayed, ArePassed, IsReadyAt, AreReadyPaths, AreReady}
-use Rattle.toml_edit_laws.proofs.adding.DeeperMentions.{under_path}
 use Rattle.toml_edit_laws.proofs.adding.TableSlots.{slots-kept}
 use Rattle.toml_edit_laws.proofs.common.PathLaws.{same_path-is}
 use Rattle.toml_edit_laws.proofs.mentions.SomeAt.{some_at-append, own_mention, under-own-mention}
@@ -26,6 +26,7 @@ use Rattle.toml_edit_laws.proofs.common.Each.{all-append}
 use Rattle.toml_edit_laws.proofs.mentions.RoleTests.{is_through_role}
 use Rattle.toml_edit_laws.proofs.mentions.Placed.{IsHeaded}
 use Rattle.toml_edit_laws.proofs.mentions.Named.{IsNamed}
+use Rattle.toml_edit_laws.specs.KeptKeys.{under_path}
 
 -- ---- lists of mentions
 
@@ -63,16 +64,17 @@ header-last {S} (m ∷ ms) o h none = (
         ap (λ p. same_path p o.path && true) path ∙ ap (λ b. same_path m.path o.path && b) (sym is) ∙ here in
         true-false (same_path o.path o.path && true) (ap (λ p. same_path o.path p && true) path ∙ ap (λ b. b && true) e) same
 
--- ---- the table's own mention
+module _ (mode : Mode) where
+  -- ---- the table's own mention
 
--- it gets no slot
-pub own-slots : (source : Source) (start : ℕ) (role : Role) (g : Segment) (us : List (Mention Source)) (ss : Slots) → AreAllSlots us ss
-    → AreAllSlots (us ++ (own_mention source start role g ∷ [])) ss
-own-slots source start role g us ss h =
-    let o = own_mention source start role g in
-    let same : kept (us ++ (o ∷ [])) ≡ kept us = kept-after us (o ∷ []) (λ k. refl) ∙ append-nil (kept us) in
-    subst (λ ks. AreSlots (us ++ (o ∷ [])) ks ss) (sym same)
-    (slots-kept spanned_form us (us ++ (o ∷ [])) (kept us) ss (λ l. under-own-mention source start role g us (at_key l)) h)
+  -- it gets no slot
+  pub own-slots : (source : Source) (start : ℕ) (role : Role) (g : Segment) (us : List (Mention Source)) (ss : Slots) → AreAllSlots mode us ss
+      → AreAllSlots mode (us ++ (own_mention source start role g ∷ [])) ss
+  own-slots source start role g us ss h =
+      let o = own_mention source start role g in
+      let same : kept (us ++ (o ∷ [])) ≡ kept us = kept-after us (o ∷ []) (λ k. refl) ∙ append-nil (kept us) in
+      subst (λ ks. AreSlots mode (us ++ (o ∷ [])) ks ss) (sym same)
+      (slots-kept (spanned_in mode) us (us ++ (o ∷ [])) (kept us) ss (λ l. under-own-mention source start role g us (at_key l)) h)
 
 -- The conditions hold with it, where it has one element more if it is of a header in double brackets.
 pub paths-own : (source : Source) (start : ℕ) (role : Role) (g : Segment) (paths after : List Path) (us : List (Mention Source))

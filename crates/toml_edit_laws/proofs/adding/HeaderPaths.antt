@@ -2,6 +2,7 @@
 use Rattle.std.proofs.Common.{◌≡◌, refl, sym, ◌∙◌, ap, ℕ, zero, suc, Bool, List, [], ◌∷◌, ◌++◌, inl, inr, Option}
 use Rattle.std.specs.Prelude.{if◌then◌else◌}
 use Rattle.std.proofs.lemmas.Bool.{cases_Bool}
+use Rattle.toml_edit_model.specs.Mode.{Mode}
 use Rattle.toml_edit_model.specs.Syntax.{Segment}
 use Rattle.toml_edit_model.specs.Paths.{Step, at_key, at_element, Path, same_step, same_path, to_key, Role, Mention, Source, mention_of, next_start, elements_at, in_last, passing_role, header_mentions, header_path}
 use Rattle.toml_edit_model.specs.Tree.{Slots}
@@ -101,9 +102,10 @@ own-header {S} source paths role start (g ∷ h ∷ rest) = by_count (elements_a
 same_functions : {A B : Type 0} (f g : A → B) → ((x : A) → f x ≡ g x) → f ≡ g
 same_functions f g h = λ i. λ x. h x i
 
-pub add-deeper : (is_array : Bool) (s : Step) (ms : List (Mention Source)) → add_header is_array (all_deeper s ms) ≡ add_header is_array ms
-add-deeper is_array s [] = refl
-add-deeper is_array s (m ∷ []) = refl
-add-deeper is_array s (m ∷ r ∷ rest) =
-    same_functions (add_header is_array (all_deeper s (m ∷ r ∷ rest))) (add_header is_array (m ∷ r ∷ rest))
-    (λ ss. ap (λ (change : Slots → Option Slots). pass_below m change ss (node_at m.segment.key ss)) (add-deeper is_array s (r ∷ rest)))
+module _ (mode : Mode) where
+  pub add-deeper : (is_array : Bool) (s : Step) (ms : List (Mention Source)) → add_header mode is_array (all_deeper s ms) ≡ add_header mode is_array ms
+  add-deeper is_array s [] = refl
+  add-deeper is_array s (m ∷ []) = refl
+  add-deeper is_array s (m ∷ r ∷ rest) =
+      same_functions (add_header mode is_array (all_deeper s (m ∷ r ∷ rest))) (add_header mode is_array (m ∷ r ∷ rest))
+      (λ ss. ap (λ (change : Slots → Option Slots). pass_below mode m change ss (node_at m.segment.key ss)) (add-deeper is_array s (r ∷ rest)))

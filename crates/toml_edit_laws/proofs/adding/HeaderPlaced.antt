@@ -1,23 +1,24 @@
 -- A header may come after statements each of which agrees with those before it, and its table is added to the slots of theirs.
 use Rattle.std.proofs.Common.{◌≡◌, refl, ◌+◌, true, List, [], ◌∷◌, ◌++◌, Some}
+use Rattle.toml_edit_model.specs.Mode.{Mode}
 use Rattle.toml_edit_model.specs.Text.{Text}
 use Rattle.toml_edit_model.specs.Syntax.{Statement, key_line, header, Header, Document}
 use Rattle.toml_edit_model.specs.Paths.{Path, may_meet, Mention, Source, Context, line_mentions, header_mentions, header_role_of, path_start, start_context, source_of, mentions_of, context_after}
 use Rattle.toml_edit_model.specs.Accepted.{agree}
 use Rattle.toml_edit_model.specs.Tree.{Node, Slots}
-use Rattle.toml_edit_model.specs.TreeOf.{spanned_form, kept, AreSlotsOf}
+use Rattle.toml_edit_model.specs.TreeOf.{spanned_in, kept, AreSlotsOf}
 use Rattle.toml_edit_laws.specs.TableTree.{add_statement}
 use Rattle.toml_edit_laws.proofs.adding.HeaderReady.{paths_from, IsReadyAt, AreReady}
 use Rattle.toml_edit_laws.proofs.adding.HeaderAdded.{header_added}
 use Rattle.toml_edit_laws.proofs.adding.HeaderSteps.{IsOpen, open-more, line-keeps}
 use Rattle.toml_edit_laws.proofs.adding.HeaderKeeps.{header-keeps}
-use Rattle.toml_edit_laws.proofs.adding.DeeperMentions.{under_path}
 use Rattle.toml_edit_laws.proofs.adding.StatementMentions.{header-join}
 use Rattle.toml_edit_laws.proofs.clashes.ClashContext.{HasKey}
 use Rattle.toml_edit_laws.proofs.mentions.Placed.{IsHeaded, headed-line, headed-header}
 use Rattle.toml_edit_laws.proofs.mentions.OneHeaderLaws.{line-header, header-header}
 use Rattle.toml_edit_laws.proofs.common.Each.{all-append}
 use Rattle.toml_edit_laws.proofs.mentions.Named.{IsNamed, line-named, header-named}
+use Rattle.toml_edit_laws.specs.KeptKeys.{under_path}
 
 -- ---- statement after statement
 
@@ -66,9 +67,10 @@ ready_next c (header h end) ms keyed r e =
       block = keeps.1;
     }
 
--- A header that can be added to the slots of the statements before it gives the slots of all.
-pub header_placed : (c : Context) (h : Header) (end : Text) (n : Node) (ms : List (Mention Source)) (ss next : Slots) → IsReadyIn c ms
-    → AreSlotsOf spanned_form ms (kept ms) ss → add_statement c (header h end) n ss ≡ Some next
-    → AreSlotsOf spanned_form (ms ++ mentions_of c (header h end)) (kept (ms ++ mentions_of c (header h end))) next
-header_placed c h end n ms ss next ready slots e =
-    header_added h (source_of c (header h end)) c.arrays (c.start + path_start (header h end)) ms ss next ready.ready slots e
+module _ (mode : Mode) where
+  -- A header that can be added to the slots of the statements before it gives the slots of all.
+  pub header_placed : (c : Context) (h : Header) (end : Text) (n : Node) (ms : List (Mention Source)) (ss next : Slots) → IsReadyIn c ms
+      → AreSlotsOf (spanned_in mode) ms (kept ms) ss → add_statement mode c (header h end) n ss ≡ Some next
+      → AreSlotsOf (spanned_in mode) (ms ++ mentions_of c (header h end)) (kept (ms ++ mentions_of c (header h end))) next
+  header_placed c h end n ms ss next ready slots e =
+      header_added mode h (source_of c (header h end)) c.arrays (c.start + path_start (header h end)) ms ss next ready.ready slots e

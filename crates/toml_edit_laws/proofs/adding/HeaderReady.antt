@@ -2,21 +2,23 @@
 use Rattle.std.proofs.Common.{◌≡◌, ◌≤◌, refl, sym, ◌∙◌, ap, subst, ℕ, Bool, true, false, List, [], ◌∷◌, ◌++◌, length, inl, inr, Option, Some, None}
 use Rattle.std.specs.Prelude.{◌⊎◌, ◌&&◌, ◌||◌, if◌then◌else◌, filter, map, find, is_some, option_map}
 use Rattle.std.specs.List.{AllByRecursion, list_any}
+use Rattle.toml_edit_model.specs.Mode.{Mode}
 use Rattle.toml_edit_model.specs.Text.{Text, is_empty}
 use Rattle.toml_edit_model.specs.Paths.{Step, at_key, at_element, Path, same_step, same_path, Role, array_role, Mention, Source, elements_at}
-use Rattle.toml_edit_model.specs.Normal.{is_header_role, first_of_list, option_or}
-use Rattle.toml_edit_model.specs.TreeOf.{spanned_form, inside, under, own, roles, is_array_role, arrays, some_at, any_role, kept, IsTableRole}
+use Rattle.toml_edit_model.specs.Normal.{is_header_role, first_of_list}
+use Rattle.toml_edit_model.specs.TreeOf.{spanned_in, inside, under, own, roles, is_array_role, arrays, some_at, any_role, kept, IsTableRole}
 use Rattle.toml_edit_laws.proofs.common.Tests.{and_right, true-false}
 use Rattle.toml_edit_laws.proofs.mentions.GatherLaws.{some_at-first, first_of_key, first_at}
 use Rattle.toml_edit_laws.proofs.mentions.KeptOrder.{HaveOneHeader, under-header}
 use Rattle.toml_edit_laws.proofs.adding.HeaderPaths.{paths_under, elements-under}
 use Rattle.toml_edit_laws.proofs.adding.HeaderKept.{is_head_at, head_at, leader_at}
-use Rattle.toml_edit_laws.proofs.adding.DeeperMentions.{under_path}
 use Rattle.toml_edit_laws.proofs.mentions.Placed.{IsHeaded}
 use Rattle.toml_edit_laws.proofs.mentions.SomeAt.{some_at-under}
 use Rattle.toml_edit_laws.proofs.mentions.RoleTests.{is_through_role}
 use Rattle.toml_edit_laws.proofs.mentions.Named.{AreNamed, under-named}
 use Rattle.toml_edit_laws.proofs.clashes.ClashKept.{some_at-such, kept-lead}
+use Rattle.toml_edit_laws.specs.KeptKeys.{under_path}
+use Rattle.std.specs.Option.{option_or}
 
 -- ---- the conditions
 
@@ -210,24 +212,25 @@ key-leader k ms j n s h = by_head (head_at p ms) refl (sym (kept-lead k ms n) �
     by_head None e f =
         ((all-find IsHeaded (λ m. same_path m.path p) ms j s f).0, inr (heads ∙ ap is_some e, sym (first-role (at_key k) ms) ∙ ap (option_map (λ (m : Mention Source). m.role)) f))
 
--- at a table's key stands no array
-pub table-unnumbered : (paths : List Path) (k : Text) (ms : List (Mention Source)) (j : Mention Source) → AreReady paths ms → first_of_key k (kept ms) ≡ Some j
-    → IsTableRole spanned_form j.role → arrays (under (at_key k) ms) ≡ []
-table-unnumbered paths k ms j h old is_table = by_array (list_any is_array_role (roles us)) refl
-  where
-    us : List (Mention Source)
-    us = under (at_key k) ms
+module _ (mode : Mode) where
+  -- at a table's key stands no array
+  pub table-unnumbered : (paths : List Path) (k : Text) (ms : List (Mention Source)) (j : Mention Source) → AreReady paths ms → first_of_key k (kept ms) ≡ Some j
+      → IsTableRole (spanned_in mode) j.role → arrays (under (at_key k) ms) ≡ []
+  table-unnumbered paths k ms j h old is_table = by_array (list_any is_array_role (roles us)) refl
+    where
+      us : List (Mention Source)
+      us = under (at_key k) ms
 
-    by_array : (b : Bool) → list_any is_array_role (roles us) ≡ b → arrays us ≡ []
-    by_array false e = no-arrays (own us) e
-    by_array true e =
-        let first = (h.at (at_key k ∷ [])).arrayed e in
-        elim (key-leader k ms j h.named h.sourced old).1 [
-          | inl l ↦ true-false (list_any is_header_role (roles us)) l.1 first.1
-          | inr l ↦
-              let role : j.role ≡ array_role = cc in
-              absurd (subst (IsTableRole spanned_form) role is_table)
-        ]
+      by_array : (b : Bool) → list_any is_array_role (roles us) ≡ b → arrays us ≡ []
+      by_array false e = no-arrays (own us) e
+      by_array true e =
+          let first = (h.at (at_key k ∷ [])).arrayed e in
+          elim (key-leader k ms j h.named h.sourced old).1 [
+            | inl l ↦ true-false (list_any is_header_role (roles us)) l.1 first.1
+            | inr l ↦
+                let role : j.role ≡ array_role = cc in
+                absurd (subst (IsTableRole (spanned_in mode)) role is_table)
+          ]
 
 -- at an array's key stands one
 pub array-numbered : (k : Text) (ms : List (Mention Source)) (j : Mention Source) → AreNamed ms → AllByRecursion IsHeaded ms → first_of_key k (kept ms) ≡ Some j

@@ -18,12 +18,12 @@ use Rattle.toml_edit_laws.proofs.inline_tables.InlineBuild.{path_of, under-all}
 use Rattle.toml_edit_laws.proofs.adding.HeaderPaths.{paths_under}
 use Rattle.toml_edit_laws.proofs.adding.HeaderReady.{paths_from, AreArrayed, ArePassed, IsReadyAt, AreReadyPaths}
 use Rattle.toml_edit_laws.proofs.adding.HeaderOwn.{arrays-append, paths-own, arrayed-passed, passed-more, count-passed}
-use Rattle.toml_edit_laws.proofs.adding.DeeperMentions.{under_path}
 use Rattle.toml_edit_laws.proofs.common.PathLaws.{same_step-is}
 use Rattle.toml_edit_laws.proofs.mentions.SomeAt.{under-append, own_mention}
 use Rattle.toml_edit_laws.proofs.common.Agreement.{agree-append}
 use Rattle.toml_edit_laws.proofs.common.OptionSteps.{is_none-map, is_none}
 use Rattle.toml_edit_laws.proofs.common.Lists.{left-empty, right-empty}
+use Rattle.toml_edit_laws.specs.KeptKeys.{under_path}
 
 -- ---- steps that are there
 

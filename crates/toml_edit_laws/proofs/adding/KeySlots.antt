@@ -2,11 +2,12 @@
 use Rattle.std.proofs.Common.{◌≡◌, refl, sym, ◌∙◌, ap, subst, ℕ, true, false, List, [], ◌∷◌, ◌++◌, append_assoc, Option, Some, None, inl, inr}
 use Rattle.std.specs.Prelude.{◌&&◌, ◌||◌, not, if◌then◌else◌, is_some}
 use Rattle.std.proofs.Math.Bool.{and-false}
+use Rattle.toml_edit_model.specs.Mode.{Mode}
 use Rattle.toml_edit_model.specs.Syntax.{Segment}
 use Rattle.toml_edit_model.specs.Paths.{at_key, same_path, to_key, Role, Mention, Source, mention_of}
 use Rattle.toml_edit_model.specs.Normal.{is_header_role}
 use Rattle.toml_edit_model.specs.Tree.{Node, Slots}
-use Rattle.toml_edit_model.specs.TreeOf.{spanned_form, under, own, some_at, any_role, kept, key_at, AreSlotsOf}
+use Rattle.toml_edit_model.specs.TreeOf.{spanned_in, under, own, some_at, any_role, kept, key_at, AreSlotsOf}
 use Rattle.toml_edit_laws.specs.FlatTree.{with_slot}
 use Rattle.toml_edit_laws.specs.InlineTree.{with_node}
 use Rattle.toml_edit_laws.proofs.common.Tests.{append-nil, or-false, true-false}
@@ -77,43 +78,44 @@ of_own source start role g ms plain are =
       | inr e ↦ elim e [ ]
     ])
 
-abbrev pub AreSlots : List (Mention Source) → Slots → Type 0
-AreSlots ms ss = AreAllSlots spanned_form ms ss
+module _ (mode : Mode) where
+  abbrev pub AreSlots : List (Mention Source) → Slots → Type 0
+  AreSlots ms ss = AreAllSlots (spanned_in mode) ms ss
 
--- how the rest of a path is added, to any slots of mentions
-abbrev pub GoesOn : (Slots → Option Slots) → List (Mention Source) → Type 0
-GoesOn add below = (xs : List (Mention Source)) (ss next : Slots) → AreOfTable xs → AreSlots xs ss → add ss ≡ Some next → AreSlots (xs ++ below) next
+  -- how the rest of a path is added, to any slots of mentions
+  abbrev pub GoesOn : (Slots → Option Slots) → List (Mention Source) → Type 0
+  GoesOn add below = (xs : List (Mention Source)) (ss next : Slots) → AreOfTable xs → AreSlots xs ss → add ss ≡ Some next → AreSlots (xs ++ below) next
 
--- its slots, once what is further on is added to those of what was before
-pub slots-through : (source : Source) (start : ℕ) (role : Role) (g : Segment) (below ms : List (Mention Source)) (add : Slots → Option Slots) (inner next : Slots)
-    → is_header_role role ≡ false → AreOfTable ms → AreSlots (under (at_key g.key) ms) inner → GoesOn add below → add inner ≡ Some next
-    → AreSlots (under (at_key g.key) (ms ++ path_of source start role g below)) next
-slots-through source start role g below ms add inner next plain are slots on e =
-    let here = under (at_key g.key) ms in
-    let xs = here ++ (own_mention source start role g ∷ []) in
-    subst (λ us. AreSlots us next) (under-all source start role g below ms)
-    (on xs inner next (of_own source start role g ms plain are)
-    (subst (λ ks. AreSlotsOf spanned_form xs ks inner) (sym (kept-own source start role g here plain))
-    (slots-kept spanned_form here xs (kept here) inner (λ l. under-own-mention source start role g here (at_key l)) slots))
-    e)
+  -- its slots, once what is further on is added to those of what was before
+  pub slots-through : (source : Source) (start : ℕ) (role : Role) (g : Segment) (below ms : List (Mention Source)) (add : Slots → Option Slots) (inner next : Slots)
+      → is_header_role role ≡ false → AreOfTable ms → AreSlots (under (at_key g.key) ms) inner → GoesOn add below → add inner ≡ Some next
+      → AreSlots (under (at_key g.key) (ms ++ path_of source start role g below)) next
+  slots-through source start role g below ms add inner next plain are slots on e =
+      let here = under (at_key g.key) ms in
+      let xs = here ++ (own_mention source start role g ∷ []) in
+      subst (λ us. AreSlots us next) (under-all source start role g below ms)
+      (on xs inner next (of_own source start role g ms plain are)
+      (subst (λ ks. AreSlotsOf (spanned_in mode) xs ks inner) (sym (kept-own source start role g here plain))
+      (slots-kept (spanned_in mode) here xs (kept here) inner (λ l. under-own-mention source start role g here (at_key l)) slots))
+      e)
 
--- a new slot goes last
-pub new-slot : (source : Source) (start : ℕ) (role : Role) (g : Segment) (below ms : List (Mention Source)) (n : Node) (ss : Slots)
-    → is_header_role role ≡ false → AreOfTable ms → own below ≡ [] → first_of_key g.key (kept ms) ≡ None → AreSlots ms ss
-    → IsSlotNode spanned_form (ms ++ path_of source start role g below) (mention_of source start (to_key [] g.key) role g) n
-    → AreSlots (ms ++ path_of source start role g below) (with_slot ss (key_at spanned_form (mention_of source start (to_key [] g.key) role g)) n)
-new-slot source start role g below ms n ss plain are none new slots node =
-    let m = mention_of source start (to_key [] g.key) role g in
-    let all = ms ++ path_of source start role g below in
-    subst (λ ks. AreSlotsOf spanned_form all ks (with_slot ss (key_at spanned_form m) n)) (sym (kept-new source start role g below ms are.named plain none new))
-    (slots-add spanned_form all (kept ms) m n ss (slots-same spanned_form ms all (kept ms) g.key ss (under-others source start role g below ms) new slots) node)
+  -- a new slot goes last
+  pub new-slot : (source : Source) (start : ℕ) (role : Role) (g : Segment) (below ms : List (Mention Source)) (n : Node) (ss : Slots)
+      → is_header_role role ≡ false → AreOfTable ms → own below ≡ [] → first_of_key g.key (kept ms) ≡ None → AreSlots ms ss
+      → IsSlotNode (spanned_in mode) (ms ++ path_of source start role g below) (mention_of source start (to_key [] g.key) role g) n
+      → AreSlots (ms ++ path_of source start role g below) (with_slot ss (key_at (spanned_in mode) (mention_of source start (to_key [] g.key) role g)) n)
+  new-slot source start role g below ms n ss plain are none new slots node =
+      let m = mention_of source start (to_key [] g.key) role g in
+      let all = ms ++ path_of source start role g below in
+      subst (λ ks. AreSlotsOf (spanned_in mode) all ks (with_slot ss (key_at (spanned_in mode) m) n)) (sym (kept-new source start role g below ms are.named plain none new))
+      (slots-add (spanned_in mode) all (kept ms) m n ss (slots-same (spanned_in mode) ms all (kept ms) g.key ss (under-others source start role g below ms) new slots) node)
 
--- a slot that is there gets another item
-pub old-slot : (source : Source) (start : ℕ) (role : Role) (g : Segment) (below ms : List (Mention Source)) (j : Mention Source) (n : Node) (ss : Slots)
-    → is_header_role role ≡ false → AreOfTable ms → own below ≡ [] → first_of_key g.key (kept ms) ≡ Some j → AreSlots ms ss
-    → IsSlotNode spanned_form (ms ++ path_of source start role g below) j n
-    → AreSlots (ms ++ path_of source start role g below) (with_node g.key n ss)
-old-slot source start role g below ms j n ss plain are none old slots node =
-    let all = ms ++ path_of source start role g below in
-    subst (λ ks. AreSlotsOf spanned_form all ks (with_node g.key n ss)) (sym (kept-old source start role g below ms j are.named plain none old))
-    (slots-change spanned_form ms all (kept ms) g.key j n ss (under-others source start role g below ms) (one_slot ms are.named are.one_header) old node slots)
+  -- a slot that is there gets another item
+  pub old-slot : (source : Source) (start : ℕ) (role : Role) (g : Segment) (below ms : List (Mention Source)) (j : Mention Source) (n : Node) (ss : Slots)
+      → is_header_role role ≡ false → AreOfTable ms → own below ≡ [] → first_of_key g.key (kept ms) ≡ Some j → AreSlots ms ss
+      → IsSlotNode (spanned_in mode) (ms ++ path_of source start role g below) j n
+      → AreSlots (ms ++ path_of source start role g below) (with_node g.key n ss)
+  old-slot source start role g below ms j n ss plain are none old slots node =
+      let all = ms ++ path_of source start role g below in
+      subst (λ ks. AreSlotsOf (spanned_in mode) all ks (with_node g.key n ss)) (sym (kept-old source start role g below ms j are.named plain none old))
+      (slots-change (spanned_in mode) ms all (kept ms) g.key j n ss (under-others source start role g below ms) (one_slot ms are.named are.one_header) old node slots)

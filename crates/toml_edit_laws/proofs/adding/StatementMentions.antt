@@ -8,8 +8,9 @@ use Rattle.toml_edit_model.specs.Text.{one}
 use Rattle.toml_edit_model.specs.Syntax.{Segment, Statement, key_line, header, Document}
 use Rattle.toml_edit_model.specs.Paths.{at_key, at_element, Path, same_path, to_key, to_element, Role, header_role, may_meet, Mention, next_start, line_mentions, elements_at, in_last, header_mentions, header_path, header_role_of, path_start, Source, Placed, Context, source_of, mentions_of, context_after, placed_from, start_context, all_mentions}
 use Rattle.toml_edit_model.specs.Normal.{is_header_role}
-use Rattle.toml_edit_model.specs.Accepted.{agree, is_right_after, all_right_after, is_accepted}
+use Rattle.toml_edit_model.specs.Accepted.{agree, is_accepted}
 use Rattle.toml_edit_model.specs.TreeOf.{under, some_at, any_role}
+use Rattle.toml_edit_laws.specs.OneByOne.{is_right_after, all_right_after}
 use Rattle.toml_edit_laws.proofs.common.Tests.{append-nil, and_left, and_right, or-true}
 use Rattle.toml_edit_laws.proofs.inline_tables.AgreeLaws.{agree-apart}
 use Rattle.toml_edit_laws.proofs.common.Members.{Among, among-right, among-cases}
@@ -22,6 +23,7 @@ use Rattle.toml_edit_laws.proofs.mentions.SomeAt.{some_at-append, some_at-under}
 use Rattle.toml_edit_laws.proofs.mentions.OneHeaderLaws.{statement-header}
 use Rattle.toml_edit_laws.proofs.common.Each.{all-append}
 use Rattle.toml_edit_laws.proofs.mentions.Named.{EndsIn}
+use Rattle.toml_edit_laws.proofs.one_by_one.Together.{accepted-right}
 
 -- ---- paths that are reached
 
@@ -213,5 +215,4 @@ of_places c (s ∷ ss) earlier are h =
 
 -- What holds of the mentions that a table sees holds of those of an accepted document.
 pub document_table : (d : Document) → is_accepted d ≡ true → AreOfTable (all_mentions d)
-unfolding is_accepted
-document_table d h = of_places (start_context d) d.statements [] (table_start d) h
+document_table d h = of_places (start_context d) d.statements [] (table_start d) (accepted-right d h)

@@ -1,13 +1,14 @@
 -- Statements that are right one after another, and the first that is not.
-use Rattle.std.proofs.Common.{◌≡◌, refl, sym, ◌∙◌, ap, subst, ℕ, zero, suc, ◌+◌, Bool, true, false, List, [], ◌∷◌, ◌++◌, append_assoc, length, Some, None}
+use Rattle.std.proofs.Common.{◌≡◌, refl, sym, ◌∙◌, ap, subst, ℕ, zero, suc, ◌+◌, Bool, true, false, List, [], ◌∷◌, ◌++◌, append_assoc, length, None}
 use Rattle.std.specs.Prelude.{◌&&◌, nat_le, map, if◌then◌else◌}
 use Rattle.std.specs.List.{AllByRecursion, list_all}
 use Rattle.std.proofs.lemmas.Grind.{flat_map-append}
 use Rattle.toml_edit_model.specs.Text.{Text, one, is_empty}
 use Rattle.toml_edit_model.specs.Syntax.{Segment, Header, Statement, key_line, header, Document, path_text, depth, most, is_short, has_short_keys, keeps_ranges}
 use Rattle.toml_edit_model.specs.Paths.{at_key, at_element, Path, to_key, to_element, may_meet, Placed, Context, elements_at, in_last, header_path, block_of, mentions_of, start_context, context_after, placed_from}
-use Rattle.toml_edit_model.specs.Accepted.{agree, has_agreeing_pairs, is_sound, is_right_after, all_right_after, first_faulty_after, first_faulty}
+use Rattle.toml_edit_model.specs.Accepted.{agree, has_agreeing_pairs, is_sound, IsFirstFaulty}
 use Rattle.toml_edit_model.specs.Faults.{Fault, recursion_limit, long_path, value_faults, own_faults}
+use Rattle.toml_edit_laws.specs.OneByOne.{is_right_after, all_right_after}
 use Rattle.toml_edit_laws.specs.Building.{keys_in, context_from, context_behind, done_places, next_place}
 use Rattle.toml_edit_laws.proofs.common.Tests.{and_left, and_right, append-nil}
 use Rattle.toml_edit_laws.proofs.values.ValueFaults.{is_right_value-faults}
@@ -17,6 +18,9 @@ use Rattle.toml_edit_laws.proofs.clashes.ClashFirst.{placed-append}
 use Rattle.toml_edit_laws.proofs.building.Conditions.{AreDone, done_first, done_next}
 use Rattle.toml_edit_laws.proofs.mentions.Placed.{mentions_in, placed_at}
 use Rattle.toml_edit_laws.proofs.common.Lists.{left-empty, right-empty}
+use Rattle.toml_edit_laws.proofs.one_by_one.Together.{right-together}
+use Rattle.toml_edit_laws.proofs.one_by_one.FirstFaulty.{wrong_there}
+use Rattle.toml_edit_model.specs.Version.{v1_1}
 
 -- ---- the conditions, after statements
 
@@ -59,26 +63,17 @@ mentions-more d done s =
 
 -- ---- the first faulty one
 
-first-pass : (earlier done rest : List Placed) → all_right_after earlier done ≡ true
-    → first_faulty_after earlier (done ++ rest) ≡ first_faulty_after (earlier ++ done) rest
-first-pass earlier [] rest h = ap (λ es. first_faulty_after es rest) (sym (append-nil earlier))
-first-pass earlier (s ∷ done) rest h =
-    let later = all_right_after (earlier ++ (s ∷ [])) done in
-    ap (λ b. if b then first_faulty_after (earlier ++ (s ∷ [])) (done ++ rest) else Some s) (and_left (is_right_after earlier s) later h)
-    ∙ first-pass (earlier ++ (s ∷ [])) done rest (and_right (is_right_after earlier s) later h)
-    ∙ ap (λ es. first_faulty_after es rest) (append_assoc earlier (s ∷ []) done)
-
 -- A statement that isn't right after right ones is the first faulty one.
 pub first_wrong : (d : Document) (done : List Statement) (s : Statement) (rest : List Statement) → d.statements ≡ done ++ (s ∷ rest)
     → all_right_after [] (done_places d done) ≡ true → is_right_after (done_places d done) (next_place d done s) ≡ false
-    → first_faulty d ≡ Some (next_place d done s)
-unfolding first_faulty
+    → IsFirstFaulty d (done_places d done) (next_place d done s)
 first_wrong d done s rest is right wrong =
-    let here = next_place d done s in
-    let later = placed_from (context_after (context_behind d done) s) rest in
-    ap (first_faulty_after []) (ap (placed_from (start_context d)) is ∙ placed-append (start_context d) done (s ∷ rest))
-    ∙ first-pass [] (done_places d done) (here ∷ later) right
-    ∙ ap (λ b. if b then first_faulty_after (done_places d done ++ (here ∷ [])) later else Some here) wrong
+    record {
+      later = placed_from (context_after (context_behind d done) s) rest;
+      split = ap (placed_from (start_context d)) is ∙ placed-append (start_context d) done (s ∷ rest);
+      right = right-together v1_1 (done_places d done) ∙ right;
+      faulty = wrong_there v1_1 (done_places d done) (next_place d done s) wrong;
+    }
 
 -- ---- a statement without faults of its own
 

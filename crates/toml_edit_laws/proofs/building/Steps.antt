@@ -1,6 +1,7 @@
 -- A builder behind right statements adds the next as the slots of all mentions ask, and clashes where they do.
 use Rattle.std.proofs.Common.{◌≡◌, refl, sym, ◌∙◌, ap, ℕ, suc, ◌+◌, List, [], length, Option, Some, None}
 use Rattle.std.specs.Prelude.{option_map, option_and_then}
+use Rattle.toml_edit_model.specs.Mode.{Mode}
 use Rattle.toml_edit_model.specs.Text.{Text}
 use Rattle.toml_edit_model.specs.Syntax.{Statement, key_line, header, statement_text}
 use Rattle.toml_edit_model.specs.Paths.{Mention, Source, Context, header_role_of, source_of, mentions_of, path_start, context_after}
@@ -46,54 +47,55 @@ in-next c (key_line f v end) b next h = record { start = ap (λ n. n + length (s
 in-next c (header hd end) b next h =
     record { start = ap (λ n. n + length (statement_text (header hd end))) h.start; headers = ap suc h.headers; block = sym (keys-block c hd) }
 
--- the item is of the statement's value
-pub node-in : (c : Context) (s : Statement) (n : Node) → IsStatementNode c.start s n → IsNodeOfStatement c s n
-node-in c (key_line f v end) n h = h
-node-in c (header hd end) n h = tt
-
--- ---- what it adds
-
 -- two changes of the slots of a block's table that agree there
 along-same : (ks : List Text) (one other : Slots → Option Slots) (ss inner : Slots) → slots_along ks ss ≡ Some inner → one inner ≡ other inner
     → change_along ks one ss ≡ change_along ks other ss
 along-same ks one other ss inner found e =
     along_lens ks one ss inner found ∙ ap (option_map (λ (new : Slots). put_along ks new ss)) e ∙ sym (along_lens ks other ss inner found)
 
--- It adds the statement to the slots.
-pub added_is : (c : Context) (s : Statement) (ms : List (Mention Source)) (n : Node) (ss : Slots) → AreDone c ms → AreAllSlots ms ss
-    → added (builder_in c ss) s n ≡ add_statement c s n ss
-added_is c (key_line f v end) ms n ss are h =
-    let block = block_found c.block ms ss are.clash.statements h are.block in
-    let own = add_line (own_mentions c (key_line f v end)) n in
-    let here = add_line (mentions_at (builder_in c ss) (key_line f v end)) n in
-    let source = source_of c (key_line f v end) in
-    let same : here block.inner ≡ own block.inner =
-    sym (line_alike c.number source.path c.start c.headers f v end (c.start + path_start (key_line f v end)) [] [] f.path n block.inner) in
-    along-same (keys_in c.block) here own ss block.inner block.found same ∙ sym (block.goes own)
-added_is c (header hd end) ms n ss are h =
-    let source = source_of c (header hd end) in
-    sym (header_alike hd.is_array c.number source.path c.start (suc c.headers) hd end (header_role_of hd) c.arrays (c.start + path_start (header hd end)) [] [] hd.path ss)
+module _ (mode : Mode) where
+  -- the item is of the statement's value
+  pub node-in : (c : Context) (s : Statement) (n : Node) → IsStatementNode mode c.start s n → IsNodeOfStatement mode c s n
+  node-in c (key_line f v end) n h = h
+  node-in c (header hd end) n h = tt
 
--- What stands in its way has the same fault.
-pub clash_is : (c : Context) (s : Statement) (ms : List (Mention Source)) (ss : Slots) → AreDone c ms → AreAllSlots ms ss
-    → table_way_faults (clash_at (builder_in c ss) s) ≡ table_way_faults (statement_clash c s ss)
-clash_is c (key_line f v end) ms ss are h =
-    let block = block_found c.block ms ss are.clash.statements h are.block in
-    let own = line_clash (own_mentions c (key_line f v end)) in
-    let here = line_clash (mentions_at (builder_in c ss) (key_line f v end)) in
-    let source = source_of c (key_line f v end) in
-    ap (λ o. table_way_faults (option_and_then here o)) block.found
-    ∙ sym (line_fault_alike c.number source.path c.start c.headers f v end (c.start + path_start (key_line f v end)) [] [] f.path block.inner)
-    ∙ sym (ap (λ o. table_way_faults (option_and_then own o)) block.found)
-clash_is c (header hd end) ms ss are h =
-    let source = source_of c (header hd end) in
-    let start = c.start + path_start (header hd end) in
-    let here = header_clash hd.is_array (mentions_at (builder_in c ss) (header hd end)) ss in
-    let own = header_clash hd.is_array (own_mentions c (header hd end)) ss in
-    sym
-    (like_fault ms (mentions_of c (header hd end)) own here
-    (header_clashes hd.is_array source c.arrays start hd.path ms ss are.clash.statements are.clash.counted h)
-    (header_clash_alike hd.is_array c.number source.path c.start (suc c.headers) hd end (header_role_of hd) c.arrays start [] [] hd.path ss))
+  -- ---- what it adds
+
+  -- It adds the statement to the slots.
+  pub added_is : (c : Context) (s : Statement) (ms : List (Mention Source)) (n : Node) (ss : Slots) → AreDone c ms → AreAllSlots mode ms ss
+      → added mode (builder_in c ss) s n ≡ add_statement mode c s n ss
+  added_is c (key_line f v end) ms n ss are h =
+      let block = block_found mode c.block ms ss are.clash.statements h are.block in
+      let own = add_line mode (own_mentions c (key_line f v end)) n in
+      let here = add_line mode (mentions_at (builder_in c ss) (key_line f v end)) n in
+      let source = source_of c (key_line f v end) in
+      let same : here block.inner ≡ own block.inner =
+      sym (line_alike mode source.path c.start c.headers f v end (c.start + path_start (key_line f v end)) [] [] f.path n block.inner) in
+      along-same (keys_in c.block) here own ss block.inner block.found same ∙ sym (block.goes own)
+  added_is c (header hd end) ms n ss are h =
+      let source = source_of c (header hd end) in
+      sym (header_alike mode hd.is_array source.path c.start (suc c.headers) hd end (header_role_of hd) c.arrays (c.start + path_start (header hd end)) [] [] hd.path ss)
+
+  -- What stands in its way has the same fault.
+  pub clash_is : (c : Context) (s : Statement) (ms : List (Mention Source)) (ss : Slots) → AreDone c ms → AreAllSlots mode ms ss
+      → table_way_faults (clash_at (builder_in c ss) s) ≡ table_way_faults (statement_clash c s ss)
+  clash_is c (key_line f v end) ms ss are h =
+      let block = block_found mode c.block ms ss are.clash.statements h are.block in
+      let own = line_clash (own_mentions c (key_line f v end)) in
+      let here = line_clash (mentions_at (builder_in c ss) (key_line f v end)) in
+      let source = source_of c (key_line f v end) in
+      ap (λ o. table_way_faults (option_and_then here o)) block.found
+      ∙ sym (line_fault_alike mode source.path c.start c.headers f v end (c.start + path_start (key_line f v end)) [] [] f.path block.inner)
+      ∙ sym (ap (λ o. table_way_faults (option_and_then own o)) block.found)
+  clash_is c (header hd end) ms ss are h =
+      let source = source_of c (header hd end) in
+      let start = c.start + path_start (header hd end) in
+      let here = header_clash hd.is_array (mentions_at (builder_in c ss) (header hd end)) ss in
+      let own = header_clash hd.is_array (own_mentions c (header hd end)) ss in
+      sym
+      (like_fault mode ms (mentions_of c (header hd end)) own here
+      (header_clashes mode hd.is_array source c.arrays start hd.path ms ss are.clash.statements are.clash.counted h)
+      (header_clash_alike mode hd.is_array source.path c.start (suc c.headers) hd end (header_role_of hd) c.arrays start [] [] hd.path ss))
 
 -- faults tell whether there is a clash
 pub none-by-faults : (o c : Option (Mention Source × Node)) → table_way_faults o ≡ table_way_faults c → is_none o ≡ is_none c

@@ -10,9 +10,10 @@ use Rattle.toml_edit_model.specs.Text.{Text, is_empty}
 use Rattle.toml_edit_model.specs.Trivia.{IsNewline}
 use Rattle.toml_edit_model.specs.Syntax.{Statement, key_line, header, Document, IsStatement, AreStatements}
 use Rattle.toml_edit_model.specs.Paths.{at_key, Path, same_path, to_key, to_element, Role, dotted_role, implied_role, header_role, array_role, value_role, through_role, may_meet, Mention, Source, Placed, Context, elements_at, header_path, line_mentions, header_mentions, header_role_of, path_start, source_of, mentions_of, context_after, start_context, placed_from, all_mentions}
-use Rattle.toml_edit_model.specs.Accepted.{agree, is_sound, is_right_after, all_right_after, is_accepted}
+use Rattle.toml_edit_model.specs.Accepted.{agree, is_sound, is_accepted}
 use Rattle.toml_edit_model.specs.Faults.{is_value_role}
 use Rattle.toml_edit_model.specs.TreeOf.{some_at, any_role, is_array_role}
+use Rattle.toml_edit_laws.specs.OneByOne.{is_right_after, all_right_after}
 use Rattle.toml_edit_laws.specs.Building.{context_from}
 use Rattle.toml_edit_laws.proofs.common.Tests.{and_left, and_right, or-left, or-right, or-true, false-by, true-false, append-nil}
 use Rattle.toml_edit_laws.proofs.common.PathLaws.{is_front, front-key}
@@ -27,6 +28,7 @@ use Rattle.toml_edit_laws.proofs.common.Agreement.{agree-append}
 use Rattle.toml_edit_laws.proofs.common.Each.{all-append}
 use Rattle.toml_edit_laws.proofs.mentions.RoleTests.{is_through_role}
 use Rattle.toml_edit_laws.proofs.mentions.Named.{EndsIn, AreNamed, line-named, header-named}
+use Rattle.toml_edit_laws.proofs.one_by_one.Together.{accepted-right}
 
 -- ---- arrays of tables
 
@@ -250,5 +252,4 @@ before_all c (s ∷ ss) earlier keyed h right =
 
 -- All mentions of an accepted document.
 pub document-statements : (d : Document) → AllByRecursion HasKey d.statements → is_accepted d ≡ true → AreOfStatements (all_mentions d)
-unfolding is_accepted
-document-statements d keyed h = (before_all (start_context d) d.statements [] keyed (before_none d) h).statements
+document-statements d keyed h = (before_all (start_context d) d.statements [] keyed (before_none d) (accepted-right d h)).statements

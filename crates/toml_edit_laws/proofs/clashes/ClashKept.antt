@@ -2,7 +2,6 @@
 use Rattle.std.proofs.Common.{◌≡◌, refl, sym, ◌∙◌, ap, subst, Bool, true, false, List, [], ◌∷◌, ◌++◌, Option, Some, None, inl, inr}
 use Rattle.std.specs.Prelude.{◌⊎◌, ◌&&◌, ◌||◌, not, if◌then◌else◌, find, is_some}
 use Rattle.std.specs.List.{AllByRecursion}
-use Rattle.toml_edit_model.specs.Normal.{option_or}
 use Rattle.toml_edit_model.specs.Text.{Text, same_text}
 use Rattle.toml_edit_model.specs.Paths.{at_key, Path, same_path, Role, Mention}
 use Rattle.toml_edit_model.specs.Normal.{is_header_role}
@@ -12,6 +11,7 @@ use Rattle.toml_edit_laws.proofs.mentions.GatherLaws.{some_at-first, is_of_key, 
 use Rattle.toml_edit_laws.proofs.common.PathLaws.{same_path-is}
 use Rattle.toml_edit_laws.proofs.mentions.SomeAt.{some_at-append}
 use Rattle.toml_edit_laws.proofs.mentions.Named.{AreNamed, other-key, named-at}
+use Rattle.std.specs.Option.{option_or}
 
 -- ---- what a search finds
 

@@ -15,8 +15,8 @@ use Rattle.toml_edit_laws.proofs.mentions.Placed.{IsHeaded}
 use Rattle.toml_edit_laws.proofs.mentions.SomeAt.{some_at-append, some_at-under, some_at-less}
 use Rattle.toml_edit_laws.proofs.common.Each.{all-append}
 use Rattle.toml_edit_laws.proofs.mentions.RoleTests.{is_through_role, every_role, by_role, implies, implied}
-use Rattle.toml_edit_laws.proofs.adding.DeeperMentions.{under_path}
 use Rattle.toml_edit_laws.proofs.mentions.Named.{AreNamed, under-named}
+use Rattle.toml_edit_laws.specs.KeptKeys.{under_path}
 
 -- ---- tests of roles
 

@@ -2,13 +2,14 @@
 use Rattle.std.proofs.Common.{◌≡◌, refl, sym, ◌∙◌, ap, Bool, true, false, List, [], ◌∷◌, Option, Some, inl, inr}
 use Rattle.std.specs.Prelude.{◌&&◌, ◌||◌, not, if◌then◌else◌, option_map, map}
 use Rattle.std.specs.List.{list_any}
+use Rattle.toml_edit_model.specs.Mode.{Mode}
 use Rattle.toml_edit_model.specs.Text.{Text, is_empty}
 use Rattle.toml_edit_model.specs.Syntax.{Statement, key_line, header}
 use Rattle.toml_edit_model.specs.Paths.{at_key, Path, same_path, Role, dotted_role, implied_role, header_role, array_role, value_role, through_role, Mention, Source}
 use Rattle.toml_edit_model.specs.Normal.{is_header_role}
 use Rattle.toml_edit_model.specs.Faults.{is_value_role}
 use Rattle.toml_edit_model.specs.Tree.{TableFields, Node, nothing, leaf, list, inline, table, tables, Slots, is_value_node}
-use Rattle.toml_edit_model.specs.TreeOf.{Form, spanned_form, under, own, roles, kept, some_at, is_dotted_role, is_array_role, key_extent, made_by_path, header_fields, fields_of, IsTableRole, IsLineNode, IsNodeOf, AreSlotsOf}
+use Rattle.toml_edit_model.specs.TreeOf.{Form, spanned_in, under, own, roles, kept, some_at, is_dotted_role, is_array_role, key_extent, made_by_path, header_fields, fields_of, IsTableRole, IsLineNode, IsNodeOf, AreSlotsOf}
 use Rattle.toml_edit_laws.specs.InlineTree.{node_at}
 use Rattle.toml_edit_laws.proofs.common.Tests.{true-false}
 use Rattle.toml_edit_laws.proofs.mentions.GatherLaws.{first_of_key, first_of_key-is, first_at}
@@ -20,18 +21,19 @@ use Rattle.toml_edit_laws.proofs.mentions.Placed.{is_header, IsHeaded}
 use Rattle.toml_edit_laws.proofs.mentions.SomeAt.{some_at-under, some_at-less}
 use Rattle.toml_edit_laws.proofs.mentions.RoleTests.{is_through_role, by_role, implies}
 
--- ---- the item of a key
+module _ (mode : Mode) where
+  -- ---- the item of a key
 
--- the item of a kept mention, among these
-abbrev pub IsSlotNode : List (Mention Source) → Mention Source → Node → Type 0
-IsSlotNode ms m n = IsNodeOf spanned_form (under (at_key m.segment.key) ms) m n
+  -- the item of a kept mention, among these
+  abbrev pub IsSlotNode : List (Mention Source) → Mention Source → Node → Type 0
+  IsSlotNode ms m n = IsNodeOf (spanned_in mode) (under (at_key m.segment.key) ms) m n
 
--- the item of a key is that of its kept mention
-abbrev pub IsFound : List (Mention Source) → Option (Mention Source) → Option Node → Type 0
-IsFound ms first o = IsFoundBySlot spanned_form ms first o
+  -- the item of a key is that of its kept mention
+  abbrev pub IsFound : List (Mention Source) → Option (Mention Source) → Option Node → Type 0
+  IsFound ms first o = IsFoundBySlot (spanned_in mode) ms first o
 
-pub node-found : (ms ks : List (Mention Source)) (k : Text) (ss : Slots) → AreSlotsOf spanned_form ms ks ss → IsFound ms (first_of_key k ks) (node_at k ss)
-node-found ms ks k ss h = slots-find spanned_form ms ks k ss h
+  pub node-found : (ms ks : List (Mention Source)) (k : Text) (ss : Slots) → AreSlotsOf (spanned_in mode) ms ks ss → IsFound ms (first_of_key k ks) (node_at k ss)
+  node-found ms ks k ss h = slots-find (spanned_in mode) ms ks k ss h
 
 -- what an item is
 abbrev pub is_array_node : Node → Bool

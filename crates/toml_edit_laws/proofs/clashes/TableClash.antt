@@ -2,12 +2,13 @@
 use Rattle.std.proofs.Common.{◌≡◌, refl, sym, ◌∙◌, ap, subst, Bool, true, false, List, [], ◌∷◌, Option, Some, None}
 use Rattle.std.specs.Prelude.{◌&&◌, ◌||◌, not, MatchBool, if◌then◌else◌, find, option_map}
 use Rattle.std.proofs.lemmas.Bool.{or_from, MatchBool-at_true, MatchBool-at_false}
+use Rattle.toml_edit_model.specs.Mode.{Mode}
 use Rattle.toml_edit_model.specs.Text.{Text}
 use Rattle.toml_edit_model.specs.Paths.{Step, at_key, Path, same_path, Role, dotted_role, implied_role, header_role, array_role, value_role, through_role, may_meet, Mention, Source}
 use Rattle.toml_edit_model.specs.Normal.{is_header_role}
 use Rattle.toml_edit_model.specs.Faults.{clash, first_clash, is_value_role}
 use Rattle.toml_edit_model.specs.Tree.{Node, nothing, leaf, list, inline, table, tables, is_value_node}
-use Rattle.toml_edit_model.specs.TreeOf.{spanned_form, under, some_at, any_role, is_dotted_role, is_array_role, IsLineNode}
+use Rattle.toml_edit_model.specs.TreeOf.{spanned_in, under, some_at, any_role, is_dotted_role, is_array_role, IsLineNode}
 use Rattle.toml_edit_laws.proofs.common.Tests.{or-left, or-right}
 use Rattle.toml_edit_laws.proofs.mentions.GatherLaws.{deeper, all_deeper, unmentioned-none}
 use Rattle.toml_edit_laws.proofs.inline_tables.AgreeLaws.{clash-none, both_deeper, clash-deeper, clash-at, clash-free}
@@ -123,15 +124,6 @@ clash-found m (x ∷ ms) h = by_clash (same_path x.path m.path) refl (not (may_m
     by_clash true e false h ih = later (ih h)
     by_clash false e b h ih = later (ih h)
 
--- The item in the way is of the earlier mention: its value, or a table or array of tables.
-abbrev pub IsInTheWay : Mention Source → Node → Type 0
-IsInTheWay e n =
-    MatchBool (is_value_role e.role) (IsLineNode spanned_form e.source e.source.statement n) ((is_table_node n || is_array_node n) ≡ true)
-
-abbrev pub IsBlocked : List (Mention Source) → Mention Source → Node → Type 0
-IsBlocked ms m n =
-    MatchBool (blocks m.role n) ((e : Mention Source) × (find (clash may_meet m) ms ≡ Some e) × IsInTheWay e n) (find (clash may_meet m) ms ≡ None)
-
 value-meets : (r : Role) (n : Node) → blocks r n ≡ true → may_meet value_role r ≡ false
 value-meets dotted_role n h = refl
 value-meets implied_role n h = refl
@@ -156,30 +148,6 @@ other-kind r nothing h e = absurd (by_later r h)
     by_later value_role h = cc
     by_later through_role h = cc
 
--- A later mention at the path of an item clashes exactly where the item stands in its way.
-pub way_of : (m : Mention Source) (ms : List (Mention Source)) (n : Node) → IsStanding spanned_form ms m.path n → IsBlocked ms m n
-way_of m ms n h = by_block (blocks m.role n) refl
-  where
-    in_way : (b : Bool) → is_value_node n ≡ b → blocks m.role n ≡ true → (e : Mention Source) × (find (clash may_meet m) ms ≡ Some e) × IsInTheWay e n
-    in_way true v g =
-        let (j, first, role, line) = h.value v in (
-          j,
-          clash-at may_meet m j ms first (ap (λ r. may_meet r m.role) role ∙ value-meets m.role n g),
-          subst (λ r. MatchBool (is_value_role r) (IsLineNode spanned_form j.source j.source.statement n) ((is_table_node n || is_array_node n) ≡ true)) (sym role) line,
-        )
-    in_way false v g =
-        let (e, found, others) = clash-found m ms (blocked m.role m.path ms n h.roles ∙ g) in (
-          e,
-          found,
-          subst (λ b. MatchBool b (IsLineNode spanned_form e.source e.source.statement n) ((is_table_node n || is_array_node n) ≡ true))
-              (sym (others is_value_role (h.roles.value ∙ v))) (other-kind m.role n g v),
-        )
-
-    by_block : (b : Bool) → blocks m.role n ≡ b
-        → MatchBool b ((e : Mention Source) × (find (clash may_meet m) ms ≡ Some e) × IsInTheWay e n) (find (clash may_meet m) ms ≡ None)
-    by_block true g = in_way (is_value_node n) refl g
-    by_block false g = clash-free may_meet m ms (blocked m.role m.path ms n h.roles ∙ g)
-
 -- where nothing is at the path, nothing clashes
 pub way_free : (m : Mention Source) (ms : List (Mention Source)) → some_at any_role m.path ms ≡ false → find (clash may_meet m) ms ≡ None
 way_free m ms h =
@@ -190,65 +158,99 @@ way_free m ms h =
     by_test true = refl
     by_test false = refl
 
--- ---- clashes alike
-
 abbrev pub in_way : Mention Source → Node → Mention Source × Node
 in_way m n = (m, n)
 
--- The clash with slots and the clash with the mentions that they are of are at one mention.
-abbrev pub IsSameClash : Option (Mention Source × Node) → Option (Mention Source × Mention Source) → Type 0
-IsSameClash None None = Unit {0}
-IsSameClash (Some c) (Some d) = (c.0 ≡ d.0) × IsInTheWay d.1 c.1
-IsSameClash _ _ = ⊥
-
-pub same-none : (o : Option (Mention Source × Node)) (c : Option (Mention Source × Mention Source)) → IsSameClash o c → is_none o ≡ is_none c
-same-none None None h = refl
-same-none None (Some d) h = absurd h
-same-none (Some c) None h = absurd h
-same-none (Some c) (Some d) h = refl
-
--- an item in the way of a mention is the clash, else it is later
-pub clash_here : (m : Mention Source) (below ms : List (Mention Source)) (n : Node) → IsBlocked ms m n → blocks m.role n ≡ true
-    → IsSameClash (Some (in_way m n)) (first_clash may_meet ms (m ∷ below))
-clash_here m below ms n h g =
-    let (e, found, way) = MatchBool-at_true ((e : Mention Source) × (find (clash may_meet m) ms ≡ Some e) × IsInTheWay e n) (find (clash may_meet m) ms ≡ None) g h in
-    rw found (refl, way)
-
-pub clash_later : (m : Mention Source) (below ms : List (Mention Source)) (n : Node) (o : Option (Mention Source × Node)) → IsBlocked ms m n → blocks m.role n ≡ false
-    → IsSameClash o (first_clash may_meet ms below) → IsSameClash o (first_clash may_meet ms (m ∷ below))
-clash_later m below ms n o h g rest =
-    let free : find (clash may_meet m) ms ≡ None =
-    MatchBool-at_false ((e : Mention Source) × (find (clash may_meet m) ms ≡ Some e) × IsInTheWay e n) (find (clash may_meet m) ms ≡ None) g h in
-    rw free rest
-
--- ---- one step further down
-
 abbrev pub deeper_way : Step → Mention Source × Node → Mention Source × Node
 deeper_way s c = (deeper s c.0, c.1)
-
-pub same-deeper : (s : Step) (o : Option (Mention Source × Node)) (ms below : List (Mention Source)) → IsSameClash o (first_clash may_meet (under s ms) below)
-    → IsSameClash (option_map (deeper_way s) o) (first_clash may_meet ms (all_deeper s below))
-same-deeper s o ms below h =
-    subst (IsSameClash (option_map (deeper_way s) o)) (sym (clash-deeper may_meet s ms below)) (both o (first_clash may_meet (under s ms) below) h)
-  where
-    both : (o : Option (Mention Source × Node)) (c : Option (Mention Source × Mention Source)) → IsSameClash o c
-        → IsSameClash (option_map (deeper_way s) o) (option_map (both_deeper s) c)
-    both None None h = tt
-    both None (Some d) h = h
-    both (Some c) None h = h
-    both (Some c) (Some d) h = (ap (deeper s) h.0, h.1)
 
 -- below a key that isn't mentioned nothing is
 pub under-free : (k : Text) (ms : List (Mention Source)) → AreOfStatements ms → some_at any_role (at_key k ∷ []) ms ≡ false → under (at_key k) ms ≡ []
 under-free k ms are free = unmentioned-none (under (at_key k) ms) (λ p. some_at-under any_role (at_key k) p ms ∙ are.closed [] k p free)
 
--- a path that begins with a new key doesn't clash
-pub clash_new : (k : Text) (m : Mention Source) (below ms : List (Mention Source)) → m.path ≡ at_key k ∷ [] → AreOfStatements ms
-    → some_at any_role (at_key k ∷ []) ms ≡ false → IsSameClash None (first_clash may_meet ms (m ∷ all_deeper (at_key k) below))
-clash_new k m below ms here are free =
-    let none : first_clash may_meet ms (all_deeper (at_key k) below) ≡ None =
-    clash-deeper may_meet (at_key k) ms below
-    ∙ ap (λ us. option_map (both_deeper (at_key k)) (first_clash may_meet us below)) (under-free k ms are free)
-    ∙ ap (option_map (both_deeper (at_key k))) (clash-none may_meet below) in
-    let first : find (clash may_meet m) ms ≡ None = way_free m ms (subst (λ p. some_at any_role p ms ≡ false) (sym here) free) in
-    rw first (rw none tt)
+module _ (mode : Mode) where
+  -- The item in the way is of the earlier mention: its value, or a table or array of tables.
+  abbrev pub IsInTheWay : Mention Source → Node → Type 0
+  IsInTheWay e n =
+      MatchBool (is_value_role e.role) (IsLineNode (spanned_in mode) e.source e.source.statement n) ((is_table_node n || is_array_node n) ≡ true)
+
+  abbrev pub IsBlocked : List (Mention Source) → Mention Source → Node → Type 0
+  IsBlocked ms m n =
+      MatchBool (blocks m.role n) ((e : Mention Source) × (find (clash may_meet m) ms ≡ Some e) × IsInTheWay e n) (find (clash may_meet m) ms ≡ None)
+
+  -- A later mention at the path of an item clashes exactly where the item stands in its way.
+  pub way_of : (m : Mention Source) (ms : List (Mention Source)) (n : Node) → IsStanding (spanned_in mode) ms m.path n → IsBlocked ms m n
+  way_of m ms n h = by_block (blocks m.role n) refl
+    where
+      in_way : (b : Bool) → is_value_node n ≡ b → blocks m.role n ≡ true → (e : Mention Source) × (find (clash may_meet m) ms ≡ Some e) × IsInTheWay e n
+      in_way true v g =
+          let (j, first, role, line) = h.value v in (
+            j,
+            clash-at may_meet m j ms first (ap (λ r. may_meet r m.role) role ∙ value-meets m.role n g),
+            subst (λ r. MatchBool (is_value_role r) (IsLineNode (spanned_in mode) j.source j.source.statement n) ((is_table_node n || is_array_node n) ≡ true)) (sym role) line,
+          )
+      in_way false v g =
+          let (e, found, others) = clash-found m ms (blocked m.role m.path ms n h.roles ∙ g) in (
+            e,
+            found,
+            subst (λ b. MatchBool b (IsLineNode (spanned_in mode) e.source e.source.statement n) ((is_table_node n || is_array_node n) ≡ true))
+                (sym (others is_value_role (h.roles.value ∙ v))) (other-kind m.role n g v),
+          )
+
+      by_block : (b : Bool) → blocks m.role n ≡ b
+          → MatchBool b ((e : Mention Source) × (find (clash may_meet m) ms ≡ Some e) × IsInTheWay e n) (find (clash may_meet m) ms ≡ None)
+      by_block true g = in_way (is_value_node n) refl g
+      by_block false g = clash-free may_meet m ms (blocked m.role m.path ms n h.roles ∙ g)
+
+  -- ---- clashes alike
+
+  -- The clash with slots and the clash with the mentions that they are of are at one mention.
+  abbrev pub IsSameClash : Option (Mention Source × Node) → Option (Mention Source × Mention Source) → Type 0
+  IsSameClash None None = Unit {0}
+  IsSameClash (Some c) (Some d) = (c.0 ≡ d.0) × IsInTheWay d.1 c.1
+  IsSameClash _ _ = ⊥
+
+  pub same-none : (o : Option (Mention Source × Node)) (c : Option (Mention Source × Mention Source)) → IsSameClash o c → is_none o ≡ is_none c
+  same-none None None h = refl
+  same-none None (Some d) h = absurd h
+  same-none (Some c) None h = absurd h
+  same-none (Some c) (Some d) h = refl
+
+  -- an item in the way of a mention is the clash, else it is later
+  pub clash_here : (m : Mention Source) (below ms : List (Mention Source)) (n : Node) → IsBlocked ms m n → blocks m.role n ≡ true
+      → IsSameClash (Some (in_way m n)) (first_clash may_meet ms (m ∷ below))
+  clash_here m below ms n h g =
+      let (e, found, way) = MatchBool-at_true ((e : Mention Source) × (find (clash may_meet m) ms ≡ Some e) × IsInTheWay e n) (find (clash may_meet m) ms ≡ None) g h in
+      rw found (refl, way)
+
+  pub clash_later : (m : Mention Source) (below ms : List (Mention Source)) (n : Node) (o : Option (Mention Source × Node)) → IsBlocked ms m n → blocks m.role n ≡ false
+      → IsSameClash o (first_clash may_meet ms below) → IsSameClash o (first_clash may_meet ms (m ∷ below))
+  clash_later m below ms n o h g rest =
+      let free : find (clash may_meet m) ms ≡ None =
+      MatchBool-at_false ((e : Mention Source) × (find (clash may_meet m) ms ≡ Some e) × IsInTheWay e n) (find (clash may_meet m) ms ≡ None) g h in
+      rw free rest
+
+  -- ---- one step further down
+
+  pub same-deeper : (s : Step) (o : Option (Mention Source × Node)) (ms below : List (Mention Source)) → IsSameClash o (first_clash may_meet (under s ms) below)
+      → IsSameClash (option_map (deeper_way s) o) (first_clash may_meet ms (all_deeper s below))
+  same-deeper s o ms below h =
+      subst (IsSameClash (option_map (deeper_way s) o)) (sym (clash-deeper may_meet s ms below)) (both o (first_clash may_meet (under s ms) below) h)
+    where
+      both : (o : Option (Mention Source × Node)) (c : Option (Mention Source × Mention Source)) → IsSameClash o c
+          → IsSameClash (option_map (deeper_way s) o) (option_map (both_deeper s) c)
+      both None None h = tt
+      both None (Some d) h = h
+      both (Some c) None h = h
+      both (Some c) (Some d) h = (ap (deeper s) h.0, h.1)
+
+  -- a path that begins with a new key doesn't clash
+  pub clash_new : (k : Text) (m : Mention Source) (below ms : List (Mention Source)) → m.path ≡ at_key k ∷ [] → AreOfStatements ms
+      → some_at any_role (at_key k ∷ []) ms ≡ false → IsSameClash None (first_clash may_meet ms (m ∷ all_deeper (at_key k) below))
+  clash_new k m below ms here are free =
+      let none : first_clash may_meet ms (all_deeper (at_key k) below) ≡ None =
+      clash-deeper may_meet (at_key k) ms below
+      ∙ ap (λ us. option_map (both_deeper (at_key k)) (first_clash may_meet us below)) (under-free k ms are free)
+      ∙ ap (option_map (both_deeper (at_key k))) (clash-none may_meet below) in
+      let first : find (clash may_meet m) ms ≡ None = way_free m ms (subst (λ p. some_at any_role p ms ≡ false) (sym here) free) in
+      rw first (rw none tt)

@@ -1,11 +1,12 @@
 -- The tree of a text has no placeholders in its tables.
 use Rattle.std.proofs.Common.{◌≡◌, refl, subst, ℕ, suc, Bool, true, false, List, [], ◌∷◌, ◌++◌, length, Some}
 use Rattle.std.specs.Prelude.{◌+◌, if◌then◌else◌}
+use Rattle.toml_edit_model.specs.Mode.{Mode, with_return}
 use Rattle.toml_edit_model.specs.Syntax.{Value, scalar, array, inline_table, Elements, no_elements, element, Statement, key_line, header, value_text}
 use Rattle.toml_edit_model.specs.Text.{Text, same_text}
 use Rattle.toml_edit_model.specs.Paths.{at_key, at_element, Mention, Source, all_mentions, to_key, to_element}
 use Rattle.toml_edit_model.specs.Tree.{Key, Extent, TableFields, Node, nothing, leaf, list, inline, table, tables, Items, no_items, item, Slots, no_slots, slot, is_value_node}
-use Rattle.toml_edit_model.specs.TreeOf.{owned_form, under, kept, ends_path, Entry, value_start, entries, arrays, IsValueNode, AreElementNodes, AreEntrySlots, IsLineNode, IsNodeOf, AreElementsOf, AreSlotsOf}
+use Rattle.toml_edit_model.specs.TreeOf.{owned_in, under, kept, ends_path, Entry, value_start, entries, arrays, IsValueNode, AreElementNodes, AreEntrySlots, IsLineNode, IsNodeOf, AreElementsOf, AreSlotsOf}
 use Rattle.toml_edit_model.specs.HeaderOrder.{Visit, visit_of}
 use Rattle.toml_edit_model.specs.SlotLists.{Slot, slot_list, item_list, slot_of, is_item}
 use Rattle.toml_edit_laws.specs.Locality.{Turn, into_table, into_element, is_table, Leads, root_visit, tables_in}
@@ -35,66 +36,6 @@ abbrev mutual
   SlotsAreInside no_slots = Unit {0}
   SlotsAreInside (slot k n ss) = IsInside n × SlotsAreInside ss
 
-mutual
-  value-inside : (n : Node) (v : Value) (i : ℕ) (before after : Text) → IsValueNode owned_form v i before after n → IsInside n
-  value-inside (leaf s r d) v i before after h = tt
-  value-inside (list f xs) (array es comma t) i before after h = elements-inside xs es (i + length before + 1) h.1
-  value-inside (list f xs) (scalar s t) i before after h = absurd h
-  value-inside (list f xs) (inline_table ps comma t) i before after h = absurd h
-  value-inside (inline f ss) (inline_table ps comma t) i before after h =
-      entries-inside ss (entries owned_form ps (i + length before + 1)) (kept (entries owned_form ps (i + length before + 1))) h.1
-  value-inside (inline f ss) (scalar s t) i before after h = absurd h
-  value-inside (inline f ss) (array es comma t) i before after h = absurd h
-  value-inside (table f ss) (scalar s t) i before after h = h
-  value-inside (table f ss) (array es comma t) i before after h = h
-  value-inside (table f ss) (inline_table ps comma t) i before after h = h
-  value-inside (tables e xs) (scalar s t) i before after h = h
-  value-inside (tables e xs) (array es comma t) i before after h = h
-  value-inside (tables e xs) (inline_table ps comma t) i before after h = h
-  value-inside nothing (scalar s t) i before after h = h
-  value-inside nothing (array es comma t) i before after h = h
-  value-inside nothing (inline_table ps comma t) i before after h = h
-
-  elements-inside : (xs : Items) (es : Elements) (i : ℕ) → AreElementNodes owned_form es i xs → ItemsAreInside xs
-  elements-inside no_items es i h = tt
-  elements-inside (item n xs) no_elements i h = absurd h
-  elements-inside (item n xs) (element a v es) i h =
-      (value-inside n v i a.before a.after h.0, elements-inside xs es (i + length a.before + length (value_text v) + length a.after + 1) h.1)
-
-  entries-inside : (ss : Slots) (ms ks : List (Mention Entry)) → AreEntrySlots owned_form ms ks ss → SlotsAreInside ss
-  entries-inside no_slots ms ks h = tt
-  entries-inside (slot k n ss) ms [] h = absurd h
-  entries-inside (slot k (inline f xs) ss) ms (m ∷ rest) h = (
-    either (ends_path m.role) _ _ (IsInside (inline f xs)) (λ g. value-inside (inline f xs) m.source.value m.source.start m.source.before m.source.after g)
-        (λ g. entries-inside xs (under (at_key m.segment.key) ms) (kept (under (at_key m.segment.key) ms)) g.1) h.1,
-    entries-inside ss ms rest h.2,
-  )
-  entries-inside (slot k (leaf s r d) ss) ms (m ∷ rest) h = (
-    either (ends_path m.role) _ _ (IsInside (leaf s r d)) (λ g. value-inside (leaf s r d) m.source.value m.source.start m.source.before m.source.after g)
-        (λ g. absurd g) h.1,
-    entries-inside ss ms rest h.2,
-  )
-  entries-inside (slot k (list f xs) ss) ms (m ∷ rest) h = (
-    either (ends_path m.role) _ _ (IsInside (list f xs)) (λ g. value-inside (list f xs) m.source.value m.source.start m.source.before m.source.after g)
-        (λ g. absurd g) h.1,
-    entries-inside ss ms rest h.2,
-  )
-  entries-inside (slot k (table f xs) ss) ms (m ∷ rest) h = (
-    either (ends_path m.role) _ _ (IsInside (table f xs)) (λ g. value-inside (table f xs) m.source.value m.source.start m.source.before m.source.after g)
-        (λ g. absurd g) h.1,
-    entries-inside ss ms rest h.2,
-  )
-  entries-inside (slot k (tables e xs) ss) ms (m ∷ rest) h = (
-    either (ends_path m.role) _ _ (IsInside (tables e xs)) (λ g. value-inside (tables e xs) m.source.value m.source.start m.source.before m.source.after g)
-        (λ g. absurd g) h.1,
-    entries-inside ss ms rest h.2,
-  )
-  entries-inside (slot k nothing ss) ms (m ∷ rest) h = (
-    either (ends_path m.role) _ _ (IsInside nothing) (λ g. value-inside nothing m.source.value m.source.start m.source.before m.source.after g)
-        (λ g. absurd g) h.1,
-    entries-inside ss ms rest h.2,
-  )
-
 abbrev mutual
   IsFilled : Node → Type 0
   IsFilled nothing = ⊥
@@ -111,35 +52,6 @@ abbrev mutual
   SlotsAreFilled : Slots → Type 0
   SlotsAreFilled no_slots = Unit {0}
   SlotsAreFilled (slot k n ss) = IsFilled n × SlotsAreFilled ss
-
-line-inside : (n : Node) (s : Source) (x : Statement) → IsLineNode owned_form s x n → IsInside n
-line-inside n s (key_line f v end) h = value-inside n v (s.start + value_start owned_form f) f.after_equals f.trailing h
-line-inside n s (header x end) h = absurd h
-
-mutual
-  node-filled : (n : Node) (ns : List (Mention Source)) (m : Mention Source) → IsNodeOf owned_form ns m n → IsFilled n
-  node-filled (table f ss) ns m h = slots-filled ss ns (kept ns) h.2
-  node-filled (tables e xs) ns m h = items-filled xs ns 0 (arrays ns) h.2
-  node-filled nothing ns m h = h
-  node-filled (leaf s r d) ns m h = tt
-  node-filled (list f xs) ns m h = line-inside (list f xs) m.source m.source.statement h.1
-  node-filled (inline f ss) ns m h = line-inside (inline f ss) m.source m.source.statement h.1
-
-  items-filled : (xs : Items) (ns : List (Mention Source)) (i : ℕ) (more : List (Mention Source)) → AreElementsOf owned_form ns i more xs → ItemsAreFilled xs
-  items-filled no_items ns i more h = tt
-  items-filled (item n xs) ns i [] h = absurd h
-  items-filled (item (table f ss) xs) ns i (a ∷ more) h =
-      (slots-filled ss (under (at_element i) ns) (kept (under (at_element i) ns)) h.1, items-filled xs ns (suc i) more h.2)
-  items-filled (item (tables e ys) xs) ns i (a ∷ more) h = absurd h
-  items-filled (item (leaf s r d) xs) ns i (a ∷ more) h = absurd h
-  items-filled (item (list f ys) xs) ns i (a ∷ more) h = absurd h
-  items-filled (item (inline f ss) xs) ns i (a ∷ more) h = absurd h
-  items-filled (item nothing xs) ns i (a ∷ more) h = absurd h
-
-  slots-filled : (ss : Slots) (ms rest : List (Mention Source)) → AreSlotsOf owned_form ms rest ss → SlotsAreFilled ss
-  slots-filled no_slots ms rest h = tt
-  slots-filled (slot k n ss) ms [] h = absurd h
-  slots-filled (slot k n ss) ms (m ∷ more) h = (node-filled n (under (at_key m.segment.key) ms) m h.1, slots-filled ss ms more h.2)
 
 -- what holds of each node of such slots, or of such items, holds of one that is found there
 slot-holds : (P : Node → Type 0) (All : Slots → Type 0) → ((k : Key) (n : Node) (ss : Slots) → All (slot k n ss) → P n × All ss)
@@ -181,13 +93,6 @@ filled-is (inline f ss) h = refl
 filled-is (table f ss) h = refl
 filled-is (tables e xs) h = refl
 
-pub read_has_no_placeholders : ReadHasNoPlaceholders
-read_has_no_placeholders d t path v k s of names is_there =
-    filled-is s.1
-    (filled-slot k v.slots s (leads-filled names.way (root_visit t) v (slots-filled t.slots (all_mentions d) (kept (all_mentions d)) of.slots) names.leads) is_there)
-
--- ---- no tables inside values
-
 inside-slot : (k : Text) (ss : Slots) (s : Slot) → SlotsAreInside ss → slot_of k (slot_list ss) ≡ Some s → IsInside s.1
 inside-slot = slot-holds IsInside SlotsAreInside (λ k n ss w. w)
 
@@ -211,8 +116,6 @@ no-table-inside [] n f ss w h = subst IsInside (some-is n (table f ss) h) w
 no-table-inside (k ∷ path) n f ss w h =
     let a = some-and (item_below path) (child k n) (table f ss) h in
     no-table-inside path a.0 f ss (inside-child k n a.0 w a.1) a.2
-
--- ---- the way of a path
 
 record HasWay (s : Visit) (path : List Text) (f : TableFields) (ss : Slots) : Type 0 where
   way : List Turn
@@ -283,7 +186,104 @@ has-way (k ∷ x ∷ path) s f ss w h =
     by_kind f ss k s p.key a.0 (x ∷ path) p.is (filled-slot k s.slots (p.key, a.0) w p.is) a.2 (λ v wv g. has-way (x ∷ path) v f ss wv g)
     (λ v wv g. has-way path v f ss wv g)
 
-pub paths_have_ways : PathsHaveWays
-paths_have_ways d t path f ss of h =
-    let w = has-way path (root_visit t) f ss (slots-filled t.slots (all_mentions d) (kept (all_mentions d)) of.slots) h in
-    (w.visit, record { way = w.way; goes = w.goes; leads = w.leads }, w.fields, w.slots)
+module _ (mode : Mode) where
+  mutual
+    value-inside : (n : Node) (v : Value) (i : ℕ) (before after : Text) → IsValueNode (owned_in mode) v i before after n → IsInside n
+    value-inside (leaf s r d) v i before after h = tt
+    value-inside (list f xs) (array es comma t) i before after h = elements-inside xs es (i + length before + 1) h.1
+    value-inside (list f xs) (scalar s t) i before after h = absurd h
+    value-inside (list f xs) (inline_table ps comma t) i before after h = absurd h
+    value-inside (inline f ss) (inline_table ps comma t) i before after h =
+        entries-inside ss (entries (owned_in mode) ps (i + length before + 1)) (kept (entries (owned_in mode) ps (i + length before + 1))) h.1
+    value-inside (inline f ss) (scalar s t) i before after h = absurd h
+    value-inside (inline f ss) (array es comma t) i before after h = absurd h
+    value-inside (table f ss) (scalar s t) i before after h = h
+    value-inside (table f ss) (array es comma t) i before after h = h
+    value-inside (table f ss) (inline_table ps comma t) i before after h = h
+    value-inside (tables e xs) (scalar s t) i before after h = h
+    value-inside (tables e xs) (array es comma t) i before after h = h
+    value-inside (tables e xs) (inline_table ps comma t) i before after h = h
+    value-inside nothing (scalar s t) i before after h = h
+    value-inside nothing (array es comma t) i before after h = h
+    value-inside nothing (inline_table ps comma t) i before after h = h
+
+    elements-inside : (xs : Items) (es : Elements) (i : ℕ) → AreElementNodes (owned_in mode) es i xs → ItemsAreInside xs
+    elements-inside no_items es i h = tt
+    elements-inside (item n xs) no_elements i h = absurd h
+    elements-inside (item n xs) (element a v es) i h =
+        (value-inside n v i a.before a.after h.0, elements-inside xs es (i + length a.before + length (value_text v) + length a.after + 1) h.1)
+
+    entries-inside : (ss : Slots) (ms ks : List (Mention Entry)) → AreEntrySlots (owned_in mode) ms ks ss → SlotsAreInside ss
+    entries-inside no_slots ms ks h = tt
+    entries-inside (slot k n ss) ms [] h = absurd h
+    entries-inside (slot k (inline f xs) ss) ms (m ∷ rest) h = (
+      either (ends_path m.role) _ _ (IsInside (inline f xs)) (λ g. value-inside (inline f xs) m.source.value m.source.start m.source.before m.source.after g)
+          (λ g. entries-inside xs (under (at_key m.segment.key) ms) (kept (under (at_key m.segment.key) ms)) g.1) h.1,
+      entries-inside ss ms rest h.2,
+    )
+    entries-inside (slot k (leaf s r d) ss) ms (m ∷ rest) h = (
+      either (ends_path m.role) _ _ (IsInside (leaf s r d)) (λ g. value-inside (leaf s r d) m.source.value m.source.start m.source.before m.source.after g)
+          (λ g. absurd g) h.1,
+      entries-inside ss ms rest h.2,
+    )
+    entries-inside (slot k (list f xs) ss) ms (m ∷ rest) h = (
+      either (ends_path m.role) _ _ (IsInside (list f xs)) (λ g. value-inside (list f xs) m.source.value m.source.start m.source.before m.source.after g)
+          (λ g. absurd g) h.1,
+      entries-inside ss ms rest h.2,
+    )
+    entries-inside (slot k (table f xs) ss) ms (m ∷ rest) h = (
+      either (ends_path m.role) _ _ (IsInside (table f xs)) (λ g. value-inside (table f xs) m.source.value m.source.start m.source.before m.source.after g)
+          (λ g. absurd g) h.1,
+      entries-inside ss ms rest h.2,
+    )
+    entries-inside (slot k (tables e xs) ss) ms (m ∷ rest) h = (
+      either (ends_path m.role) _ _ (IsInside (tables e xs)) (λ g. value-inside (tables e xs) m.source.value m.source.start m.source.before m.source.after g)
+          (λ g. absurd g) h.1,
+      entries-inside ss ms rest h.2,
+    )
+    entries-inside (slot k nothing ss) ms (m ∷ rest) h = (
+      either (ends_path m.role) _ _ (IsInside nothing) (λ g. value-inside nothing m.source.value m.source.start m.source.before m.source.after g)
+          (λ g. absurd g) h.1,
+      entries-inside ss ms rest h.2,
+    )
+
+  line-inside : (n : Node) (s : Source) (x : Statement) → IsLineNode (owned_in mode) s x n → IsInside n
+  line-inside n s (key_line f v end) h = value-inside n v (s.start + value_start (owned_in mode) f) f.after_equals (with_return mode f.trailing end) h
+  line-inside n s (header x end) h = absurd h
+
+  mutual
+    node-filled : (n : Node) (ns : List (Mention Source)) (m : Mention Source) → IsNodeOf (owned_in mode) ns m n → IsFilled n
+    node-filled (table f ss) ns m h = slots-filled ss ns (kept ns) h.2
+    node-filled (tables e xs) ns m h = items-filled xs ns 0 (arrays ns) h.2
+    node-filled nothing ns m h = h
+    node-filled (leaf s r d) ns m h = tt
+    node-filled (list f xs) ns m h = line-inside (list f xs) m.source m.source.statement h.1
+    node-filled (inline f ss) ns m h = line-inside (inline f ss) m.source m.source.statement h.1
+
+    items-filled : (xs : Items) (ns : List (Mention Source)) (i : ℕ) (more : List (Mention Source)) → AreElementsOf (owned_in mode) ns i more xs → ItemsAreFilled xs
+    items-filled no_items ns i more h = tt
+    items-filled (item n xs) ns i [] h = absurd h
+    items-filled (item (table f ss) xs) ns i (a ∷ more) h =
+        (slots-filled ss (under (at_element i) ns) (kept (under (at_element i) ns)) h.1, items-filled xs ns (suc i) more h.2)
+    items-filled (item (tables e ys) xs) ns i (a ∷ more) h = absurd h
+    items-filled (item (leaf s r d) xs) ns i (a ∷ more) h = absurd h
+    items-filled (item (list f ys) xs) ns i (a ∷ more) h = absurd h
+    items-filled (item (inline f ss) xs) ns i (a ∷ more) h = absurd h
+    items-filled (item nothing xs) ns i (a ∷ more) h = absurd h
+
+    slots-filled : (ss : Slots) (ms rest : List (Mention Source)) → AreSlotsOf (owned_in mode) ms rest ss → SlotsAreFilled ss
+    slots-filled no_slots ms rest h = tt
+    slots-filled (slot k n ss) ms [] h = absurd h
+    slots-filled (slot k n ss) ms (m ∷ more) h = (node-filled n (under (at_key m.segment.key) ms) m h.1, slots-filled ss ms more h.2)
+
+  pub read_has_no_placeholders : ReadHasNoPlaceholders mode
+  read_has_no_placeholders d t path v k s of names is_there =
+      filled-is s.1
+      (filled-slot k v.slots s (leads-filled names.way (root_visit t) v (slots-filled t.slots (all_mentions d) (kept (all_mentions d)) of.slots) names.leads) is_there)
+
+  -- ---- the way of a path
+
+  pub paths_have_ways : PathsHaveWays mode
+  paths_have_ways d t path f ss of h =
+      let w = has-way path (root_visit t) f ss (slots-filled t.slots (all_mentions d) (kept (all_mentions d)) of.slots) h in
+      (w.visit, record { way = w.way; goes = w.goes; leads = w.leads }, w.fields, w.slots)

@@ -4,6 +4,7 @@ use Rattle.std.specs.Prelude.{if◌then◌else◌}
 use Rattle.std.specs.Fmt.{decimal}
 use Rattle.std.specs.Str.Parse.{digits_value}
 use Rattle.std.proofs.lemmas.Fmt.{decimal_is_IsNumeral}
+use Rattle.toml_edit_model.specs.Mode.{plain}
 use Rattle.toml_edit_model.specs.Text.{Text, newline, same_text}
 use Rattle.toml_edit_model.specs.Syntax.{value_text}
 use Rattle.toml_edit_model.specs.Tree.{Decor, Node, nothing, leaf, list, inline, table, tables, Items, Slots, no_slots, slot, is_value_node}
@@ -138,7 +139,7 @@ decor-value d (tables e xs) h = absurd cc
 decor-value d nothing h = absurd cc
 
 abbrev IsShown : Node → Node → Type 0
-IsShown v n = shown_item n ≡ value_text (value_of v) ++ newline
+IsShown v n = shown_item n ≡ value_text (value_of plain v) ++ newline
 
 decor-shown : (d : Decor) (v : Node) → is_value_node v ≡ true → IsShown v (with_decor d v)
 decor-shown d (leaf s r e) h = refl

@@ -1,6 +1,7 @@
 -- `remove` of a slot of a table that the walk enters, or of an element of an array of tables that is such a slot.
 use Rattle.std.specs.Prelude.{not}
 use Rattle.std.proofs.Common.{◌≡◌, refl, sym, ◌∙◌, ap, subst, true, false, List, [], ◌∷◌, ◌++◌, Some}
+use Rattle.toml_edit_model.specs.Mode.{Mode}
 use Rattle.toml_edit_model.specs.Text.{Text}
 use Rattle.toml_edit_model.specs.Tree.{Key, Node, nothing, leaf, list, inline, table, tables, Tree, is_value_node}
 use Rattle.toml_edit_model.specs.Fits.{is_dotted_inline}
@@ -28,53 +29,6 @@ item-present k (inline f ss) h = refl
 item-present k (table f ss) h = refl
 item-present k (tables e xs) h = refl
 
-pub remove_drops : RemoveDrops
-remove_drops d t path v k s read names is_there is =
-    let way = names.way in
-    let u : Tree = edited way (without_key k) t in
-    let law = removed t way v k s read.made (steady-tree d t read.tree) names.leads is_there in
-    let here : remove_below (k ∷ []) (table v.fields v.slots) ≡ done (table v.fields (slots_from (without_key k (slot_list v.slots)))) =
-    ap (λ o. mapped (λ xs. table v.fields (slots_from xs)) (drop_slot k (slot_list v.slots) (present o))) is_there
-    ∙ ap (λ o. mapped (λ xs. table v.fields (slots_from xs)) (drop_slot k (slot_list v.slots) o)) (item-present s.0 s.1 is) in
-    let along = goes-along false remove_below (k ∷ []) (remove-goes-down k []) (without_key k) way path (root_visit t) v names.goes names.leads here in (
-      u,
-      ap (mapped (with_slots t)) along,
-      law.0,
-      record {
-        read = statements-read d t read;
-        left = ap statements law.0;
-        text = edited-text d t read way (without_key k) ∙ ap (λ ss. text_with d (statements ss)) law.0;
-      },
-      law.2,
-    )
-
-pub remove_element_drops : RemoveElementDrops
-remove_element_drops d t path v w k x i read names number (l, e, xs, before, f, ss, after, is_there, items, place, last) =
-    let way = names.way in
-    let g : List Slot → List Slot = changed k (λ s. (s.0, in_tables (without_item i) s.1)) in
-    let u : Tree = edited way g t in
-    let law = removed_element t way v w k i read.made (steady-tree d t read.tree) names.leads (l, e, xs, before, f, ss, after, is_there, items, place, last) in
-    let element : element_of is_table x (item_list xs) ≡ Some (i, table f ss) = element-there is_table x i (item_list xs) before (table f ss) after number items place refl in
-    let inside : remove_below (x ∷ []) (tables e xs) ≡ done (tables e (items_from (without_item i (item_list xs)))) =
-    ap (λ o. mapped (λ ns. tables e (items_from ns)) (drop_element (item_list xs) o)) element in
-    let here : remove_below (k ∷ x ∷ []) (table v.fields v.slots) ≡ done (table v.fields (slots_from (g (slot_list v.slots)))) =
-    ap (λ o. mapped (λ ys. table v.fields (slots_from ys)) (change_slot false k (remove_below (x ∷ [])) (slot_list v.slots) o)) is_there
-    ∙ ap (λ a. mapped (λ ys. table v.fields (slots_from ys)) (mapped (λ m. changed k (λ (old : Slot). (old.0, m)) (slot_list v.slots)) a)) inside
-    ∙ ap (λ ys. done (table v.fields (slots_from ys)))
-    (changed-same k (λ old. (old.0, tables e (items_from (without_item i (item_list xs))))) (λ s. (s.0, in_tables (without_item i) s.1)) (slot_list v.slots) (l, tables e xs) is_there refl) in
-    let along = goes-along false remove_below (k ∷ x ∷ []) (remove-goes-down k (x ∷ [])) g way path (root_visit t) v names.goes names.leads here in (
-      u,
-      ap (mapped (with_slots t)) along,
-      record {
-        read = statements-read d t read;
-        left = law.0;
-        text = edited-text d t read way g ∙ ap (text_with d) law.0;
-      },
-      law.2,
-    )
-
--- ---- inside a value
-
 child-stands : (k : Text) (old n : Node) → is_value_node old ≡ true → is_dotted_inline old ≡ false → remove_child k old ≡ done n → Stands old n
 child-stands k (leaf s r d) n is undotted h = absurd cc
 child-stands k (list f xs) n is undotted h =
@@ -91,9 +45,57 @@ remove-stands : (x : Text) (inner : List Text) (old n : Node) → is_value_node 
 remove-stands x [] old n is undotted h = child-stands x old n is undotted h
 remove-stands x (y ∷ inner) old n is undotted h = below-stands false x (remove_below (y ∷ inner)) old n is undotted h
 
-pub remove_changes : RemoveChanges
-remove_changes d t path v k l old x inner n read names is_there is_value gone =
-    value-changes false remove_below (k ∷ x ∷ inner) (remove-goes-down k (x ∷ inner)) d t path v k l old n read names is_there is_value
-    (λ undotted. remove-stands x inner old n is_value undotted gone)
-    (ap (λ o. mapped (λ xs. table v.fields (slots_from xs)) (change_slot false k (remove_below (x ∷ inner)) (slot_list v.slots) o)) is_there
-    ∙ ap (λ a. mapped (λ xs. table v.fields (slots_from xs)) (mapped (λ m. changed k (λ (old : Slot). (old.0, m)) (slot_list v.slots)) a)) gone)
+module _ (mode : Mode) where
+  pub remove_drops : RemoveDrops mode
+  remove_drops d t path v k s read names is_there is =
+      let way = names.way in
+      let u : Tree = edited way (without_key k) t in
+      let law = removed mode t way v k s read.made (steady-tree mode d t read.tree) names.leads is_there in
+      let here : remove_below (k ∷ []) (table v.fields v.slots) ≡ done (table v.fields (slots_from (without_key k (slot_list v.slots)))) =
+      ap (λ o. mapped (λ xs. table v.fields (slots_from xs)) (drop_slot k (slot_list v.slots) (present o))) is_there
+      ∙ ap (λ o. mapped (λ xs. table v.fields (slots_from xs)) (drop_slot k (slot_list v.slots) o)) (item-present s.0 s.1 is) in
+      let along = goes-along false remove_below (k ∷ []) (remove-goes-down k []) (without_key k) way path (root_visit t) v names.goes names.leads here in (
+        u,
+        ap (mapped (with_slots t)) along,
+        law.0,
+        record {
+          read = statements-read mode d t read;
+          left = ap statements law.0;
+          text = edited-text mode d t read way (without_key k) ∙ ap (λ ss. text_with mode d (statements ss)) law.0;
+        },
+        law.2,
+      )
+
+  pub remove_element_drops : RemoveElementDrops mode
+  remove_element_drops d t path v w k x i read names number (l, e, xs, before, f, ss, after, is_there, items, place, last) =
+      let way = names.way in
+      let g : List Slot → List Slot = changed k (λ s. (s.0, in_tables (without_item i) s.1)) in
+      let u : Tree = edited way g t in
+      let law = removed_element mode t way v w k i read.made (steady-tree mode d t read.tree) names.leads (l, e, xs, before, f, ss, after, is_there, items, place, last) in
+      let element : element_of is_table x (item_list xs) ≡ Some (i, table f ss) = element-there is_table x i (item_list xs) before (table f ss) after number items place refl in
+      let inside : remove_below (x ∷ []) (tables e xs) ≡ done (tables e (items_from (without_item i (item_list xs)))) =
+      ap (λ o. mapped (λ ns. tables e (items_from ns)) (drop_element (item_list xs) o)) element in
+      let here : remove_below (k ∷ x ∷ []) (table v.fields v.slots) ≡ done (table v.fields (slots_from (g (slot_list v.slots)))) =
+      ap (λ o. mapped (λ ys. table v.fields (slots_from ys)) (change_slot false k (remove_below (x ∷ [])) (slot_list v.slots) o)) is_there
+      ∙ ap (λ a. mapped (λ ys. table v.fields (slots_from ys)) (mapped (λ m. changed k (λ (old : Slot). (old.0, m)) (slot_list v.slots)) a)) inside
+      ∙ ap (λ ys. done (table v.fields (slots_from ys)))
+      (changed-same k (λ old. (old.0, tables e (items_from (without_item i (item_list xs))))) (λ s. (s.0, in_tables (without_item i) s.1)) (slot_list v.slots) (l, tables e xs) is_there refl) in
+      let along = goes-along false remove_below (k ∷ x ∷ []) (remove-goes-down k (x ∷ [])) g way path (root_visit t) v names.goes names.leads here in (
+        u,
+        ap (mapped (with_slots t)) along,
+        record {
+          read = statements-read mode d t read;
+          left = law.0;
+          text = edited-text mode d t read way g ∙ ap (text_with mode d) law.0;
+        },
+        law.2,
+      )
+
+  -- ---- inside a value
+
+  pub remove_changes : RemoveChanges mode
+  remove_changes d t path v k l old x inner n read names is_there is_value gone =
+      value-changes mode false remove_below (k ∷ x ∷ inner) (remove-goes-down k (x ∷ inner)) d t path v k l old n read names is_there is_value
+      (λ undotted. remove-stands x inner old n is_value undotted gone)
+      (ap (λ o. mapped (λ xs. table v.fields (slots_from xs)) (change_slot false k (remove_below (x ∷ inner)) (slot_list v.slots) o)) is_there
+      ∙ ap (λ a. mapped (λ xs. table v.fields (slots_from xs)) (mapped (λ m. changed k (λ (old : Slot). (old.0, m)) (slot_list v.slots)) a)) gone)

@@ -1,13 +1,15 @@
 -- `set` at a value of a table that the walk enters, or inside it.
 use Rattle.std.proofs.Common.{◌≡◌, refl, sym, ◌∙◌, ap, subst, Bool, true, false, List, [], ◌∷◌, ◌++◌, Some}
 use Rattle.std.specs.Prelude.{not}
-use Rattle.toml_edit_model.specs.Text.{Text, newline}
-use Rattle.toml_edit_model.specs.Syntax.{Statement, key_line, Document}
+use Rattle.toml_edit_model.specs.Normal.{normal_last}
+use Rattle.toml_edit_model.specs.Mode.{Mode}
+use Rattle.toml_edit_model.specs.Text.{Text}
+use Rattle.toml_edit_model.specs.Syntax.{Statement, key_line, Document, Frame}
 use Rattle.toml_edit_model.specs.Paths.{Path, to_key}
 use Rattle.toml_edit_model.specs.Tree.{Decor, Key, Node, nothing, leaf, list, inline, table, tables, Tree, node_decor, is_value_node, SlotsAreWellMade}
 use Rattle.toml_edit_model.specs.HeaderOrder.{Visit}
-use Rattle.toml_edit_model.specs.Fits.{is_dotted_inline, is_steady}
-use Rattle.toml_edit_model.specs.Print.{Printed, printed, printed_line, printed_table, frame_of, value_of, line_statement}
+use Rattle.toml_edit_model.specs.Fits.{is_dotted_inline, is_steady_in}
+use Rattle.toml_edit_model.specs.Print.{Printed, printed, printed_line, printed_table, value_of, line_statement}
 use Rattle.toml_edit_model.specs.Conversions.{with_decor}
 use Rattle.toml_edit_model.specs.SlotLists.{Slot, slot_list, item_list, slot_of, changed, new_key}
 use Rattle.toml_edit_laws.specs.Locality.{Turn, root_visit, edited, slots_from, items_from, is_plain_value, value_line, statements, OneChanges, OneMore, StaysSteady}
@@ -75,81 +77,6 @@ set-stands value [] (table f ss) n is undotted plain h = absurd cc
 set-stands value [] (tables e xs) n is undotted plain h = absurd cc
 set-stands value [] nothing n is undotted plain h = absurd cc
 
--- ---- the statement that changes
-
-module _ (d : Document) (t : Tree) (read : IsRead d t) (way : List Turn) (g : List Slot → List Slot) (p : Path) (l : Key) (old n : Node)
-    (same : node_decor n ≡ node_decor old) (one : OneChanges t (edited way g t) p l l old n) where
-  abbrev at_end : List Key
-  at_end = one.keys ++ (l ∷ [])
-
-  framed-old : line_statement (value_line at_end old) ≡ key_line (frame_of [] [] (value_line at_end old)) (value_of old) newline
-  framed-old = (keeps_frame at_end old n same).0
-
-  framed-new : line_statement (value_line at_end n) ≡ key_line (frame_of [] [] (value_line at_end old)) (value_of n) newline
-  framed-new = (keeps_frame at_end old n same).1
-
-  abbrev as_printed : Path → Statement → Printed
-  as_printed q s = record { block = one.block; path = q; statement = s }
-
-  first-is : printed t ≡ one.before ++ (as_printed p (key_line (frame_of [] [] (value_line at_end old)) (value_of old) newline) ∷ one.after)
-  first-is =
-      one.first ∙ ap (λ q. one.before ++ (as_printed q (line_statement (value_line at_end old)) ∷ one.after)) one.path
-      ∙ ap (λ s. one.before ++ (as_printed p s ∷ one.after)) framed-old
-
-  second-is : printed (edited way g t) ≡ one.before ++ (as_printed p (key_line (frame_of [] [] (value_line at_end old)) (value_of n) newline) ∷ one.after)
-  second-is =
-      one.second ∙ ap (λ q. one.before ++ (as_printed q (line_statement (value_line at_end n)) ∷ one.after)) one.other_path
-      ∙ ap (λ s. one.before ++ (as_printed p s ∷ one.after)) framed-new
-
-  pub changes-statement : ChangesStatement d t (edited way g t) p old n
-  changes-statement =
-      let frame = frame_of [] [] (value_line at_end old) in
-      let x = as_printed p (key_line frame (value_of old) newline) in
-      let y = as_printed p (key_line frame (value_of n) newline) in
-      record {
-        before = one.before;
-        after = one.after;
-        block = one.block;
-        frame = frame;
-        first = first-is;
-        second = second-is;
-        others_before = one.others_before;
-        others_after = one.others_after;
-        read = statements-read d t read ∙ ap statements first-is ∙ statements-append one.before (x ∷ one.after);
-        text = edited-text d t read way g ∙ ap (λ ss. text_with d (statements ss)) second-is ∙ ap (text_with d) (statements-append one.before (y ∷ one.after));
-      }
-
--- a command that changes a value of a table that the walk enters, on its way inside
-module _ (makes : Bool) (run : List Text → Node → Answer Node) (rest : List Text)
-    (goes_down : (k : Text) (path : List Text) (n : Node) → run (k ∷ (path ++ rest)) n ≡ below makes k (run (path ++ rest)) n) where
-  pub value-changes : (d : Document) (t : Tree) (path : List Text) (v : Visit) (k : Text) (l : Key) (old n : Node)
-      → IsRead d t → (names : NamesTable t path v) → slot_of k (slot_list v.slots) ≡ Some (l, old) → is_value_node old ≡ true
-      → (is_dotted_inline old ≡ false → Stands old n)
-      → run rest (table v.fields v.slots) ≡ done (table v.fields (slots_from (changed k (λ (s : Slot). (s.0, n)) (slot_list v.slots))))
-      → (u : Tree) × (mapped (with_slots t) (run (path ++ rest) (root_item t)) ≡ done u) × ChangesStatement d t u (to_key v.path l.name) old n × StaysSteady t u
-  value-changes d t path v k l old n read names is_there is_value stands here =
-      let way = names.way in
-      let g : List Slot → List Slot = changed k (λ s. (s.0, n)) in
-      let u : Tree = edited way g t in
-      let steady : is_steady t ≡ true = steady-tree d t read.tree in
-      let st : Steady t = steady-parts t steady in
-      let well : SlotsAreWellMade v.slots = leads-made way (root_visit t) v read.made names.leads in
-      let fd : Found k (l, old) (slot_list v.slots) = found k v.slots (l, old) well is_there in
-      let parts = sound-slot k (l, old) v.slots fd (leads-sound way (root_visit t) v read.made st.sound names.leads) in
-      let new : Stands old n = stands parts.1 in
-      let law = replaced t way v k (λ x. x) l old n read.made steady names.leads is_there is_value new.0 refl in
-      let along = goes-along makes run rest goes_down g way path (root_visit t) v names.goes names.leads here in
-      (u, ap (mapped (with_slots t)) along, changes-statement d t read way g (to_key v.path l.name) l old n new.1 law.0, law.1)
-
-pub set_changes : SetChanges
-set_changes d t path v k l old inner value n read names is_there is_value plain set =
-    value-changes true (set_below value) (k ∷ inner) (λ j more n. refl) d t path v k l old n read names is_there is_value
-    (λ undotted. set-stands value inner old n is_value undotted plain set)
-    (ap (λ o. mapped (λ xs. table v.fields (slots_from xs)) (change_slot true k (set_below value inner) (slot_list v.slots) o)) is_there
-    ∙ ap (λ a. mapped (λ xs. table v.fields (slots_from xs)) (mapped (λ m. changed k (λ (old : Slot). (old.0, m)) (slot_list v.slots)) a)) set)
-
--- ---- a new key
-
 pub made-below-is : (value : Node) (more : List Text) → set_below value more nothing ≡ done (made_below more value)
 made-below-is value [] = refl
 made-below-is value (k ∷ more) = rw (made-below-is value more) refl
@@ -158,35 +85,118 @@ made-below-plain : (value : Node) (more : List Text) → is_plain_value value �
 made-below-plain value [] h = h
 made-below-plain value (k ∷ more) h = refl
 
-module _ (d : Document) (t : Tree) (read : IsRead d t) (way : List Turn) (g : List Slot → List Slot) (v : Visit) (k : Key) (n : Node)
-    (one : OneMore t (edited way g t) v k n) where
-  pub adds-statement : AddsStatement d t (edited way g t) v k n
-  adds-statement =
-      let block = printed_table true v in
-      let line = printed_line v.path (value_line (k ∷ []) n) in
-      record {
-        before = one.before;
-        after = one.after;
-        first = one.first;
-        second = one.second;
-        others_before = one.others_before;
-        others_in = one.others_in;
-        others_after = one.others_after;
-        read = statements-read d t read ∙ ap statements one.first ∙ statements-append one.before (block ++ one.after)
-            ∙ ap (λ z. statements one.before ++ z) (statements-append block one.after);
-        text = edited-text d t read way g ∙ ap (λ ss. text_with d (statements ss)) one.second
-            ∙ ap (text_with d) (statements-append one.before (block ++ (line ∷ one.after))
-            ∙ ap (λ z. statements one.before ++ z) (statements-append block (line ∷ one.after)));
-      }
+module _ (mode : Mode) where
+  -- ---- the statement that changes
 
-pub set_adds : SetAdds
-set_adds d t path v k more value read names is_new plain has =
-    let way = names.way in
-    let n : Node = made_below more value in
-    let g : List Slot → List Slot = λ ss. ss ++ ((new_key k, n) ∷ []) in
-    let law = added t way v (new_key k) n read.made (steady-tree d t read.tree) names.leads is_new (made-below-plain value more plain) has in
-    let here : set_below value (k ∷ more) (table v.fields v.slots) ≡ done (table v.fields (slots_from (g (slot_list v.slots)))) =
-    ap (λ o. mapped (λ xs. table v.fields (slots_from xs)) (change_slot true k (set_below value more) (slot_list v.slots) o)) is_new
-    ∙ ap (λ a. mapped (λ xs. table v.fields (slots_from xs)) (mapped (λ m. slot_list v.slots ++ ((new_key k, m) ∷ [])) a)) (made-below-is value more) in
-    let along = goes-along true (set_below value) (k ∷ more) (λ j rest n. refl) g way path (root_visit t) v names.goes names.leads here in
-    (edited way g t, ap (mapped (with_slots t)) along, adds-statement d t read way g v (new_key k) n law.0, law.1)
+  module _ (d : Document) (t : Tree) (read : IsRead mode d t) (way : List Turn) (g : List Slot → List Slot) (p : Path) (l : Key) (old n : Node)
+      (same : node_decor n ≡ node_decor old) (one : OneChanges mode t (edited way g t) p l l old n) where
+    abbrev at_end : List Key
+    at_end = one.keys ++ (l ∷ [])
+
+    abbrev frame : Frame
+    frame = (keeps_frame mode at_end old n same).0
+
+    abbrev end : Text
+    end = (keeps_frame mode at_end old n same).1
+
+    framed-old : line_statement mode (value_line mode at_end old) ≡ key_line frame (value_of mode old) end
+    framed-old = (keeps_frame mode at_end old n same).2
+
+    framed-new : line_statement mode (value_line mode at_end n) ≡ key_line frame (value_of mode n) end
+    framed-new = (keeps_frame mode at_end old n same).3
+
+    abbrev as_printed : Path → Statement → Printed
+    as_printed q s = record { block = one.block; path = q; statement = s }
+
+    first-is : printed mode t ≡ one.before ++ (as_printed p (key_line frame (value_of mode old) end) ∷ one.after)
+    first-is =
+        one.first ∙ ap (λ q. one.before ++ (as_printed q (line_statement mode (value_line mode at_end old)) ∷ one.after)) one.path
+        ∙ ap (λ s. one.before ++ (as_printed p s ∷ one.after)) framed-old
+
+    second-is : printed mode (edited way g t) ≡ one.before ++ (as_printed p (key_line frame (value_of mode n) end) ∷ one.after)
+    second-is =
+        one.second ∙ ap (λ q. one.before ++ (as_printed q (line_statement mode (value_line mode at_end n)) ∷ one.after)) one.other_path
+        ∙ ap (λ s. one.before ++ (as_printed p s ∷ one.after)) framed-new
+
+    pub changes-statement : ChangesStatement mode d t (edited way g t) p old n
+    changes-statement =
+        let x = as_printed p (key_line frame (value_of mode old) end) in
+        let y = as_printed p (key_line frame (value_of mode n) end) in
+        record {
+          before = one.before;
+          after = one.after;
+          block = one.block;
+          frame = frame;
+          end = end;
+          first = first-is;
+          second = second-is;
+          others_before = one.others_before;
+          others_after = one.others_after;
+          read = statements-read mode d t read ∙ ap (λ ps. normal_last mode d (statements ps)) first-is ∙ ap (normal_last mode d) (statements-append one.before (x ∷ one.after));
+          text = edited-text mode d t read way g ∙ ap (λ ss. text_with mode d (statements ss)) second-is ∙ ap (text_with mode d) (statements-append one.before (y ∷ one.after));
+        }
+
+  -- a command that changes a value of a table that the walk enters, on its way inside
+  module _ (makes : Bool) (run : List Text → Node → Answer Node) (rest : List Text)
+      (goes_down : (k : Text) (path : List Text) (n : Node) → run (k ∷ (path ++ rest)) n ≡ below makes k (run (path ++ rest)) n) where
+    pub value-changes : (d : Document) (t : Tree) (path : List Text) (v : Visit) (k : Text) (l : Key) (old n : Node)
+        → IsRead mode d t → (names : NamesTable t path v) → slot_of k (slot_list v.slots) ≡ Some (l, old) → is_value_node old ≡ true
+        → (is_dotted_inline old ≡ false → Stands old n)
+        → run rest (table v.fields v.slots) ≡ done (table v.fields (slots_from (changed k (λ (s : Slot). (s.0, n)) (slot_list v.slots))))
+        → (u : Tree) × (mapped (with_slots t) (run (path ++ rest) (root_item t)) ≡ done u) × ChangesStatement mode d t u (to_key v.path l.name) old n × StaysSteady mode t u
+    value-changes d t path v k l old n read names is_there is_value stands here =
+        let way = names.way in
+        let g : List Slot → List Slot = changed k (λ s. (s.0, n)) in
+        let u : Tree = edited way g t in
+        let steady : is_steady_in mode t ≡ true = steady-tree mode d t read.tree in
+        let st : Steady mode t = steady-parts mode t steady in
+        let well : SlotsAreWellMade v.slots = leads-made way (root_visit t) v read.made names.leads in
+        let fd : Found k (l, old) (slot_list v.slots) = found k v.slots (l, old) well is_there in
+        let parts = sound-slot k (l, old) v.slots fd (leads-sound way (root_visit t) v read.made st.sound names.leads) in
+        let new : Stands old n = stands parts.1 in
+        let law = replaced mode t way v k (λ x. x) l old n read.made steady names.leads is_there is_value new.0 refl in
+        let along = goes-along makes run rest goes_down g way path (root_visit t) v names.goes names.leads here in
+        (u, ap (mapped (with_slots t)) along, changes-statement d t read way g (to_key v.path l.name) l old n new.1 law.0, law.1)
+
+  pub set_changes : SetChanges mode
+  set_changes d t path v k l old inner value n read names is_there is_value plain set =
+      value-changes true (set_below value) (k ∷ inner) (λ j more n. refl) d t path v k l old n read names is_there is_value
+      (λ undotted. set-stands value inner old n is_value undotted plain set)
+      (ap (λ o. mapped (λ xs. table v.fields (slots_from xs)) (change_slot true k (set_below value inner) (slot_list v.slots) o)) is_there
+      ∙ ap (λ a. mapped (λ xs. table v.fields (slots_from xs)) (mapped (λ m. changed k (λ (old : Slot). (old.0, m)) (slot_list v.slots)) a)) set)
+
+  -- ---- a new key
+
+  module _ (d : Document) (t : Tree) (read : IsRead mode d t) (way : List Turn) (g : List Slot → List Slot) (v : Visit) (k : Key) (n : Node)
+      (one : OneMore mode t (edited way g t) v k n) where
+    pub adds-statement : AddsStatement mode d t (edited way g t) v k n
+    adds-statement =
+        let block = printed_table mode true v in
+        let line = printed_line mode v.path (value_line mode (k ∷ []) n) in
+        record {
+          before = one.before;
+          after = one.after;
+          first = one.first;
+          second = one.second;
+          others_before = one.others_before;
+          others_in = one.others_in;
+          others_after = one.others_after;
+          read = statements-read mode d t read ∙ ap (λ ps. normal_last mode d (statements ps)) one.first
+              ∙ ap (normal_last mode d) (statements-append one.before (block ++ one.after)
+              ∙ ap (λ z. statements one.before ++ z) (statements-append block one.after));
+          text = edited-text mode d t read way g ∙ ap (λ ss. text_with mode d (statements ss)) one.second
+              ∙ ap (text_with mode d) (statements-append one.before (block ++ (line ∷ one.after))
+              ∙ ap (λ z. statements one.before ++ z) (statements-append block (line ∷ one.after)));
+        }
+
+  pub set_adds : SetAdds mode
+  set_adds d t path v k more value read names is_new plain has =
+      let way = names.way in
+      let n : Node = made_below more value in
+      let g : List Slot → List Slot = λ ss. ss ++ ((new_key k, n) ∷ []) in
+      let law = added mode t way v (new_key k) n read.made (steady-tree mode d t read.tree) names.leads is_new (made-below-plain value more plain) has in
+      let here : set_below value (k ∷ more) (table v.fields v.slots) ≡ done (table v.fields (slots_from (g (slot_list v.slots)))) =
+      ap (λ o. mapped (λ xs. table v.fields (slots_from xs)) (change_slot true k (set_below value more) (slot_list v.slots) o)) is_new
+      ∙ ap (λ a. mapped (λ xs. table v.fields (slots_from xs)) (mapped (λ m. slot_list v.slots ++ ((new_key k, m) ∷ [])) a)) (made-below-is value more) in
+      let along = goes-along true (set_below value) (k ∷ more) (λ j rest n. refl) g way path (root_visit t) v names.goes names.leads here in
+      (edited way g t, ap (mapped (with_slots t)) along, adds-statement d t read way g v (new_key k) n law.0, law.1)

@@ -4,9 +4,9 @@ use Rattle.std.proofs.lemmas.Bool.{cases_Bool}
 use Rattle.std.proofs.lemmas.List.Folds.{list_all-append}
 use Rattle.toml_edit_model.specs.Text.{Text}
 use Rattle.toml_edit_model.specs.Trivia.{Each}
-use Rattle.toml_edit_model.specs.Normal.{insert_by}
 use Rattle.std.specs.List.{AllByRecursion, list_all}
 use Rattle.toml_edit_laws.proofs.common.Tests.{and_right, and_left}
+use Rattle.toml_edit_model.specs.Order.{insert_by}
 use Rattle.std.specs.Prelude.{filter, map}
 
 pub all-insert : {A : Type 0} (P : A → Type 0) (before : A → A → Bool) (a : A) (xs : List A) → P a → AllByRecursion P xs → AllByRecursion P (insert_by before a xs)

@@ -1,7 +1,7 @@
 -- Steps that may fail.
 use Rattle.std.proofs.Common.{◌≡◌, Bool, true, false, cond, Option, Some, None, refl}
 use Rattle.std.specs.Prelude.{option_map, option_and_then, is_some}
-use Rattle.toml_edit_model.specs.Normal.{option_or}
+use Rattle.std.specs.Option.{option_or}
 
 -- a function that always gives something was given something
 pub map_some : {A B : Type 0} (o : Option A) (f : A → B) (y : B) → option_map f o ≡ Some y → (x : A) × (o ≡ Some x) × (f x ≡ y)

@@ -3,12 +3,12 @@ use Rattle.std.proofs.Common.{◌≡◌, refl, sym, ◌∙◌, ap, ℕ, ◌+◌,
 use Rattle.std.specs.Prelude.{◌&&◌, not, nat_lt, filter, map, if◌then◌else◌, int_le}
 use Rattle.std.specs.List.{AllByRecursion, position_or_len}
 use Rattle.std.proofs.lemmas.Bool.{lt-ltb, le-ltb, cases_Bool, cases_lt, not-true}
-use Rattle.toml_edit_model.specs.Normal.{insert_by, sorted_by}
 use Rattle.toml_edit_laws.proofs.common.Each.{all-insert, all_pass, all-map}
 use Rattle.std.proofs.lemmas.Int.{ints}
 use Rattle.toml_edit_laws.proofs.common.Tests.{true-false}
 use Rattle.toml_edit_laws.proofs.common.Members.{Among, all-among}
 use Rattle.toml_edit_laws.proofs.common.Pairs.{AllPairs}
+use Rattle.toml_edit_model.specs.Order.{insert_by, sorted_by}
 
 -- ---- what holds of each element
 

@@ -1,6 +1,5 @@
 -- Lists put in an order by insertion: what holds of each two elements, what is left out before or after, and one element changed.
 use Rattle.std.proofs.Common.{Bool, false, List, true, ◌∷◌, inr, inl, refl, ◌≡◌, sym, ap, ◌∙◌, subst, ◌++◌, []}
-use Rattle.toml_edit_model.specs.Normal.{insert_by, sorted_by}
 use Rattle.std.specs.List.{AllByRecursion}
 use Rattle.std.specs.Prelude.{if◌then◌else◌, filter}
 use Rattle.std.proofs.lemmas.Bool.{cases_Bool}
@@ -8,6 +7,7 @@ use Rattle.toml_edit_laws.proofs.common.Pairs.{AllPairs}
 use Rattle.toml_edit_laws.proofs.common.Each.{all-insert, all-filter, all-map}
 use Rattle.toml_edit_laws.proofs.common.OrderLaws.{all-sorted}
 use Rattle.toml_edit_laws.proofs.common.Tests.{if-true, if-false}
+use Rattle.toml_edit_model.specs.Order.{insert_by, sorted_by}
 
 -- what holds of an inserted element and the others
 all-inserted : {A : Type 0} (P : A → Type 0) (before : A → A → Bool) (a : A) (xs : List A) → AllByRecursion P (insert_by before a xs) → P a × AllByRecursion P xs

@@ -1,7 +1,8 @@
--- Trivia and line ends: the empty ones, and where there are no line feeds or returns.
+-- Trivia and line ends: the empty ones, and where there are no line feeds or returns; what is shown of them.
 use Rattle.toml_edit_model.specs.Trivia.{IsWholeTrivia, is_visible, Each, IsOpenComment, IsLineEnd, is_blank, IsWhiteSpace}
 use Rattle.std.proofs.Common.{refl, false, Bool, true, subst, ℕ, ◌≡◌, ap, ◌∷◌, inl, inr, sym, ◌∙◌, ◌++◌, []}
 use Rattle.toml_edit_model.specs.Text.{Text, carriage_return, without_returns, line_feed, has_byte}
+use Rattle.toml_edit_model.specs.Mode.{Mode, plain, exact, shown_text}
 use Rattle.toml_edit_model.specs.Syntax.{IsClose}
 use Rattle.toml_edit_laws.proofs.common.Tests.{false-by, and_right, and_left}
 use Rattle.std.proofs.lemmas.Bool.Decides.{Decides-eqb}
@@ -42,6 +43,14 @@ pub end-returns : (t : Text) → IsLineEnd t → without_returns t ≡ t
 end-returns t (white, rest, h, g, e) =
     ap without_returns e ∙ returns-append white rest
     ∙ ap (λ u. u ++ without_returns rest) (white-returns white h) ∙ ap (λ u. white ++ u) (open-returns rest g) ∙ sym e
+
+pub shown-append : (mode : Mode) (s t : Text) → shown_text mode (s ++ t) ≡ shown_text mode s ++ shown_text mode t
+shown-append plain s t = returns-append s t
+shown-append exact s t = refl
+
+pub end-shown : (mode : Mode) (t : Text) → IsLineEnd t → shown_text mode t ≡ t
+end-shown plain t h = end-returns t h
+end-shown exact t h = refl
 
 pub white-feed : (t : Text) → IsWhiteSpace t → has_byte line_feed t ≡ false
 white-feed [] h = refl

@@ -7,12 +7,12 @@ use Rattle.toml_edit_laws.proofs.common.Tests.{and_both}
 use Rattle.toml_edit_model.specs.Fits.{is_below}
 use Rattle.std.specs.List.{AllByRecursion, list_all}
 use Rattle.std.specs.Prelude.{if◌then◌else◌, not, ◌&&◌, int_le, ◌||◌}
-use Rattle.toml_edit_model.specs.Normal.{insert_by}
 use Rattle.toml_edit_laws.proofs.common.OrderLaws.{int_le-total, int_le-trans}
 use Rattle.toml_edit_model.specs.Tree.{no_items, leaf, no_slots, table, nothing, inline, Items, tables, Key, Node, list, Slots, item, slot}
 use Rattle.toml_edit_laws.proofs.common.Lists.{not_empty-last}
 use Rattle.toml_edit_laws.proofs.common.Each.{all-append}
 use Rattle.toml_edit_model.specs.Text.{is_empty}
+use Rattle.toml_edit_model.specs.Order.{insert_by}
 
 -- the root alone has no keys
 abbrev pub IsBelowRoot : Visit → Type 0

@@ -6,11 +6,13 @@ use Rattle.std.proofs.lemmas.List.Folds.{list_all-append, list_any-append}
 use Rattle.toml_edit_model.specs.Text.{Text, same_text, one}
 use Rattle.toml_edit_model.specs.Syntax.{mark_text}
 use Rattle.toml_edit_model.specs.Paths.{may_meet, Placed}
-use Rattle.toml_edit_model.specs.Accepted.{agree, is_sound, all_right_after, is_accepted}
+use Rattle.toml_edit_model.specs.Accepted.{agree, is_sound, is_accepted}
 use Rattle.toml_edit_model.specs.Flat.{Line, line_statement, flat_document}
+use Rattle.toml_edit_laws.specs.OneByOne.{all_right_after}
 use Rattle.toml_edit_laws.specs.FlatTree.{is_among, is_right_value, are_right, line_keys, next_line}
 use Rattle.toml_edit_laws.proofs.common.Tests.{and_left, and_right, and-assoc, not-true, append-nil, not-or, same_text-swap}
 use Rattle.toml_edit_laws.proofs.flat.Mentions.{line_mention, line_place, line_places, placed-lines}
+use Rattle.toml_edit_laws.proofs.one_by_one.Together.{accepted-is}
 
 -- the earlier statements mention these keys alone
 abbrev Mentioned : List Placed → List Text → Type 0
@@ -48,9 +50,8 @@ right-from earlier keys n start (l ∷ rest) h =
 
 -- A flat document is accepted where its lines are right.
 pub accepted : (m : Bool) (lines : List Line) (final : Text) → is_accepted (flat_document m lines final) ≡ are_right [] lines
-unfolding is_accepted
 accepted m lines final =
-    ap (all_right_after []) (placed-lines m lines final) ∙ right-from [] [] 0 (length (mark_text m)) lines (λ n start l. refl)
+    accepted-is (flat_document m lines final) ∙ ap (all_right_after []) (placed-lines m lines final) ∙ right-from [] [] 0 (length (mark_text m)) lines (λ n start l. refl)
 
 -- lines after lines
 pub are_right-append : (keys : List Text) (xs ys : List Line) → are_right keys (xs ++ ys) ≡ (are_right keys xs && are_right (keys ++ line_keys xs) ys)

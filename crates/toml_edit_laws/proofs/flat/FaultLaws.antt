@@ -9,8 +9,9 @@ use Rattle.std.proofs.lemmas.Grind.{flat_map-append}
 use Rattle.toml_edit_model.specs.Text.{Text, same_text, one}
 use Rattle.toml_edit_model.specs.Syntax.{mark_text}
 use Rattle.toml_edit_model.specs.Paths.{may_meet, Mention, Source, Placed, placed}
-use Rattle.toml_edit_model.specs.Faults.{Fault, fault, clash, first_clash, duplicate_key, cannot_extend, is_value_role, statement_value_type, statement_clash, value_faults, faults_in, first_faults}
+use Rattle.toml_edit_model.specs.Faults.{Fault, fault, clash, first_clash, duplicate_key, cannot_extend, is_value_role, statement_value_type, statement_clash, value_faults, faults_in}
 use Rattle.toml_edit_model.specs.Flat.{Line, flat_document}
+use Rattle.toml_edit_laws.specs.OneByOne.{first_faults}
 use Rattle.toml_edit_laws.specs.FlatTree.{is_among, are_right, line_keys, line_text, lines_text, key_start, value_at, next_line, end_of, is_right_value, key_faults, line_faults}
 use Rattle.toml_edit_laws.proofs.common.Tests.{append-nil, if-true, same_text-swap}
 use Rattle.toml_edit_laws.proofs.common.Members.{none-contained}

@@ -10,7 +10,7 @@ use Rattle.toml_edit_laws.specs.FlatTree.{next_line}
 
 -- where a line stands: after so many, from this byte on
 abbrev pub standing : ℕ → ℕ → Context
-standing n start = record { number = n; start = start; headers = 0; arrays = []; block = [] }
+standing n start = record { start = start; headers = 0; arrays = []; block = [] }
 
 abbrev pub line_source : ℕ → ℕ → Line → Source
 line_source n start l = source_of (standing n start) (line_statement l)

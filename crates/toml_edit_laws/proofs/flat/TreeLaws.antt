@@ -3,6 +3,7 @@
 use Rattle.std.proofs.Common.{◌≡◌, refl, sym, ◌∙◌, ap, subst, ℕ, suc, ◌+◌, ◌-◌, arith, Bool, true, false, List, [], ◌∷◌, ◌++◌, length}
 use Rattle.std.specs.Prelude.{◌&&◌, ◌||◌, not, if◌then◌else◌}
 use Rattle.std.proofs.lemmas.List.Folds.{list_any-append}
+use Rattle.toml_edit_model.specs.Mode.{with_return}
 use Rattle.toml_edit_model.specs.Text.{Text, same_text, one}
 use Rattle.toml_edit_model.specs.Syntax.{mark_text}
 use Rattle.toml_edit_model.specs.Paths.{at_key, same_path, Mention, Source, all_mentions}
@@ -74,16 +75,16 @@ module _ (form : Form) where
 
   -- the item of a line, as the statement's
   from-line : (n start : ℕ) (l : Line) (o : Node) → IsNodeOfLine form start l o → IsLineNode form (line_mention n start l).source (line_statement l) o
-  from-line n start l o h = subst (λ i. IsValueNode form l.value i l.after_equals l.trailing o) (value-begins form start l) h
+  from-line n start l o h = subst (λ i. IsValueNode form l.value i l.after_equals (with_return form.mode l.trailing l.end) o) (value-begins form start l) h
 
   -- a line's mention has the item of its value
   node-of : (ns : List (Mention Source)) (n start : ℕ) (l : Line) (o : Node) → IsNodeOfLine form start l o → IsNodeOf form ns (line_mention n start l) o
   node-of ns n start l (leaf s r d) h = (refl, from-line n start l (leaf s r d) h)
   node-of ns n start l (list f xs) h = (refl, from-line n start l (list f xs) h)
   node-of ns n start l (inline f us) h = (refl, from-line n start l (inline f us) h)
-  node-of ns n start l (table f us) h = absurd (let same : false ≡ true = (value_item l.value form (after_equals_start start l) l.after_equals l.trailing (table f us) h).is_value in cc)
-  node-of ns n start l (tables e xs) h = absurd (let same : false ≡ true = (value_item l.value form (after_equals_start start l) l.after_equals l.trailing (tables e xs) h).is_value in cc)
-  node-of ns n start l nothing h = absurd (let same : false ≡ true = (value_item l.value form (after_equals_start start l) l.after_equals l.trailing nothing h).is_value in cc)
+  node-of ns n start l (table f us) h = absurd (let same : false ≡ true = (value_item l.value form (after_equals_start start l) l.after_equals (with_return form.mode l.trailing l.end) (table f us) h).is_value in cc)
+  node-of ns n start l (tables e xs) h = absurd (let same : false ≡ true = (value_item l.value form (after_equals_start start l) l.after_equals (with_return form.mode l.trailing l.end) (tables e xs) h).is_value in cc)
+  node-of ns n start l nothing h = absurd (let same : false ≡ true = (value_item l.value form (after_equals_start start l) l.after_equals (with_return form.mode l.trailing l.end) nothing h).is_value in cc)
 
   slots-of : (ms : List (Mention Source)) (n start : ℕ) (lines : List Line) (ss : Slots) → AreLineSlots form start lines ss
       → AreSlotsOf form ms (line_mentions_from n start lines) ss

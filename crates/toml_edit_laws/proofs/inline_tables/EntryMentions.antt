@@ -126,13 +126,13 @@ module _ (form : Form) where
 
   -- mentions that agree with those of the pairs
   cross : (may : Role → Role → Bool) (earlier : List (Mention PairSource)) (start number : ℕ) (ps : Pairs) (i : ℕ)
-      → list_all (agree may earlier) (pair_mentions start number ps) ≡ true → (m : Mention PairSource) (n : Mention Entry)
+      → list_all (agree may earlier) (pair_mentions start ps) ≡ true → (m : Mention PairSource) (n : Mention Entry)
       → Among m earlier → Among n (entries form ps i) → m.path ≡ n.path → may m.role n.role ≡ true
   cross may earlier start number no_pairs i h m n a b e = elim b [ ]
   cross may earlier start number (pair f v ps) i h m n a b e =
       elim (among-cases n (own_mentions i f v) (entries form ps (after_pair i f v)) b) [
         | inl g ↦
-            let t = twin (entry_of form i f v) (record { number = number; frame = f; value = v }) (i + length f.leading) (start + length f.leading) [] f.path n g in
+            let t = twin (entry_of form i f v) (record { frame = f; value = v }) (i + length f.leading) (start + length f.leading) [] f.path n g in
             subst (λ r. may m.role r ≡ true) t.3 (agree-may may earlier _ m t.0 (and_left _ _ h) a t.1 (e ∙ sym t.2))
         | inr g ↦
             cross may earlier (start + length (frame_text f (value_text v)) + 1) (suc number) ps (after_pair i f v) (and_right _ _ h) m n a g e
@@ -183,7 +183,7 @@ module _ (form : Form) where
             (found.0, found.1, found.2, among-right found.0 (own_mentions i f v) (rest_of f v ps i) found.3, found.4)
       ]
 
-  entry-alone : (start number : ℕ) (ps : Pairs) (i : ℕ) → all_agree may_meet_inline (pair_mentions start number ps) ≡ true
+  entry-alone : (start number : ℕ) (ps : Pairs) (i : ℕ) → all_agree may_meet_inline (pair_mentions start ps) ≡ true
       → (m n : Mention Entry) → Among m (entries form ps i) → Among n (entries form ps i) → m.role ≡ value_role → (r : Path)
       → n.path ≡ m.path ++ r → n ≡ m
   entry-alone start number no_pairs i h m n a b v r e = elim a [ ]
@@ -197,7 +197,7 @@ module _ (form : Form) where
                   let met = entry-closed ps (after_pair i f w) n y at.0 at.1 r (e ∙ ap (λ p. p ++ r) at.2) in
                   let t = twin (entry_of form i f w) own_source (i + length f.leading) (start + length f.leading) [] f.path m x in
                   absurd (no-value-first met.0.role (subst (λ k. may_meet_inline k met.0.role ≡ true) (t.3 ∙ v)
-                  (cross may_meet_inline _ _ _ ps (after_pair i f w) (and_left _ _ h) t.0 met.0 t.1 met.1 (t.2 ∙ at.2 ∙ sym met.2))))
+                  (cross may_meet_inline _ _ 0 ps (after_pair i f w) (and_left _ _ h) t.0 met.0 t.1 met.1 (t.2 ∙ at.2 ∙ sym met.2))))
             ]
         | inr x ↦
             elim (among-cases n (own_mentions i f w) (rest_of f w ps i) b) [
@@ -206,16 +206,16 @@ module _ (form : Form) where
                   let met = line-closed (entry_of form i f w) (i + length f.leading) [] f.path n y at.0 at.1 r (e ∙ ap (λ p. p ++ r) at.2) in
                   let t = twin (entry_of form i f w) own_source (i + length f.leading) (start + length f.leading) [] f.path met.0 met.1 in
                   absurd (no-value-last t.0.role (subst (λ k. may_meet_inline t.0.role k ≡ true) v
-                  (cross may_meet_inline _ _ _ ps (after_pair i f w) (and_left _ _ h) t.0 m t.1 x (t.2 ∙ met.2 ∙ sym at.2))))
+                  (cross may_meet_inline _ _ 0 ps (after_pair i f w) (and_left _ _ h) t.0 m t.1 x (t.2 ∙ met.2 ∙ sym at.2))))
               | inr y ↦ entry-alone (start + length (frame_text f (value_text w)) + 1) (suc number) ps (after_pair i f w) (and_right _ _ h) m n x y v r e
             ]
       ]
     where
       own_source : PairSource
-      own_source = record { number = number; frame = f; value = w }
+      own_source = record { frame = f; value = w }
 
   -- The mentions of agreeing pairs.
-  pub entries-agree : (ps : Pairs) (i : ℕ) → all_agree may_meet_inline (pair_mentions 0 0 ps) ≡ true → AgreeingMentions (entries form ps i)
+  pub entries-agree : (ps : Pairs) (i : ℕ) → all_agree may_meet_inline (pair_mentions 0 ps) ≡ true → AgreeingMentions (entries form ps i)
   entries-agree ps i h =
       record {
         roles = entry-roles ps i;

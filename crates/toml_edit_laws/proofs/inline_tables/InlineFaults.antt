@@ -46,14 +46,14 @@ clash-of-values None = refl
 clash-of-values (Some c) = refl
 
 clashes-of-values : (earlier : List (Mention PairSource)) (start number : ℕ) (ps : Pairs)
-    → pair_clashes earlier (pair_mentions start number ps) ≡ value_clashes (map (sourced value_of_pair) earlier) (value_paths start ps)
+    → pair_clashes earlier (pair_mentions start ps) ≡ value_clashes (map (sourced value_of_pair) earlier) (value_paths start ps)
 clashes-of-values earlier start number no_pairs = refl
 clashes-of-values earlier start number (pair f v ps) =
-    let source : PairSource = record { number = number; frame = f; value = v } in
+    let source : PairSource = record { frame = f; value = v } in
     let m = line_mentions source (start + length f.leading) [] f.path in
     let values = line_mentions v (start + length f.leading) [] f.path in
     let here : map (sourced value_of_pair) m ≡ values = line-sourced value_of_pair source (start + length f.leading) [] f.path in
-    ap (λ fs. fs ++ pair_clashes (earlier ++ m) (pair_mentions (next_pair start f v) (suc number) ps))
+    ap (λ fs. fs ++ pair_clashes (earlier ++ m) (pair_mentions (next_pair start f v) ps))
     (clash-of-values (first_clash may_meet_inline earlier m)
     ∙ ap value_clash (sym (clash-sourced value_of_pair may_meet_inline earlier m) ∙ ap (first_clash may_meet_inline (map (sourced value_of_pair) earlier)) here))
     ∙ ap (λ fs. value_clash (first_clash may_meet_inline (map (sourced value_of_pair) earlier) values) ++ fs)
@@ -170,7 +170,7 @@ module _ (form : Form) where
 
   -- Where the pairs clash, the first fault is that of the first that can't be added; else there is none.
   pub entries_fault : (ps : Pairs) (start number : ℕ) (ns : Items) → AreKeyed ps → ArePairNodes form ps start ns
-      → BeginWith (entries_clash form ps start ns no_slots) (pair_clashes [] (pair_mentions start number ps))
+      → BeginWith (entries_clash form ps start ns no_slots) (pair_clashes [] (pair_mentions start ps))
   entries_fault ps start number ns keyed nodes =
       subst (BeginWith (entries_clash form ps start ns no_slots)) (sym (clashes-of-values [] start number ps))
       (first-all ps start ns [] no_slots keyed nodes agreeing-none tt)
@@ -219,9 +219,9 @@ module _ (form : Form) where
 
   -- A pair that clashes with the slots of agreeing pairs before it is the first fault.
   pub clash_fault : (ps : Pairs) (f : Frame) (v : Value) (more : Pairs) (start number : ℕ) (ss : Slots) (c : Mention Entry × Node)
-      → all_agree may_meet_inline (pair_mentions start number ps) ≡ true → AreAgreeing (entries form ps start)
+      → all_agree may_meet_inline (pair_mentions start ps) ≡ true → AreAgreeing (entries form ps start)
       → AreEntrySlots form (entries form ps start) (kept (entries form ps start)) ss → entry_clash (pair_path form (end_of_pairs start ps) f v) ss ≡ Some c
-      → BeginWith (Some c) (pair_clashes [] (pair_mentions start number (followed_by ps (pair f v more))))
+      → BeginWith (Some c) (pair_clashes [] (pair_mentions start (followed_by ps (pair f v more))))
   clash_fault ps f v more start number ss c right are h e =
       let end = end_of_pairs start ps in
       let ms = entries form ps start in

@@ -53,7 +53,7 @@ module _ (form : Form) where
       (and_right (agree may_meet_inline ms path) rest here))
 
   -- The mentions of agreeing pairs.
-  pub agreeing_entries : (ps : Pairs) (start place number : ℕ) → all_agree may_meet_inline (pair_mentions place number ps) ≡ true → AreAgreeing (entries form ps start)
+  pub agreeing_entries : (ps : Pairs) (start place number : ℕ) → all_agree may_meet_inline (pair_mentions place ps) ≡ true → AreAgreeing (entries form ps start)
   agreeing_entries ps start place number h =
       agree-all ps start [] agreeing-none
       (and_both (list_all (agree may_meet_inline []) (entry_paths form ps start)) (all_agree may_meet_inline (entry_paths form ps start))
@@ -77,19 +77,19 @@ module _ (form : Form) where
       ∙ ap (λ us. AgreeAfter ms (pair f v ps) start && AgreeAfter us qs end) (append_assoc ms path (entries form ps next))
 
   -- from nothing
-  agreement-from : (ps : Pairs) (start place number : ℕ) → AgreeAfter [] ps start ≡ all_agree may_meet_inline (pair_mentions place number ps)
+  agreement-from : (ps : Pairs) (start place number : ℕ) → AgreeAfter [] ps start ≡ all_agree may_meet_inline (pair_mentions place ps)
   agreement-from ps start place number =
       ap (λ b. b && all_agree may_meet_inline (entry_paths form ps start)) (all-with-none form (entry_paths form ps start)) ∙ agreement-of form ps start place number
 
   -- One pair more agrees where it does with the mentions of the others.
   pub agreement_followed : (ps : Pairs) (f : Frame) (v : Value) (start place number : ℕ)
-      → all_agree may_meet_inline (pair_mentions place number (followed_by ps (pair f v no_pairs)))
-      ≡ (all_agree may_meet_inline (pair_mentions place number ps) && agree may_meet_inline (entries form ps start) (pair_path form (end_of_pairs start ps) f v))
+      → all_agree may_meet_inline (pair_mentions place (followed_by ps (pair f v no_pairs)))
+      ≡ (all_agree may_meet_inline (pair_mentions place ps) && agree may_meet_inline (entries form ps start) (pair_path form (end_of_pairs start ps) f v))
   agreement_followed ps f v start place number =
       sym (agreement-from (followed_by ps (pair f v no_pairs)) start place number)
       ∙ agree-followed ps (pair f v no_pairs) start []
       ∙ ap (λ b. b && AgreeAfter (entries form ps start) (pair f v no_pairs) (end_of_pairs start ps)) (agreement-from ps start place number)
-      ∙ ap (λ b. all_agree may_meet_inline (pair_mentions place number ps) && b)
+      ∙ ap (λ b. all_agree may_meet_inline (pair_mentions place ps) && b)
       (and-true (agree may_meet_inline (entries form ps start) (pair_path form (end_of_pairs start ps) f v) && true)
       ∙ and-true (agree may_meet_inline (entries form ps start) (pair_path form (end_of_pairs start ps) f v)))
 
@@ -98,7 +98,7 @@ module _ (form : Form) where
   -- The slots are those of these pairs, which agree.
   pub record AreSlotsOfPairs (ps : Pairs) (start : ℕ) (ss : Slots) : Type 0 where
     pub slots : AreEntrySlots form (entries form ps start) (kept (entries form ps start)) ss
-    pub agreement : all_agree may_meet_inline (pair_mentions 0 0 ps) ≡ true
+    pub agreement : all_agree may_meet_inline (pair_mentions 0 ps) ≡ true
 
   pub at_first : (start : ℕ) → AreSlotsOfPairs no_pairs start no_slots
   at_first start = record { slots = tt; agreement = refl }
@@ -118,18 +118,18 @@ module _ (form : Form) where
       record {
         slots = subst (λ us. AreEntrySlots form us (kept us) next) all (entry_added form end f v (entries form ps start) n ss next node are.pairs h.slots e);
         agreement = agreement_followed ps f v start 0 0
-            ∙ and_both (all_agree may_meet_inline (pair_mentions 0 0 ps)) (agree may_meet_inline (entries form ps start) path) h.agreement agreed;
+            ∙ and_both (all_agree may_meet_inline (pair_mentions 0 ps)) (agree may_meet_inline (entries form ps start) path) h.agreement agreed;
       }
 
   -- One that can't be added is where the pairs cease to agree, and the first fault, whatever follows.
   pub one_clash : (ps : Pairs) (f : Frame) (v : Value) (more : Pairs) (start number : ℕ) (ss : Slots) (c : Mention Entry × Node) → AreSlotsOfPairs ps start ss
       → entry_clash (pair_path form (end_of_pairs start ps) f v) ss ≡ Some c
-      → (all_agree may_meet_inline (pair_mentions 0 0 (followed_by ps (pair f v more))) ≡ false)
-      × BeginWith (Some c) (pair_clashes [] (pair_mentions start number (followed_by ps (pair f v more))))
+      → (all_agree may_meet_inline (pair_mentions 0 (followed_by ps (pair f v more))) ≡ false)
+      × BeginWith (Some c) (pair_clashes [] (pair_mentions start (followed_by ps (pair f v more))))
   one_clash ps f v more start number ss c h e =
       let end = end_of_pairs start ps in
       let are = agreeing_entries ps start 0 0 h.agreement in
-      let right : all_agree may_meet_inline (pair_mentions start number ps) ≡ true =
+      let right : all_agree may_meet_inline (pair_mentions start ps) ≡ true =
       sym (agreement-of form ps start start number) ∙ agreement-of form ps start 0 0 ∙ h.agreement in
       let ms = entries form ps start in
       let path = pair_path form end f v in
@@ -138,7 +138,7 @@ module _ (form : Form) where
       agree-clash may_meet_inline ms path
       ∙ sym (same-none form (entry_clash path ss) (first_clash may_meet_inline ms path) (entry_clashes form (entry_of form end f v) (end + length f.leading) f.path ms ss are h.slots))
       ∙ ap is_none e in
-      let apart : all_agree may_meet_inline (pair_mentions 0 0 (followed_by ps (pair f v more))) ≡ false =
+      let apart : all_agree may_meet_inline (pair_mentions 0 (followed_by ps (pair f v more))) ≡ false =
       sym (agreement-from (followed_by ps (pair f v more)) start 0 0)
       ∙ agree-followed ps (pair f v more) start []
       ∙ ap (λ b. AgreeAfter [] ps start && ((b && list_all (agree may_meet_inline ms) rest) && all_agree may_meet_inline (entry_paths form (pair f v more) end))) off

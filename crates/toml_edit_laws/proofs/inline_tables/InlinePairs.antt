@@ -48,21 +48,21 @@ module _ (form : Form) where
 
   -- ---- whether it goes through
 
-  bare-paths : (ps : Pairs) (start place number : ℕ) → map (map bare) (entry_paths ps start) ≡ map (map bare) (pair_mentions place number ps)
+  bare-paths : (ps : Pairs) (start place number : ℕ) → map (map bare) (entry_paths ps start) ≡ map (map bare) (pair_mentions place ps)
   bare-paths no_pairs start place number = refl
   bare-paths (pair f v ps) start place number =
-      let source : PairSource = record { number = number; frame = f; value = v } in
+      let source : PairSource = record { frame = f; value = v } in
       ap (λ m. m ∷ map (map bare) (entry_paths ps (next_pair start f v)))
       (line-bare (entry_of form start f v) source (start + length f.leading) (place + length f.leading) [] f.path)
       ∙ ap (λ rest. map bare (line_mentions source (place + length f.leading) [] f.path) ∷ rest)
       (bare-paths ps (next_pair start f v) (next_pair place f v) (suc number))
 
   -- wherever the table begins, and whatever is told of its pairs
-  pub agreement-of : (ps : Pairs) (start place number : ℕ) → all_agree may_meet_inline (entry_paths ps start) ≡ all_agree may_meet_inline (pair_mentions place number ps)
+  pub agreement-of : (ps : Pairs) (start place number : ℕ) → all_agree may_meet_inline (entry_paths ps start) ≡ all_agree may_meet_inline (pair_mentions place ps)
   agreement-of ps start place number =
       sym (all_agree-bare may_meet_inline (entry_paths ps start))
       ∙ ap (all_agree may_meet_inline) (bare-paths ps start place number)
-      ∙ all_agree-bare may_meet_inline (pair_mentions place number ps)
+      ∙ all_agree-bare may_meet_inline (pair_mentions place ps)
 
   goes-all : (ps : Pairs) (start : ℕ) (ns : Items) (ms : List (Mention Entry)) (ss : Slots) → AreKeyed ps → ArePairNodes form ps start ns
       → AreAgreeing ms → AreEntrySlots form ms (kept ms) ss
@@ -101,7 +101,7 @@ module _ (form : Form) where
 
   -- All pairs can be added exactly where they agree.
   pub entries_go : (ps : Pairs) (start : ℕ) (ns : Items) (place number : ℕ) → AreKeyed ps → ArePairNodes form ps start ns
-      → is_some (add_entries form ps start ns no_slots) ≡ all_agree may_meet_inline (pair_mentions place number ps)
+      → is_some (add_entries form ps start ns no_slots) ≡ all_agree may_meet_inline (pair_mentions place ps)
   entries_go ps start ns place number keyed nodes =
       goes-all ps start ns [] no_slots keyed nodes agreeing-none tt
       ∙ ap (λ b. b && all_agree may_meet_inline (entry_paths ps start)) (all-with-none (entry_paths ps start))

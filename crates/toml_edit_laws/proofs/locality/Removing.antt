@@ -2,6 +2,7 @@
 use Rattle.std.proofs.Common.{◌≡◌, refl, sym, ◌∙◌, ap, subst, true, false, List, [], ◌∷◌, ◌++◌, Some}
 use Rattle.std.specs.Prelude.{filter, map}
 use Rattle.std.specs.List.{AllByRecursion}
+use Rattle.toml_edit_model.specs.Mode.{Mode}
 use Rattle.toml_edit_model.specs.Text.{Text}
 use Rattle.toml_edit_model.specs.Paths.{Step, at_key, Path, to_key}
 use Rattle.toml_edit_model.specs.Tree.{Key, SlotsAreWellMade, Tree}
@@ -24,136 +25,137 @@ use Rattle.toml_edit_laws.proofs.locality.Filtering.{keeps_line, keeps_block, tr
 use Rattle.toml_edit_laws.proofs.locality.Replacing.{itself, map-itself}
 use Rattle.toml_edit_laws.proofs.common.Each.{all-map}
 
-pub not-at-root : (p q : Path) (x : Step) → is_front (p ++ (x ∷ [])) q ≡ true → is_front q [] ≡ false
-not-at-root p q x h =
-    false-by (is_front q []) (λ g. true-false (is_front (p ++ (x ∷ [])) []) (front-through (p ++ (x ∷ [])) q [] h g) (longer p))
-  where
-    longer : (p : Path) → is_front (p ++ (x ∷ [])) [] ≡ false
-    longer [] = refl
-    longer (s ∷ p) = refl
+module _ (mode : Mode) where
+  pub not-at-root : (p q : Path) (x : Step) → is_front (p ++ (x ∷ [])) q ≡ true → is_front q [] ≡ false
+  not-at-root p q x h =
+      false-by (is_front q []) (λ g. true-false (is_front (p ++ (x ∷ [])) []) (front-through (p ++ (x ∷ [])) q [] h g) (longer p))
+    where
+      longer : (p : Path) → is_front (p ++ (x ∷ [])) [] ≡ false
+      longer [] = refl
+      longer (s ∷ p) = refl
 
--- what is left is what is kept
-module _ (q : Path) (h : Block → Block) (v : Visit) (g : List Slot → List Slot) (M : List Key → List Line) (m : List Block)
-    (there : (b : Block) → IsSteadyBlock b → IsSteadyBlock (h b)) (back : (b : Block) → IsSteadyBlock (h b) → IsSteadyBlock b)
-    (x : Step) (above : is_front (v.path ++ (x ∷ [])) q ≡ true)
-    (edit-lines : (bp : Path) (lk : List Key) → below bp lk ≡ v.path → LineSplice q bp (M lk) [] (table_lines v.slots lk) (table_lines (on_slots g v.slots) lk))
-    (edit-blocks : BlockSplice q h m [] (blocks (slots_walk v.slots v.path v.keys)) (blocks (slots_walk (on_slots g v.slots) v.path v.keys)))
-    (lines-in : (bp : Path) (lk : List Key) → below bp lk ≡ v.path → AllByRecursion (IsLineUnder q bp) (M lk))
-    (blocks-in : AllByRecursion (λ b. is_front q b.path ≡ true) m)
-    (t : Tree) (way : List Turn) (made : SlotsAreWellMade t.slots) (st : Steady t) (leads : Leads way (root_visit t) v)
-    (sound : SlotsAreSound (edited way g t).slots) where
-  abbrev N : List Key → List Line
-  N lk = []
+  -- what is left is what is kept
+  module _ (q : Path) (h : Block → Block) (v : Visit) (g : List Slot → List Slot) (M : List Key → List Line) (m : List Block)
+      (there : (b : Block) → IsSteadyBlock b → IsSteadyBlock (h b)) (back : (b : Block) → IsSteadyBlock (h b) → IsSteadyBlock b)
+      (x : Step) (above : is_front (v.path ++ (x ∷ [])) q ≡ true)
+      (edit-lines : (bp : Path) (lk : List Key) → below bp lk ≡ v.path → LineSplice mode q bp (M lk) [] (table_lines mode v.slots lk) (table_lines mode (on_slots g v.slots) lk))
+      (edit-blocks : BlockSplice mode q h m [] (blocks mode (slots_walk v.slots v.path v.keys)) (blocks mode (slots_walk (on_slots g v.slots) v.path v.keys)))
+      (lines-in : (bp : Path) (lk : List Key) → below bp lk ≡ v.path → AllByRecursion (IsLineUnder q bp) (M lk))
+      (blocks-in : AllByRecursion (λ b. is_front q b.path ≡ true) m)
+      (t : Tree) (way : List Turn) (made : SlotsAreWellMade t.slots) (st : Steady mode t) (leads : Leads way (root_visit t) v)
+      (sound : SlotsAreSound (edited way g t).slots) where
+    abbrev N : List Key → List Line
+    N lk = []
 
-  whole : Whole q h v g M N m [] (tree_blocks t) (tree_blocks (edited way g t))
-  whole = whole-tree q h v g M N m [] x above edit-lines edit-blocks way t made (firm-visits t st) leads
+    whole : Whole mode q h v g M N m [] (tree_blocks mode t) (tree_blocks mode (edited way g t))
+    whole = whole-tree mode q h v g M N m [] x above edit-lines edit-blocks way t made (firm-visits mode t st) leads
 
-  lines-are : whole.lines ≡ filter (keeps_line q whole.block.path) whole.block.lines
-  lines-are =
-      let c = whole.changes in
-      c.second
-      ∙ sym (lines-spliced q whole.block.path c.front (M whole.keys) c.back c.out_front (lines-in whole.block.path whole.keys whole.at) c.out_back)
-      ∙ ap (filter (keeps_line q whole.block.path)) (sym c.first)
+    lines-are : whole.lines ≡ filter (keeps_line mode q whole.block.path) whole.block.lines
+    lines-are =
+        let c = whole.changes in
+        c.second
+        ∙ sym (lines-spliced mode q whole.block.path c.front (M whole.keys) c.back c.out_front (lines-in whole.block.path whole.keys whole.at) c.out_back)
+        ∙ ap (filter (keeps_line mode q whole.block.path)) (sym c.first)
 
-  pub left-kept : map h (tree_blocks (edited way g t)) ≡ map h (map (trim q) (filter (keeps_block q) (tree_blocks t)))
-  left-kept =
-      let w = whole in
-      w.second
-      ∙ ap (λ z. map h (w.front ++ (with_lines w.block z ∷ (w.middle ++ w.back)))) lines-are
-      ∙ ap (map h)
-      (sym (spliced-kept q w.front w.middle m w.back w.block w.out_front w.out_path w.out_middle blocks-in w.out_back)
-      ∙ ap (λ z. map (trim q) (filter (keeps_block q) z)) (sym w.first))
+    pub left-kept : map h (tree_blocks mode (edited way g t)) ≡ map h (map (trim mode q) (filter (keeps_block mode q) (tree_blocks mode t)))
+    left-kept =
+        let w = whole in
+        w.second
+        ∙ ap (λ z. map h (w.front ++ (with_lines w.block z ∷ (w.middle ++ w.back)))) lines-are
+        ∙ ap (map h)
+        (sym (spliced-kept mode q w.front w.middle m w.back w.block w.out_front w.out_path w.out_middle blocks-in w.out_back)
+        ∙ ap (λ z. map (trim mode q) (filter (keeps_block mode q) z)) (sym w.first))
 
-  pub left-steady : Steady (edited way g t)
-  left-steady =
-      whole-steady q h v g M N m [] there back way t st sound whole
-      (λ s. steady-same whole.block whole.lines (ap (λ z. is_headed (with_lines whole.block z)) lines-are ∙ trim-headed q whole.block s) s) tt
+    pub left-steady : Steady mode (edited way g t)
+    left-steady =
+        whole-steady mode q h v g M N m [] there back way t st sound whole
+        (λ s. steady-same whole.block whole.lines (ap (λ z. is_headed (with_lines whole.block z)) lines-are ∙ trim-headed mode q whole.block s) s) tt
 
--- ---- a slot
+  -- ---- a slot
 
-module _ (t : Tree) (way : List Turn) (v : Visit) (k : Text) (s : Slot)
-    (made : SlotsAreWellMade t.slots) (st : Steady t) (leads : Leads way (root_visit t) v)
-    (is_there : slot_of k (slot_list v.slots) ≡ Some s) where
-  abbrev g : List Slot → List Slot
-  g = without_key k
+  module _ (t : Tree) (way : List Turn) (v : Visit) (k : Text) (s : Slot)
+      (made : SlotsAreWellMade t.slots) (st : Steady mode t) (leads : Leads way (root_visit t) v)
+      (is_there : slot_of k (slot_list v.slots) ≡ Some s) where
+    abbrev g : List Slot → List Slot
+    g = without_key k
 
-  abbrev u : Tree
-  u = edited way g t
+    abbrev u : Tree
+    u = edited way g t
 
-  abbrev q : Path
-  q = to_key v.path s.0.name
+    abbrev q : Path
+    q = to_key v.path s.0.name
 
-  abbrev M : List Key → List Line
-  M lk = slot_lines s.0 s.1 lk
+    abbrev M : List Key → List Line
+    M lk = slot_lines mode s.0 s.1 lk
 
-  abbrev m : List Block
-  m = blocks (node_walk s.1 q (v.keys ++ (s.0 ∷ [])) false)
+    abbrev m : List Block
+    m = blocks mode (node_walk s.1 q (v.keys ++ (s.0 ∷ [])) false)
 
-  fd : Found k s (slot_list v.slots)
-  fd = found k v.slots s (leads-made way (root_visit t) v made leads) is_there
+    fd : Found k s (slot_list v.slots)
+    fd = found k v.slots s (leads-made way (root_visit t) v made leads) is_there
 
-  is_new : on_slots g v.slots ≡ slots_from (fd.front ++ fd.back)
-  is_new = ap slots_from fd.remove
+    is_new : on_slots g v.slots ≡ slots_from (fd.front ++ fd.back)
+    is_new = ap slots_from fd.remove
 
-  is_old : v.slots ≡ slots_from (fd.front ++ (s ∷ fd.back))
-  is_old = sym (slots_from-list v.slots) ∙ ap slots_from fd.is
+    is_old : v.slots ≡ slots_from (fd.front ++ (s ∷ fd.back))
+    is_old = sym (slots_from-list v.slots) ∙ ap slots_from fd.is
 
-  edit-lines : (bp : Path) (lk : List Key) → below bp lk ≡ v.path → LineSplice q bp (M lk) [] (table_lines v.slots lk) (table_lines (on_slots g v.slots) lk)
-  edit-lines bp lk at =
-      record {
-        front = table_lines (slots_from fd.front) lk;
-        back = table_lines (slots_from fd.back) lk;
-        first = ap (λ z. table_lines z lk) is_old ∙ lines-split fd.front s fd.back lk;
-        second = ap (λ z. table_lines z lk) is_new ∙ lines-append fd.front fd.back lk;
-        out_front = other-lines-out q v.path s.0.name (front-refl q) bp lk fd.front at fd.others_front;
-        out_back = other-lines-out q v.path s.0.name (front-refl q) bp lk fd.back at fd.others_back;
-      }
+    edit-lines : (bp : Path) (lk : List Key) → below bp lk ≡ v.path → LineSplice mode q bp (M lk) [] (table_lines mode v.slots lk) (table_lines mode (on_slots g v.slots) lk)
+    edit-lines bp lk at =
+        record {
+          front = table_lines mode (slots_from fd.front) lk;
+          back = table_lines mode (slots_from fd.back) lk;
+          first = ap (λ z. table_lines mode z lk) is_old ∙ lines-split mode fd.front s fd.back lk;
+          second = ap (λ z. table_lines mode z lk) is_new ∙ lines-append mode fd.front fd.back lk;
+          out_front = other-lines-out mode q v.path s.0.name (front-refl q) bp lk fd.front at fd.others_front;
+          out_back = other-lines-out mode q v.path s.0.name (front-refl q) bp lk fd.back at fd.others_back;
+        }
 
-  edit-blocks : BlockSplice q itself m [] (blocks (slots_walk v.slots v.path v.keys)) (blocks (slots_walk (on_slots g v.slots) v.path v.keys))
-  edit-blocks =
-      record {
-        front = blocks (slots_walk (slots_from fd.front) v.path v.keys);
-        back = blocks (slots_walk (slots_from fd.back) v.path v.keys);
-        first = ap (λ z. blocks (slots_walk z v.path v.keys)) is_old ∙ blocks-split fd.front s fd.back v.path v.keys;
-        second = ap (map itself)
-            (ap (λ z. blocks (slots_walk z v.path v.keys)) is_new ∙ ap blocks (walk-append fd.front fd.back v.path v.keys)
-            ∙ blocks-append (slots_walk (slots_from fd.front) v.path v.keys) (slots_walk (slots_from fd.back) v.path v.keys));
-        out_front = other-blocks-out q v.path s.0.name (front-refl q) v.keys fd.front fd.others_front;
-        out_back = other-blocks-out q v.path s.0.name (front-refl q) v.keys fd.back fd.others_back;
-      }
+    edit-blocks : BlockSplice mode q itself m [] (blocks mode (slots_walk v.slots v.path v.keys)) (blocks mode (slots_walk (on_slots g v.slots) v.path v.keys))
+    edit-blocks =
+        record {
+          front = blocks mode (slots_walk (slots_from fd.front) v.path v.keys);
+          back = blocks mode (slots_walk (slots_from fd.back) v.path v.keys);
+          first = ap (λ z. blocks mode (slots_walk z v.path v.keys)) is_old ∙ blocks-split mode fd.front s fd.back v.path v.keys;
+          second = ap (map itself)
+              (ap (λ z. blocks mode (slots_walk z v.path v.keys)) is_new ∙ ap (blocks mode) (walk-append fd.front fd.back v.path v.keys)
+              ∙ blocks-append mode (slots_walk (slots_from fd.front) v.path v.keys) (slots_walk (slots_from fd.back) v.path v.keys));
+          out_front = other-blocks-out mode q v.path s.0.name (front-refl q) v.keys fd.front fd.others_front;
+          out_back = other-blocks-out mode q v.path s.0.name (front-refl q) v.keys fd.back fd.others_back;
+        }
 
-  lines-in : (bp : Path) (lk : List Key) → below bp lk ≡ v.path → AllByRecursion (IsLineUnder q bp) (M lk)
-  lines-in bp lk at =
-      slot-lines-under bp q s.0 s.1 lk
-      (subst (λ z. is_front q z ≡ true) (sym (below-last bp lk s.0 ∙ ap (λ z. to_key z s.0.name) at)) (front-refl q))
+    lines-in : (bp : Path) (lk : List Key) → below bp lk ≡ v.path → AllByRecursion (IsLineUnder q bp) (M lk)
+    lines-in bp lk at =
+        slot-lines-under mode bp q s.0 s.1 lk
+        (subst (λ z. is_front q z ≡ true) (sym (below-last bp lk s.0 ∙ ap (λ z. to_key z s.0.name) at)) (front-refl q))
 
-  blocks-in : AllByRecursion (λ (b : Block). is_front q b.path ≡ true) m
-  blocks-in =
-      all-map (IsBlockUnder q) (λ (b : Block). is_front q b.path ≡ true) m (λ b d. d.0) (node-under q s.1 q (v.keys ++ (s.0 ∷ [])) false (front-refl q))
+    blocks-in : AllByRecursion (λ (b : Block). is_front q b.path ≡ true) m
+    blocks-in =
+        all-map (IsBlockUnder q) (λ (b : Block). is_front q b.path ≡ true) m (λ b d. d.0) (node-under mode q s.1 q (v.keys ++ (s.0 ∷ [])) false (front-refl q))
 
-  new-sound : SlotsAreSound u.slots
-  new-sound =
-      along-sound way g (root_visit t) v made st.sound leads
-      (λ w d.
-      let parts = sound-slot k s v.slots fd d in
-      subst SlotsAreSound (sym is_new) (sound-append fd.front fd.back parts.0 parts.3))
+    new-sound : SlotsAreSound u.slots
+    new-sound =
+        along-sound way g (root_visit t) v made st.sound leads
+        (λ w d.
+        let parts = sound-slot k s v.slots fd d in
+        subst SlotsAreSound (sym is_new) (sound-append fd.front fd.back parts.0 parts.3))
 
-  slot-steady : Steady u
-  slot-steady =
-      left-steady q itself v g M m (λ b e. e) (λ b e. e) (at_key s.0.name) (front-refl q) edit-lines edit-blocks lines-in blocks-in t way made st leads new-sound
+    slot-steady : Steady mode u
+    slot-steady =
+        left-steady q itself v g M m (λ b e. e) (λ b e. e) (at_key s.0.name) (front-refl q) edit-lines edit-blocks lines-in blocks-in t way made st leads new-sound
 
-  slot-removed : printed u ≡ outside q t
-  slot-removed =
-      printed-tree u slot-steady
-      ∙ ap printed_all
-      (sym (map-itself (tree_blocks u))
-      ∙ left-kept q itself v g M m (λ b e. e) (λ b e. e) (at_key s.0.name) (front-refl q) edit-lines edit-blocks lines-in blocks-in t way made st leads new-sound
-      ∙ map-itself (map (trim q) (filter (keeps_block q) (tree_blocks t))))
-      ∙ tree-trim q t st (not-at-root v.path q (at_key s.0.name) (front-refl q))
-      ∙ sym (outside-is q t)
+    slot-removed : printed mode u ≡ outside mode q t
+    slot-removed =
+        printed-tree mode u slot-steady
+        ∙ ap (printed_all mode)
+        (sym (map-itself (tree_blocks mode u))
+        ∙ left-kept q itself v g M m (λ b e. e) (λ b e. e) (at_key s.0.name) (front-refl q) edit-lines edit-blocks lines-in blocks-in t way made st leads new-sound
+        ∙ map-itself (map (trim mode q) (filter (keeps_block mode q) (tree_blocks mode t))))
+        ∙ tree-trim mode q t st (not-at-root v.path q (at_key s.0.name) (front-refl q))
+        ∙ sym (outside-is mode q t)
 
-pub removed : Removed
-removed t way v k s made steady leads is_there =
-    let st : Steady t = steady-parts t steady in
-    let list : printed (edited way (without_key k) t) ≡ outside (to_key v.path s.0.name) t = slot-removed t way v k s made st leads is_there in
-    (list, edited-framed way (without_key k) t ∙ ap (λ z. framed t (texts z)) list, stays-steady way (without_key k) t (slot-steady t way v k s made st leads is_there))
+  pub removed : Removed mode
+  removed t way v k s made steady leads is_there =
+      let st : Steady mode t = steady-parts mode t steady in
+      let list : printed mode (edited way (without_key k) t) ≡ outside mode (to_key v.path s.0.name) t = slot-removed t way v k s made st leads is_there in
+      (list, edited-framed mode way (without_key k) t ∙ ap (λ z. framed mode t (texts z)) list, stays-steady mode way (without_key k) t (slot-steady t way v k s made st leads is_there))

@@ -2,6 +2,7 @@
 use Rattle.std.proofs.Common.{◌≡◌, refl, sym, ◌∙◌, ap, subst, ℕ, Bool, true, false, List, [], ◌∷◌, ◌++◌, append_assoc, length, Some, None}
 use Rattle.std.specs.Prelude.{if◌then◌else◌}
 use Rattle.std.specs.List.{AllByRecursion}
+use Rattle.toml_edit_model.specs.Mode.{Mode}
 use Rattle.toml_edit_model.specs.Text.{Text, same_text}
 use Rattle.toml_edit_model.specs.Paths.{Path, to_key}
 use Rattle.toml_edit_model.specs.Tree.{Key, Node, Items, no_items, item, Slots, no_slots, slot, has_key, IsWellMade, SlotsAreWellMade}
@@ -29,13 +30,14 @@ pub item_list-from : (xs : List Node) → item_list (items_from xs) ≡ xs
 item_list-from [] = refl
 item_list-from (x ∷ xs) = ap (λ r. x ∷ r) (item_list-from xs)
 
--- ---- lists joined
+module _ (mode : Mode) where
+  -- ---- lists joined
 
-pub lines-append : (xs ys : List Slot) (ks : List Key) → table_lines (slots_from (xs ++ ys)) ks ≡ table_lines (slots_from xs) ks ++ table_lines (slots_from ys) ks
-lines-append [] ys ks = refl
-lines-append (x ∷ xs) ys ks =
-    ap (λ ls. slot_lines x.0 x.1 ks ++ ls) (lines-append xs ys ks)
-    ∙ sym (append_assoc (slot_lines x.0 x.1 ks) (table_lines (slots_from xs) ks) (table_lines (slots_from ys) ks))
+  pub lines-append : (xs ys : List Slot) (ks : List Key) → table_lines mode (slots_from (xs ++ ys)) ks ≡ table_lines mode (slots_from xs) ks ++ table_lines mode (slots_from ys) ks
+  lines-append [] ys ks = refl
+  lines-append (x ∷ xs) ys ks =
+      ap (λ ls. slot_lines mode x.0 x.1 ks ++ ls) (lines-append xs ys ks)
+      ∙ sym (append_assoc (slot_lines mode x.0 x.1 ks) (table_lines mode (slots_from xs) ks) (table_lines mode (slots_from ys) ks))
 
 pub walk-append : (xs ys : List Slot) (p : Path) (ks : List Key) → slots_walk (slots_from (xs ++ ys)) p ks ≡ slots_walk (slots_from xs) p ks ++ slots_walk (slots_from ys) p ks
 walk-append [] ys p ks = refl

@@ -2,13 +2,14 @@
 use Rattle.std.proofs.Common.{◌≡◌, refl, sym, ◌∙◌, ap, subst, ℕ, suc, Bool, true, false, List, [], ◌∷◌, ◌++◌}
 use Rattle.std.specs.Prelude.{◌&&◌, ◌||◌, not, if◌then◌else◌}
 use Rattle.std.specs.List.{AllByRecursion, list_all}
+use Rattle.toml_edit_model.specs.Mode.{Mode}
 use Rattle.toml_edit_model.specs.Text.{Text}
 use Rattle.toml_edit_model.specs.Paths.{Path, to_key, to_element}
 use Rattle.toml_edit_model.specs.Tree.{Key, Node, nothing, leaf, list, inline, table, tables, Items, no_items, item, Slots, no_slots, slot, SlotsAreWellMade, ItemsAreWellMade, Tree}
 use Rattle.toml_edit_model.specs.HeaderOrder.{Visit, visit_of, node_walk, items_walk, slots_walk, walk}
 use Rattle.toml_edit_model.specs.Print.{has_header}
 use Rattle.toml_edit_model.specs.SlotLists.{Slot, slot_list}
-use Rattle.toml_edit_model.specs.Fits.{is_dotted_inline, has_no_dotted_inline, has_steady_header, is_steady_visit, is_undotted, is_steady}
+use Rattle.toml_edit_model.specs.Fits.{is_dotted_inline, has_no_dotted_inline, has_steady_header, is_steady_visit, is_undotted, is_steady_in}
 use Rattle.toml_edit_laws.specs.Locality.{Turn, into_table, into_element, Leads, slots_from, items_from, on_slots, on_items, in_table, in_tables, changed_item, along, tables_in}
 use Rattle.toml_edit_laws.proofs.common.Tests.{and_left, and_right, and_both, not-true}
 use Rattle.toml_edit_laws.proofs.locality.Blocks.{block_of, blocks, IsSteadyTable, IsSteadyBlock}
@@ -118,65 +119,66 @@ mutual
       all-append IsSoundVisit (node_walk n (to_key p k.name) (ks ++ (k ∷ [])) false) (slots_walk ss p ks)
       (node-visits n (to_key p k.name) (ks ++ (k ∷ [])) h.1) (slots-visits ss p ks h.2)
 
--- ---- steady trees
+module _ (mode : Mode) where
+  -- ---- steady trees
 
-pub record Steady (t : Tree) : Type 0 where
-  pub root : t.root.is_dotted ≡ false
-  pub sound : SlotsAreSound t.slots
-  pub tables : AllByRecursion IsSteadyTable (walk t)
+  pub record Steady (t : Tree) : Type 0 where
+    pub root : t.root.is_dotted ≡ false
+    pub sound : SlotsAreSound t.slots
+    pub tables : AllByRecursion (IsSteadyTable mode) (walk t)
 
-abbrev table_test : Visit → Bool
-table_test v = (v.fields.is_dotted || not (has_header v)) || has_steady_header v
+  abbrev table_test : Visit → Bool
+  table_test v = (v.fields.is_dotted || not (has_header mode v)) || has_steady_header v
 
-pub steady-parts : (t : Tree) → is_steady t ≡ true → Steady t
-steady-parts t h =
-    let undotted : is_undotted t ≡ true = and_left (is_undotted t) (list_all is_steady_visit (walk t)) h in
-    let steady : AllByRecursion (λ v. is_steady_visit v ≡ true) (walk t) = all-of is_steady_visit (walk t) (and_right (is_undotted t) (list_all is_steady_visit (walk t)) h) in
-    let firm : AllByRecursion (λ (v : Visit). not (v.is_element && v.fields.is_dotted) ≡ true) (walk t) =
-    all-of (λ v. not (v.is_element && v.fields.is_dotted)) (walk t) (and_right (not t.root.is_dotted) (list_all (λ v. not (v.is_element && v.fields.is_dotted)) (walk t)) undotted) in
-    let sound : AllByRecursion IsSoundVisit (walk t) =
-    all-both IsFirmVisit (λ v. has_no_dotted_inline v.slots ≡ true) (walk t)
-    (all-map (λ (v : Visit). not (v.is_element && v.fields.is_dotted) ≡ true) IsFirmVisit (walk t) (λ v e. not-true (v.is_element && v.fields.is_dotted) e) firm)
-    (all-map (λ v. is_steady_visit v ≡ true) (λ v. has_no_dotted_inline v.slots ≡ true) (walk t) (λ v e. and_left (has_no_dotted_inline v.slots) (table_test v) e) steady) in
-    record {
-      root = not-true t.root.is_dotted (and_left (not t.root.is_dotted) (list_all (λ v. not (v.is_element && v.fields.is_dotted)) (walk t)) undotted);
-      sound = slots-sound t.slots [] [] sound.0.1 sound.1;
-      tables = all-map (λ v. is_steady_visit v ≡ true) IsSteadyTable (walk t) (λ v e. and_right (has_no_dotted_inline v.slots) (table_test v) e) steady;
-    }
+  pub steady-parts : (t : Tree) → is_steady_in mode t ≡ true → Steady t
+  steady-parts t h =
+      let undotted : is_undotted t ≡ true = and_left (is_undotted t) (list_all (is_steady_visit mode) (walk t)) h in
+      let steady : AllByRecursion (λ v. is_steady_visit mode v ≡ true) (walk t) = all-of (is_steady_visit mode) (walk t) (and_right (is_undotted t) (list_all (is_steady_visit mode) (walk t)) h) in
+      let firm : AllByRecursion (λ (v : Visit). not (v.is_element && v.fields.is_dotted) ≡ true) (walk t) =
+      all-of (λ v. not (v.is_element && v.fields.is_dotted)) (walk t) (and_right (not t.root.is_dotted) (list_all (λ v. not (v.is_element && v.fields.is_dotted)) (walk t)) undotted) in
+      let sound : AllByRecursion IsSoundVisit (walk t) =
+      all-both IsFirmVisit (λ v. has_no_dotted_inline v.slots ≡ true) (walk t)
+      (all-map (λ (v : Visit). not (v.is_element && v.fields.is_dotted) ≡ true) IsFirmVisit (walk t) (λ v e. not-true (v.is_element && v.fields.is_dotted) e) firm)
+      (all-map (λ v. is_steady_visit mode v ≡ true) (λ v. has_no_dotted_inline v.slots ≡ true) (walk t) (λ v e. and_left (has_no_dotted_inline v.slots) (table_test v) e) steady) in
+      record {
+        root = not-true t.root.is_dotted (and_left (not t.root.is_dotted) (list_all (λ v. not (v.is_element && v.fields.is_dotted)) (walk t)) undotted);
+        sound = slots-sound t.slots [] [] sound.0.1 sound.1;
+        tables = all-map (λ v. is_steady_visit mode v ≡ true) (IsSteadyTable mode) (walk t) (λ v e. and_right (has_no_dotted_inline v.slots) (table_test v) e) steady;
+      }
 
-pub steady-whole : (t : Tree) → Steady t → is_steady t ≡ true
-steady-whole t s =
-    let visits : AllByRecursion IsSoundVisit (slots_walk t.slots [] []) = slots-visits t.slots [] [] s.sound in
-    let firm : AllByRecursion (λ (v : Visit). not (v.is_element && v.fields.is_dotted) ≡ true) (walk t) =
-    (refl, all-map IsSoundVisit (λ (v : Visit). not (v.is_element && v.fields.is_dotted) ≡ true) (slots_walk t.slots [] []) (λ v e. not-false (v.is_element && v.fields.is_dotted) e.0) visits) in
-    let plain : AllByRecursion (λ (v : Visit). has_no_dotted_inline v.slots ≡ true) (walk t) =
-    (no-dotted t.slots s.sound, all-map IsSoundVisit (λ (v : Visit). has_no_dotted_inline v.slots ≡ true) (slots_walk t.slots [] []) (λ v e. e.1) visits) in
-    and_both (is_undotted t) (list_all is_steady_visit (walk t))
-    (and_both (not t.root.is_dotted) (list_all (λ v. not (v.is_element && v.fields.is_dotted)) (walk t)) (not-false t.root.is_dotted s.root)
-    (of-all (λ v. not (v.is_element && v.fields.is_dotted)) (walk t) firm))
-    (of-all is_steady_visit (walk t)
-    (all-map (λ v. (has_no_dotted_inline v.slots ≡ true) × IsSteadyTable v) (λ v. is_steady_visit v ≡ true) (walk t) (λ v e. and_both (has_no_dotted_inline v.slots) (table_test v) e.0 e.1)
-    (all-both (λ (v : Visit). has_no_dotted_inline v.slots ≡ true) IsSteadyTable (walk t) plain s.tables)))
+  pub steady-whole : (t : Tree) → Steady t → is_steady_in mode t ≡ true
+  steady-whole t s =
+      let visits : AllByRecursion IsSoundVisit (slots_walk t.slots [] []) = slots-visits t.slots [] [] s.sound in
+      let firm : AllByRecursion (λ (v : Visit). not (v.is_element && v.fields.is_dotted) ≡ true) (walk t) =
+      (refl, all-map IsSoundVisit (λ (v : Visit). not (v.is_element && v.fields.is_dotted) ≡ true) (slots_walk t.slots [] []) (λ v e. not-false (v.is_element && v.fields.is_dotted) e.0) visits) in
+      let plain : AllByRecursion (λ (v : Visit). has_no_dotted_inline v.slots ≡ true) (walk t) =
+      (no-dotted t.slots s.sound, all-map IsSoundVisit (λ (v : Visit). has_no_dotted_inline v.slots ≡ true) (slots_walk t.slots [] []) (λ v e. e.1) visits) in
+      and_both (is_undotted t) (list_all (is_steady_visit mode) (walk t))
+      (and_both (not t.root.is_dotted) (list_all (λ v. not (v.is_element && v.fields.is_dotted)) (walk t)) (not-false t.root.is_dotted s.root)
+      (of-all (λ v. not (v.is_element && v.fields.is_dotted)) (walk t) firm))
+      (of-all (is_steady_visit mode) (walk t)
+      (all-map (λ v. (has_no_dotted_inline v.slots ≡ true) × IsSteadyTable mode v) (λ v. is_steady_visit mode v ≡ true) (walk t) (λ v e. and_both (has_no_dotted_inline v.slots) (table_test v) e.0 e.1)
+      (all-both (λ (v : Visit). has_no_dotted_inline v.slots ≡ true) (IsSteadyTable mode) (walk t) plain s.tables)))
 
--- tables are steady where their blocks are
-pub steady-blocks : (vs : List Visit) → AllByRecursion IsSteadyTable vs → AllByRecursion IsSteadyBlock (blocks vs)
-steady-blocks [] h = tt
-steady-blocks (v ∷ vs) h = by_test v.fields.is_dotted h.0 (steady-blocks vs h.1)
-  where
-    by_test : (b : Bool) → ((b || not (has_header v)) || has_steady_header v) ≡ true → AllByRecursion IsSteadyBlock (blocks vs)
-        → AllByRecursion IsSteadyBlock (if b then blocks vs else block_of v ∷ blocks vs)
-    by_test true e ih = ih
-    by_test false e ih = (e, ih)
+  -- tables are steady where their blocks are
+  pub steady-blocks : (vs : List Visit) → AllByRecursion (IsSteadyTable mode) vs → AllByRecursion IsSteadyBlock (blocks mode vs)
+  steady-blocks [] h = tt
+  steady-blocks (v ∷ vs) h = by_test v.fields.is_dotted h.0 (steady-blocks vs h.1)
+    where
+      by_test : (b : Bool) → ((b || not (has_header mode v)) || has_steady_header v) ≡ true → AllByRecursion IsSteadyBlock (blocks mode vs)
+          → AllByRecursion IsSteadyBlock (if b then blocks mode vs else block_of mode v ∷ blocks mode vs)
+      by_test true e ih = ih
+      by_test false e ih = (e, ih)
 
-pub steady-tables : (vs : List Visit) → AllByRecursion IsSteadyBlock (blocks vs) → AllByRecursion IsSteadyTable vs
-steady-tables [] h = tt
-steady-tables (v ∷ vs) h = by_test v.fields.is_dotted h (steady-tables vs)
-  where
-    by_test : (b : Bool) → AllByRecursion IsSteadyBlock (if b then blocks vs else block_of v ∷ blocks vs)
-        → (AllByRecursion IsSteadyBlock (blocks vs) → AllByRecursion IsSteadyTable vs)
-        → (((b || not (has_header v)) || has_steady_header v) ≡ true) × AllByRecursion IsSteadyTable vs
-    by_test true e ih = (refl, ih e)
-    by_test false e ih = (e.0, ih e.1)
+  pub steady-tables : (vs : List Visit) → AllByRecursion IsSteadyBlock (blocks mode vs) → AllByRecursion (IsSteadyTable mode) vs
+  steady-tables [] h = tt
+  steady-tables (v ∷ vs) h = by_test v.fields.is_dotted h (steady-tables vs)
+    where
+      by_test : (b : Bool) → AllByRecursion IsSteadyBlock (if b then blocks mode vs else block_of mode v ∷ blocks mode vs)
+          → (AllByRecursion IsSteadyBlock (blocks mode vs) → AllByRecursion (IsSteadyTable mode) vs)
+          → (((b || not (has_header mode v)) || has_steady_header v) ≡ true) × AllByRecursion (IsSteadyTable mode) vs
+      by_test true e ih = (refl, ih e)
+      by_test false e ih = (e.0, ih e.1)
 
 -- ---- along a way
 

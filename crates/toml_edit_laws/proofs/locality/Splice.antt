@@ -3,6 +3,7 @@ use Rattle.std.proofs.Common.{◌≡◌, sym, ◌∙◌, ap, subst, true, false,
 use Rattle.std.specs.Prelude.{map}
 use Rattle.std.specs.List.{AllByRecursion}
 use Rattle.std.proofs.lemmas.List.{map-append}
+use Rattle.toml_edit_model.specs.Mode.{Mode}
 use Rattle.toml_edit_model.specs.Text.{Text}
 use Rattle.toml_edit_model.specs.Paths.{Path, to_key}
 use Rattle.toml_edit_model.specs.Tree.{Key, Slots}
@@ -27,42 +28,6 @@ map-widened h x a b y e =
     ∙ ap (λ z. map h x ++ z) (map-append h a y ∙ ap (λ z. z ++ map h y) e ∙ sym (map-append h b y))
     ∙ sym (map-append h x (b ++ y))
 
--- ---- the slots around one of them
-
--- the other slots of a table stand outside of a path at or below one of its slots
-module _ (q p : Path) (k : Text) (above : is_front (to_key p k) q ≡ true) where
-  pub other-lines-out : (bp : Path) (lk : List Key) (xs : List Slot) → below bp lk ≡ p → HaveOtherKeys k xs → AllByRecursion (IsLineOut q bp) (table_lines (slots_from xs) lk)
-  other-lines-out bp lk [] e h = tt
-  other-lines-out bp lk (x ∷ xs) e h =
-      let r : Path = to_key p x.0.name in
-      let there : below bp (lk ++ (x.0 ∷ [])) ≡ r = below-last bp lk x.0 ∙ ap (λ z. to_key z x.0.name) e in
-      let under : is_front r (below bp (lk ++ (x.0 ∷ []))) ≡ true = subst (λ z. is_front r z ≡ true) (sym there) (front-refl r) in
-      all-append (IsLineOut q bp) (slot_lines x.0 x.1 lk) (table_lines (slots_from xs) lk)
-      (lines-out q r bp (slot_lines x.0 x.1 lk) (apart-keys p q k x.0.name above h.0) (slot-lines-under bp r x.0 x.1 lk under))
-      (other-lines-out bp lk xs e h.1)
-
-  pub other-blocks-out : (ks : List Key) (xs : List Slot) → HaveOtherKeys k xs → AllByRecursion (IsBlockOut q) (blocks (slots_walk (slots_from xs) p ks))
-  other-blocks-out ks [] h = tt
-  other-blocks-out ks (x ∷ xs) h =
-      let r : Path = to_key p x.0.name in
-      let own = node_walk x.1 r (ks ++ (x.0 ∷ [])) false in
-      all-blocks-append (IsBlockOut q) own (slots_walk (slots_from xs) p ks)
-      (blocks-out q r (blocks own) (apart-keys p q k x.0.name above h.0) (node-under r x.1 r (ks ++ (x.0 ∷ [])) false (front-refl r)))
-      (other-blocks-out ks xs h.1)
-
-pub lines-split : (xs : List Slot) (y : Slot) (ys : List Slot) (lk : List Key)
-    → table_lines (slots_from (xs ++ (y ∷ ys))) lk ≡ table_lines (slots_from xs) lk ++ (slot_lines y.0 y.1 lk ++ table_lines (slots_from ys) lk)
-lines-split xs y ys lk = lines-append xs (y ∷ ys) lk
-
-pub blocks-split : (xs : List Slot) (y : Slot) (ys : List Slot) (p : Path) (ks : List Key)
-    → blocks (slots_walk (slots_from (xs ++ (y ∷ ys))) p ks)
-    ≡ blocks (slots_walk (slots_from xs) p ks) ++ (blocks (node_walk y.1 (to_key p y.0.name) (ks ++ (y.0 ∷ [])) false) ++ blocks (slots_walk (slots_from ys) p ks))
-blocks-split xs y ys p ks =
-    let own = node_walk y.1 (to_key p y.0.name) (ks ++ (y.0 ∷ [])) false in
-    ap blocks (walk-append xs (y ∷ ys) p ks)
-    ∙ blocks-append (slots_walk (slots_from xs) p ks) (own ++ slots_walk (slots_from ys) p ks)
-    ∙ ap (λ bs. blocks (slots_walk (slots_from xs) p ks) ++ bs) (blocks-append own (slots_walk (slots_from ys) p ks))
-
 -- the visits below a slot are among those below its table
 pub node-all : (P : Visit → Type 0) (k : Text) (s : Slot) (ss : Slots) (p : Path) (ks : List Key) → Found k s (slot_list ss)
     → AllByRecursion P (slots_walk ss p ks) → AllByRecursion P (node_walk s.1 (to_key p s.0.name) (ks ++ (s.0 ∷ [])) false)
@@ -74,84 +39,121 @@ node-all P k s ss p ks fd h =
     (all-back P (slots_walk (slots_from fd.front) p ks) (own ++ slots_walk (slots_from fd.back) p ks)
     (subst (λ z. AllByRecursion P z) (walk-append fd.front (s ∷ fd.back) p ks) all))
 
--- ---- splices
+module _ (mode : Mode) where
+  -- ---- the slots around one of them
 
-module _ (q : Path) where
-  -- a part of the lines of a block gives way to others; the rest is outside of the path
-  pub record LineSplice (bp : Path) (m n old new : List Line) : Type 0 where
-    pub front : List Line
-    pub back : List Line
-    pub first : old ≡ front ++ (m ++ back)
-    pub second : new ≡ front ++ (n ++ back)
-    pub out_front : AllByRecursion (IsLineOut q bp) front
-    pub out_back : AllByRecursion (IsLineOut q bp) back
+  -- the other slots of a table stand outside of a path at or below one of its slots
+  module _ (q p : Path) (k : Text) (above : is_front (to_key p k) q ≡ true) where
+    pub other-lines-out : (bp : Path) (lk : List Key) (xs : List Slot) → below bp lk ≡ p → HaveOtherKeys k xs → AllByRecursion (IsLineOut q bp) (table_lines mode (slots_from xs) lk)
+    other-lines-out bp lk [] e h = tt
+    other-lines-out bp lk (x ∷ xs) e h =
+        let r : Path = to_key p x.0.name in
+        let there : below bp (lk ++ (x.0 ∷ [])) ≡ r = below-last bp lk x.0 ∙ ap (λ z. to_key z x.0.name) e in
+        let under : is_front r (below bp (lk ++ (x.0 ∷ []))) ≡ true = subst (λ z. is_front r z ≡ true) (sym there) (front-refl r) in
+        all-append (IsLineOut q bp) (slot_lines mode x.0 x.1 lk) (table_lines mode (slots_from xs) lk)
+        (lines-out q r bp (slot_lines mode x.0 x.1 lk) (apart-keys p q k x.0.name above h.0) (slot-lines-under mode bp r x.0 x.1 lk under))
+        (other-lines-out bp lk xs e h.1)
 
-  -- the same of blocks, of which the later ones are seen through a function
-  pub record BlockSplice (h : Block → Block) (m n old new : List Block) : Type 0 where
-    pub front : List Block
-    pub back : List Block
-    pub first : old ≡ front ++ (m ++ back)
-    pub second : map h new ≡ map h (front ++ (n ++ back))
-    pub out_front : AllByRecursion (IsBlockOut q) front
-    pub out_back : AllByRecursion (IsBlockOut q) back
+    pub other-blocks-out : (ks : List Key) (xs : List Slot) → HaveOtherKeys k xs → AllByRecursion (IsBlockOut q) (blocks mode (slots_walk (slots_from xs) p ks))
+    other-blocks-out ks [] h = tt
+    other-blocks-out ks (x ∷ xs) h =
+        let r : Path = to_key p x.0.name in
+        let own = node_walk x.1 r (ks ++ (x.0 ∷ [])) false in
+        all-blocks-append mode (IsBlockOut q) own (slots_walk (slots_from xs) p ks)
+        (blocks-out q r (blocks mode own) (apart-keys p q k x.0.name above h.0) (node-under mode r x.1 r (ks ++ (x.0 ∷ [])) false (front-refl r)))
+        (other-blocks-out ks xs h.1)
 
-  pub widen-lines : (bp : Path) (m n old new x y all more : List Line) → all ≡ x ++ (old ++ y) → more ≡ x ++ (new ++ y)
-      → AllByRecursion (IsLineOut q bp) x → AllByRecursion (IsLineOut q bp) y → LineSplice bp m n old new → LineSplice bp m n all more
-  widen-lines bp m n old new x y all more e d ox oy s =
-      record {
-        front = x ++ s.front;
-        back = s.back ++ y;
-        first = e ∙ ap (λ z. x ++ (z ++ y)) s.first ∙ widened x s.front m s.back y;
-        second = d ∙ ap (λ z. x ++ (z ++ y)) s.second ∙ widened x s.front n s.back y;
-        out_front = all-append (IsLineOut q bp) x s.front ox s.out_front;
-        out_back = all-append (IsLineOut q bp) s.back y s.out_back oy;
-      }
+  pub lines-split : (xs : List Slot) (y : Slot) (ys : List Slot) (lk : List Key)
+      → table_lines mode (slots_from (xs ++ (y ∷ ys))) lk ≡ table_lines mode (slots_from xs) lk ++ (slot_lines mode y.0 y.1 lk ++ table_lines mode (slots_from ys) lk)
+  lines-split xs y ys lk = lines-append mode xs (y ∷ ys) lk
 
-  pub widen-blocks : (h : Block → Block) (m n old new x y all more : List Block) → all ≡ x ++ (old ++ y) → more ≡ x ++ (new ++ y)
-      → AllByRecursion (IsBlockOut q) x → AllByRecursion (IsBlockOut q) y → BlockSplice h m n old new → BlockSplice h m n all more
-  widen-blocks h m n old new x y all more e d ox oy s =
-      record {
-        front = x ++ s.front;
-        back = s.back ++ y;
-        first = e ∙ ap (λ z. x ++ (z ++ y)) s.first ∙ widened x s.front m s.back y;
-        second = ap (map h) d ∙ map-widened h x new (s.front ++ (n ++ s.back)) y s.second ∙ ap (map h) (widened x s.front n s.back y);
-        out_front = all-append (IsBlockOut q) x s.front ox s.out_front;
-        out_back = all-append (IsBlockOut q) s.back y s.out_back oy;
-      }
+  pub blocks-split : (xs : List Slot) (y : Slot) (ys : List Slot) (p : Path) (ks : List Key)
+      → blocks mode (slots_walk (slots_from (xs ++ (y ∷ ys))) p ks)
+      ≡ blocks mode (slots_walk (slots_from xs) p ks) ++ (blocks mode (node_walk y.1 (to_key p y.0.name) (ks ++ (y.0 ∷ [])) false) ++ blocks mode (slots_walk (slots_from ys) p ks))
+  blocks-split xs y ys p ks =
+      let own = node_walk y.1 (to_key p y.0.name) (ks ++ (y.0 ∷ [])) false in
+      ap (blocks mode) (walk-append xs (y ∷ ys) p ks)
+      ∙ blocks-append mode (slots_walk (slots_from xs) p ks) (own ++ slots_walk (slots_from ys) p ks)
+      ∙ ap (λ bs. blocks mode (slots_walk (slots_from xs) p ks) ++ bs) (blocks-append mode own (slots_walk (slots_from ys) p ks))
 
-  -- One slot of a table has another in its place, at a block and below its line keys.
-  pub record Around (s : Visit) (bp : Path) (lk : List Key) (y z : Slot) (ss : Slots) : Type 0 where
-    pub lines_front : List Line
-    pub lines_back : List Line
-    pub old_lines : table_lines s.slots lk ≡ lines_front ++ (slot_lines y.0 y.1 lk ++ lines_back)
-    pub new_lines : table_lines ss lk ≡ lines_front ++ (slot_lines z.0 z.1 lk ++ lines_back)
-    pub out_lines_front : AllByRecursion (IsLineOut q bp) lines_front
-    pub out_lines_back : AllByRecursion (IsLineOut q bp) lines_back
-    pub front : List Block
-    pub back : List Block
-    pub old_blocks : blocks (slots_walk s.slots s.path s.keys)
-        ≡ front ++ (blocks (node_walk y.1 (to_key s.path y.0.name) (s.keys ++ (y.0 ∷ [])) false) ++ back)
-    pub new_blocks : blocks (slots_walk ss s.path s.keys)
-        ≡ front ++ (blocks (node_walk z.1 (to_key s.path z.0.name) (s.keys ++ (z.0 ∷ [])) false) ++ back)
-    pub out_front : AllByRecursion (IsBlockOut q) front
-    pub out_back : AllByRecursion (IsBlockOut q) back
+  -- ---- splices
 
-  pub around : (s : Visit) (bp : Path) (lk : List Key) (k : Text) (y z : Slot) (ss : Slots) → below bp lk ≡ s.path
-      → is_front (to_key s.path y.0.name) q ≡ true → (fd : Found k y (slot_list s.slots)) → ss ≡ slots_from (fd.front ++ (z ∷ fd.back))
-      → Around s bp lk y z ss
-  around s bp lk k y z ss e above fd d =
-      let old : s.slots ≡ slots_from (fd.front ++ (y ∷ fd.back)) = sym (slots_from-list s.slots) ∙ ap slots_from fd.is in
-      record {
-        lines_front = table_lines (slots_from fd.front) lk;
-        lines_back = table_lines (slots_from fd.back) lk;
-        old_lines = ap (λ x. table_lines x lk) old ∙ lines-split fd.front y fd.back lk;
-        new_lines = ap (λ x. table_lines x lk) d ∙ lines-split fd.front z fd.back lk;
-        out_lines_front = other-lines-out q s.path y.0.name above bp lk fd.front e fd.others_front;
-        out_lines_back = other-lines-out q s.path y.0.name above bp lk fd.back e fd.others_back;
-        front = blocks (slots_walk (slots_from fd.front) s.path s.keys);
-        back = blocks (slots_walk (slots_from fd.back) s.path s.keys);
-        old_blocks = ap (λ x. blocks (slots_walk x s.path s.keys)) old ∙ blocks-split fd.front y fd.back s.path s.keys;
-        new_blocks = ap (λ x. blocks (slots_walk x s.path s.keys)) d ∙ blocks-split fd.front z fd.back s.path s.keys;
-        out_front = other-blocks-out q s.path y.0.name above s.keys fd.front fd.others_front;
-        out_back = other-blocks-out q s.path y.0.name above s.keys fd.back fd.others_back;
-      }
+  module _ (q : Path) where
+    -- a part of the lines of a block gives way to others; the rest is outside of the path
+    pub record LineSplice (bp : Path) (m n old new : List Line) : Type 0 where
+      pub front : List Line
+      pub back : List Line
+      pub first : old ≡ front ++ (m ++ back)
+      pub second : new ≡ front ++ (n ++ back)
+      pub out_front : AllByRecursion (IsLineOut q bp) front
+      pub out_back : AllByRecursion (IsLineOut q bp) back
+
+    -- the same of blocks, of which the later ones are seen through a function
+    pub record BlockSplice (h : Block → Block) (m n old new : List Block) : Type 0 where
+      pub front : List Block
+      pub back : List Block
+      pub first : old ≡ front ++ (m ++ back)
+      pub second : map h new ≡ map h (front ++ (n ++ back))
+      pub out_front : AllByRecursion (IsBlockOut q) front
+      pub out_back : AllByRecursion (IsBlockOut q) back
+
+    pub widen-lines : (bp : Path) (m n old new x y all more : List Line) → all ≡ x ++ (old ++ y) → more ≡ x ++ (new ++ y)
+        → AllByRecursion (IsLineOut q bp) x → AllByRecursion (IsLineOut q bp) y → LineSplice bp m n old new → LineSplice bp m n all more
+    widen-lines bp m n old new x y all more e d ox oy s =
+        record {
+          front = x ++ s.front;
+          back = s.back ++ y;
+          first = e ∙ ap (λ z. x ++ (z ++ y)) s.first ∙ widened x s.front m s.back y;
+          second = d ∙ ap (λ z. x ++ (z ++ y)) s.second ∙ widened x s.front n s.back y;
+          out_front = all-append (IsLineOut q bp) x s.front ox s.out_front;
+          out_back = all-append (IsLineOut q bp) s.back y s.out_back oy;
+        }
+
+    pub widen-blocks : (h : Block → Block) (m n old new x y all more : List Block) → all ≡ x ++ (old ++ y) → more ≡ x ++ (new ++ y)
+        → AllByRecursion (IsBlockOut q) x → AllByRecursion (IsBlockOut q) y → BlockSplice h m n old new → BlockSplice h m n all more
+    widen-blocks h m n old new x y all more e d ox oy s =
+        record {
+          front = x ++ s.front;
+          back = s.back ++ y;
+          first = e ∙ ap (λ z. x ++ (z ++ y)) s.first ∙ widened x s.front m s.back y;
+          second = ap (map h) d ∙ map-widened h x new (s.front ++ (n ++ s.back)) y s.second ∙ ap (map h) (widened x s.front n s.back y);
+          out_front = all-append (IsBlockOut q) x s.front ox s.out_front;
+          out_back = all-append (IsBlockOut q) s.back y s.out_back oy;
+        }
+
+    -- One slot of a table has another in its place, at a block and below its line keys.
+    pub record Around (s : Visit) (bp : Path) (lk : List Key) (y z : Slot) (ss : Slots) : Type 0 where
+      pub lines_front : List Line
+      pub lines_back : List Line
+      pub old_lines : table_lines mode s.slots lk ≡ lines_front ++ (slot_lines mode y.0 y.1 lk ++ lines_back)
+      pub new_lines : table_lines mode ss lk ≡ lines_front ++ (slot_lines mode z.0 z.1 lk ++ lines_back)
+      pub out_lines_front : AllByRecursion (IsLineOut q bp) lines_front
+      pub out_lines_back : AllByRecursion (IsLineOut q bp) lines_back
+      pub front : List Block
+      pub back : List Block
+      pub old_blocks : blocks mode (slots_walk s.slots s.path s.keys)
+          ≡ front ++ (blocks mode (node_walk y.1 (to_key s.path y.0.name) (s.keys ++ (y.0 ∷ [])) false) ++ back)
+      pub new_blocks : blocks mode (slots_walk ss s.path s.keys)
+          ≡ front ++ (blocks mode (node_walk z.1 (to_key s.path z.0.name) (s.keys ++ (z.0 ∷ [])) false) ++ back)
+      pub out_front : AllByRecursion (IsBlockOut q) front
+      pub out_back : AllByRecursion (IsBlockOut q) back
+
+    pub around : (s : Visit) (bp : Path) (lk : List Key) (k : Text) (y z : Slot) (ss : Slots) → below bp lk ≡ s.path
+        → is_front (to_key s.path y.0.name) q ≡ true → (fd : Found k y (slot_list s.slots)) → ss ≡ slots_from (fd.front ++ (z ∷ fd.back))
+        → Around s bp lk y z ss
+    around s bp lk k y z ss e above fd d =
+        let old : s.slots ≡ slots_from (fd.front ++ (y ∷ fd.back)) = sym (slots_from-list s.slots) ∙ ap slots_from fd.is in
+        record {
+          lines_front = table_lines mode (slots_from fd.front) lk;
+          lines_back = table_lines mode (slots_from fd.back) lk;
+          old_lines = ap (λ x. table_lines mode x lk) old ∙ lines-split fd.front y fd.back lk;
+          new_lines = ap (λ x. table_lines mode x lk) d ∙ lines-split fd.front z fd.back lk;
+          out_lines_front = other-lines-out q s.path y.0.name above bp lk fd.front e fd.others_front;
+          out_lines_back = other-lines-out q s.path y.0.name above bp lk fd.back e fd.others_back;
+          front = blocks mode (slots_walk (slots_from fd.front) s.path s.keys);
+          back = blocks mode (slots_walk (slots_from fd.back) s.path s.keys);
+          old_blocks = ap (λ x. blocks mode (slots_walk x s.path s.keys)) old ∙ blocks-split fd.front y fd.back s.path s.keys;
+          new_blocks = ap (λ x. blocks mode (slots_walk x s.path s.keys)) d ∙ blocks-split fd.front z fd.back s.path s.keys;
+          out_front = other-blocks-out q s.path y.0.name above s.keys fd.front fd.others_front;
+          out_back = other-blocks-out q s.path y.0.name above s.keys fd.back fd.others_back;
+        }

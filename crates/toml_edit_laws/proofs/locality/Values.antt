@@ -1,10 +1,11 @@
 -- A value in a table is one line, and nothing is below it.
 use Rattle.std.proofs.Common.{◌≡◌, refl, ap, Bool, true, false, List, [], ◌∷◌, ◌++◌}
 use Rattle.std.specs.Prelude.{not}
-use Rattle.toml_edit_model.specs.Text.{newline}
-use Rattle.toml_edit_model.specs.Syntax.{Statement, key_line}
+use Rattle.toml_edit_model.specs.Mode.{Mode, line_end, line_newline}
+use Rattle.toml_edit_model.specs.Text.{Text}
+use Rattle.toml_edit_model.specs.Syntax.{Frame, key_line}
 use Rattle.toml_edit_model.specs.Paths.{Path}
-use Rattle.toml_edit_model.specs.Tree.{Decor, shown_prefix, shown_suffix, Key, Node, nothing, leaf, list, inline, table, tables, is_value_node}
+use Rattle.toml_edit_model.specs.Tree.{Decor, shown_prefix, shown_suffix, Key, Node, nothing, leaf, list, inline, table, tables, node_decor, is_value_node}
 use Rattle.toml_edit_model.specs.HeaderOrder.{node_walk}
 use Rattle.toml_edit_model.specs.Print.{blank, last_leaf, segments, line_of, value_of, is_line_node, dotted_lines}
 use Rattle.toml_edit_model.specs.Fits.{is_dotted_inline}
@@ -43,25 +44,29 @@ value-sound (table f ss) h = absurd cc
 value-sound (tables x xs) h = absurd cc
 value-sound nothing h = tt
 
-pub slot-line : (k : Key) (n : Node) (lk : List Key) → is_line_node n ≡ true → slot_lines k n lk ≡ value_line (lk ++ (k ∷ [])) n ∷ []
-slot-line k n lk h = by_test (is_line_node n) h
-  where
-    by_test : (b : Bool) → b ≡ true
-        → (elim b [ true ↦ line_of (lk ++ (k ∷ [])) n (value_of n) | false ↦ dotted_lines n (lk ++ (k ∷ [])) ]) ≡ value_line (lk ++ (k ∷ [])) n ∷ []
-    by_test true e = refl
-    by_test false e = absurd cc
+module _ (mode : Mode) where
+  pub slot-line : (k : Key) (n : Node) (lk : List Key) → is_line_node n ≡ true → slot_lines mode k n lk ≡ value_line mode (lk ++ (k ∷ [])) n ∷ []
+  slot-line k n lk h = by_test (is_line_node n) h
+    where
+      by_test : (b : Bool) → b ≡ true
+          → (elim b [ true ↦ line_of (lk ++ (k ∷ [])) n (value_of mode n) | false ↦ dotted_lines mode n (lk ++ (k ∷ [])) ]) ≡ value_line mode (lk ++ (k ∷ [])) n ∷ []
+      by_test true e = refl
+      by_test false e = absurd cc
 
--- ---- in its frame
+  -- ---- in its frame
 
-pub keeps_frame : KeepsFrame
-keeps_frame ks old n e = (refl, ap (λ (d : Decor). framed_by d) e)
-  where
-    framed_by : Decor → Statement
-    framed_by d =
-        key_line (record {
-          leading = shown_prefix [] (last_leaf ks);
-          path = segments ks;
-          before_equals = shown_suffix blank (last_leaf ks);
-          after_equals = shown_prefix blank d;
-          trailing = shown_suffix [] d;
-        }) (value_of n) newline
+  pub keeps_frame : KeepsFrame mode
+  keeps_frame ks old n e = (frame_by (node_decor old), end_by (node_decor old), refl, ap (λ (d : Decor). key_line (frame_by d) (value_of mode n) (end_by d)) e)
+    where
+      frame_by : Decor → Frame
+      frame_by d =
+          record {
+            leading = shown_prefix mode [] (last_leaf ks);
+            path = segments mode ks;
+            before_equals = shown_suffix mode blank (last_leaf ks);
+            after_equals = shown_prefix mode blank d;
+            trailing = line_end mode (shown_suffix mode [] d);
+          }
+
+      end_by : Decor → Text
+      end_by d = line_newline mode (shown_suffix mode [] d)

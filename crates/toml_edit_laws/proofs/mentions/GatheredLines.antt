@@ -6,11 +6,11 @@ use Rattle.std.proofs.lemmas.Bool.{cases_Bool, ltb-true, le-ltb, not-true}
 use Rattle.toml_edit_model.specs.Text.{Text, same_text, is_empty}
 use Rattle.toml_edit_model.specs.Syntax.{Segment}
 use Rattle.toml_edit_model.specs.Paths.{at_key, Path, to_key}
-use Rattle.toml_edit_model.specs.Normal.{sorted_by}
 use Rattle.toml_edit_laws.specs.FlatTree.{is_among}
 use Rattle.toml_edit_laws.proofs.common.Tests.{same_text-refl, same_text-is, same_text-swap, true-false}
 use Rattle.toml_edit_laws.proofs.common.OrderLaws.{filter-twice, sorted-alike, sorted-parts}
 use Rattle.toml_edit_laws.proofs.common.Each.{all-filter, all_pass, all-map}
+use Rattle.toml_edit_model.specs.Order.{sorted_by}
 
 -- ---- keys one by one
 

@@ -2,14 +2,14 @@
 use Rattle.std.proofs.Common.{◌≡◌, refl, sym, ◌∙◌, ap, subst, Bool, true, false, List, [], ◌∷◌, ◌++◌, append_assoc, Option, Some, None, inl, inr}
 use Rattle.std.specs.Prelude.{◌⊎◌, ◌&&◌, ◌||◌, find, option_map, if◌then◌else◌}
 use Rattle.std.specs.List.{AllByRecursion}
-use Rattle.std.specs.Option.{option_or as either}
+use Rattle.std.specs.Option.{option_or as either, option_or}
 use Rattle.std.proofs.lemmas.Bool.{cases_Bool}
 use Rattle.std.proofs.lemmas.List.Elements.{filter-append}
 use Rattle.std.proofs.lemmas.List.Folds.{find-append}
 use Rattle.toml_edit_model.specs.Text.{one}
 use Rattle.toml_edit_model.specs.Syntax.{Segment}
 use Rattle.toml_edit_model.specs.Paths.{Step, Path, Role, same_step, same_path, Mention}
-use Rattle.toml_edit_model.specs.Normal.{is_header_role, mentions_at, first_of_list, option_or, kept_mention}
+use Rattle.toml_edit_model.specs.Normal.{is_header_role, mentions_at, first_of_list, kept_mention}
 use Rattle.toml_edit_model.specs.TreeOf.{inside, under, some_at, any_role, is_slot, kept_from, kept}
 use Rattle.toml_edit_laws.proofs.common.OptionSteps.{map-or, map-twice}
 use Rattle.toml_edit_laws.proofs.common.Tests.{and-true, or-left, or-right, true-false}
@@ -21,7 +21,7 @@ use Rattle.toml_edit_laws.proofs.mentions.SomeAt.{some_at-append}
 -- ---- one step down
 
 -- what a kept mention tells: its segment and its source
-abbrev told : {S : Type 0} → Mention S → Segment × S
+abbrev pub told : {S : Type 0} → Mention S → Segment × S
 told m = (m.segment, m.source)
 
 -- the first mention of a path in such a role
@@ -56,7 +56,7 @@ first-found : {S : Type 0} (ms : List (Mention S)) → first_of_list ms ≡ find
 first-found [] = refl
 first-found (m ∷ ms) = refl
 
-kept-under : {S : Type 0} (s : Step) (q : Path) (ms : List (Mention S))
+pub kept-under : {S : Type 0} (s : Step) (q : Path) (ms : List (Mention S))
     → option_map told (kept_mention (under s ms) q) ≡ option_map told (kept_mention ms (s ∷ q))
 kept-under {S = S} s q ms =
     map-or told (find (λ (m : Mention S). is_header_role m.role) (mentions_at (under s ms) q)) (first_of_list (mentions_at (under s ms) q))

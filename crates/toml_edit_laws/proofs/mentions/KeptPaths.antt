@@ -5,18 +5,20 @@ use Rattle.std.specs.List.{list_any}
 use Rattle.std.proofs.lemmas.Bool.{cases_Bool}
 use Rattle.std.proofs.lemmas.List.{map-append}
 use Rattle.std.proofs.lemmas.List.Elements.{filter-append}
-use Rattle.toml_edit_model.specs.Text.{Text, same_text, one, is_empty, without_returns}
+use Rattle.toml_edit_model.specs.Mode.{Mode, shown_text}
+use Rattle.toml_edit_model.specs.Text.{Text, same_text, one, is_empty}
 use Rattle.toml_edit_model.specs.Syntax.{Segment, IsSpacedSegment}
 use Rattle.toml_edit_model.specs.Paths.{Step, at_key, Path, same_path, to_key, dotted_role, Mention, mention_of, next_start, line_mentions}
-use Rattle.toml_edit_model.specs.Normal.{is_header_role, mentions_at, first_of_list, option_or, kept_mention, bare_end, bare_ends, rank}
+use Rattle.toml_edit_model.specs.Normal.{is_header_role, mentions_at, first_of_list, kept_mention, bare_end, bare_ends, rank}
 use Rattle.toml_edit_model.specs.Tree.{Decor, Key}
-use Rattle.toml_edit_model.specs.TreeOf.{owned_form, key_of}
+use Rattle.toml_edit_model.specs.TreeOf.{owned_in, key_of}
 use Rattle.toml_edit_model.specs.Print.{segment_of, dot_prefix, dot_suffix, segments_after, segments, last_leaf}
-use Rattle.toml_edit_laws.proofs.common.WhiteSpace.{white-returns}
+use Rattle.toml_edit_laws.proofs.common.WhiteSpace.{white-shown}
 use Rattle.toml_edit_laws.proofs.common.OrderLaws.{place-first, first-map, first-alike}
 use Rattle.toml_edit_laws.proofs.mentions.GatheredLines.{first_key, rest_of, has_first, begins_with, steps, group, rests, AllFilled}
 use Rattle.toml_edit_laws.proofs.mentions.Leaders.{AreRanked, Leads}
 use Rattle.toml_edit_laws.proofs.mentions.MentionGroups.{NoHeaders, lines-headers, flat_lines, line-from}
+use Rattle.std.specs.Option.{option_or}
 
 -- ---- the first segment of each path
 
@@ -227,29 +229,30 @@ lines-ranked {S = S} {X = X} source start path_of xs full k q l r =
     mentions_path : List Text → List (Mention S) → Bool
     mentions_path q ms = list_any (λ (m : Mention S). same_path (steps q) m.path) ms
 
--- ---- the keys of a printed line
-
--- a key with what stands at the dots beside it
-abbrev pub key_segment : Key → Segment
-key_segment k = segment_of k (dot_prefix k) (dot_suffix k)
-
-after-bare : (ks : List Key) → segments_after ks ≡ bare_end (map key_segment ks)
-after-bare [] = refl
-after-bare (k ∷ []) = refl
-after-bare (k ∷ l ∷ rest) = ap (λ ss. key_segment k ∷ ss) (after-bare (l ∷ rest))
-
-pub segments-bare : (ks : List Key) → segments ks ≡ bare_ends (map key_segment ks)
-segments-bare [] = refl
-segments-bare (k ∷ []) = refl
-segments-bare (k ∷ l ∷ rest) = ap (λ ss. segment_of k [] (dot_suffix k) ∷ ss) (after-bare (l ∷ rest))
-
 pub last-key : (ks : List Key) (k : Key) → last_leaf (ks ++ one k) ≡ k.leaf
 last-key [] k = refl
 last-key (j ∷ []) k = refl
 last-key (j ∷ l ∷ ks) k = last-key (l ∷ ks) k
 
--- the key of a mention is printed as its segment
-pub key-shown : {S : Type 0} (own : Decor) (m : Mention S) → IsSpacedSegment m.segment → key_segment (key_of owned_form own m) ≡ m.segment
-key-shown own m h =
-    ap (λ t. record m.segment { before = t; after = without_returns m.segment.after }) (white-returns m.segment.before h.0)
-    ∙ ap (λ t. record m.segment { after = t }) (white-returns m.segment.after h.1)
+module _ (mode : Mode) where
+  -- ---- the keys of a printed line
+
+  -- a key with what stands at the dots beside it
+  abbrev pub key_segment : Key → Segment
+  key_segment k = segment_of k (dot_prefix mode k) (dot_suffix mode k)
+
+  after-bare : (ks : List Key) → segments_after mode ks ≡ bare_end (map key_segment ks)
+  after-bare [] = refl
+  after-bare (k ∷ []) = refl
+  after-bare (k ∷ l ∷ rest) = ap (λ ss. key_segment k ∷ ss) (after-bare (l ∷ rest))
+
+  pub segments-bare : (ks : List Key) → segments mode ks ≡ bare_ends (map key_segment ks)
+  segments-bare [] = refl
+  segments-bare (k ∷ []) = refl
+  segments-bare (k ∷ l ∷ rest) = ap (λ ss. segment_of k [] (dot_suffix mode k) ∷ ss) (after-bare (l ∷ rest))
+
+  -- the key of a mention is printed as its segment
+  pub key-shown : {S : Type 0} (own : Decor) (m : Mention S) → IsSpacedSegment m.segment → key_segment (key_of (owned_in mode) own m) ≡ m.segment
+  key-shown own m h =
+      ap (λ t. record m.segment { before = t; after = shown_text mode m.segment.after }) (white-shown mode m.segment.before h.0)
+      ∙ ap (λ t. record m.segment { after = t }) (white-shown mode m.segment.after h.1)

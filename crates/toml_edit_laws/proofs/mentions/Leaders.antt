@@ -8,12 +8,12 @@ use Rattle.std.proofs.lemmas.List.Folds.{flat_map-map, list_any-append}
 use Rattle.toml_edit_model.specs.Text.{Text, same_text, one, is_empty}
 use Rattle.toml_edit_model.specs.Syntax.{Segment}
 use Rattle.toml_edit_model.specs.Paths.{at_key, Path, to_key}
-use Rattle.toml_edit_model.specs.Normal.{sorted_by}
 use Rattle.toml_edit_laws.specs.FlatTree.{is_among}
 use Rattle.toml_edit_laws.proofs.common.Tests.{or-left, or-right, and-true, or-false, same_text-refl, same_text-is, same_text-swap, true-false, false-by}
 use Rattle.toml_edit_laws.proofs.common.OrderLaws.{none-left, passes_first, first-filter, first-alike}
 use Rattle.toml_edit_laws.proofs.mentions.GatheredLines.{first_key, has_first, begins_with, steps, first-is, keys_before, group, rests, AllFilled, AreInOrder, IsKeyed, gathered-by}
 use Rattle.toml_edit_laws.proofs.common.Each.{all-both, all-append, all-map}
+use Rattle.toml_edit_model.specs.Order.{sorted_by}
 
 -- the first line of each key that isn't among these
 abbrev pub leaders : {X : Type 0} → List Text → (X → List Segment) → List X → List X

@@ -7,13 +7,15 @@ use Rattle.toml_edit_model.specs.Text.{one}
 use Rattle.toml_edit_model.specs.Syntax.{Segment, Statement, key_line, header, Document}
 use Rattle.toml_edit_model.specs.Paths.{Path, same_path, to_key, Role, dotted_role, implied_role, header_role, array_role, value_role, through_role, may_meet, Mention, next_start, line_mentions, elements_at, in_last, passing_role, header_mentions, header_role_of, path_start, Source, Placed, Context, source_of, mentions_of, context_after, placed_from, start_context, all_mentions}
 use Rattle.toml_edit_model.specs.Normal.{is_header_role}
-use Rattle.toml_edit_model.specs.Accepted.{agree, is_sound, is_right_after, all_right_after, is_accepted}
+use Rattle.toml_edit_model.specs.Accepted.{agree, is_sound, is_accepted}
 use Rattle.toml_edit_model.specs.TreeOf.{some_at}
+use Rattle.toml_edit_laws.specs.OneByOne.{is_right_after, all_right_after}
 use Rattle.toml_edit_laws.proofs.common.Tests.{and_left, and_right}
 use Rattle.toml_edit_laws.proofs.common.PathLaws.{same_path-swap}
 use Rattle.toml_edit_laws.proofs.mentions.KeptOrder.{HaveOneHeader}
 use Rattle.toml_edit_laws.proofs.mentions.SomeAt.{some_at-append}
 use Rattle.toml_edit_laws.proofs.common.Each.{all-map}
+use Rattle.toml_edit_laws.proofs.one_by_one.Together.{accepted-right}
 
 -- the headers of these mentions have no other header among those
 abbrev HaveNoHeaderIn : {S : Type 0} → List (Mention S) → List (Mention S) → Type 0
@@ -141,5 +143,4 @@ placed-header c (s ∷ ss) earlier h =
 
 -- No path of an accepted document has two plain headers.
 pub document-header : (d : Document) → is_accepted d ≡ true → HaveOneHeader (all_mentions d)
-unfolding is_accepted
-document-header d h = placed-header (start_context d) d.statements [] h
+document-header d h = placed-header (start_context d) d.statements [] (accepted-right d h)

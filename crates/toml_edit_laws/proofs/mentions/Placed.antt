@@ -7,7 +7,8 @@ use Rattle.toml_edit_model.specs.Text.{is_empty, Text}
 use Rattle.std.specs.List.{AllByRecursion, list_all}
 use Rattle.toml_edit_model.specs.Normal.{is_header_role}
 use Rattle.toml_edit_laws.proofs.common.Members.{Among}
-use Rattle.toml_edit_model.specs.Accepted.{agree, is_sound, is_right_after}
+use Rattle.toml_edit_model.specs.Accepted.{agree, is_sound}
+use Rattle.toml_edit_laws.specs.OneByOne.{is_right_after}
 use Rattle.toml_edit_laws.proofs.common.Agreement.{agree-append}
 use Rattle.toml_edit_laws.proofs.common.Tests.{and_right}
 

@@ -6,8 +6,9 @@ use Rattle.std.proofs.lemmas.Bool.{cases_Bool}
 use Rattle.std.proofs.lemmas.List.Folds.{list_all-append, list_all-map}
 use Rattle.toml_edit_model.specs.Syntax.{Segment}
 use Rattle.toml_edit_model.specs.Paths.{Path, same_path, to_key, Role, may_meet, may_meet_inline, Mention, Source, Placed, next_start, line_mentions}
-use Rattle.toml_edit_model.specs.Accepted.{agree, all_agree, is_sound, is_right_after, all_right_after}
-use Rattle.toml_edit_model.specs.Normal.{insert_by, is_line, line_before, ordered}
+use Rattle.toml_edit_model.specs.Accepted.{agree, all_agree, is_sound}
+use Rattle.toml_edit_model.specs.Normal.{is_line, line_before, ordered}
+use Rattle.toml_edit_laws.specs.OneByOne.{is_right_after, all_right_after}
 use Rattle.toml_edit_laws.proofs.common.Tests.{and_left, and_right, and_both}
 use Rattle.toml_edit_laws.proofs.common.PathLaws.{same_path-swap}
 use Rattle.toml_edit_laws.proofs.normal_texts.Runs.{not-before}
@@ -15,6 +16,7 @@ use Rattle.toml_edit_laws.proofs.common.Each.{all-insert}
 use Rattle.toml_edit_laws.proofs.common.Cores.{Core, core, cores}
 use Rattle.toml_edit_laws.proofs.mentions.RoleTests.{by_line_roles, is_line_role}
 use Rattle.toml_edit_laws.proofs.common.Pairs.{AllPairs}
+use Rattle.toml_edit_model.specs.Order.{insert_by}
 
 -- ---- agreement by cores
 

@@ -5,11 +5,12 @@ use Rattle.std.specs.List.{AllByRecursion}
 use Rattle.toml_edit_model.specs.Text.{Text}
 use Rattle.toml_edit_model.specs.Syntax.{Segment, Statement, key_line, header}
 use Rattle.toml_edit_model.specs.Paths.{Path, same_path, to_key, Role, dotted_role, passing_role, Mention, Context, next_start, line_mentions, elements_at, in_last, header_mentions, header_path, header_role_of, path_start, source_of, mentions_of, context_after, placed_from}
-use Rattle.toml_edit_model.specs.Normal.{is_header_role, mentions_at, first_of_list, option_or, kept_mention, kept_segment, own_path, bare_end, bare_ends, kept_path}
+use Rattle.toml_edit_model.specs.Normal.{is_header_role, mentions_at, first_of_list, kept_mention, kept_segment, own_path, bare_end, bare_ends, kept_path}
 use Rattle.toml_edit_laws.proofs.common.PathLaws.{same_path-is}
 use Rattle.toml_edit_laws.proofs.clashes.ClashKept.{find-all}
 use Rattle.toml_edit_laws.proofs.common.Cores.{Core, cores, keys_of_segments, line_cores}
 use Rattle.toml_edit_laws.proofs.common.Each.{all-append, all_pass}
+use Rattle.std.specs.Option.{option_or}
 
 -- ---- cores
 

@@ -5,7 +5,7 @@ use Rattle.std.specs.List.{AllByRecursion, list_any}
 use Rattle.std.proofs.lemmas.Bool.{cases_Bool}
 use Rattle.toml_edit_model.specs.Syntax.{Segment}
 use Rattle.toml_edit_model.specs.Paths.{Path, same_path, Role, dotted_role, implied_role, header_role, array_role, value_role, through_role, Mention}
-use Rattle.toml_edit_model.specs.Normal.{is_header_role, mentions_at, first_of_list, option_or, kept_mention, kept_segment, own_path, bare_ends, kept_path}
+use Rattle.toml_edit_model.specs.Normal.{is_header_role, mentions_at, first_of_list, kept_mention, kept_segment, own_path, bare_ends, kept_path}
 use Rattle.toml_edit_laws.proofs.common.Tests.{and_left, and_right, true-false}
 use Rattle.toml_edit_laws.proofs.common.PathLaws.{same_path-is, same_path-refl}
 use Rattle.toml_edit_laws.proofs.common.Members.{Among, all-among, among-each}
@@ -19,6 +19,7 @@ use Rattle.toml_edit_laws.proofs.common.Pairs.{AllPairs}
 use Rattle.toml_edit_laws.proofs.common.OptionSteps.{map-or}
 use Rattle.toml_edit_laws.proofs.common.Searches.{find-filter, first-filter, find-some, find-there, find-none}
 use Rattle.toml_edit_laws.proofs.normal_texts.TaggedMentions.{tagged, mentions_of_all, in-tagged, tagged-in, find-tagged, first-tagged, at}
+use Rattle.std.specs.Option.{option_or}
 
 -- ---- kept mentions as searches
 

@@ -4,7 +4,7 @@ use Rattle.std.specs.Prelude.{◌||◌, map, find, flat_map, option_map, if◌th
 use Rattle.std.specs.List.{AllByRecursion, list_any}
 use Rattle.toml_edit_model.specs.Syntax.{Segment, Statement, key_line, header, begins_bare}
 use Rattle.toml_edit_model.specs.Paths.{Path, same_path, to_key, Role, dotted_role, value_role, implied_role, header_role, array_role, through_role, passing_role, may_meet, Mention, mention_of, Source, Placed, Context, next_start, elements_at, in_last, header_mentions, header_path, header_role_of, path_start, source_of, mentions_of, context_after}
-use Rattle.toml_edit_model.specs.Normal.{is_header_role, option_or, kept_mention, is_line}
+use Rattle.toml_edit_model.specs.Normal.{is_header_role, kept_mention, is_line}
 use Rattle.toml_edit_laws.proofs.common.Tests.{and_left, and_right, and_both, true-false, or-true}
 use Rattle.toml_edit_laws.proofs.common.PathLaws.{same_path-is, same_path-refl}
 use Rattle.toml_edit_laws.proofs.common.Members.{Among, all-among}
@@ -22,6 +22,7 @@ use Rattle.toml_edit_laws.proofs.mentions.RoleTests.{is_line_role, array-last}
 use Rattle.toml_edit_laws.proofs.common.Pairs.{AllPairs}
 use Rattle.toml_edit_laws.proofs.common.Searches.{find-append, find-map, find-some, find-there, find-none}
 use Rattle.toml_edit_laws.proofs.normal_texts.TaggedMentions.{tagged, in-tagged, tagged-in, find-tagged, first-tagged, at}
+use Rattle.std.specs.Option.{option_or}
 
 -- ---- the last mention of a header
 

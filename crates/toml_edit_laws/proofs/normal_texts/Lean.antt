@@ -1,26 +1,31 @@
--- Trivia without CRs is trivia, with no CR; and kept segments stand where their own stood.
+-- Trivia as it is shown is trivia, and shown whole; and kept segments stand where their own stood.
 use Rattle.std.proofs.Common.{◌≡◌, refl, sym, ◌∙◌, ap, subst, Bool, true, false, List, [], ◌∷◌, ◌++◌, Option, Some, None}
 use Rattle.std.specs.Prelude.{◌==◌, ◌&&◌, ◌||◌, not, map, flat_map, option_map, unwrap_or, if◌then◌else◌}
 use Rattle.std.specs.List.{AllByRecursion}
 use Rattle.toml_edit_model.specs.Text.{Text, carriage_return, hash, has_byte, is_empty, without_returns}
+use Rattle.toml_edit_model.specs.Mode.{Mode, plain, exact, shown_text}
 use Rattle.toml_edit_model.specs.Trivia.{Newline, lf, crlf, newline_text, comment, Piece, blank, break, remark, piece_text, IsPiece, IsWholeTrivia, IsLineEnd, IsFinalTrivia}
 use Rattle.toml_edit_model.specs.Syntax.{Segment, IsSpacedSegment, IsSpelledSegment, begins_bare, ends_bare, IsPath}
 use Rattle.toml_edit_model.specs.Paths.{Mention}
-use Rattle.toml_edit_model.specs.Normal.{kept_mention, kept_segment, own_path, bare_end, bare_ends, kept_path, has_no_return}
+use Rattle.toml_edit_model.specs.Normal.{kept_mention, kept_segment, own_path, bare_end, bare_ends, kept_path, has_no_return, is_shown_text}
 use Rattle.toml_edit_laws.proofs.common.WhiteSpace.{white-returns}
 use Rattle.toml_edit_laws.proofs.normal_texts.Cores.{kept-holds}
 use Rattle.toml_edit_laws.proofs.common.Trivia.{visible-returns, open-returns, returns-append, end-returns}
 
 -- ---- no CR is left
 
-pub no-return : (t : Text) → has_no_return (without_returns t) ≡ true
-no-return [] = refl
-no-return (c ∷ t) = by_test (c == carriage_return) refl (no-return t)
+without-no-return : (t : Text) → has_no_return (without_returns t) ≡ true
+without-no-return [] = refl
+without-no-return (c ∷ t) = by_test (c == carriage_return) refl (without-no-return t)
   where
     by_test : (b : Bool) → (c == carriage_return) ≡ b → has_no_return (without_returns t) ≡ true
         → has_no_return (if not b then c ∷ without_returns t else without_returns t) ≡ true
     by_test true e h = h
     by_test false e h = ap (λ b. not (b || has_byte carriage_return (without_returns t))) e ∙ h
+
+pub no-return : (mode : Mode) (t : Text) → is_shown_text mode (shown_text mode t) ≡ true
+no-return plain t = without-no-return t
+no-return exact t = refl
 
 -- ---- trivia
 
@@ -59,20 +64,32 @@ lean-pieces (p ∷ ps) h =
           ∙ ap (λ t. piece_text (lean_piece p) ++ t) rest.1,
     )
 
-pub lean-trivia : (t : Text) → IsWholeTrivia t → IsWholeTrivia (without_returns t)
-lean-trivia t (ps, h, e) = (let lean = lean-pieces ps h in (map lean_piece ps, lean.0, ap without_returns e ∙ lean.1))
+without-trivia : (t : Text) → IsWholeTrivia t → IsWholeTrivia (without_returns t)
+without-trivia t (ps, h, e) = (let lean = lean-pieces ps h in (map lean_piece ps, lean.0, ap without_returns e ∙ lean.1))
 
-pub lean-end : (t : Text) → IsLineEnd t → IsLineEnd (without_returns t)
-lean-end t h = subst IsLineEnd (sym (end-returns t h)) h
+without-end : (t : Text) → IsLineEnd t → IsLineEnd (without_returns t)
+without-end t h = subst IsLineEnd (sym (end-returns t h)) h
 
-pub lean-final : (t : Text) → IsFinalTrivia t → IsFinalTrivia (without_returns t)
-lean-final t (whole, rest, h, g, e) = (
+without-final : (t : Text) → IsFinalTrivia t → IsFinalTrivia (without_returns t)
+without-final t (whole, rest, h, g, e) = (
   without_returns whole,
   rest,
-  lean-trivia whole h,
+  without-trivia whole h,
   g,
   ap without_returns e ∙ returns-append whole rest ∙ ap (λ u. without_returns whole ++ u) (open-returns rest g),
 )
+
+pub lean-trivia : (mode : Mode) (t : Text) → IsWholeTrivia t → IsWholeTrivia (shown_text mode t)
+lean-trivia plain t h = without-trivia t h
+lean-trivia exact t h = h
+
+pub lean-end : (mode : Mode) (t : Text) → IsLineEnd t → IsLineEnd (shown_text mode t)
+lean-end plain t h = without-end t h
+lean-end exact t h = h
+
+pub lean-final : (mode : Mode) (t : Text) → IsFinalTrivia t → IsFinalTrivia (shown_text mode t)
+lean-final plain t h = without-final t h
+lean-final exact t h = h
 
 -- ---- kept paths
 

@@ -5,7 +5,6 @@ use Rattle.std.specs.List.{AllByRecursion, position_or_len}
 use Rattle.std.proofs.lemmas.Bool.{cases_Bool}
 use Rattle.toml_edit_model.specs.Text.{Text, same_text}
 use Rattle.toml_edit_model.specs.Paths.{Path, same_path, to_key}
-use Rattle.toml_edit_model.specs.Normal.{insert_by, is_sorted_by}
 use Rattle.toml_edit_laws.proofs.common.Tests.{and_both, true-false}
 use Rattle.toml_edit_laws.proofs.common.PathLaws.{same_path-is, is_front, front-keys}
 use Rattle.toml_edit_laws.proofs.common.OrderLaws.{passes_first, place-first, first-map, passes-back, first-of, goes-first}
@@ -14,6 +13,7 @@ use Rattle.toml_edit_laws.proofs.normal_texts.Agreeing.{pairs-insert}
 use Rattle.toml_edit_laws.proofs.normal_texts.LinePaths.{line_paths, names, part_keys, strict, stands, strict-not-back, strict-through, strict-stands, stands-back, stands-kept, parts-there}
 use Rattle.toml_edit_laws.proofs.common.Each.{all-insert, all-both, all-map}
 use Rattle.toml_edit_laws.proofs.common.Pairs.{AllPairs, pairs-of}
+use Rattle.toml_edit_model.specs.Order.{insert_by, is_sorted_by}
 
 -- ---- elements in blocks
 

@@ -1,15 +1,16 @@
 -- The normal form of an accepted cut means the same.
-use Rattle.std.proofs.Common.{◌≡◌, refl, sym, ◌∙◌, ap, subst, ℕ, suc, ◌+◌, Bool, true, List, [], ◌∷◌, ◌++◌, length, inl, inr}
+use Rattle.std.proofs.Common.{◌≡◌, refl, sym, ◌∙◌, ap, subst, ℕ, suc, ◌+◌, Bool, true, false, List, [], ◌∷◌, ◌++◌, length, inl, inr}
 use Rattle.std.specs.Prelude.{◌⊎◌, ◌&&◌, Contains, nat_le, map, flat_map, if◌then◌else◌}
 use Rattle.std.specs.List.{AllByRecursion}
 use Rattle.std.proofs.lemmas.Bool.{cases_Bool}
 use Rattle.std.proofs.lemmas.List.Elements.{Contains-append_left, Contains-append_right, Contains-append_cases}
+use Rattle.toml_edit_model.specs.Mode.{Mode, plain, exact}
 use Rattle.toml_edit_model.specs.Text.{Text}
-use Rattle.toml_edit_model.specs.Syntax.{begins_bare, keeps_limits, is_short, depth, most, has_short_keys, elements_have_short_keys, pairs_have_short_keys, keeps_ranges, elements_keep_ranges, pairs_keep_ranges, Segment, Frame, Value, scalar, array, inline_table, Elements, no_elements, element, Pairs, no_pairs, pair, Statement, key_line, header, Document, value_text, frame_text, IsValue, AreElements, ArePairs, IsDocument}
+use Rattle.toml_edit_model.specs.Syntax.{begins_bare, keeps_limits, is_short, depth, most, has_short_keys, elements_have_short_keys, pairs_have_short_keys, keeps_ranges, elements_keep_ranges, pairs_keep_ranges, Segment, Frame, Value, scalar, array, inline_table, Elements, no_elements, element, Pairs, no_pairs, pair, Statement, key_line, header, Document, open_statements, value_text, frame_text, IsValue, AreElements, ArePairs, IsDocument}
 use Rattle.toml_edit_model.specs.Paths.{may_meet_inline, Path, to_key, to_element, Mention, PairSource, Source, Placed, Context, line_mentions, pair_mentions, elements_at, header_path, path_start, source_of, mentions_of, context_after, placed_from, placed, start_context}
 use Rattle.toml_edit_model.specs.Accepted.{is_accepted, is_sound, all_agree, has_agreeing_pairs, elements_have_agreeing_pairs, pairs_have_agreeing_pairs}
 use Rattle.toml_edit_model.specs.Meaning.{Fact, fact, a_table, an_array, SameFacts, below_keys, value_facts, elements_facts, pairs_facts, tables_along, element_header_facts, statement_facts, facts_from, meaning}
-use Rattle.toml_edit_model.specs.Normal.{insert_by, sorted_by, pair_before, own_path, kept_path, kept_pair, some_of, pairs_of, ordered_pairs, is_line, line_before, ordered, normal_value, normal_elements, normal_pairs, normal_statement, normal}
+use Rattle.toml_edit_model.specs.Normal.{pair_before, own_path, kept_path, kept_pair, some_of, pairs_of, ordered_pairs, is_line, line_before, ordered, normal_value, normal_elements, normal_pairs, has_open_end, normal_last, normal_statement, normal_in}
 use Rattle.toml_edit_laws.proofs.common.Tests.{and_left, and_right}
 use Rattle.toml_edit_laws.proofs.common.OrderLaws.{all-sorted}
 use Rattle.toml_edit_laws.proofs.normal_texts.SettledStays.{own-line, IsAny}
@@ -22,6 +23,7 @@ use Rattle.toml_edit_laws.proofs.common.Cores.{keys_of_segments}
 use Rattle.toml_edit_laws.proofs.mentions.Placed.{placed_at, source-statement}
 use Rattle.toml_edit_laws.proofs.mentions.Placed.{mention_lists}
 use Rattle.toml_edit_laws.proofs.common.Each.{all-map}
+use Rattle.toml_edit_model.specs.Order.{insert_by, sorted_by}
 
 -- ---- the same facts
 
@@ -119,11 +121,11 @@ line-facts p n start f v (s ∷ []) h = refl
 line-facts p n start f v (s ∷ r ∷ rest) h =
     ap (λ ss. below_keys p ss (value_facts v)) (own-line (source_at n f v) start [] (s ∷ r ∷ rest))
 
-pairs-facts : (p : Path) (start number : ℕ) (ps : Pairs) → ArePairs ps → flat_map (mention_facts p) (pair_mentions start number ps) ≡ pairs_facts ps p
+pairs-facts : (p : Path) (start number : ℕ) (ps : Pairs) → ArePairs ps → flat_map (mention_facts p) (pair_mentions start ps) ≡ pairs_facts ps p
 pairs-facts p start number no_pairs h = refl
 pairs-facts p start number (pair f v ps) h =
     let next : ℕ = start + length (frame_text f (value_text v)) + 1 in
-    ap (λ fs. fs ++ flat_map (mention_facts p) (pair_mentions next (suc number) ps)) (line-facts p number (start + length f.leading) f v f.path h.0.1.begins)
+    ap (λ fs. fs ++ flat_map (mention_facts p) (pair_mentions next ps)) (line-facts p number (start + length f.leading) f v f.path h.0.1.begins)
     ∙ ap (λ fs. below_keys p f.path (value_facts v) ++ fs) (pairs-facts p next (suc number) ps h.2)
 
 kept-facts : (p : Path) (all : List (Mention PairSource)) (mss : List (List (Mention PairSource))) → AreKeyed all → AllByRecursion AreKeyed mss
@@ -135,83 +137,18 @@ kept-facts p all ((m ∷ own) ∷ mss) h g =
     (below-alike p (kept_path all (m ∷ own)) (own_path (m ∷ own)) (value_facts m.source.value) (kept-path-keys all (m ∷ own) h g.0))
     ∙ ap (λ fs. below_keys p (own_path (m ∷ own)) (value_facts m.source.value) ++ fs) (kept-facts p all mss h g.1)
 
-each-keyed : (start number : ℕ) (ps : Pairs) → AllByRecursion AreKeyed (pair_mentions start number ps)
+each-keyed : (start number : ℕ) (ps : Pairs) → AllByRecursion AreKeyed (pair_mentions start ps)
 each-keyed start number no_pairs = tt
 each-keyed start number (pair f v ps) =
     (line-keyed (source_at number f v) (start + length f.leading) [] f.path, each-keyed (start + length (frame_text f (value_text v)) + 1) (suc number) ps)
 
 ordered-facts : (p : Path) (ps : Pairs) → ArePairs ps → SameFacts (pairs_facts (ordered_pairs ps) p) (pairs_facts ps p)
 ordered-facts p ps h =
-    let mss : List (List (Mention PairSource)) = pair_mentions 0 0 ps in
+    let mss : List (List (Mention PairSource)) = pair_mentions 0 ps in
     let all : List (Mention PairSource) = flat_map (λ ms. ms) mss in
     let sorted : List (List (Mention PairSource)) = sorted_by (pair_before mss) mss in
     subst (λ fs. SameFacts fs (pairs_facts ps p)) (sym (kept-facts p all sorted (mentions-keyed 0 0 ps) (all-sorted AreKeyed (pair_before mss) mss (each-keyed 0 0 ps))))
     (subst (SameFacts (flat_map (mention_facts p) sorted)) (pairs-facts p 0 0 ps h) (sorted-facts (mention_facts p) (pair_before mss) mss))
-
--- values whose inline tables are in the grammar before their pairs are put in order
-abbrev mutual
-  pub IsRight : Value → Type 0
-  IsRight (scalar s t) = Unit {0}
-  IsRight (array es comma t) = AreRight es
-  IsRight (inline_table ps comma t) = ArePairs (normal_pairs ps) × ArePairsRight ps
-
-  pub AreRight : Elements → Type 0
-  AreRight no_elements = Unit {0}
-  AreRight (element a v es) = IsRight v × AreRight es
-
-  pub ArePairsRight : Pairs → Type 0
-  ArePairsRight no_pairs = Unit {0}
-  ArePairsRight (pair f v ps) = IsRight v × ArePairsRight ps
-
-mutual
-  pub value-is-right : (v : Value) → IsValue v → has_short_keys v ≡ true → keeps_ranges v ≡ true → has_agreeing_pairs v ≡ true → IsRight v
-  value-is-right (scalar s t) h a b c = tt
-  value-is-right (array es comma t) h a b c = elements-are-right es h.1 a b c
-  value-is-right (inline_table ps comma t) h a b c =
-      let rest = and_right (all_agree may_meet_inline (pair_mentions 0 0 ps)) (pairs_have_agreeing_pairs ps) c in
-      (normal-pairs-right ps h.1 a b rest, pairs-are-right ps h.1 a b rest)
-
-  elements-are-right : (es : Elements) → AreElements es → elements_have_short_keys es ≡ true → elements_keep_ranges es ≡ true → elements_have_agreeing_pairs es ≡ true → AreRight es
-  elements-are-right no_elements h a b c = tt
-  elements-are-right (element e v es) h a b c = (
-    value-is-right v h.2 (and_left (has_short_keys v) (elements_have_short_keys es) a) (and_left (keeps_ranges v) (elements_keep_ranges es) b)
-        (and_left (has_agreeing_pairs v) (elements_have_agreeing_pairs es) c),
-    elements-are-right es h.3 (and_right (has_short_keys v) (elements_have_short_keys es) a) (and_right (keeps_ranges v) (elements_keep_ranges es) b)
-        (and_right (has_agreeing_pairs v) (elements_have_agreeing_pairs es) c),
-  )
-
-  pairs-are-right : (ps : Pairs) → ArePairs ps → pairs_have_short_keys ps ≡ true → pairs_keep_ranges ps ≡ true → pairs_have_agreeing_pairs ps ≡ true → ArePairsRight ps
-  pairs-are-right no_pairs h a b c = tt
-  pairs-are-right (pair f v ps) h a b c =
-      let short = and_right (is_short f.path) (has_short_keys v && pairs_have_short_keys ps) a in (
-        value-is-right v h.1 (and_left (has_short_keys v) (pairs_have_short_keys ps) short) (and_left (keeps_ranges v) (pairs_keep_ranges ps) b)
-            (and_left (has_agreeing_pairs v) (pairs_have_agreeing_pairs ps) c),
-        pairs-are-right ps h.2 (and_right (has_short_keys v) (pairs_have_short_keys ps) short) (and_right (keeps_ranges v) (pairs_keep_ranges ps) b)
-            (and_right (has_agreeing_pairs v) (pairs_have_agreeing_pairs ps) c),
-      )
-
-mutual
-  pub value-facts : (v : Value) (p : Path) → IsRight v → SameFacts (value_facts (normal_value v) p) (value_facts v p)
-  value-facts (scalar s t) p h = same_facts-refl (value_facts (scalar s t) p)
-  value-facts (array es comma t) p h = same-after (fact p an_array ∷ []) (elements_facts (normal_elements es) p 0) (elements_facts es p 0) (elements-same es p 0 h)
-  value-facts (inline_table ps comma t) p h =
-      same-after (fact p a_table ∷ []) (pairs_facts (ordered_pairs (normal_pairs ps)) p) (pairs_facts ps p)
-      (same-through (pairs_facts (ordered_pairs (normal_pairs ps)) p) (pairs_facts (normal_pairs ps) p) (pairs_facts ps p)
-      (ordered-facts p (normal_pairs ps) h.0) (pairs-same ps p h.1))
-
-  elements-same : (es : Elements) (p : Path) (n : ℕ) → AreRight es → SameFacts (elements_facts (normal_elements es) p n) (elements_facts es p n)
-  elements-same no_elements p n h = same_facts-refl []
-  elements-same (element a v es) p n h =
-      same_facts-append (value_facts (normal_value v) (to_element p n)) (value_facts v (to_element p n)) (elements_facts (normal_elements es) p (suc n)) (elements_facts es p (suc n))
-      (value-facts v (to_element p n) h.0) (elements-same es p (suc n) h.1)
-
-  pairs-same : (ps : Pairs) (p : Path) → ArePairsRight ps → SameFacts (pairs_facts (normal_pairs ps) p) (pairs_facts ps p)
-  pairs-same no_pairs p h = same_facts-refl []
-  pairs-same (pair f v ps) p h =
-      same_facts-append (below_keys p f.path (value_facts (normal_value v))) (below_keys p f.path (value_facts v)) (pairs_facts (normal_pairs ps) p) (pairs_facts ps p)
-      (below-same p f.path (value_facts (normal_value v)) (value_facts v) (λ q. value-facts v q h.0)) (pairs-same ps p h.1)
-
--- ---- statements
 
 -- facts depend on the arrays and the block alone
 statement-alike : (c d : Context) (s : Statement) → AreAlike c d → (statement_facts d s ≡ statement_facts c s) × AreAlike (context_after c s) (context_after d s)
@@ -283,80 +220,161 @@ ordered-same mss c (x ∷ xs) =
           (ordered-same mss (context_after c s) xs))
     ]
 
--- ---- spelled as their kept keys
-
-abbrev HasRightValue : Statement → Type 0
-HasRightValue (key_line f v end) = IsRight v
-HasRightValue (header e end) = Unit {0}
-
-sound-value : (s : Statement) → IsAny s → is_sound s ≡ true → HasRightValue s
-sound-value (key_line f v end) h g =
-    let parts = and_left (keeps_limits (key_line f v end) && keeps_ranges v) (has_agreeing_pairs v) g in
-    let agrees = and_right (keeps_limits (key_line f v end) && keeps_ranges v) (has_agreeing_pairs v) g in
-    let limits = and_left (is_short f.path && (nat_le (depth v) most && has_short_keys v)) (keeps_ranges v) parts in
-    let ranges = and_right (is_short f.path && (nat_le (depth v) most && has_short_keys v)) (keeps_ranges v) parts in
-    let deep = and_right (is_short f.path) (nat_le (depth v) most && has_short_keys v) limits in
-    value-is-right v h.1 (and_right (nat_le (depth v) most) (has_short_keys v) deep) ranges agrees
-sound-value (header e end) h g = tt
-
-has-right : (x : Placed) → IsRightPlace x → HasRightValue x.source.statement
-has-right x (c, s, is, a, g) = subst HasRightValue (sym (ap (λ (y : Placed). y.source.statement) is ∙ source-statement c s)) (sound-value s a g)
-
-normal-one : (ms : List (Mention Source)) (c d : Context) (s : Statement) → AreAlike c d → AreKeyed ms → HasRightValue s
-    → SameFacts (statement_facts d (normal_statement ms (placed_at c s) s)) (statement_facts c s)
-normal-one ms c d (key_line f v end) h g r =
-    let own : List (Mention Source) = mentions_of c (key_line f v end) in
-    let same : keys_of_segments (kept_path ms own) ≡ keys_of_segments f.path =
-    kept-path-keys ms own g (statement-keyed c (key_line f v end))
-    ∙ ap keys_of_segments (own-line (source_of c (key_line f v end)) (c.start + path_start (key_line f v end)) c.block f.path) in
-    let w : Value = normal_value v in
-    subst (λ b. SameFacts (tables_along [] b ++ below_keys b (kept_path ms own) (value_facts w)) (tables_along [] c.block ++ below_keys c.block f.path (value_facts v))) (sym h.1)
-    (same-after (tables_along [] c.block) (below_keys c.block (kept_path ms own) (value_facts w)) (below_keys c.block f.path (value_facts v))
-    (subst (λ fs. SameFacts fs (below_keys c.block f.path (value_facts v))) (sym (below-alike c.block (kept_path ms own) f.path (value_facts w) same))
-    (below-same c.block f.path (value_facts w) (value_facts v) (λ q. value-facts v q r))))
-normal-one ms c d (header e end) h g r =
-    let to : Statement = normal_statement ms (placed_at c (header e end)) (header e end) in
-    let path_is : header_path d.arrays [] (kept_path ms (mentions_of c (header e end))) ≡ header_path c.arrays [] e.path = (normal-place ms c d (header e end) h g).0.path in
-    same-is (statement_facts d to) (statement_facts c (header e end))
-    (ap (λ p. if e.is_array then element_header_facts p (elements_at d.arrays p) else tables_along [] p) path_is
-    ∙ ap (λ a. if e.is_array then element_header_facts (header_path c.arrays [] e.path) (elements_at a (header_path c.arrays [] e.path)) else tables_along [] (header_path c.arrays [] e.path)) h.0)
-
-normal-all : (ms : List (Mention Source)) (n : ℕ) (arrays : List Path) (block : Path) (c d : Context) (xs : List Placed) → AreKeyed ms → Run n arrays block xs
-    → AllByRecursion (λ x. HasRightValue x.source.statement) xs → c.arrays ≡ arrays → c.block ≡ block → AreAlike c d
-    → SameFacts (facts_from d (map (λ s. normal_statement ms s s.source.statement) xs)) (facts_from c (statements xs))
-normal-all ms n arrays block c d [] g r v e f h = same_facts-refl []
-normal-all ms n arrays block c d (x ∷ xs) g (b, s, is, m, a, k, rest) v e f h =
-    let alike : AreAlike b d = (h.0 ∙ e ∙ sym a, h.1 ∙ f ∙ sym k) in
-    let same : AreAlike b c = (e ∙ sym a, f ∙ sym k) in
-    let first = normal-place ms b d s alike g in
-    let one = statement-alike b c s same in
-    let st : x.source.statement ≡ s = ap (λ (y : Placed). y.source.statement) is ∙ source-statement b s in
-    let to : normal_statement ms x x.source.statement ≡ normal_statement ms (placed_at b s) s =
-    ap (λ (y : Placed). normal_statement ms y y.source.statement) is ∙ ap (normal_statement ms (placed_at b s)) (source-statement b s) in
-    let n_s : Statement = normal_statement ms (placed_at b s) s in
-    let back : AreAlike (context_after c s) (context_after d n_s) = (first.1.0 ∙ sym one.1.0, first.1.1 ∙ sym one.1.1) in
-    subst (λ t. SameFacts (facts_from d (t ∷ map (λ s. normal_statement ms s s.source.statement) xs)) (facts_from c (statements (x ∷ xs)))) (sym to)
-    (subst (λ t. SameFacts (facts_from d (n_s ∷ map (λ s. normal_statement ms s s.source.statement) xs)) (facts_from c (t ∷ statements xs))) (sym st)
-    (same_facts-append (statement_facts d n_s) (statement_facts c s) (facts_from (context_after d n_s) (map (λ s. normal_statement ms s s.source.statement) xs)) (facts_from (context_after c s) (statements xs))
-    (subst (SameFacts (statement_facts d n_s)) (sym one.0) (normal-one ms b d s alike g (subst HasRightValue st v.0)))
-    (normal-all ms (context_after b s).headers (context_after b s).arrays (context_after b s).block (context_after c s) (context_after d n_s) xs g rest v.1 one.1.0 one.1.1 back)))
-
--- ---- documents
-
 own-statements : (c : Context) (ss : List Statement) → statements (placed_from c ss) ≡ ss
 own-statements c [] = refl
 own-statements c (s ∷ ss) = ap (λ t. t ∷ statements (placed_from (context_after c s) ss)) (source-statement c s) ∙ ap (λ ts. s ∷ ts) (own-statements (context_after c s) ss)
 
--- The normal form of an accepted cut means the same.
-pub normal-means : (d : Document) → IsDocument d → is_accepted d ≡ true → SameFacts (meaning (normal d)) (meaning d)
-unfolding normal meaning
-normal-means d h g =
-    let k = known d h g in
-    let ms : List (Mention Source) = all_in d in
-    let xs : List Placed = in_order d in
-    let c : Context = start_context d in
-    let new : List Statement = map (λ s. normal_statement ms s s.source.statement) xs in
-    same-after (fact [] a_table ∷ []) (facts_from (start_context (normal d)) new) (facts_from c d.statements)
-    (same-through (facts_from (start_context (normal d)) new) (facts_from c (statements xs)) (facts_from c d.statements)
-    (normal-all ms 0 [] [] c (start_context (normal d)) xs k.keyed k.run (all-map IsRightPlace (λ x. HasRightValue x.source.statement) xs has-right k.right) refl refl (refl, refl))
-    (subst (λ ss. SameFacts (facts_from c (statements xs)) (facts_from c ss)) (own-statements c d.statements) (ordered-same (mention_lists (placed d)) c (placed d))))
+-- ---- the last statement left open
+
+facts-open : (c : Context) (ss : List Statement) → facts_from c (open_statements ss) ≡ facts_from c ss
+facts-open c [] = refl
+facts-open c (key_line f v end ∷ []) = refl
+facts-open c (header h end ∷ []) = refl
+facts-open c (s ∷ r ∷ ss) = ap (λ fs. statement_facts c s ++ fs) (facts-open (context_after c s) (r ∷ ss))
+
+last-facts : (mode : Mode) (c : Context) (d : Document) (ss : List Statement) → facts_from c (normal_last mode d ss) ≡ facts_from c ss
+last-facts plain c d ss = refl
+last-facts exact c d ss = by_test (has_open_end d.statements)
+  where
+    by_test : (b : Bool) → facts_from c (if b then open_statements ss else ss) ≡ facts_from c ss
+    by_test true = facts-open c ss
+    by_test false = refl
+
+module _ (mode : Mode) where
+  -- values whose inline tables are in the grammar before their pairs are put in order
+  abbrev mutual
+    pub IsRight : Value → Type 0
+    IsRight (scalar s t) = Unit {0}
+    IsRight (array es comma t) = AreRight es
+    IsRight (inline_table ps comma t) = ArePairs (normal_pairs mode ps) × ArePairsRight ps
+
+    pub AreRight : Elements → Type 0
+    AreRight no_elements = Unit {0}
+    AreRight (element a v es) = IsRight v × AreRight es
+
+    pub ArePairsRight : Pairs → Type 0
+    ArePairsRight no_pairs = Unit {0}
+    ArePairsRight (pair f v ps) = IsRight v × ArePairsRight ps
+
+  mutual
+    pub value-is-right : (v : Value) → IsValue v → has_short_keys v ≡ true → keeps_ranges v ≡ true → has_agreeing_pairs v ≡ true → IsRight v
+    value-is-right (scalar s t) h a b c = tt
+    value-is-right (array es comma t) h a b c = elements-are-right es h.1 a b c
+    value-is-right (inline_table ps comma t) h a b c =
+        let rest = and_right (all_agree may_meet_inline (pair_mentions 0 ps)) (pairs_have_agreeing_pairs ps) c in
+        (normal-pairs-right mode ps h.1 a b rest, pairs-are-right ps h.1 a b rest)
+
+    elements-are-right : (es : Elements) → AreElements es → elements_have_short_keys es ≡ true → elements_keep_ranges es ≡ true → elements_have_agreeing_pairs es ≡ true → AreRight es
+    elements-are-right no_elements h a b c = tt
+    elements-are-right (element e v es) h a b c = (
+      value-is-right v h.2 (and_left (has_short_keys v) (elements_have_short_keys es) a) (and_left (keeps_ranges v) (elements_keep_ranges es) b)
+          (and_left (has_agreeing_pairs v) (elements_have_agreeing_pairs es) c),
+      elements-are-right es h.3 (and_right (has_short_keys v) (elements_have_short_keys es) a) (and_right (keeps_ranges v) (elements_keep_ranges es) b)
+          (and_right (has_agreeing_pairs v) (elements_have_agreeing_pairs es) c),
+    )
+
+    pairs-are-right : (ps : Pairs) → ArePairs ps → pairs_have_short_keys ps ≡ true → pairs_keep_ranges ps ≡ true → pairs_have_agreeing_pairs ps ≡ true → ArePairsRight ps
+    pairs-are-right no_pairs h a b c = tt
+    pairs-are-right (pair f v ps) h a b c =
+        let short = and_right (is_short f.path) (has_short_keys v && pairs_have_short_keys ps) a in (
+          value-is-right v h.1 (and_left (has_short_keys v) (pairs_have_short_keys ps) short) (and_left (keeps_ranges v) (pairs_keep_ranges ps) b)
+              (and_left (has_agreeing_pairs v) (pairs_have_agreeing_pairs ps) c),
+          pairs-are-right ps h.2 (and_right (has_short_keys v) (pairs_have_short_keys ps) short) (and_right (keeps_ranges v) (pairs_keep_ranges ps) b)
+              (and_right (has_agreeing_pairs v) (pairs_have_agreeing_pairs ps) c),
+        )
+
+  mutual
+    pub value-facts : (v : Value) (p : Path) → IsRight v → SameFacts (value_facts (normal_value mode v) p) (value_facts v p)
+    value-facts (scalar s t) p h = same_facts-refl (value_facts (scalar s t) p)
+    value-facts (array es comma t) p h = same-after (fact p an_array ∷ []) (elements_facts (normal_elements mode es) p 0) (elements_facts es p 0) (elements-same es p 0 h)
+    value-facts (inline_table ps comma t) p h =
+        same-after (fact p a_table ∷ []) (pairs_facts (ordered_pairs (normal_pairs mode ps)) p) (pairs_facts ps p)
+        (same-through (pairs_facts (ordered_pairs (normal_pairs mode ps)) p) (pairs_facts (normal_pairs mode ps) p) (pairs_facts ps p)
+        (ordered-facts p (normal_pairs mode ps) h.0) (pairs-same ps p h.1))
+
+    elements-same : (es : Elements) (p : Path) (n : ℕ) → AreRight es → SameFacts (elements_facts (normal_elements mode es) p n) (elements_facts es p n)
+    elements-same no_elements p n h = same_facts-refl []
+    elements-same (element a v es) p n h =
+        same_facts-append (value_facts (normal_value mode v) (to_element p n)) (value_facts v (to_element p n)) (elements_facts (normal_elements mode es) p (suc n)) (elements_facts es p (suc n))
+        (value-facts v (to_element p n) h.0) (elements-same es p (suc n) h.1)
+
+    pairs-same : (ps : Pairs) (p : Path) → ArePairsRight ps → SameFacts (pairs_facts (normal_pairs mode ps) p) (pairs_facts ps p)
+    pairs-same no_pairs p h = same_facts-refl []
+    pairs-same (pair f v ps) p h =
+        same_facts-append (below_keys p f.path (value_facts (normal_value mode v))) (below_keys p f.path (value_facts v)) (pairs_facts (normal_pairs mode ps) p) (pairs_facts ps p)
+        (below-same p f.path (value_facts (normal_value mode v)) (value_facts v) (λ q. value-facts v q h.0)) (pairs-same ps p h.1)
+
+  -- ---- spelled as their kept keys
+
+  abbrev HasRightValue : Statement → Type 0
+  HasRightValue (key_line f v end) = IsRight v
+  HasRightValue (header e end) = Unit {0}
+
+  sound-value : (s : Statement) → IsAny s → is_sound s ≡ true → HasRightValue s
+  sound-value (key_line f v end) h g =
+      let parts = and_left (keeps_limits (key_line f v end) && keeps_ranges v) (has_agreeing_pairs v) g in
+      let agrees = and_right (keeps_limits (key_line f v end) && keeps_ranges v) (has_agreeing_pairs v) g in
+      let limits = and_left (is_short f.path && (nat_le (depth v) most && has_short_keys v)) (keeps_ranges v) parts in
+      let ranges = and_right (is_short f.path && (nat_le (depth v) most && has_short_keys v)) (keeps_ranges v) parts in
+      let deep = and_right (is_short f.path) (nat_le (depth v) most && has_short_keys v) limits in
+      value-is-right v h.1 (and_right (nat_le (depth v) most) (has_short_keys v) deep) ranges agrees
+  sound-value (header e end) h g = tt
+
+  has-right : (x : Placed) → IsRightPlace x → HasRightValue x.source.statement
+  has-right x (c, s, is, a, g) = subst HasRightValue (sym (ap (λ (y : Placed). y.source.statement) is ∙ source-statement c s)) (sound-value s a g)
+
+  normal-one : (ms : List (Mention Source)) (c d : Context) (s : Statement) → AreAlike c d → AreKeyed ms → HasRightValue s
+      → SameFacts (statement_facts d (normal_statement mode ms (placed_at c s) s)) (statement_facts c s)
+  normal-one ms c d (key_line f v end) h g r =
+      let own : List (Mention Source) = mentions_of c (key_line f v end) in
+      let same : keys_of_segments (kept_path ms own) ≡ keys_of_segments f.path =
+      kept-path-keys ms own g (statement-keyed c (key_line f v end))
+      ∙ ap keys_of_segments (own-line (source_of c (key_line f v end)) (c.start + path_start (key_line f v end)) c.block f.path) in
+      let w : Value = normal_value mode v in
+      subst (λ b. SameFacts (tables_along [] b ++ below_keys b (kept_path ms own) (value_facts w)) (tables_along [] c.block ++ below_keys c.block f.path (value_facts v))) (sym h.1)
+      (same-after (tables_along [] c.block) (below_keys c.block (kept_path ms own) (value_facts w)) (below_keys c.block f.path (value_facts v))
+      (subst (λ fs. SameFacts fs (below_keys c.block f.path (value_facts v))) (sym (below-alike c.block (kept_path ms own) f.path (value_facts w) same))
+      (below-same c.block f.path (value_facts w) (value_facts v) (λ q. value-facts v q r))))
+  normal-one ms c d (header e end) h g r =
+      let to : Statement = normal_statement mode ms (placed_at c (header e end)) (header e end) in
+      let path_is : header_path d.arrays [] (kept_path ms (mentions_of c (header e end))) ≡ header_path c.arrays [] e.path = (normal-place mode ms c d (header e end) h g).0.path in
+      same-is (statement_facts d to) (statement_facts c (header e end))
+      (ap (λ p. if e.is_array then element_header_facts p (elements_at d.arrays p) else tables_along [] p) path_is
+      ∙ ap (λ a. if e.is_array then element_header_facts (header_path c.arrays [] e.path) (elements_at a (header_path c.arrays [] e.path)) else tables_along [] (header_path c.arrays [] e.path)) h.0)
+
+  normal-all : (ms : List (Mention Source)) (n : ℕ) (arrays : List Path) (block : Path) (c d : Context) (xs : List Placed) → AreKeyed ms → Run n arrays block xs
+      → AllByRecursion (λ x. HasRightValue x.source.statement) xs → c.arrays ≡ arrays → c.block ≡ block → AreAlike c d
+      → SameFacts (facts_from d (map (λ s. normal_statement mode ms s s.source.statement) xs)) (facts_from c (statements xs))
+  normal-all ms n arrays block c d [] g r v e f h = same_facts-refl []
+  normal-all ms n arrays block c d (x ∷ xs) g (b, s, is, m, a, k, rest) v e f h =
+      let alike : AreAlike b d = (h.0 ∙ e ∙ sym a, h.1 ∙ f ∙ sym k) in
+      let same : AreAlike b c = (e ∙ sym a, f ∙ sym k) in
+      let first = normal-place mode ms b d s alike g in
+      let one = statement-alike b c s same in
+      let st : x.source.statement ≡ s = ap (λ (y : Placed). y.source.statement) is ∙ source-statement b s in
+      let to : normal_statement mode ms x x.source.statement ≡ normal_statement mode ms (placed_at b s) s =
+      ap (λ (y : Placed). normal_statement mode ms y y.source.statement) is ∙ ap (normal_statement mode ms (placed_at b s)) (source-statement b s) in
+      let n_s : Statement = normal_statement mode ms (placed_at b s) s in
+      let back : AreAlike (context_after c s) (context_after d n_s) = (first.1.0 ∙ sym one.1.0, first.1.1 ∙ sym one.1.1) in
+      subst (λ t. SameFacts (facts_from d (t ∷ map (λ s. normal_statement mode ms s s.source.statement) xs)) (facts_from c (statements (x ∷ xs)))) (sym to)
+      (subst (λ t. SameFacts (facts_from d (n_s ∷ map (λ s. normal_statement mode ms s s.source.statement) xs)) (facts_from c (t ∷ statements xs))) (sym st)
+      (same_facts-append (statement_facts d n_s) (statement_facts c s) (facts_from (context_after d n_s) (map (λ s. normal_statement mode ms s s.source.statement) xs)) (facts_from (context_after c s) (statements xs))
+      (subst (SameFacts (statement_facts d n_s)) (sym one.0) (normal-one ms b d s alike g (subst HasRightValue st v.0)))
+      (normal-all ms (context_after b s).headers (context_after b s).arrays (context_after b s).block (context_after c s) (context_after d n_s) xs g rest v.1 one.1.0 one.1.1 back)))
+
+  -- ---- documents
+
+  -- The normal form of an accepted cut means the same.
+  pub normal-means : (d : Document) → IsDocument d → is_accepted d ≡ true → SameFacts (meaning (normal_in mode d)) (meaning d)
+  unfolding meaning
+  normal-means d h g =
+      let k = known mode d h g in
+      let ms : List (Mention Source) = all_in d in
+      let xs : List Placed = in_order d in
+      let c : Context = start_context d in
+      let new : List Statement = map (λ s. normal_statement mode ms s s.source.statement) xs in
+      subst (λ fs. SameFacts (fact [] a_table ∷ fs) (fact [] a_table ∷ facts_from c d.statements)) (sym (last-facts mode (start_context (normal_in mode d)) d new))
+      (same-after (fact [] a_table ∷ []) (facts_from (start_context (normal_in mode d)) new) (facts_from c d.statements)
+      (same-through (facts_from (start_context (normal_in mode d)) new) (facts_from c (statements xs)) (facts_from c d.statements)
+      (normal-all ms 0 [] [] c (start_context (normal_in mode d)) xs k.keyed k.run (all-map IsRightPlace (λ x. HasRightValue x.source.statement) xs has-right k.right) refl refl (refl, refl))
+      (subst (λ ss. SameFacts (facts_from c (statements xs)) (facts_from c ss)) (own-statements c d.statements) (ordered-same (mention_lists (placed d)) c (placed d)))))

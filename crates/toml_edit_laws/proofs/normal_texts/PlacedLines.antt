@@ -8,7 +8,7 @@ use Rattle.toml_edit_model.specs.Syntax.{Segment, Statement, key_line, header, b
 use Rattle.toml_edit_model.specs.Paths.{Path, same_path, to_key, Role, may_meet, may_meet_inline, Mention, Source, Placed, Context, line_mentions, header_mentions, header_path, header_role_of, keys_of, path_start, source_of, mentions_of, context_after}
 use Rattle.toml_edit_model.specs.Accepted.{agree}
 use Rattle.toml_edit_model.specs.Meaning.{parent}
-use Rattle.toml_edit_model.specs.Normal.{rank, insert_by, is_line, line_before, ordered, own_path}
+use Rattle.toml_edit_model.specs.Normal.{rank, is_line, line_before, ordered, own_path}
 use Rattle.toml_edit_laws.proofs.common.Tests.{and_left, and_right, and_both}
 use Rattle.toml_edit_laws.proofs.common.PathLaws.{is_front}
 use Rattle.toml_edit_laws.proofs.mentions.RankLaws.{line-along, header-along}
@@ -28,6 +28,7 @@ use Rattle.toml_edit_laws.proofs.mentions.RoleTests.{by_line_roles, is_line_role
 use Rattle.toml_edit_laws.proofs.common.Pairs.{AllPairs, pairs-of}
 use Rattle.toml_edit_laws.proofs.common.Each.{all-both, all-map, all-image}
 use Rattle.toml_edit_laws.proofs.common.Members.{all-among}
+use Rattle.toml_edit_model.specs.Order.{insert_by}
 
 -- ---- a statement as an element
 

@@ -2,12 +2,13 @@
 use Rattle.std.proofs.Common.{◌≡◌, refl, sym, ◌∙◌, ap, subst, ℕ, ◌+◌, Bool, true, false, List, [], ◌∷◌, ◌++◌, length, inr}
 use Rattle.std.specs.Prelude.{◌&&◌, ◌||◌, not, nat_lt, map, flat_map, if◌then◌else◌}
 use Rattle.std.specs.List.{AllByRecursion, list_any, list_all, position_or_len}
-use Rattle.toml_edit_model.specs.Text.{Text, same_text, without_returns}
+use Rattle.toml_edit_model.specs.Mode.{Mode, shown_text}
+use Rattle.toml_edit_model.specs.Text.{Text, same_text}
 use Rattle.toml_edit_model.specs.Trivia.{IsWholeTrivia}
 use Rattle.toml_edit_model.specs.Syntax.{ends_bare, Segment, Frame, Value, scalar, array, inline_table, Elements, no_elements, element, Pairs, no_pairs, pair, begins_bare, IsFrame, IsValue, AreElements, ArePairs, is_short, has_short_keys, elements_have_short_keys, pairs_have_short_keys, keeps_ranges, elements_keep_ranges, pairs_keep_ranges}
 use Rattle.toml_edit_model.specs.Paths.{at_key, Path, same_path, to_key, Role, dotted_role, value_role, implied_role, header_role, array_role, through_role, may_meet_inline, Mention, PairSource, line_mentions, pair_mentions}
 use Rattle.toml_edit_model.specs.Accepted.{agree, all_agree, has_agreeing_pairs, elements_have_agreeing_pairs, pairs_have_agreeing_pairs}
-use Rattle.toml_edit_model.specs.Normal.{rank, stands_before, insert_by, sorted_by, is_sorted_by, pair_before, kept_path, own_path, same_segment, same_segments, is_kept, are_settled_pairs, ordered_pairs, has_no_return, is_lean_frame, lean_frame, normal_value, normal_elements, normal_pairs, is_settled_value, are_settled_elements, have_settled_values}
+use Rattle.toml_edit_model.specs.Normal.{rank, stands_before, pair_before, kept_path, own_path, same_segment, same_segments, is_kept, are_settled_pairs, ordered_pairs, is_shown_text, is_lean_frame, lean_frame, normal_value, normal_elements, normal_pairs, is_settled_value, are_settled_elements, have_settled_values}
 use Rattle.toml_edit_laws.proofs.common.Tests.{and_left, and_right, and_both, same_text-refl}
 use Rattle.toml_edit_laws.proofs.common.PathLaws.{is_front}
 use Rattle.toml_edit_laws.proofs.mentions.RankLaws.{line-along}
@@ -27,6 +28,7 @@ use Rattle.toml_edit_laws.proofs.mentions.Placed.{filled-path}
 use Rattle.toml_edit_laws.proofs.common.Cores.{Core, cores, keys_of_segments}
 use Rattle.toml_edit_laws.proofs.common.Pairs.{AllPairs, pairs-of}
 use Rattle.toml_edit_laws.proofs.common.Each.{all-map, all-image}
+use Rattle.toml_edit_model.specs.Order.{insert_by, sorted_by, is_sorted_by}
 
 -- ---- ranks by paths
 
@@ -247,13 +249,13 @@ all-kept all (n ∷ ns) h =
     and_both (is_kept all n) (list_all (is_kept all) ns) (ap (same_segments (own_path n)) (sym h.0) ∙ same-segments (own_path n)) (all-kept all ns h.1)
 
 -- The ordered pairs of an inline table are settled.
-pub ordered-settled : (ps : Pairs) → ArePairs ps → all_agree may_meet_inline (pair_mentions 0 0 ps) ≡ true → are_settled_pairs (pair_mentions 0 0 (ordered_pairs ps)) ≡ true
+pub ordered-settled : (ps : Pairs) → ArePairs ps → all_agree may_meet_inline (pair_mentions 0 ps) ≡ true → are_settled_pairs (pair_mentions 0 (ordered_pairs ps)) ≡ true
 ordered-settled ps h g =
-    let mss : List Told = pair_mentions 0 0 ps in
+    let mss : List Told = pair_mentions 0 ps in
     let all : Told = flat_map (λ ms. ms) mss in
     let test : Told → Told → Bool = pair_before mss in
     let zs : List Told = lines_ordered a_line test mss in
-    let new : List Told = pair_mentions 0 0 (ordered_pairs ps) in
+    let new : List Told = pair_mentions 0 (ordered_pairs ps) in
     let are : AllByRecursion (IsMentionOf Framed) mss = mentions-of Framed 0 0 ps h (each-framed ps h) in
     let agrees : AllPairs (λ m n. agree may_meet_inline m n ≡ true) mss = all_agree-pairs may_meet_inline mss g in
     let text = text-of mss are agrees in
@@ -271,54 +273,55 @@ ordered-settled ps h g =
     (subst (λ xs. AreAnew xs itself zs new) (ap (flat_map (λ ms. ms)) (sym (map-self mss))) (spelled-anew all zs new spells)) in
     and_both (is_sorted_by (pair_before new) new) (list_all (is_kept (flat_map (λ ms. ms) new)) new) first (all-kept (flat_map (λ ms. ms) new) new kept)
 
--- ---- values
+module _ (mode : Mode) where
+  -- ---- values
 
-settled-from : (ps : Pairs) → EachPair (λ f v. (is_lean_frame f ≡ true) × (is_settled_value v ≡ true)) ps → have_settled_values ps ≡ true
-settled-from no_pairs h = refl
-settled-from (pair f v ps) h =
-    and_both (is_lean_frame f) (is_settled_value v && have_settled_values ps) h.0.0 (and_both (is_settled_value v) (have_settled_values ps) h.0.1 (settled-from ps h.1))
+  settled-from : (ps : Pairs) → EachPair (λ f v. (is_lean_frame mode f ≡ true) × (is_settled_value mode v ≡ true)) ps → have_settled_values mode ps ≡ true
+  settled-from no_pairs h = refl
+  settled-from (pair f v ps) h =
+      and_both (is_lean_frame mode f) (is_settled_value mode v && have_settled_values mode ps) h.0.0 (and_both (is_settled_value mode v) (have_settled_values mode ps) h.0.1 (settled-from ps h.1))
 
-pub lean-is : (f : Frame) → is_lean_frame (lean_frame f) ≡ true
-lean-is f = and_both (has_no_return (without_returns f.leading)) (has_no_return (without_returns f.trailing)) (no-return f.leading) (no-return f.trailing)
+  pub lean-is : (f : Frame) → is_lean_frame mode (lean_frame mode f) ≡ true
+  lean-is f = and_both (is_shown_text mode (shown_text mode f.leading)) (is_shown_text mode (shown_text mode f.trailing)) (no-return mode f.leading) (no-return mode f.trailing)
 
-mutual
-  pub value-settled : (v : Value) → IsValue v → has_short_keys v ≡ true → keeps_ranges v ≡ true → has_agreeing_pairs v ≡ true → is_settled_value (normal_value v) ≡ true
-  value-settled (scalar s t) h a b c = refl
-  value-settled (array es comma t) h a b c =
-      and_both (has_no_return (without_returns t)) (are_settled_elements (normal_elements es)) (no-return t) (elements-settled es h.1 a b c)
-  value-settled (inline_table ps comma t) h a b c =
-      let first = and_left (all_agree may_meet_inline (pair_mentions 0 0 ps)) (pairs_have_agreeing_pairs ps) c in
-      let rest = and_right (all_agree may_meet_inline (pair_mentions 0 0 ps)) (pairs_have_agreeing_pairs ps) c in
-      let are = normal-pairs-right ps h.1 a b rest in
-      let new : Pairs = ordered_pairs (normal_pairs ps) in
-      and_both (has_no_return (without_returns t) && are_settled_pairs (pair_mentions 0 0 new)) (have_settled_values new)
-      (and_both (has_no_return (without_returns t)) (are_settled_pairs (pair_mentions 0 0 new)) (no-return t) (ordered-settled (normal_pairs ps) are (normal-agree 0 0 0 ps first)))
-      (settled-from new
-      (ordered-each (λ f v. (is_lean_frame f ≡ true) × (is_settled_value v ≡ true)) (λ f v. (is_lean_frame f ≡ true) × (is_settled_value v ≡ true)) (normal_pairs ps) are
-      (λ f v n start e g. g) (pairs-settled ps h.1 a b rest)))
+  mutual
+    pub value-settled : (v : Value) → IsValue v → has_short_keys v ≡ true → keeps_ranges v ≡ true → has_agreeing_pairs v ≡ true → is_settled_value mode (normal_value mode v) ≡ true
+    value-settled (scalar s t) h a b c = refl
+    value-settled (array es comma t) h a b c =
+        and_both (is_shown_text mode (shown_text mode t)) (are_settled_elements mode (normal_elements mode es)) (no-return mode t) (elements-settled es h.1 a b c)
+    value-settled (inline_table ps comma t) h a b c =
+        let first = and_left (all_agree may_meet_inline (pair_mentions 0 ps)) (pairs_have_agreeing_pairs ps) c in
+        let rest = and_right (all_agree may_meet_inline (pair_mentions 0 ps)) (pairs_have_agreeing_pairs ps) c in
+        let are = normal-pairs-right mode ps h.1 a b rest in
+        let new : Pairs = ordered_pairs (normal_pairs mode ps) in
+        and_both (is_shown_text mode (shown_text mode t) && are_settled_pairs (pair_mentions 0 new)) (have_settled_values mode new)
+        (and_both (is_shown_text mode (shown_text mode t)) (are_settled_pairs (pair_mentions 0 new)) (no-return mode t) (ordered-settled (normal_pairs mode ps) are (normal-agree mode 0 0 0 ps first)))
+        (settled-from new
+        (ordered-each (λ f v. (is_lean_frame mode f ≡ true) × (is_settled_value mode v ≡ true)) (λ f v. (is_lean_frame mode f ≡ true) × (is_settled_value mode v ≡ true)) (normal_pairs mode ps) are
+        (λ f v n start e g. g) (pairs-settled ps h.1 a b rest)))
 
-  elements-settled : (es : Elements) → AreElements es → elements_have_short_keys es ≡ true → elements_keep_ranges es ≡ true → elements_have_agreeing_pairs es ≡ true
-      → are_settled_elements (normal_elements es) ≡ true
-  elements-settled no_elements h a b c = refl
-  elements-settled (element e v es) h a b c =
-      and_both (has_no_return (without_returns e.before) && has_no_return (without_returns e.after)) (is_settled_value (normal_value v) && are_settled_elements (normal_elements es))
-      (and_both (has_no_return (without_returns e.before)) (has_no_return (without_returns e.after)) (no-return e.before) (no-return e.after))
-      (and_both (is_settled_value (normal_value v)) (are_settled_elements (normal_elements es))
-      (value-settled v h.2 (and_left (has_short_keys v) (elements_have_short_keys es) a) (and_left (keeps_ranges v) (elements_keep_ranges es) b)
-      (and_left (has_agreeing_pairs v) (elements_have_agreeing_pairs es) c))
-      (elements-settled es h.3 (and_right (has_short_keys v) (elements_have_short_keys es) a) (and_right (keeps_ranges v) (elements_keep_ranges es) b)
-      (and_right (has_agreeing_pairs v) (elements_have_agreeing_pairs es) c)))
+    elements-settled : (es : Elements) → AreElements es → elements_have_short_keys es ≡ true → elements_keep_ranges es ≡ true → elements_have_agreeing_pairs es ≡ true
+        → are_settled_elements mode (normal_elements mode es) ≡ true
+    elements-settled no_elements h a b c = refl
+    elements-settled (element e v es) h a b c =
+        and_both (is_shown_text mode (shown_text mode e.before) && is_shown_text mode (shown_text mode e.after)) (is_settled_value mode (normal_value mode v) && are_settled_elements mode (normal_elements mode es))
+        (and_both (is_shown_text mode (shown_text mode e.before)) (is_shown_text mode (shown_text mode e.after)) (no-return mode e.before) (no-return mode e.after))
+        (and_both (is_settled_value mode (normal_value mode v)) (are_settled_elements mode (normal_elements mode es))
+        (value-settled v h.2 (and_left (has_short_keys v) (elements_have_short_keys es) a) (and_left (keeps_ranges v) (elements_keep_ranges es) b)
+        (and_left (has_agreeing_pairs v) (elements_have_agreeing_pairs es) c))
+        (elements-settled es h.3 (and_right (has_short_keys v) (elements_have_short_keys es) a) (and_right (keeps_ranges v) (elements_keep_ranges es) b)
+        (and_right (has_agreeing_pairs v) (elements_have_agreeing_pairs es) c)))
 
-  pairs-settled : (ps : Pairs) → ArePairs ps → pairs_have_short_keys ps ≡ true → pairs_keep_ranges ps ≡ true → pairs_have_agreeing_pairs ps ≡ true
-      → EachPair (λ f v. (is_lean_frame f ≡ true) × (is_settled_value v ≡ true)) (normal_pairs ps)
-  pairs-settled no_pairs h a b c = tt
-  pairs-settled (pair f v ps) h a b c =
-      let short = and_right (is_short f.path) (has_short_keys v && pairs_have_short_keys ps) a in (
-        (
-          lean-is f,
-          value-settled v h.1 (and_left (has_short_keys v) (pairs_have_short_keys ps) short) (and_left (keeps_ranges v) (pairs_keep_ranges ps) b)
-              (and_left (has_agreeing_pairs v) (pairs_have_agreeing_pairs ps) c),
-        ),
-        pairs-settled ps h.2 (and_right (has_short_keys v) (pairs_have_short_keys ps) short) (and_right (keeps_ranges v) (pairs_keep_ranges ps) b)
-            (and_right (has_agreeing_pairs v) (pairs_have_agreeing_pairs ps) c),
-      )
+    pairs-settled : (ps : Pairs) → ArePairs ps → pairs_have_short_keys ps ≡ true → pairs_keep_ranges ps ≡ true → pairs_have_agreeing_pairs ps ≡ true
+        → EachPair (λ f v. (is_lean_frame mode f ≡ true) × (is_settled_value mode v ≡ true)) (normal_pairs mode ps)
+    pairs-settled no_pairs h a b c = tt
+    pairs-settled (pair f v ps) h a b c =
+        let short = and_right (is_short f.path) (has_short_keys v && pairs_have_short_keys ps) a in (
+          (
+            lean-is f,
+            value-settled v h.1 (and_left (has_short_keys v) (pairs_have_short_keys ps) short) (and_left (keeps_ranges v) (pairs_keep_ranges ps) b)
+                (and_left (has_agreeing_pairs v) (pairs_have_agreeing_pairs ps) c),
+          ),
+          pairs-settled ps h.2 (and_right (has_short_keys v) (pairs_have_short_keys ps) short) (and_right (keeps_ranges v) (pairs_keep_ranges ps) b)
+              (and_right (has_agreeing_pairs v) (pairs_have_agreeing_pairs ps) c),
+        )

@@ -5,11 +5,11 @@ use Rattle.toml_edit_model.specs.Paths.{Mention, Path, same_path}
 use Rattle.toml_edit_laws.proofs.common.Members.{image-among, among-left, Among, among-right, among-image, among-cases}
 use Rattle.toml_edit_laws.proofs.common.Cores.{Core, core}
 use Rattle.toml_edit_laws.proofs.common.Searches.{find-map, find-append, none-any}
-use Rattle.toml_edit_model.specs.Normal.{option_or}
 use Rattle.std.specs.List.{AllByRecursion, list_any}
 use Rattle.toml_edit_laws.proofs.common.Pairs.{AllPairs}
 use Rattle.toml_edit_laws.proofs.common.Each.{all-map}
 use Rattle.toml_edit_laws.proofs.common.Tests.{true-false}
+use Rattle.std.specs.Option.{option_or}
 
 abbrev pub tagged : {S X : Type 0} → (X → List (Mention S)) → List X → List (X × Mention S)
 tagged ment xs = flat_map (λ x. map (λ m. (x, m)) (ment x)) xs

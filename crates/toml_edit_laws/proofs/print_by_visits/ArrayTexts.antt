@@ -1,6 +1,7 @@
 -- The text of an array, element by element.
 use Rattle.std.proofs.Common.{◌≡◌, refl, sym, ap, ◌∙◌, Bool, true, false, [], ◌++◌, append_assoc}
 use Rattle.std.specs.Prelude.{codes, if◌then◌else◌}
+use Rattle.toml_edit_model.specs.Mode.{Mode}
 use Rattle.toml_edit_model.specs.Text.{Text}
 use Rattle.toml_edit_model.specs.Syntax.{Around, Value, Elements, no_elements, element, comma_text, elements_text, value_text}
 use Rattle.toml_edit_model.specs.Tree.{Node, Items, no_items, item, is_value_node, node_decor, shown_prefix, shown_suffix}
@@ -74,29 +75,30 @@ no-items comma false = refl
 in_order : (c p t s m e : Text) → (c ++ (p ++ (t ++ s))) ++ (m ++ e) ≡ (c ++ ((p ++ (t ++ s)) ++ m)) ++ e
 in_order c p t s m e = simp append_assoc
 
--- the items have the text of these elements
-abbrev pub AreShown : Bool → Items → Bool → Type 0
-AreShown comma xs is_first =
-    written_items comma is_first xs ≡ shown_elements is_first (elements_of xs is_first) ++ closing_comma comma is_first (elements_of xs is_first)
+module _ (mode : Mode) where
+  -- the items have the text of these elements
+  abbrev pub AreShown : Bool → Items → Bool → Type 0
+  AreShown comma xs is_first =
+      written_items mode comma is_first xs ≡ shown_elements is_first (elements_of mode xs is_first) ++ closing_comma comma is_first (elements_of mode xs is_first)
 
-item-by_test : (comma : Bool) (n : Node) (xs : Items) (is_first : Bool) → value_text (value_of n) ≡ written_value n
-    → AreShown comma xs is_first → AreShown comma xs false → (b : Bool)
-    → (elim b [ true ↦ element_text is_first n (written_value n) ++ written_items comma false xs | false ↦ written_items comma is_first xs ])
-    ≡ shown_elements is_first (elim b [ true ↦ element (around_of is_first (node_decor n)) (value_of n) (elements_of xs false) | false ↦ elements_of xs is_first ])
-    ++ closing_comma comma is_first (elim b [ true ↦ element (around_of is_first (node_decor n)) (value_of n) (elements_of xs false) | false ↦ elements_of xs is_first ])
-item-by_test comma n xs is_first value same more false = same
-item-by_test comma n xs is_first value same more true =
-    ap (λ x. element_text is_first n x ++ written_items comma false xs) (sym value)
-    ∙ ap (λ x. element_text is_first n (value_text (value_of n)) ++ x) more
-    ∙ ap (λ x. element_text is_first n (value_text (value_of n)) ++ (more_elements (elements_of xs false) ++ x)) (closing-more comma (elements_of xs false))
-    ∙ in_order (comma_before is_first) (shown_prefix (element_default is_first) (node_decor n)) (value_text (value_of n)) (shown_suffix [] (node_decor n))
-    (more_elements (elements_of xs false)) (comma_text comma)
-    ∙ ap (λ x. x ++ comma_text comma) (sym (first-shown is_first (around_of is_first (node_decor n)) (value_of n) (elements_of xs false)))
+  item-by_test : (comma : Bool) (n : Node) (xs : Items) (is_first : Bool) → value_text (value_of mode n) ≡ written_value mode n
+      → AreShown comma xs is_first → AreShown comma xs false → (b : Bool)
+      → (elim b [ true ↦ element_text mode is_first n (written_value mode n) ++ written_items mode comma false xs | false ↦ written_items mode comma is_first xs ])
+      ≡ shown_elements is_first (elim b [ true ↦ element (around_of mode is_first (node_decor n)) (value_of mode n) (elements_of mode xs false) | false ↦ elements_of mode xs is_first ])
+      ++ closing_comma comma is_first (elim b [ true ↦ element (around_of mode is_first (node_decor n)) (value_of mode n) (elements_of mode xs false) | false ↦ elements_of mode xs is_first ])
+  item-by_test comma n xs is_first value same more false = same
+  item-by_test comma n xs is_first value same more true =
+      ap (λ x. element_text mode is_first n x ++ written_items mode comma false xs) (sym value)
+      ∙ ap (λ x. element_text mode is_first n (value_text (value_of mode n)) ++ x) more
+      ∙ ap (λ x. element_text mode is_first n (value_text (value_of mode n)) ++ (more_elements (elements_of mode xs false) ++ x)) (closing-more comma (elements_of mode xs false))
+      ∙ in_order (comma_before is_first) (shown_prefix mode (element_default is_first) (node_decor n)) (value_text (value_of mode n)) (shown_suffix mode [] (node_decor n))
+      (more_elements (elements_of mode xs false)) (comma_text comma)
+      ∙ ap (λ x. x ++ comma_text comma) (sym (first-shown is_first (around_of mode is_first (node_decor n)) (value_of mode n) (elements_of mode xs false)))
 
-pub no-items-shown : (comma is_first : Bool) → AreShown comma no_items is_first
-no-items-shown comma is_first = no-items comma is_first
+  pub no-items-shown : (comma is_first : Bool) → AreShown comma no_items is_first
+  no-items-shown comma is_first = no-items comma is_first
 
--- one more item
-pub item-shown : (comma : Bool) (n : Node) (xs : Items) (is_first : Bool) → value_text (value_of n) ≡ written_value n
-    → AreShown comma xs is_first → AreShown comma xs false → AreShown comma (item n xs) is_first
-item-shown comma n xs is_first value same more = item-by_test comma n xs is_first value same more (is_value_node n)
+  -- one more item
+  pub item-shown : (comma : Bool) (n : Node) (xs : Items) (is_first : Bool) → value_text (value_of mode n) ≡ written_value mode n
+      → AreShown comma xs is_first → AreShown comma xs false → AreShown comma (item n xs) is_first
+  item-shown comma n xs is_first value same more = item-by_test comma n xs is_first value same more (is_value_node n)

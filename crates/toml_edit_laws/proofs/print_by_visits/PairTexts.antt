@@ -1,6 +1,8 @@
 -- The text of an inline table, pair by pair, and of lines.
 use Rattle.std.proofs.Common.{◌≡◌, refl, sym, ap, ◌∙◌, Bool, true, false, List, [], ◌∷◌, ◌++◌, Option, None, Some, append_assoc}
 use Rattle.std.specs.Prelude.{codes, map}
+use Rattle.toml_edit_laws.proofs.common.LineEnds.{end-and-newline}
+use Rattle.toml_edit_model.specs.Mode.{Mode, line_end, line_newline}
 use Rattle.toml_edit_model.specs.Text.{Text, newline, joined}
 use Rattle.toml_edit_model.specs.Syntax.{Frame, Value, Pairs, no_pairs, pair, comma_text, frame_text, pairs_text, path_text, statement_text, value_text}
 use Rattle.toml_edit_model.specs.Tree.{Decor, node_decor, shown_prefix, shown_suffix}
@@ -9,62 +11,17 @@ use Rattle.toml_edit_laws.proofs.common.Tests.{append-nil}
 use Rattle.toml_edit_laws.specs.PrintByVisits.{after_pairs, between_pairs}
 use Rattle.toml_edit_laws.proofs.print_by_visits.KeyTexts.{line_start}
 
--- the pairs behind one whose value has this decor, up to the end of the last value
-abbrev pub pairs_shown : Option Decor → List Line → Text
-pairs_shown before [] = []
-pairs_shown before (l ∷ ls) = between_pairs before ++ (line_start blank l ++ pairs_shown (Some (node_decor l.item)) ls)
-
 -- the decor of the value of the last of them
 abbrev pub last_shown : Option Decor → List Line → Option Decor
 last_shown before [] = before
 last_shown before (l ∷ ls) = last_shown (Some (node_decor l.item)) ls
 
-abbrev pub lines_text : List Line → Text
-lines_text ls = joined (map (λ l. statement_text (line_statement l)) ls)
-
--- ---- one after another
-
-pub pairs_shown-append : (before : Option Decor) (xs ys : List Line)
-    → pairs_shown before (xs ++ ys) ≡ pairs_shown before xs ++ pairs_shown (last_shown before xs) ys
-pairs_shown-append before [] ys = refl
-pairs_shown-append before (l ∷ xs) ys =
-    ap (λ t. between_pairs before ++ (line_start blank l ++ t)) (pairs_shown-append (Some (node_decor l.item)) xs ys)
-    ∙ sym (three (between_pairs before) (line_start blank l) (pairs_shown (Some (node_decor l.item)) xs) (pairs_shown (last_shown (Some (node_decor l.item)) xs) ys))
-  where
-    three : (a b c d : Text) → (a ++ (b ++ c)) ++ d ≡ a ++ (b ++ (c ++ d))
-    three a b c d = simp append_assoc
-
 pub last_shown-append : (before : Option Decor) (xs ys : List Line) → last_shown before (xs ++ ys) ≡ last_shown (last_shown before xs) ys
 last_shown-append before [] ys = refl
 last_shown-append before (l ∷ xs) ys = last_shown-append (Some (node_decor l.item)) xs ys
 
-pub lines_text-append : (xs ys : List Line) → lines_text (xs ++ ys) ≡ lines_text xs ++ lines_text ys
-lines_text-append [] ys = refl
-lines_text-append (l ∷ xs) ys =
-    ap (λ t. statement_text (line_statement l) ++ t) (lines_text-append xs ys)
-    ∙ sym (append_assoc (statement_text (line_statement l)) (lines_text xs) (lines_text ys))
-
--- ---- a line
-
 frame-order : (a p s e v x t : Text) → a ++ (p ++ (s ++ (e ++ (v ++ (x ++ t))))) ≡ (a ++ (p ++ (s ++ (e ++ (v ++ x))))) ++ t
 frame-order a p s e v x t = simp append_assoc
-
-frame-text : (default suffix : Text) (l : Line)
-    → frame_text (frame_of default suffix l) (value_text l.value) ≡ line_start default l ++ shown_suffix suffix (node_decor l.item)
-frame-text default suffix l =
-    frame-order (shown_prefix default (last_leaf l.keys)) (path_text (segments l.keys)) (shown_suffix blank (last_leaf l.keys)) (codes "=")
-    (shown_prefix blank (node_decor l.item)) (value_text l.value) (shown_suffix suffix (node_decor l.item))
-
-pub line-text : (l : Line) → statement_text (line_statement l) ≡ line_start [] l ++ (shown_suffix [] (node_decor l.item) ++ newline)
-line-text l =
-    ap (λ t. t ++ newline) (frame-text [] [] l) ∙ append_assoc (line_start [] l) (shown_suffix [] (node_decor l.item)) newline
-
--- ---- pairs
-
-pairs-step : (f : Frame) (v : Value) (m : Line) (rest : List Line)
-    → pairs_text (pair f v (pairs_of_lines (m ∷ rest))) ≡ frame_text f (value_text v) ++ (codes "," ++ pairs_text (pairs_of_lines (m ∷ rest)))
-pairs-step f v m [] = refl
-pairs-step f v m (l ∷ rest) = refl
 
 -- the decor of the last line
 abbrev last_decor : Decor → List Line → Decor
@@ -77,21 +34,6 @@ last-decor d (l ∷ ls) = last-decor (node_decor l.item) ls
 
 pairs-order : (a s c b r z : Text) → (a ++ s) ++ (c ++ ((b ++ r) ++ z)) ≡ (a ++ ((s ++ c) ++ (b ++ r))) ++ z
 pairs-order a s c b r z = simp append_assoc
-
-pairs-are : (l : Line) (ls : List Line)
-    → pairs_text (pairs_of_lines (l ∷ ls))
-    ≡ (line_start blank l ++ pairs_shown (Some (node_decor l.item)) ls) ++ shown_suffix blank (last_decor (node_decor l.item) ls)
-pairs-are l [] =
-    frame-text blank blank l
-    ∙ ap (λ t. t ++ shown_suffix blank (node_decor l.item)) (sym (append-nil (line_start blank l)))
-pairs-are l (m ∷ rest) =
-    pairs-step (frame_of blank [] l) l.value m rest
-    ∙ ap (λ t. t ++ (codes "," ++ pairs_text (pairs_of_lines (m ∷ rest)))) (frame-text blank [] l)
-    ∙ ap (λ t. (line_start blank l ++ shown_suffix [] (node_decor l.item)) ++ (codes "," ++ t)) (pairs-are m rest)
-    ∙ pairs-order (line_start blank l) (shown_suffix [] (node_decor l.item)) (codes ",") (line_start blank m)
-    (pairs_shown (Some (node_decor m.item)) rest) (shown_suffix blank (last_decor (node_decor m.item) rest))
-
--- ---- the end
 
 pairs-after : (t : Text) (f : Frame) (v : Value) (g : Frame) (w : Value) (ps : Pairs)
     → pairs_text (pair f v (add_after_pairs t (pair g w ps))) ≡ frame_text f (value_text v) ++ (codes "," ++ pairs_text (add_after_pairs t (pair g w ps)))
@@ -121,21 +63,87 @@ inline-closed false t f v ps =
     ap (λ x. codes "{" ++ (x ++ codes "}")) (add-after-pairs t f v ps)
     ∙ ap (λ x. codes "{" ++ x) (append_assoc (pairs_text (pair f v ps)) t (codes "}"))
 
-lines-closed : (comma : Bool) (t : Text) (l : Line) (ls : List Line)
-    → value_text (close_inline comma t (pairs_of_lines (l ∷ ls))) ≡ codes "{" ++ (pairs_text (pairs_of_lines (l ∷ ls)) ++ (comma_text comma ++ (t ++ codes "}")))
-lines-closed comma t l [] = inline-closed comma t (frame_of blank blank l) l.value no_pairs
-lines-closed comma t l (m ∷ rest) = inline-closed comma t (frame_of blank [] l) l.value (pairs_of_lines (m ∷ rest))
-
 end-order : (p z c w : Text) → (p ++ z) ++ (c ++ w) ≡ p ++ ((z ++ c) ++ w)
 end-order p z c w = simp append_assoc
 
-pub pairs-closed : (comma : Bool) (t : Text) (ls : List Line)
-    → value_text (close_inline comma t (pairs_of_lines ls))
-    ≡ codes "{" ++ (pairs_shown None ls ++ (after_pairs comma (last_shown None ls) ++ (t ++ codes "}")))
-pairs-closed true t [] = refl
-pairs-closed false t [] = refl
-pairs-closed comma t (l ∷ ls) =
-    lines-closed comma t l ls
-    ∙ ap (λ x. codes "{" ++ (x ++ (comma_text comma ++ (t ++ codes "}")))) (pairs-are l ls)
-    ∙ ap (λ x. codes "{" ++ x) (end-order (line_start blank l ++ pairs_shown (Some (node_decor l.item)) ls) (shown_suffix blank (last_decor (node_decor l.item) ls)) (comma_text comma) (t ++ codes "}"))
-    ∙ ap (λ (d : Option Decor). codes "{" ++ ((line_start blank l ++ pairs_shown (Some (node_decor l.item)) ls) ++ (after_pairs comma d ++ (t ++ codes "}")))) (sym (last-decor (node_decor l.item) ls))
+module _ (mode : Mode) where
+  -- the pairs behind one whose value has this decor, up to the end of the last value
+  abbrev pub pairs_shown : Option Decor → List Line → Text
+  pairs_shown before [] = []
+  pairs_shown before (l ∷ ls) = between_pairs mode before ++ (line_start mode blank l ++ pairs_shown (Some (node_decor l.item)) ls)
+
+  abbrev pub lines_text : List Line → Text
+  lines_text ls = joined (map (λ l. statement_text (line_statement mode l)) ls)
+
+  -- ---- one after another
+
+  pub pairs_shown-append : (before : Option Decor) (xs ys : List Line)
+      → pairs_shown before (xs ++ ys) ≡ pairs_shown before xs ++ pairs_shown (last_shown before xs) ys
+  pairs_shown-append before [] ys = refl
+  pairs_shown-append before (l ∷ xs) ys =
+      ap (λ t. between_pairs mode before ++ (line_start mode blank l ++ t)) (pairs_shown-append (Some (node_decor l.item)) xs ys)
+      ∙ sym (three (between_pairs mode before) (line_start mode blank l) (pairs_shown (Some (node_decor l.item)) xs) (pairs_shown (last_shown (Some (node_decor l.item)) xs) ys))
+    where
+      three : (a b c d : Text) → (a ++ (b ++ c)) ++ d ≡ a ++ (b ++ (c ++ d))
+      three a b c d = simp append_assoc
+
+  pub lines_text-append : (xs ys : List Line) → lines_text (xs ++ ys) ≡ lines_text xs ++ lines_text ys
+  lines_text-append [] ys = refl
+  lines_text-append (l ∷ xs) ys =
+      ap (λ t. statement_text (line_statement mode l) ++ t) (lines_text-append xs ys)
+      ∙ sym (append_assoc (statement_text (line_statement mode l)) (lines_text xs) (lines_text ys))
+
+  -- ---- a line
+
+  frame-text : (default suffix : Text) (l : Line)
+      → frame_text (frame_of mode default suffix l) (value_text l.value) ≡ line_start mode default l ++ shown_suffix mode suffix (node_decor l.item)
+  frame-text default suffix l =
+      frame-order (shown_prefix mode default (last_leaf l.keys)) (path_text (segments mode l.keys)) (shown_suffix mode blank (last_leaf l.keys)) (codes "=")
+      (shown_prefix mode blank (node_decor l.item)) (value_text l.value) (shown_suffix mode suffix (node_decor l.item))
+
+  pub line-text : (l : Line) → statement_text (line_statement mode l) ≡ line_start mode [] l ++ (shown_suffix mode [] (node_decor l.item) ++ newline)
+  line-text l =
+      let s = shown_suffix mode [] (node_decor l.item) in
+      ap (λ t. t ++ line_newline mode s)
+      (frame-order (shown_prefix mode [] (last_leaf l.keys)) (path_text (segments mode l.keys)) (shown_suffix mode blank (last_leaf l.keys)) (codes "=")
+      (shown_prefix mode blank (node_decor l.item)) (value_text l.value) (line_end mode s))
+      ∙ append_assoc (line_start mode [] l) (line_end mode s) (line_newline mode s)
+      ∙ ap (λ t. line_start mode [] l ++ t) (end-and-newline mode s)
+
+  -- ---- pairs
+
+  pairs-step : (f : Frame) (v : Value) (m : Line) (rest : List Line)
+      → pairs_text (pair f v (pairs_of_lines mode (m ∷ rest))) ≡ frame_text f (value_text v) ++ (codes "," ++ pairs_text (pairs_of_lines mode (m ∷ rest)))
+  pairs-step f v m [] = refl
+  pairs-step f v m (l ∷ rest) = refl
+
+  pairs-are : (l : Line) (ls : List Line)
+      → pairs_text (pairs_of_lines mode (l ∷ ls))
+      ≡ (line_start mode blank l ++ pairs_shown (Some (node_decor l.item)) ls) ++ shown_suffix mode blank (last_decor (node_decor l.item) ls)
+  pairs-are l [] =
+      frame-text blank blank l
+      ∙ ap (λ t. t ++ shown_suffix mode blank (node_decor l.item)) (sym (append-nil (line_start mode blank l)))
+  pairs-are l (m ∷ rest) =
+      pairs-step (frame_of mode blank [] l) l.value m rest
+      ∙ ap (λ t. t ++ (codes "," ++ pairs_text (pairs_of_lines mode (m ∷ rest)))) (frame-text blank [] l)
+      ∙ ap (λ t. (line_start mode blank l ++ shown_suffix mode [] (node_decor l.item)) ++ (codes "," ++ t)) (pairs-are m rest)
+      ∙ pairs-order (line_start mode blank l) (shown_suffix mode [] (node_decor l.item)) (codes ",") (line_start mode blank m)
+      (pairs_shown (Some (node_decor m.item)) rest) (shown_suffix mode blank (last_decor (node_decor m.item) rest))
+
+  -- ---- the end
+
+  lines-closed : (comma : Bool) (t : Text) (l : Line) (ls : List Line)
+      → value_text (close_inline comma t (pairs_of_lines mode (l ∷ ls))) ≡ codes "{" ++ (pairs_text (pairs_of_lines mode (l ∷ ls)) ++ (comma_text comma ++ (t ++ codes "}")))
+  lines-closed comma t l [] = inline-closed comma t (frame_of mode blank blank l) l.value no_pairs
+  lines-closed comma t l (m ∷ rest) = inline-closed comma t (frame_of mode blank [] l) l.value (pairs_of_lines mode (m ∷ rest))
+
+  pub pairs-closed : (comma : Bool) (t : Text) (ls : List Line)
+      → value_text (close_inline comma t (pairs_of_lines mode ls))
+      ≡ codes "{" ++ (pairs_shown None ls ++ (after_pairs mode comma (last_shown None ls) ++ (t ++ codes "}")))
+  pairs-closed true t [] = refl
+  pairs-closed false t [] = refl
+  pairs-closed comma t (l ∷ ls) =
+      lines-closed comma t l ls
+      ∙ ap (λ x. codes "{" ++ (x ++ (comma_text comma ++ (t ++ codes "}")))) (pairs-are l ls)
+      ∙ ap (λ x. codes "{" ++ x) (end-order (line_start mode blank l ++ pairs_shown (Some (node_decor l.item)) ls) (shown_suffix mode blank (last_decor (node_decor l.item) ls)) (comma_text comma) (t ++ codes "}"))
+      ∙ ap (λ (d : Option Decor). codes "{" ++ ((line_start mode blank l ++ pairs_shown (Some (node_decor l.item)) ls) ++ (after_pairs mode comma d ++ (t ++ codes "}")))) (sym (last-decor (node_decor l.item) ls))

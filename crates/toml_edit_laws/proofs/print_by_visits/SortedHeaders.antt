@@ -9,12 +9,12 @@ use Rattle.std.proofs.lemmas.Fn.{always_returns_same}
 use Rattle.std.proofs.lemmas.List.Sorted.{ranks_by}
 use denote.Ref.{Bor}
 use Rattle.toml_edit_model.specs.HeaderOrder.{Placed, comes_before}
-use Rattle.toml_edit_model.specs.Normal.{sorted_by}
 use Rattle.toml_edit_laws.specs.PrintByVisits.{Headed, by_place}
 use Rattle.toml_edit_laws.proofs.common.OrderLaws.{sorted-alike, sorted-image}
 use Rattle.toml_edit_laws.proofs.print_by_visits.StableSort.{sorted-by_place, stable-sort}
 use Rattle.toml_edit_laws.proofs.common.Visits.{before-total, before-trans}
 use Rattle.toml_edit_laws.proofs.common.Each.{trivially}
+use Rattle.toml_edit_model.specs.Order.{sorted_by}
 
 -- ---- orders by a test that holds of equals
 

@@ -8,9 +8,9 @@ use Rattle.std.specs.Ordering.{int_cmp, is_lt}
 use Rattle.std.proofs.lemmas.Bool.{cases_Bool}
 use Rattle.std.proofs.lemmas.Bool.Decides.{nat_tests}
 use Rattle.std.proofs.lemmas.List.Sorted.{ranks_by, sorted_far}
-use Rattle.toml_edit_model.specs.Normal.{insert_by, sorted_by}
 use Rattle.toml_edit_laws.proofs.common.OrderLaws.{sorted-alike}
 use Rattle.toml_edit_laws.proofs.common.Each.{trivially, all-filter, all-map}
+use Rattle.toml_edit_model.specs.Order.{insert_by, sorted_by}
 
 both-false : (a b : Bool) → (not a && not b) ≡ true → (a ≡ false) × (b ≡ false)
 both-false false false h = (refl, refl)

@@ -2,6 +2,7 @@
 use Rattle.std.proofs.Common.{◌≡◌, ℕ, ◌+◌, ◌<◌, Bool, false, List, [], ◌∷◌, ◌++◌, length, get_or, drop, Option, Some, sym, ap, ◌∙◌, append_assoc}
 use Rattle.std.specs.Prelude.{map}
 use Rattle.std.proofs.lemmas.List.{drop_more}
+use Rattle.toml_edit_model.specs.Mode.{Mode}
 use Rattle.toml_edit_model.specs.Text.{Text}
 use Rattle.toml_edit_model.specs.Tree.{Key, key_text}
 use Rattle.toml_edit_model.specs.Print.{table_lines}
@@ -19,26 +20,27 @@ module _ {A B : Type 0} (view : A → B) (T : List B → Text) where
 header-order : (a b c d : Text) → ((a ++ b) ++ c) ++ d ≡ a ++ (b ++ (c ++ d))
 header-order a b c d = simp append_assoc
 
--- a header and its table's lines are written
-pub headers-turn : {A : Type 0} (view : A → Headed) (hs : List A) (i : ℕ) (x : A) → i < length hs → x ≡ get_or hs i x → (b : Bool) (done all : Text)
-    → done ++ headers_text b (map view (drop i hs)) ≡ all
-    → ((done ++ header_text b (view x)) ++ written_lines (view x).slots []) ++ headers_text false (map view (drop (i + 1) hs)) ≡ all
-headers-turn view hs i x h is b done all e =
-    header-order done (header_text b (view x)) (written_lines (view x).slots []) (headers_text false (map view (drop (i + 1) hs)))
-    ∙ ap (λ t. done ++ t) (sym (here view (headers_text b) hs i x x h is)) ∙ e
+module _ (mode : Mode) where
+  -- a header and its table's lines are written
+  pub headers-turn : {A : Type 0} (view : A → Headed) (hs : List A) (i : ℕ) (x : A) → i < length hs → x ≡ get_or hs i x → (b : Bool) (done all : Text)
+      → done ++ headers_text mode b (map view (drop i hs)) ≡ all
+      → ((done ++ header_text mode b (view x)) ++ written_lines mode (view x).slots []) ++ headers_text mode false (map view (drop (i + 1) hs)) ≡ all
+  headers-turn view hs i x h is b done all e =
+      header-order done (header_text mode b (view x)) (written_lines mode (view x).slots []) (headers_text mode false (map view (drop (i + 1) hs)))
+      ∙ ap (λ t. done ++ t) (sym (here view (headers_text mode b) hs i x x h is)) ∙ e
 
--- the same where the lines are as the definition has them
-pub headers-turn-lines : {A : Type 0} (view : A → Headed) (hs : List A) (i : ℕ) (x : A) → i < length hs → x ≡ get_or hs i x → (b : Bool) (done all : Text)
-    → done ++ headers_text b (map view (drop i hs)) ≡ all
-    → ((done ++ header_text b (view x)) ++ lines_text (table_lines (view x).slots [])) ++ headers_text false (map view (drop (i + 1) hs)) ≡ all
-headers-turn-lines view hs i x h is b done all e =
-    ap (λ t. ((done ++ header_text b (view x)) ++ t) ++ headers_text false (map view (drop (i + 1) hs))) (lines-are (view x).slots [])
-    ∙ headers-turn view hs i x h is b done all e
+  -- the same where the lines are as the definition has them
+  pub headers-turn-lines : {A : Type 0} (view : A → Headed) (hs : List A) (i : ℕ) (x : A) → i < length hs → x ≡ get_or hs i x → (b : Bool) (done all : Text)
+      → done ++ headers_text mode b (map view (drop i hs)) ≡ all
+      → ((done ++ header_text mode b (view x)) ++ lines_text mode (table_lines mode (view x).slots [])) ++ headers_text mode false (map view (drop (i + 1) hs)) ≡ all
+  headers-turn-lines view hs i x h is b done all e =
+      ap (λ t. ((done ++ header_text mode b (view x)) ++ t) ++ headers_text mode false (map view (drop (i + 1) hs))) (lines-are mode (view x).slots [])
+      ∙ headers-turn view hs i x h is b done all e
 
--- a key of a path is written
-pub path-turn : {A : Type 0} (view : A → Key) (ks : List A) (i : ℕ) (x d : A) → i < length ks → x ≡ get_or ks i d → (before : Option Key) (done all : Text)
-    → done ++ written_path before (map view (drop i ks)) ≡ all
-    → (done ++ (between_keys before (view x) ++ key_text (view x))) ++ written_path (Some (view x)) (map view (drop (i + 1) ks)) ≡ all
-path-turn view ks i x d h is before done all e =
-    append-four done (between_keys before (view x)) (key_text (view x)) (written_path (Some (view x)) (map view (drop (i + 1) ks)))
-    ∙ ap (λ t. done ++ t) (sym (here view (written_path before) ks i x d h is)) ∙ e
+  -- a key of a path is written
+  pub path-turn : {A : Type 0} (view : A → Key) (ks : List A) (i : ℕ) (x d : A) → i < length ks → x ≡ get_or ks i d → (before : Option Key) (done all : Text)
+      → done ++ written_path mode before (map view (drop i ks)) ≡ all
+      → (done ++ (between_keys mode before (view x) ++ key_text (view x))) ++ written_path mode (Some (view x)) (map view (drop (i + 1) ks)) ≡ all
+  path-turn view ks i x d h is before done all e =
+      append-four done (between_keys mode before (view x)) (key_text (view x)) (written_path mode (Some (view x)) (map view (drop (i + 1) ks)))
+      ∙ ap (λ t. done ++ t) (sym (here view (written_path mode before) ks i x d h is)) ∙ e

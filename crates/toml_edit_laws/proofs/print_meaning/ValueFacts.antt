@@ -2,6 +2,7 @@
 use Rattle.std.proofs.Common.{◌≡◌, ℕ, suc, refl, sym, ◌∙◌, ap, subst, Bool, true, false, List, [], ◌∷◌, ◌++◌, append_assoc, append-nil}
 use Rattle.std.specs.Prelude.{◌||◌, not, if◌then◌else◌, flat_map}
 use Rattle.std.proofs.lemmas.Grind.{flat_map-append}
+use Rattle.toml_edit_model.specs.Mode.{Mode}
 use Rattle.toml_edit_model.specs.Text.{Text}
 use Rattle.toml_edit_model.specs.Syntax.{Segment, Value, Elements, no_elements, element, Pairs, no_pairs, pair}
 use Rattle.toml_edit_model.specs.Paths.{Path, to_key, to_element}
@@ -24,50 +25,6 @@ pub key_facts-last : (p : Path) (ks : List Key) (k : Key)
     → key_facts p (ks ++ (k ∷ [])) ≡ key_facts p ks ++ (fact (to_key (below p ks) k.name) a_table ∷ [])
 key_facts-last p [] k = refl
 key_facts-last p (l ∷ ks) k = ap (λ fs. fact (to_key p l.name) a_table ∷ fs) (key_facts-last (to_key p l.name) ks k)
-
-below-first : (p : Path) (s : Segment) (m : Key) (ms : List Key) (last : Path → List Fact)
-    → below_keys p (s ∷ segments_after (m ∷ ms)) last ≡ fact (to_key p s.key) a_table ∷ below_keys (to_key p s.key) (segments_after (m ∷ ms)) last
-below-first p s m [] last = refl
-below-first p s m (n ∷ ms) last = refl
-
-along-after : (p : Path) (ks : List Key) (k : Key) (last : Path → List Fact)
-    → below_keys p (segments_after (ks ++ (k ∷ []))) last ≡ key_facts p ks ++ last (to_key (below p ks) k.name)
-along-after p [] k last = refl
-along-after p (l ∷ []) k last = refl
-along-after p (l ∷ m ∷ ks) k last =
-    below-first p (segment_of l (dot_prefix l) (dot_suffix l)) m (ks ++ (k ∷ [])) last
-    ∙ ap (λ fs. fact (to_key p l.name) a_table ∷ fs) (along-after (to_key p l.name) (m ∷ ks) k last)
-
--- the printed keys have a table at each but the last
-pub along : (p : Path) (ks : List Key) (k : Key) (last : Path → List Fact)
-    → below_keys p (segments (ks ++ (k ∷ []))) last ≡ key_facts p ks ++ last (to_key (below p ks) k.name)
-along p [] k last = refl
-along p (l ∷ []) k last = refl
-along p (l ∷ m ∷ ks) k last =
-    below-first p (segment_of l [] (dot_suffix l)) m (ks ++ (k ∷ [])) last
-    ∙ ap (λ fs. fact (to_key p l.name) a_table ∷ fs) (along-after (to_key p l.name) (m ∷ ks) k last)
-
--- ---- lines
-
--- the facts of lines below a path, each with these as well
-abbrev pub one_line_facts : List Fact → Path → Line → List Fact
-one_line_facts around p l = around ++ below_keys p (segments l.keys) (value_facts l.value)
-
-abbrev pub line_facts : List Fact → Path → List Line → List Fact
-line_facts around p ls = flat_map (one_line_facts around p) ls
-
-pub line_facts-append : (around : List Fact) (p : Path) (ls ms : List Line) → line_facts around p (ls ++ ms) ≡ line_facts around p ls ++ line_facts around p ms
-line_facts-append around p ls ms = flat_map-append (one_line_facts around p) ls ms
-
--- one line
-pub line-is : (around : List Fact) (p : Path) (ks : List Key) (k : Key) (n : Node) (v : Value)
-    → (around ++ key_facts p ks) ++ value_facts v (to_key (below p ks) k.name) ≡ line_facts around p (line_of (ks ++ (k ∷ [])) n v)
-line-is around p ks k n v =
-    append_assoc around (key_facts p ks) (value_facts v (to_key (below p ks) k.name))
-    ∙ ap (λ fs. around ++ fs) (sym (along p ks k (value_facts v)))
-    ∙ sym (append-nil (around ++ below_keys p (segments (ks ++ (k ∷ []))) (value_facts v)))
-
--- ---- arrays and inline tables as they are closed
 
 add_after-facts : (t : Text) (es : Elements) (p : Path) (n : ℕ) → elements_facts (add_after t es) p n ≡ elements_facts es p n
 add_after-facts t no_elements p n = refl
@@ -92,13 +49,6 @@ close_inline-facts false t no_pairs p = refl
 close_inline-facts true t (pair f v ps) p = refl
 close_inline-facts false t (pair f v ps) p = ap (λ fs. fact p a_table ∷ fs) (add_after_pairs-facts t (pair f v ps) p)
 
-pairs_of_lines-facts : (ls : List Line) (p : Path) → pairs_facts (pairs_of_lines ls) p ≡ line_facts [] p ls
-pairs_of_lines-facts [] p = refl
-pairs_of_lines-facts (l ∷ []) p = refl
-pairs_of_lines-facts (l ∷ m ∷ rest) p = ap (λ fs. below_keys p (segments l.keys) (value_facts l.value) ++ fs) (pairs_of_lines-facts (m ∷ rest) p)
-
--- ---- what has facts is shown
-
 pub shows-step : (b s : Bool) (f : Fact) (xs ys : List Fact) → (Among f ys → s ≡ true) → Among f ((if b then xs else []) ++ ys) → (b || s) ≡ true
 shows-step true s f xs ys h a = refl
 shows-step false s f xs ys h a = h a
@@ -106,8 +56,6 @@ shows-step false s f xs ys h a = h a
 pub inside-shows : (ss : Slots) (p : Path) (f : Fact) → Among f (inside_slots_facts ss p) → shows_inside ss ≡ true
 inside-shows no_slots p f a = elim a [ ]
 inside-shows (slot k n ss) p f a = shows-step (is_shown_inside n) (shows_inside ss) f (inside_facts n (to_key p k.name)) (inside_slots_facts ss p) (inside-shows ss p f) a
-
--- ---- values
 
 -- one level down
 pub lower-tells : (s : Bool) (around xs us : List Fact) (p : Path) (ks : List Key) (k : Key)
@@ -120,101 +68,153 @@ lower-tells s around xs us p ks k h t =
     (ap (λ fs. around ++ fs) (key_facts-last p ks k) ∙ sym (append_assoc around (key_facts p ks) (fact (to_key (below p ks) k.name) a_table ∷ [])))
     t)
 
--- a line of its own
-pub line-tells : (around xs : List Fact) (p : Path) (ks : List Key) (k : Key) (n : Node) (v : Value)
-    → Alike (value_facts v (to_key (below p ks) k.name)) xs
-    → Tells true (around ++ key_facts p ks) xs (line_facts around p (line_of (ks ++ (k ∷ [])) n v))
-line-tells around xs p ks k n v h =
-    subst (λ us. Tells true (around ++ key_facts p ks) xs us) (line-is around p ks k n v)
-    (tells-value (around ++ key_facts p ks) xs (value_facts v (to_key (below p ks) k.name)) h)
+module _ (mode : Mode) where
+  below-first : (p : Path) (s : Segment) (m : Key) (ms : List Key) (last : Path → List Fact)
+      → below_keys p (s ∷ segments_after mode (m ∷ ms)) last ≡ fact (to_key p s.key) a_table ∷ below_keys (to_key p s.key) (segments_after mode (m ∷ ms)) last
+  below-first p s m [] last = refl
+  below-first p s m (n ∷ ms) last = refl
 
-abbrev lines_for : Node → List Key → List Line
-lines_for n ks = elim (is_line_node n) [ true ↦ line_of ks n (value_of n) | false ↦ lines_inside n ks ]
+  along-after : (p : Path) (ks : List Key) (k : Key) (last : Path → List Fact)
+      → below_keys p (segments_after mode (ks ++ (k ∷ []))) last ≡ key_facts p ks ++ last (to_key (below p ks) k.name)
+  along-after p [] k last = refl
+  along-after p (l ∷ []) k last = refl
+  along-after p (l ∷ m ∷ ks) k last =
+      below-first p (segment_of l (dot_prefix mode l) (dot_suffix mode l)) m (ks ++ (k ∷ [])) last
+      ∙ ap (λ fs. fact (to_key p l.name) a_table ∷ fs) (along-after (to_key p l.name) (m ∷ ks) k last)
 
--- the slots of a table inside a value, one level down
-pub made-tells : (ss : Slots) (around : List Fact) (p : Path) (ks : List Key) (k : Key)
-    → Tells (shows_inside ss) (around ++ key_facts p (ks ++ (k ∷ []))) (inside_slots_facts ss (below p (ks ++ (k ∷ [])))) (line_facts around p (inside_lines ss (ks ++ (k ∷ []))))
-    → Tells (shows_inside ss) (around ++ key_facts p ks) (if shows_inside ss then fact (to_key (below p ks) k.name) a_table ∷ inside_slots_facts ss (to_key (below p ks) k.name) else [])
-    (line_facts around p (inside_lines ss (ks ++ (k ∷ []))))
-made-tells ss around p ks k t =
-    lower-tells (shows_inside ss) around (inside_slots_facts ss (to_key (below p ks) k.name)) (line_facts around p (inside_lines ss (ks ++ (k ∷ [])))) p ks k
-    (inside-shows ss (to_key (below p ks) k.name))
-    (subst (λ q. Tells (shows_inside ss) (around ++ key_facts p (ks ++ (k ∷ []))) (inside_slots_facts ss q) (line_facts around p (inside_lines ss (ks ++ (k ∷ []))))) (below-last p ks k) t)
+  -- the printed keys have a table at each but the last
+  pub along : (p : Path) (ks : List Key) (k : Key) (last : Path → List Fact)
+      → below_keys p (segments mode (ks ++ (k ∷ []))) last ≡ key_facts p ks ++ last (to_key (below p ks) k.name)
+  along p [] k last = refl
+  along p (l ∷ []) k last = refl
+  along p (l ∷ m ∷ ks) k last =
+      below-first p (segment_of l [] (dot_suffix mode l)) m (ks ++ (k ∷ [])) last
+      ∙ ap (λ fs. fact (to_key p l.name) a_table ∷ fs) (along-after (to_key p l.name) (m ∷ ks) k last)
 
--- an inline table: a line of its own, or dotted
-pub inline-tells : (b : Bool) (n : Node) (ss : Slots) (around : List Fact) (p : Path) (ks : List Key) (k : Key)
-    → Alike (value_facts (value_of n) (to_key (below p ks) k.name)) (fact (to_key (below p ks) k.name) a_table ∷ inside_slots_facts ss (to_key (below p ks) k.name))
-    → Tells (shows_inside ss) (around ++ key_facts p (ks ++ (k ∷ []))) (inside_slots_facts ss (below p (ks ++ (k ∷ [])))) (line_facts around p (inside_lines ss (ks ++ (k ∷ []))))
-    → Tells (not b || shows_inside ss) (around ++ key_facts p ks)
-    (if not b || shows_inside ss then fact (to_key (below p ks) k.name) a_table ∷ inside_slots_facts ss (to_key (below p ks) k.name) else [])
-    (line_facts around p (elim (not b) [ true ↦ line_of (ks ++ (k ∷ [])) n (value_of n) | false ↦ inside_lines ss (ks ++ (k ∷ [])) ]))
-inline-tells false n ss around p ks k h t =
-    line-tells around (fact (to_key (below p ks) k.name) a_table ∷ inside_slots_facts ss (to_key (below p ks) k.name)) p ks k n (value_of n) h
-inline-tells true n ss around p ks k h t = made-tells ss around p ks k t
+  -- ---- lines
 
--- an element, where the rest is known
-elements-step : (x : Node) (xs : Items) (first : Bool) (p : Path) (n : ℕ)
-    → (is_value_node x ≡ true → Alike (value_facts (value_of x) (to_element p n)) (inside_facts x (to_element p n)))
-    → ((b : Bool) (i : ℕ) → Alike (elements_facts (elements_of xs b) p i) (list_facts xs p i))
-    → Alike (elements_facts (elements_of (item x xs) first) p n) (list_facts (item x xs) p n)
-elements-step (leaf s r d) xs first p n own rest =
-    alike-append (value_facts (value_of (leaf s r d)) (to_element p n)) (inside_facts (leaf s r d) (to_element p n)) (elements_facts (elements_of xs false) p (suc n)) (list_facts xs p (suc n))
-    (own refl) (rest false (suc n))
-elements-step (list f ys) xs first p n own rest =
-    alike-append (value_facts (value_of (list f ys)) (to_element p n)) (inside_facts (list f ys) (to_element p n)) (elements_facts (elements_of xs false) p (suc n)) (list_facts xs p (suc n))
-    (own refl) (rest false (suc n))
-elements-step (inline f ss) xs first p n own rest =
-    alike-append (value_facts (value_of (inline f ss)) (to_element p n)) (inside_facts (inline f ss) (to_element p n)) (elements_facts (elements_of xs false) p (suc n)) (list_facts xs p (suc n))
-    (own refl) (rest false (suc n))
-elements-step (table f ss) xs first p n own rest = rest first n
-elements-step (tables e ys) xs first p n own rest = rest first n
-elements-step nothing xs first p n own rest = rest first n
+  -- the facts of lines below a path, each with these as well
+  abbrev pub one_line_facts : List Fact → Path → Line → List Fact
+  one_line_facts around p l = around ++ below_keys p (segments mode l.keys) (value_facts l.value)
 
-mutual
-  -- the printed syntax of a value has its facts
-  pub value-alike : (n : Node) (p : Path) → is_value_node n ≡ true → Alike (value_facts (value_of n) p) (inside_facts n p)
-  value-alike (leaf s r d) p h = alike-same (fact p (a_scalar s) ∷ []) (fact p (a_scalar s) ∷ []) refl
-  value-alike (list f xs) p h =
-      alike-then (value_facts (value_of (list f xs)) p) (fact p an_array ∷ elements_facts (elements_of xs true) p 0) (fact p an_array ∷ list_facts xs p 0)
-      (alike-same (value_facts (value_of (list f xs)) p) (fact p an_array ∷ elements_facts (elements_of xs true) p 0) (close_array-facts f.comma _ (elements_of xs true) p))
-      (alike-cons (fact p an_array) (elements_facts (elements_of xs true) p 0) (list_facts xs p 0) (elements-alike xs true p 0))
-  value-alike (inline f ss) p h =
-      alike-then (value_facts (value_of (inline f ss)) p) (fact p a_table ∷ line_facts [] p (inside_lines ss [])) (fact p a_table ∷ inside_slots_facts ss p)
-      (alike-same (value_facts (value_of (inline f ss)) p) (fact p a_table ∷ line_facts [] p (inside_lines ss []))
-      (close_inline-facts f.comma _ (pairs_of_lines (inside_lines ss [])) p ∙ ap (λ fs. fact p a_table ∷ fs) (pairs_of_lines-facts (inside_lines ss []) p)))
-      (alike-cons (fact p a_table) (line_facts [] p (inside_lines ss [])) (inside_slots_facts ss p)
-      (tells-alone (shows_inside ss) (inside_slots_facts ss p) (line_facts [] p (inside_lines ss [])) (inside-tells ss [] p [])))
-  value-alike (table f ss) p h = absurd cc
-  value-alike (tables e xs) p h = absurd cc
-  value-alike nothing p h = absurd cc
+  abbrev pub line_facts : List Fact → Path → List Line → List Fact
+  line_facts around p ls = flat_map (one_line_facts around p) ls
 
-  elements-alike : (xs : Items) (first : Bool) (p : Path) (n : ℕ) → Alike (elements_facts (elements_of xs first) p n) (list_facts xs p n)
-  elements-alike no_items first p n = alike-same [] [] refl
-  elements-alike (item x xs) first p n =
-      elements-step x xs first p n (λ h. value-alike x (to_element p n) h) (λ b i. elements-alike xs b p i)
+  pub line_facts-append : (around : List Fact) (p : Path) (ls ms : List Line) → line_facts around p (ls ++ ms) ≡ line_facts around p ls ++ line_facts around p ms
+  line_facts-append around p ls ms = flat_map-append (one_line_facts around p) ls ms
 
-  -- the lines inside an inline table
-  pub inside-tells : (ss : Slots) (around : List Fact) (p : Path) (ks : List Key)
-      → Tells (shows_inside ss) (around ++ key_facts p ks) (inside_slots_facts ss (below p ks)) (line_facts around p (inside_lines ss ks))
-  inside-tells no_slots around p ks = tells-nothing (around ++ key_facts p ks)
-  inside-tells (slot k n ss) around p ks =
-      subst (λ us. Tells (shows_inside (slot k n ss)) (around ++ key_facts p ks) (inside_slots_facts (slot k n ss) (below p ks)) us)
-      (sym (line_facts-append around p (lines_for n (ks ++ (k ∷ []))) (inside_lines ss ks)))
-      (tells-both (is_shown_inside n) (shows_inside ss) (around ++ key_facts p ks)
-      (if is_shown_inside n then inside_facts n (to_key (below p ks) k.name) else []) (inside_slots_facts ss (below p ks))
-      (line_facts around p (lines_for n (ks ++ (k ∷ [])))) (line_facts around p (inside_lines ss ks))
-      (inside-slot n k around p ks (λ h. value-alike n (to_key (below p ks) k.name) h)) (inside-tells ss around p ks))
+  -- one line
+  pub line-is : (around : List Fact) (p : Path) (ks : List Key) (k : Key) (n : Node) (v : Value)
+      → (around ++ key_facts p ks) ++ value_facts v (to_key (below p ks) k.name) ≡ line_facts around p (line_of (ks ++ (k ∷ [])) n v)
+  line-is around p ks k n v =
+      append_assoc around (key_facts p ks) (value_facts v (to_key (below p ks) k.name))
+      ∙ ap (λ fs. around ++ fs) (sym (along p ks k (value_facts v)))
+      ∙ sym (append-nil (around ++ below_keys p (segments mode (ks ++ (k ∷ []))) (value_facts v)))
 
-  inside-slot : (n : Node) (k : Key) (around : List Fact) (p : Path) (ks : List Key)
-      → (is_value_node n ≡ true → Alike (value_facts (value_of n) (to_key (below p ks) k.name)) (inside_facts n (to_key (below p ks) k.name)))
-      → Tells (is_shown_inside n) (around ++ key_facts p ks) (if is_shown_inside n then inside_facts n (to_key (below p ks) k.name) else [])
-      (line_facts around p (elim (is_line_node n) [ true ↦ line_of (ks ++ (k ∷ [])) n (value_of n) | false ↦ lines_inside n (ks ++ (k ∷ [])) ]))
-  inside-slot (leaf s r d) k around p ks own =
-      line-tells around (inside_facts (leaf s r d) (to_key (below p ks) k.name)) p ks k (leaf s r d) (value_of (leaf s r d)) (own refl)
-  inside-slot (list f xs) k around p ks own =
-      line-tells around (inside_facts (list f xs) (to_key (below p ks) k.name)) p ks k (list f xs) (value_of (list f xs)) (own refl)
-  inside-slot (inline f ss) k around p ks own =
-      inline-tells f.is_dotted (inline f ss) ss around p ks k (own refl) (inside-tells ss around p (ks ++ (k ∷ [])))
-  inside-slot (table f ss) k around p ks own = made-tells ss around p ks k (inside-tells ss around p (ks ++ (k ∷ [])))
-  inside-slot (tables e xs) k around p ks own = tells-nothing (around ++ key_facts p ks)
-  inside-slot nothing k around p ks own = tells-nothing (around ++ key_facts p ks)
+  -- ---- arrays and inline tables as they are closed
+
+  pairs_of_lines-facts : (ls : List Line) (p : Path) → pairs_facts (pairs_of_lines mode ls) p ≡ line_facts [] p ls
+  pairs_of_lines-facts [] p = refl
+  pairs_of_lines-facts (l ∷ []) p = refl
+  pairs_of_lines-facts (l ∷ m ∷ rest) p = ap (λ fs. below_keys p (segments mode l.keys) (value_facts l.value) ++ fs) (pairs_of_lines-facts (m ∷ rest) p)
+
+  -- ---- values
+
+  -- a line of its own
+  pub line-tells : (around xs : List Fact) (p : Path) (ks : List Key) (k : Key) (n : Node) (v : Value)
+      → Alike (value_facts v (to_key (below p ks) k.name)) xs
+      → Tells true (around ++ key_facts p ks) xs (line_facts around p (line_of (ks ++ (k ∷ [])) n v))
+  line-tells around xs p ks k n v h =
+      subst (λ us. Tells true (around ++ key_facts p ks) xs us) (line-is around p ks k n v)
+      (tells-value (around ++ key_facts p ks) xs (value_facts v (to_key (below p ks) k.name)) h)
+
+  abbrev lines_for : Node → List Key → List Line
+  lines_for n ks = elim (is_line_node n) [ true ↦ line_of ks n (value_of mode n) | false ↦ lines_inside mode n ks ]
+
+  -- the slots of a table inside a value, one level down
+  pub made-tells : (ss : Slots) (around : List Fact) (p : Path) (ks : List Key) (k : Key)
+      → Tells (shows_inside ss) (around ++ key_facts p (ks ++ (k ∷ []))) (inside_slots_facts ss (below p (ks ++ (k ∷ [])))) (line_facts around p (inside_lines mode ss (ks ++ (k ∷ []))))
+      → Tells (shows_inside ss) (around ++ key_facts p ks) (if shows_inside ss then fact (to_key (below p ks) k.name) a_table ∷ inside_slots_facts ss (to_key (below p ks) k.name) else [])
+      (line_facts around p (inside_lines mode ss (ks ++ (k ∷ []))))
+  made-tells ss around p ks k t =
+      lower-tells (shows_inside ss) around (inside_slots_facts ss (to_key (below p ks) k.name)) (line_facts around p (inside_lines mode ss (ks ++ (k ∷ [])))) p ks k
+      (inside-shows ss (to_key (below p ks) k.name))
+      (subst (λ q. Tells (shows_inside ss) (around ++ key_facts p (ks ++ (k ∷ []))) (inside_slots_facts ss q) (line_facts around p (inside_lines mode ss (ks ++ (k ∷ []))))) (below-last p ks k) t)
+
+  -- an inline table: a line of its own, or dotted
+  pub inline-tells : (b : Bool) (n : Node) (ss : Slots) (around : List Fact) (p : Path) (ks : List Key) (k : Key)
+      → Alike (value_facts (value_of mode n) (to_key (below p ks) k.name)) (fact (to_key (below p ks) k.name) a_table ∷ inside_slots_facts ss (to_key (below p ks) k.name))
+      → Tells (shows_inside ss) (around ++ key_facts p (ks ++ (k ∷ []))) (inside_slots_facts ss (below p (ks ++ (k ∷ [])))) (line_facts around p (inside_lines mode ss (ks ++ (k ∷ []))))
+      → Tells (not b || shows_inside ss) (around ++ key_facts p ks)
+      (if not b || shows_inside ss then fact (to_key (below p ks) k.name) a_table ∷ inside_slots_facts ss (to_key (below p ks) k.name) else [])
+      (line_facts around p (elim (not b) [ true ↦ line_of (ks ++ (k ∷ [])) n (value_of mode n) | false ↦ inside_lines mode ss (ks ++ (k ∷ [])) ]))
+  inline-tells false n ss around p ks k h t =
+      line-tells around (fact (to_key (below p ks) k.name) a_table ∷ inside_slots_facts ss (to_key (below p ks) k.name)) p ks k n (value_of mode n) h
+  inline-tells true n ss around p ks k h t = made-tells ss around p ks k t
+
+  -- an element, where the rest is known
+  elements-step : (x : Node) (xs : Items) (first : Bool) (p : Path) (n : ℕ)
+      → (is_value_node x ≡ true → Alike (value_facts (value_of mode x) (to_element p n)) (inside_facts x (to_element p n)))
+      → ((b : Bool) (i : ℕ) → Alike (elements_facts (elements_of mode xs b) p i) (list_facts xs p i))
+      → Alike (elements_facts (elements_of mode (item x xs) first) p n) (list_facts (item x xs) p n)
+  elements-step (leaf s r d) xs first p n own rest =
+      alike-append (value_facts (value_of mode (leaf s r d)) (to_element p n)) (inside_facts (leaf s r d) (to_element p n)) (elements_facts (elements_of mode xs false) p (suc n)) (list_facts xs p (suc n))
+      (own refl) (rest false (suc n))
+  elements-step (list f ys) xs first p n own rest =
+      alike-append (value_facts (value_of mode (list f ys)) (to_element p n)) (inside_facts (list f ys) (to_element p n)) (elements_facts (elements_of mode xs false) p (suc n)) (list_facts xs p (suc n))
+      (own refl) (rest false (suc n))
+  elements-step (inline f ss) xs first p n own rest =
+      alike-append (value_facts (value_of mode (inline f ss)) (to_element p n)) (inside_facts (inline f ss) (to_element p n)) (elements_facts (elements_of mode xs false) p (suc n)) (list_facts xs p (suc n))
+      (own refl) (rest false (suc n))
+  elements-step (table f ss) xs first p n own rest = rest first n
+  elements-step (tables e ys) xs first p n own rest = rest first n
+  elements-step nothing xs first p n own rest = rest first n
+
+  mutual
+    -- the printed syntax of a value has its facts
+    pub value-alike : (n : Node) (p : Path) → is_value_node n ≡ true → Alike (value_facts (value_of mode n) p) (inside_facts n p)
+    value-alike (leaf s r d) p h = alike-same (fact p (a_scalar s) ∷ []) (fact p (a_scalar s) ∷ []) refl
+    value-alike (list f xs) p h =
+        alike-then (value_facts (value_of mode (list f xs)) p) (fact p an_array ∷ elements_facts (elements_of mode xs true) p 0) (fact p an_array ∷ list_facts xs p 0)
+        (alike-same (value_facts (value_of mode (list f xs)) p) (fact p an_array ∷ elements_facts (elements_of mode xs true) p 0) (close_array-facts f.comma _ (elements_of mode xs true) p))
+        (alike-cons (fact p an_array) (elements_facts (elements_of mode xs true) p 0) (list_facts xs p 0) (elements-alike xs true p 0))
+    value-alike (inline f ss) p h =
+        alike-then (value_facts (value_of mode (inline f ss)) p) (fact p a_table ∷ line_facts [] p (inside_lines mode ss [])) (fact p a_table ∷ inside_slots_facts ss p)
+        (alike-same (value_facts (value_of mode (inline f ss)) p) (fact p a_table ∷ line_facts [] p (inside_lines mode ss []))
+        (close_inline-facts f.comma _ (pairs_of_lines mode (inside_lines mode ss [])) p ∙ ap (λ fs. fact p a_table ∷ fs) (pairs_of_lines-facts (inside_lines mode ss []) p)))
+        (alike-cons (fact p a_table) (line_facts [] p (inside_lines mode ss [])) (inside_slots_facts ss p)
+        (tells-alone (shows_inside ss) (inside_slots_facts ss p) (line_facts [] p (inside_lines mode ss [])) (inside-tells ss [] p [])))
+    value-alike (table f ss) p h = absurd cc
+    value-alike (tables e xs) p h = absurd cc
+    value-alike nothing p h = absurd cc
+
+    elements-alike : (xs : Items) (first : Bool) (p : Path) (n : ℕ) → Alike (elements_facts (elements_of mode xs first) p n) (list_facts xs p n)
+    elements-alike no_items first p n = alike-same [] [] refl
+    elements-alike (item x xs) first p n =
+        elements-step x xs first p n (λ h. value-alike x (to_element p n) h) (λ b i. elements-alike xs b p i)
+
+    -- the lines inside an inline table
+    pub inside-tells : (ss : Slots) (around : List Fact) (p : Path) (ks : List Key)
+        → Tells (shows_inside ss) (around ++ key_facts p ks) (inside_slots_facts ss (below p ks)) (line_facts around p (inside_lines mode ss ks))
+    inside-tells no_slots around p ks = tells-nothing (around ++ key_facts p ks)
+    inside-tells (slot k n ss) around p ks =
+        subst (λ us. Tells (shows_inside (slot k n ss)) (around ++ key_facts p ks) (inside_slots_facts (slot k n ss) (below p ks)) us)
+        (sym (line_facts-append around p (lines_for n (ks ++ (k ∷ []))) (inside_lines mode ss ks)))
+        (tells-both (is_shown_inside n) (shows_inside ss) (around ++ key_facts p ks)
+        (if is_shown_inside n then inside_facts n (to_key (below p ks) k.name) else []) (inside_slots_facts ss (below p ks))
+        (line_facts around p (lines_for n (ks ++ (k ∷ [])))) (line_facts around p (inside_lines mode ss ks))
+        (inside-slot n k around p ks (λ h. value-alike n (to_key (below p ks) k.name) h)) (inside-tells ss around p ks))
+
+    inside-slot : (n : Node) (k : Key) (around : List Fact) (p : Path) (ks : List Key)
+        → (is_value_node n ≡ true → Alike (value_facts (value_of mode n) (to_key (below p ks) k.name)) (inside_facts n (to_key (below p ks) k.name)))
+        → Tells (is_shown_inside n) (around ++ key_facts p ks) (if is_shown_inside n then inside_facts n (to_key (below p ks) k.name) else [])
+        (line_facts around p (elim (is_line_node n) [ true ↦ line_of (ks ++ (k ∷ [])) n (value_of mode n) | false ↦ lines_inside mode n (ks ++ (k ∷ [])) ]))
+    inside-slot (leaf s r d) k around p ks own =
+        line-tells around (inside_facts (leaf s r d) (to_key (below p ks) k.name)) p ks k (leaf s r d) (value_of mode (leaf s r d)) (own refl)
+    inside-slot (list f xs) k around p ks own =
+        line-tells around (inside_facts (list f xs) (to_key (below p ks) k.name)) p ks k (list f xs) (value_of mode (list f xs)) (own refl)
+    inside-slot (inline f ss) k around p ks own =
+        inline-tells f.is_dotted (inline f ss) ss around p ks k (own refl) (inside-tells ss around p (ks ++ (k ∷ [])))
+    inside-slot (table f ss) k around p ks own = made-tells ss around p ks k (inside-tells ss around p (ks ++ (k ∷ [])))
+    inside-slot (tables e xs) k around p ks own = tells-nothing (around ++ key_facts p ks)
+    inside-slot nothing k around p ks own = tells-nothing (around ++ key_facts p ks)

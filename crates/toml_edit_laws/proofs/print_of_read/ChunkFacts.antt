@@ -9,9 +9,10 @@ use Rattle.std.proofs.lemmas.List.Concat.{flat_map-append}
 use Rattle.toml_edit_model.specs.Text.{Text, one, is_empty}
 use Rattle.toml_edit_model.specs.Syntax.{Segment, Statement, key_line, header, Header, Document}
 use Rattle.toml_edit_model.specs.Paths.{Path, same_path, to_key, to_element, Role, header_role, array_role, value_role, dotted_role, implied_role, through_role, may_meet, Mention, Source, Placed, Context, mention_of, next_start, line_mentions, header_mentions, header_path, elements_at, in_last, passing_role, header_role_of, path_start, source_of, mentions_of, context_after, block_of, placed_from, start_context, all_mentions}
-use Rattle.toml_edit_model.specs.Accepted.{agree, is_sound, is_right_after, all_right_after, is_accepted}
+use Rattle.toml_edit_model.specs.Accepted.{agree, is_sound, is_accepted}
 use Rattle.toml_edit_model.specs.Normal.{is_line}
 use Rattle.toml_edit_model.specs.TreeOf.{is_array_role}
+use Rattle.toml_edit_laws.specs.OneByOne.{is_right_after, all_right_after}
 use Rattle.toml_edit_laws.proofs.common.Tests.{append-nil, and_left, and_right}
 use Rattle.toml_edit_laws.proofs.common.OrderLaws.{none-left}
 use Rattle.toml_edit_laws.proofs.common.PathLaws.{same_path-refl}
@@ -24,6 +25,7 @@ use Rattle.toml_edit_laws.proofs.print_of_read.Chunks.{place_path, place_start, 
 use Rattle.toml_edit_laws.proofs.mentions.Placed.{mentions_in, placed_at, own-sources, path-ends}
 use Rattle.toml_edit_laws.proofs.mentions.RoleTests.{is_bracket_role}
 use Rattle.toml_edit_laws.proofs.common.Each.{all-append, all-map}
+use Rattle.toml_edit_laws.proofs.one_by_one.Together.{accepted-right}
 
 -- ---- the mentions of one statement
 
@@ -382,6 +384,5 @@ chunk-facts c (header h end ∷ ss) before keyed are reached low agrees =
 -- The blocks of an accepted document.
 pub document-chunks : (d : Document) → AllByRecursion HasKey d.statements → is_accepted d ≡ true
     → AllByRecursion (IsChunk (all_mentions d)) (chunks (start_context d) d.statements)
-unfolding is_accepted
 document-chunks d keyed h =
-    chunk-facts (start_context d) d.statements [] keyed (before_none d) tt tt (right-agree [] (placed_from (start_context d) d.statements) h)
+    chunk-facts (start_context d) d.statements [] keyed (before_none d) tt tt (right-agree [] (placed_from (start_context d) d.statements) (accepted-right d h))

@@ -2,13 +2,15 @@
 use Rattle.std.proofs.Common.{◌≡◌, refl, sym, ◌∙◌, ap, subst, ℕ, zero, suc, ◌+◌, Bool, true, false, List, [], ◌∷◌, ◌++◌, append_assoc, inl, inr}
 use Rattle.std.specs.Prelude.{◌⊎◌, ◌&&◌, flat_map, if◌then◌else◌}
 use Rattle.std.specs.List.{AllByRecursion, list_all}
+use Rattle.toml_edit_laws.proofs.common.LineEnds.{IsEnd}
 use Rattle.toml_edit_model.specs.Text.{Text, one}
 use Rattle.toml_edit_model.specs.Trivia.{IsLineEnd, IsNewline}
 use Rattle.toml_edit_model.specs.Syntax.{Segment, Statement, key_line, header, Document, IsSpacedSegment, IsFrame, IsValue, IsHeader, IsStatement, AreStatements, keeps_limits, is_ranged}
 use Rattle.toml_edit_model.specs.Paths.{at_key, Path, to_key, Role, header_role, array_role, value_role, dotted_role, may_meet, Mention, Source, Placed, Context, mention_of, next_start, line_mentions, header_mentions, elements_at, in_last, passing_role, header_role_of, path_start, source_of, mentions_of, context_after, placed_from, start_context, placed, all_mentions}
-use Rattle.toml_edit_model.specs.Accepted.{agree, has_agreeing_pairs, is_sound, is_right_after, all_right_after, is_accepted}
+use Rattle.toml_edit_model.specs.Accepted.{agree, has_agreeing_pairs, is_sound, is_accepted}
 use Rattle.toml_edit_model.specs.Normal.{is_line}
 use Rattle.toml_edit_model.specs.TreeOf.{is_dotted_role}
+use Rattle.toml_edit_laws.specs.OneByOne.{is_right_after, all_right_after}
 use Rattle.toml_edit_laws.proofs.common.Tests.{and_left, and_right}
 use Rattle.toml_edit_laws.proofs.common.Members.{Among, among-cases, all-among, all-of-among}
 use Rattle.toml_edit_laws.proofs.mentions.GatheredLines.{steps}
@@ -21,19 +23,20 @@ use Rattle.toml_edit_laws.proofs.mentions.Placed.{mentions_in, placed_at, own-so
 use Rattle.toml_edit_laws.proofs.mentions.RoleTests.{is_bracket_role}
 use Rattle.toml_edit_laws.proofs.common.Each.{all-append}
 use Rattle.toml_edit_laws.proofs.mentions.SomeAt.{among-test}
+use Rattle.toml_edit_laws.proofs.one_by_one.Together.{accepted-right}
 
 -- ---- statements
 
--- a statement is in the grammar, whatever ends it, and the pairs of its inline tables agree
+-- a statement is in the grammar, with a newline or none, and the pairs of its inline tables agree
 abbrev pub IsRightStatement : Statement → Type 0
-IsRightStatement (key_line f v end) = IsFrame IsLineEnd f × IsValue v × (has_agreeing_pairs v ≡ true)
-IsRightStatement (header h end) = IsHeader h
+IsRightStatement (key_line f v end) = IsFrame IsLineEnd f × IsValue v × (has_agreeing_pairs v ≡ true) × IsEnd end
+IsRightStatement (header h end) = IsHeader h × IsEnd end
 
-right-statement : (MayEnd : Text → Type 0) (c : Context) (s : Statement) → IsStatement MayEnd s → is_sound (source_of c s).statement ≡ true
+right-statement : (MayEnd : Text → Type 0) → ((end : Text) → MayEnd end → IsEnd end) → (c : Context) (s : Statement) → IsStatement MayEnd s → is_sound (source_of c s).statement ≡ true
     → IsRightStatement (source_of c s).statement
-right-statement MayEnd c (key_line f v end) h e =
-    (h.0, h.1, and_right (keeps_limits (key_line f v end) && is_ranged (key_line f v end)) (has_agreeing_pairs v) e)
-right-statement MayEnd c (header hd end) h e = h.0
+right-statement MayEnd ends c (key_line f v end) h e =
+    (h.0, h.1, and_right (keeps_limits (key_line f v end) && is_ranged (key_line f v end)) (has_agreeing_pairs v) e, ends end h.2)
+right-statement MayEnd ends c (header hd end) h e = (h.0, ends end h.1)
 
 -- a place is right, and so are the later ones
 sound-place : (earlier : List Placed) (s : Placed) (rest : List Placed) → all_right_after earlier (s ∷ rest) ≡ true
@@ -51,16 +54,15 @@ right-statements : (final : Text) (ss : List Statement) (c : Context) (earlier :
     → AreRight (placed_from c ss)
 right-statements final [] c earlier h e = tt
 right-statements final (s ∷ []) c earlier h e =
-    (right-statement (λ end. IsNewline end ⊎ ((end ≡ []) × (final ≡ []))) c s h (sound-place earlier (placed_at c s) [] e).0, tt)
+    (right-statement (λ end. IsNewline end ⊎ ((end ≡ []) × (final ≡ []))) (λ end g. elim g [ inl n ↦ inl n | inr p ↦ inr p.0 ]) c s h (sound-place earlier (placed_at c s) [] e).0, tt)
 right-statements final (s ∷ r ∷ rest) c earlier h e =
     let sound = sound-place earlier (placed_at c s) (placed_from (context_after c s) (r ∷ rest)) e in (
-      right-statement IsNewline c s h.0 sound.0,
+      right-statement IsNewline (λ end n. inl n) c s h.0 sound.0,
       right-statements final (r ∷ rest) (context_after c s) (earlier ++ one (placed_at c s)) h.1 sound.1,
     )
 
 pub document-right : (d : Document) → AreStatements d.final d.statements → is_accepted d ≡ true → AreRight (placed d)
-unfolding is_accepted
-document-right d h e = right-statements d.final d.statements (start_context d) [] h e
+document-right d h e = right-statements d.final d.statements (start_context d) [] h (accepted-right d e)
 
 -- ---- mentions
 
@@ -96,7 +98,7 @@ header-spaced source arrays role start p (s ∷ r ∷ rest) h =
 statement-spaced : (c : Context) (s : Statement) → IsRightStatement (source_of c s).statement → AllByRecursion (λ m. IsSpacedSegment m.segment) (mentions_of c s)
 statement-spaced c (key_line f v end) h = line-spaced (source_of c (key_line f v end)) (c.start + path_start (key_line f v end)) c.block f.path h.0.0.segments
 statement-spaced c (header hd end) h =
-    header-spaced (source_of c (header hd end)) c.arrays (header_role_of hd) (c.start + path_start (header hd end)) [] hd.path h.0.segments
+    header-spaced (source_of c (header hd end)) c.arrays (header_role_of hd) (c.start + path_start (header hd end)) [] hd.path h.0.0.segments
 
 placed-spaced : (c : Context) (ss : List Statement) → AreRight (placed_from c ss) → AllByRecursion (λ m. IsSpacedSegment m.segment) (mentions_in (placed_from c ss))
 placed-spaced c [] h = tt

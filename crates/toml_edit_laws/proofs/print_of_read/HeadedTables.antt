@@ -4,10 +4,11 @@ use Rattle.std.specs.Prelude.{◌&&◌, ◌||◌, filter, ◌==◌, if◌then◌
 use Rattle.std.specs.List.{AllByRecursion, list_any}
 use Rattle.std.proofs.lemmas.Bool.{cases_Bool, eq-eqb, eqb-true}
 use Rattle.std.proofs.lemmas.List.Elements.{filter-append}
+use Rattle.toml_edit_model.specs.Mode.{Mode}
 use Rattle.toml_edit_model.specs.Text.{one}
 use Rattle.toml_edit_model.specs.Syntax.{Statement, key_line, header}
 use Rattle.toml_edit_model.specs.Paths.{Path, Mention, Source, Context, source_of, mentions_of, context_after, path_start, placed_from}
-use Rattle.toml_edit_model.specs.TreeOf.{owned_form, kept, AreSlotsOf}
+use Rattle.toml_edit_model.specs.TreeOf.{owned_in, kept, AreSlotsOf}
 use Rattle.toml_edit_model.specs.Tree.{Slots}
 use Rattle.toml_edit_model.specs.HeaderOrder.{Visit, slots_walk}
 use Rattle.toml_edit_laws.proofs.common.Tests.{and_left, and_right, or-left, or-right, true-false}
@@ -57,43 +58,10 @@ no-chunk c (header hd end ∷ ss) n h =
     (or-left (suc c.headers == n) (has_chunk n (chunks d ss)) h))
     ∙ no-chunk d ss n (or-right (suc c.headers == n) (has_chunk n (chunks d ss)) h)
 
--- ---- their tables
-
--- the table of a header in the walk
-pub record HasTable (all : List (Mention Source)) (vs : List Visit) (ch : Chunk) : Type 0 where
-  pub is : IsChunk all ch
-  pub visit : Visit
-  pub walk : filter (numbered (chunk_number ch)) vs ≡ one visit
-  pub visit_is : IsVisit all ch.block is.last.role is.last.source visit
-
-abbrev pub tables_of : (all : List (Mention Source)) (vs : List Visit) (cs : List Chunk) → AllByRecursion (HasTable all vs) cs → List Visit
-tables_of all vs [] h = []
-tables_of all vs (ch ∷ cs) h = h.0.visit ∷ tables_of all vs cs h.1
-
-table-number : (all : List (Mention Source)) (vs : List Visit) (ch : Chunk) (h : HasTable all vs ch) → Among h.visit vs × (numbered (chunk_number ch) h.visit ≡ true)
-table-number all vs ch h = among-filter (numbered (chunk_number ch)) h.visit vs (subst (Among h.visit) (sym h.walk) (inl refl))
-
-pub table-among : (all : List (Mention Source)) (vs : List Visit) (ch : Chunk) (h : HasTable all vs ch) → Among h.visit vs
-table-among all vs ch h = (table-number all vs ch h).0
-
 has-number : (n : ℕ) (v : Visit) → numbered n v ≡ true → (has_number v ≡ true) × (number_of v ≡ n)
 has-number n v h =
     let both : (has_number v && (number_of v == n)) ≡ true = set-number n v.fields.position ∙ h in
     (and_left (has_number v) (number_of v == n) both, eqb-true (number_of v) n (and_right (has_number v) (number_of v == n) both))
-
-pub tables-numbers : (all : List (Mention Source)) (vs : List Visit) (cs : List Chunk) (h : AllByRecursion (HasTable all vs) cs)
-    → AllByRecursion (λ v. has_number v ≡ true) (tables_of all vs cs h)
-tables-numbers all vs [] h = tt
-tables-numbers all vs (ch ∷ cs) h = ((has-number (chunk_number ch) h.0.visit (table-number all vs ch h.0).1).0, tables-numbers all vs cs h.1)
-
-tables-above : (all : List (Mention Source)) (vs : List Visit) (m : ℕ) (cs : List Chunk) (h : AllByRecursion (HasTable all vs) cs) → AreNumbered m cs
-    → (n : ℕ) → n ≤ m → AllByRecursion (λ v. suc n ≤ number_of v) (tables_of all vs cs h)
-tables-above all vs m [] h g n e = tt
-tables-above all vs m (ch ∷ cs) h g n e =
-    let low : n ≤ m = e in
-    let is : number_of h.0.visit ≡ chunk_number ch = (has-number (chunk_number ch) h.0.visit (table-number all vs ch h.0).1).1 in
-    let next : chunk_number ch ≡ suc m = g.0 in
-    (omega arith, tables-above all vs (suc m) cs h.1 g.1 n (omega arith))
 
 below-above : (n : ℕ) (v : Visit) (us : List Visit) → number_of v ≡ n → AllByRecursion (λ u. suc n ≤ number_of u) us → AllByRecursion (λ u. number_of v ≤ number_of u) us
 below-above n v [] e h = tt
@@ -101,13 +69,6 @@ below-above n v (u ∷ us) e h =
     let more : suc n ≤ number_of u = h.0 in
     let same : number_of v ≡ n = e in
     (omega arith, below-above n v us e h.1)
-
-pub tables-ascending : (all : List (Mention Source)) (vs : List Visit) (m : ℕ) (cs : List Chunk) (h : AllByRecursion (HasTable all vs) cs) → AreNumbered m cs
-    → IsAscending number_of (tables_of all vs cs h)
-tables-ascending all vs m [] h g = tt
-tables-ascending all vs m (ch ∷ cs) h g =
-    let is : number_of h.0.visit ≡ suc m = (has-number (chunk_number ch) h.0.visit (table-number all vs ch h.0).1).1 ∙ g.0 in
-    (below-above (suc m) h.0.visit (tables_of all vs cs h.1) is (tables-above all vs (suc m) cs h.1 g.1 (suc m) (omega arith)), tables-ascending all vs (suc m) cs h.1 g.1)
 
 other-table : (n k : ℕ) (v : Visit) → numbered k v ≡ true → (k == n) ≡ false → numbered n v ≡ false
 other-table n k v h e =
@@ -129,47 +90,88 @@ none-above n (u ∷ us) h g =
     ]) in
     rw apart (none-above n us h.1 g.1)
 
--- a number keeps of them its table, where there is one
-tables-kept : (all : List (Mention Source)) (vs : List Visit) (m : ℕ) (cs : List Chunk) (h : AllByRecursion (HasTable all vs) cs) → AreNumbered m cs → (n : ℕ)
-    → filter (numbered n) (tables_of all vs cs h) ≡ (if has_chunk n cs then filter (numbered n) vs else [])
-tables-kept all vs m [] h g n = refl
-tables-kept all vs m (ch ∷ cs) h g n =
-    by_test (chunk_number ch == n) refl (tables-kept all vs (suc m) cs h.1 g.1 n)
-  where
-    rest : List Visit
-    rest = tables_of all vs cs h.1
+module _ (mode : Mode) where
+  -- ---- their tables
 
-    own : numbered (chunk_number ch) h.0.visit ≡ true
-    own = (table-number all vs ch h.0).1
+  -- the table of a header in the walk
+  pub record HasTable (all : List (Mention Source)) (vs : List Visit) (ch : Chunk) : Type 0 where
+    pub is : IsChunk all ch
+    pub visit : Visit
+    pub walk : filter (numbered (chunk_number ch)) vs ≡ one visit
+    pub visit_is : IsVisit mode all ch.block is.last.role is.last.source visit
 
-    by_test : (b : Bool) → (chunk_number ch == n) ≡ b → filter (numbered n) rest ≡ (if has_chunk n cs then filter (numbered n) vs else [])
-        → filter (numbered n) (h.0.visit ∷ rest) ≡ (if b || has_chunk n cs then filter (numbered n) vs else [])
-    by_test true e ih =
-        let same : chunk_number ch ≡ n = eqb-true (chunk_number ch) n e in
-        let here : numbered n h.0.visit ≡ true = subst (λ k. numbered k h.0.visit ≡ true) same own in
-        let none : filter (numbered n) rest ≡ [] =
-        none-above n rest (tables-numbers all vs cs h.1)
-        (tables-above all vs (suc m) cs h.1 g.1 n (let next : chunk_number ch ≡ suc m = g.0 in omega arith)) in
-        ap (λ b. if b then h.0.visit ∷ filter (numbered n) rest else filter (numbered n) rest) here
-        ∙ ap (λ us. h.0.visit ∷ us) none ∙ sym h.0.walk ∙ ap (λ k. filter (numbered k) vs) same
-    by_test false e ih =
-        ap (λ b. if b then h.0.visit ∷ filter (numbered n) rest else filter (numbered n) rest) (other-table n (chunk_number ch) h.0.visit own e) ∙ ih
+  abbrev pub tables_of : (all : List (Mention Source)) (vs : List Visit) (cs : List Chunk) → AllByRecursion (HasTable all vs) cs → List Visit
+  tables_of all vs [] h = []
+  tables_of all vs (ch ∷ cs) h = h.0.visit ∷ tables_of all vs cs h.1
 
--- Each number keeps the same of the walk and of the headers' tables.
-pub tables-same : (c : Context) (ss : List Statement) (ts : Slots) (p : Path) → AreSlotsOf owned_form (mentions_in (placed_from c ss)) (kept (mentions_in (placed_from c ss))) ts
-    → (h : AllByRecursion (HasTable (mentions_in (placed_from c ss)) (slots_walk ts p [])) (chunks c ss)) (n : ℕ)
-    → filter (numbered n) (slots_walk ts p []) ≡ filter (numbered n) (tables_of (mentions_in (placed_from c ss)) (slots_walk ts p []) (chunks c ss) h)
-tables-same c ss ts p slots h n =
-    by_test (has_chunk n (chunks c ss)) refl ∙ sym (tables-kept all vs c.headers (chunks c ss) h (chunk-numbers c ss) n)
-  where
-    all : List (Mention Source)
-    all = mentions_in (placed_from c ss)
+  table-number : (all : List (Mention Source)) (vs : List Visit) (ch : Chunk) (h : HasTable all vs ch) → Among h.visit vs × (numbered (chunk_number ch) h.visit ≡ true)
+  table-number all vs ch h = among-filter (numbered (chunk_number ch)) h.visit vs (subst (Among h.visit) (sym h.walk) (inl refl))
 
-    vs : List Visit
-    vs = slots_walk ts p []
+  pub table-among : (all : List (Mention Source)) (vs : List Visit) (ch : Chunk) (h : HasTable all vs ch) → Among h.visit vs
+  table-among all vs ch h = (table-number all vs ch h).0
 
-    by_test : (b : Bool) → has_chunk n (chunks c ss) ≡ b → filter (numbered n) vs ≡ (if b then filter (numbered n) vs else [])
-    by_test true e = refl
-    by_test false e =
-        let none = none-below n all (none-filtered n all (no-chunk c ss n e)) in
-        slots-none n all (kept all) ts p [] none (none-kept n all none) slots
+  pub tables-numbers : (all : List (Mention Source)) (vs : List Visit) (cs : List Chunk) (h : AllByRecursion (HasTable all vs) cs)
+      → AllByRecursion (λ v. has_number v ≡ true) (tables_of all vs cs h)
+  tables-numbers all vs [] h = tt
+  tables-numbers all vs (ch ∷ cs) h = ((has-number (chunk_number ch) h.0.visit (table-number all vs ch h.0).1).0, tables-numbers all vs cs h.1)
+
+  tables-above : (all : List (Mention Source)) (vs : List Visit) (m : ℕ) (cs : List Chunk) (h : AllByRecursion (HasTable all vs) cs) → AreNumbered m cs
+      → (n : ℕ) → n ≤ m → AllByRecursion (λ v. suc n ≤ number_of v) (tables_of all vs cs h)
+  tables-above all vs m [] h g n e = tt
+  tables-above all vs m (ch ∷ cs) h g n e =
+      let low : n ≤ m = e in
+      let is : number_of h.0.visit ≡ chunk_number ch = (has-number (chunk_number ch) h.0.visit (table-number all vs ch h.0).1).1 in
+      let next : chunk_number ch ≡ suc m = g.0 in
+      (omega arith, tables-above all vs (suc m) cs h.1 g.1 n (omega arith))
+
+  pub tables-ascending : (all : List (Mention Source)) (vs : List Visit) (m : ℕ) (cs : List Chunk) (h : AllByRecursion (HasTable all vs) cs) → AreNumbered m cs
+      → IsAscending number_of (tables_of all vs cs h)
+  tables-ascending all vs m [] h g = tt
+  tables-ascending all vs m (ch ∷ cs) h g =
+      let is : number_of h.0.visit ≡ suc m = (has-number (chunk_number ch) h.0.visit (table-number all vs ch h.0).1).1 ∙ g.0 in
+      (below-above (suc m) h.0.visit (tables_of all vs cs h.1) is (tables-above all vs (suc m) cs h.1 g.1 (suc m) (omega arith)), tables-ascending all vs (suc m) cs h.1 g.1)
+
+  -- a number keeps of them its table, where there is one
+  tables-kept : (all : List (Mention Source)) (vs : List Visit) (m : ℕ) (cs : List Chunk) (h : AllByRecursion (HasTable all vs) cs) → AreNumbered m cs → (n : ℕ)
+      → filter (numbered n) (tables_of all vs cs h) ≡ (if has_chunk n cs then filter (numbered n) vs else [])
+  tables-kept all vs m [] h g n = refl
+  tables-kept all vs m (ch ∷ cs) h g n =
+      by_test (chunk_number ch == n) refl (tables-kept all vs (suc m) cs h.1 g.1 n)
+    where
+      rest : List Visit
+      rest = tables_of all vs cs h.1
+
+      own : numbered (chunk_number ch) h.0.visit ≡ true
+      own = (table-number all vs ch h.0).1
+
+      by_test : (b : Bool) → (chunk_number ch == n) ≡ b → filter (numbered n) rest ≡ (if has_chunk n cs then filter (numbered n) vs else [])
+          → filter (numbered n) (h.0.visit ∷ rest) ≡ (if b || has_chunk n cs then filter (numbered n) vs else [])
+      by_test true e ih =
+          let same : chunk_number ch ≡ n = eqb-true (chunk_number ch) n e in
+          let here : numbered n h.0.visit ≡ true = subst (λ k. numbered k h.0.visit ≡ true) same own in
+          let none : filter (numbered n) rest ≡ [] =
+          none-above n rest (tables-numbers all vs cs h.1)
+          (tables-above all vs (suc m) cs h.1 g.1 n (let next : chunk_number ch ≡ suc m = g.0 in omega arith)) in
+          ap (λ b. if b then h.0.visit ∷ filter (numbered n) rest else filter (numbered n) rest) here
+          ∙ ap (λ us. h.0.visit ∷ us) none ∙ sym h.0.walk ∙ ap (λ k. filter (numbered k) vs) same
+      by_test false e ih =
+          ap (λ b. if b then h.0.visit ∷ filter (numbered n) rest else filter (numbered n) rest) (other-table n (chunk_number ch) h.0.visit own e) ∙ ih
+
+  -- Each number keeps the same of the walk and of the headers' tables.
+  pub tables-same : (c : Context) (ss : List Statement) (ts : Slots) (p : Path) → AreSlotsOf (owned_in mode) (mentions_in (placed_from c ss)) (kept (mentions_in (placed_from c ss))) ts
+      → (h : AllByRecursion (HasTable (mentions_in (placed_from c ss)) (slots_walk ts p [])) (chunks c ss)) (n : ℕ)
+      → filter (numbered n) (slots_walk ts p []) ≡ filter (numbered n) (tables_of (mentions_in (placed_from c ss)) (slots_walk ts p []) (chunks c ss) h)
+  tables-same c ss ts p slots h n =
+      by_test (has_chunk n (chunks c ss)) refl ∙ sym (tables-kept all vs c.headers (chunks c ss) h (chunk-numbers c ss) n)
+    where
+      all : List (Mention Source)
+      all = mentions_in (placed_from c ss)
+
+      vs : List Visit
+      vs = slots_walk ts p []
+
+      by_test : (b : Bool) → has_chunk n (chunks c ss) ≡ b → filter (numbered n) vs ≡ (if b then filter (numbered n) vs else [])
+      by_test true e = refl
+      by_test false e =
+          let none = none-below n all (none-filtered n all (no-chunk c ss n e)) in
+          slots-none mode n all (kept all) ts p [] none (none-kept n all none) slots

@@ -3,12 +3,13 @@ use Rattle.std.proofs.Common.{◌≡◌, ◌<◌, refl, sym, ◌∙◌, ap, subs
 use Rattle.std.specs.Prelude.{◌&&◌, ◌||◌, map, filter, ◌==◌, if◌then◌else◌}
 use Rattle.std.proofs.lemmas.Bool.{cases_Bool}
 use Rattle.std.proofs.lemmas.List.Elements.{filter-append}
+use Rattle.toml_edit_model.specs.Mode.{Mode}
 use Rattle.toml_edit_model.specs.Text.{Text, one, is_empty, same_text}
 use Rattle.toml_edit_model.specs.Syntax.{Statement, key_line, header}
 use Rattle.toml_edit_model.specs.Paths.{Step, at_key, at_element, Path, same_step, same_path, to_key, to_element, Mention, Source}
 use Rattle.toml_edit_model.specs.Normal.{is_line}
 use Rattle.toml_edit_model.specs.Tree.{Key, TableFields, Node, nothing, leaf, list, inline, table, tables, Items, no_items, item, Slots, no_slots, slot}
-use Rattle.toml_edit_model.specs.TreeOf.{owned_form, inside, under, own, arrays, is_array_role, kept, key_at, header_fields, IsNodeOf, AreElementsOf, AreSlotsOf}
+use Rattle.toml_edit_model.specs.TreeOf.{owned_in, inside, under, own, arrays, is_array_role, kept, key_at, header_fields, IsNodeOf, AreElementsOf, AreSlotsOf}
 use Rattle.toml_edit_model.specs.HeaderOrder.{Visit, visit_of, node_walk, items_walk, slots_walk}
 use Rattle.toml_edit_laws.specs.FlatTree.{is_among}
 use Rattle.toml_edit_laws.proofs.common.Tests.{append-nil, same_text-is}
@@ -72,70 +73,6 @@ none-filtered n ms h =
       | inl e ↦ elim (subst (Among m) h (among-filtered (is_heading n) m ms a e)) [ ]
       | inr e ↦ e
     ])
-
--- ---- slots
-
--- one slot has the table, and the others none
-pub slots-one : (n : ℕ) (k : Text) (P : Visit → Type 0) (ms ls : List (Mention Source)) (ss : Slots) (q : Path) (ks : List Key)
-    → AreSlotsOf owned_form ms ls ss → is_among k (map (λ m. m.segment.key) ls) ≡ true → AreDistinct ls
-    → ((m : Mention Source) (key : Key) (node : Node) → Among m ls → same_text k m.segment.key ≡ false → IsNodeOf owned_form (under (at_key m.segment.key) ms) m node
-    → filter (numbered n) (node_walk node (to_key q m.segment.key) (ks ++ one key) false) ≡ [])
-    → ((m : Mention Source) (key : Key) (node : Node) → Among m ls → k ≡ m.segment.key → key ≡ key_at owned_form m → IsNodeOf owned_form (under (at_key m.segment.key) ms) m node
-    → (v : Visit) × (filter (numbered n) (node_walk node (to_key q m.segment.key) (ks ++ one key) false) ≡ one v) × P v)
-    → (v : Visit) × (filter (numbered n) (slots_walk ss q ks) ≡ one v) × P v
-slots-one n k P ms [] no_slots q ks h among distinct none here = absurd cc
-slots-one n k P ms [] (slot key node ss) q ks h among distinct none here = absurd h
-slots-one n k P ms (m ∷ ls) no_slots q ks h among distinct none here = absurd h
-slots-one n k P ms (m ∷ ls) (slot key node ss) q ks h among distinct none here =
-    by_key (same_text k m.segment.key) refl among (λ e. slots-one n k P ms ls ss q ks h.2 e distinct.1 (λ o j x a. none o j x (inr a)) (λ o j x a. here o j x (inr a)))
-  where
-    name : key.name ≡ m.segment.key
-    name = ap (λ (j : Key). j.name) h.0
-
-    first : List Visit
-    first = node_walk node (to_key q key.name) (ks ++ one key) false
-
-    rest_none : (ls : List (Mention Source)) (ss : Slots) → AreSlotsOf owned_form ms ls ss → first_of_key k ls ≡ None
-        → ((o : Mention Source) (j : Key) (x : Node) → Among o ls → same_text k o.segment.key ≡ false → IsNodeOf owned_form (under (at_key o.segment.key) ms) o x
-        → filter (numbered n) (node_walk x (to_key q o.segment.key) (ks ++ one j) false) ≡ [])
-        → filter (numbered n) (slots_walk ss q ks) ≡ []
-    rest_none [] no_slots g e f = refl
-    rest_none [] (slot j x us) g e f = absurd g
-    rest_none (o ∷ ls) no_slots g e f = absurd g
-    rest_none (o ∷ ls) (slot j x us) g e f =
-        elim (cases_Bool (same_text k o.segment.key)) [
-          | inl s ↦ (let clash : Some o ≡ None = rw s at e in absurd cc)
-          | inr s ↦
-              first-none n (node_walk x (to_key q j.name) (ks ++ one j) false) (slots_walk us q ks)
-              (ap (λ t. filter (numbered n) (node_walk x (to_key q t) (ks ++ one j) false)) (ap (λ (i : Key). i.name) g.0) ∙ f o j x (inl refl) s g.1)
-              (rest_none ls us g.2 (rw s at e) (λ i j x a. f i j x (inr a)))
-        ]
-
-    by_key : (b : Bool) → same_text k m.segment.key ≡ b → (b || is_among k (map (λ (o : Mention Source). o.segment.key) ls)) ≡ true
-        → (is_among k (map (λ (o : Mention Source). o.segment.key) ls) ≡ true → (v : Visit) × (filter (numbered n) (slots_walk ss q ks) ≡ one v) × P v)
-        → (v : Visit) × (filter (numbered n) (slots_walk (slot key node ss) q ks) ≡ one v) × P v
-    by_key true e g ih =
-        let same : k ≡ m.segment.key = same_text-is k m.segment.key e in
-        let found = here m key node (inl refl) same h.0 h.1 in
-        let none_after : first_of_key k ls ≡ None = ap (λ t. first_of_key t ls) same ∙ distinct.0 in (
-          found.0,
-          filter-append (numbered n) first (slots_walk ss q ks)
-              ∙ ap (λ t. filter (numbered n) (node_walk node (to_key q t) (ks ++ one key) false) ++ filter (numbered n) (slots_walk ss q ks)) name
-              ∙ ap (λ vs. vs ++ filter (numbered n) (slots_walk ss q ks)) found.1
-              ∙ ap (λ vs. found.0 ∷ vs) (rest_none ls ss h.2 none_after (λ o j x a. none o j x (inr a))),
-          found.2,
-        )
-    by_key false e g ih =
-        let found = ih g in (
-          found.0,
-          filter-append (numbered n) first (slots_walk ss q ks)
-              ∙ ap (λ t. filter (numbered n) (node_walk node (to_key q t) (ks ++ one key) false) ++ filter (numbered n) (slots_walk ss q ks)) name
-              ∙ ap (λ vs. vs ++ filter (numbered n) (slots_walk ss q ks)) (none m key node (inl refl) e h.1)
-              ∙ found.1,
-          found.2,
-        )
-
--- ---- arrays one step down
 
 pub map-nth : {A B : Type 0} (f : A → B) (i : ℕ) (xs : List A) (x : A) → nth i xs ≡ Some x → nth i (map f xs) ≡ Some (f x)
 map-nth f i [] x h = absurd cc
@@ -215,8 +152,6 @@ opens-step s t b ms h (opens_element i role e place) = by_path h.path refl
               ∙ map-nth (λ (m : Mention Source). moved m p) i (arrays_at (s ∷ p) ms) h (ap (λ q. nth i (arrays_at q ms)) (sym path) ∙ place));
         }
 
--- ---- elements
-
 number-other : {A : Type 0} (test : A → Bool) (x : A) (xs : List A) (a : A) → filter test (x ∷ xs) ≡ one a → Among a xs → test a ≡ true → test x ≡ false
 number-other test x xs a h b e =
     elim (cases_Bool (test x)) [
@@ -235,131 +170,196 @@ numbers-none n hs h =
       | inr e ↦ e
     ])
 
-pub header-own : (n : ℕ) (s : Source) (t : Statement) → is_line t ≡ false → (s.headers == n) ≡ true → is_number n (header_fields owned_form s t).position ≡ true
-header-own n s (header h end) l e = e
-header-own n s (key_line f v end) l e = absurd cc
+module _ (mode : Mode) where
+  -- ---- slots
 
--- the elements from one on have none
-items-after : (n : ℕ) (ns : List (Mention Source)) (i : ℕ) (hs : List (Mention Source)) (xs : Items) (p : Path) (ks : List Key)
-    → ((j : ℕ) → HaveNone n (under (at_element (i + j)) ns)) → HaveOtherNumbers n hs → AreElementsOf owned_form ns i hs xs → filter (numbered n) (items_walk xs p ks i) ≡ []
-items-after n ns i [] no_items p ks none others h = refl
-items-after n ns i [] (item x xs) p ks none others h = absurd h
-items-after n ns i (a ∷ hs) no_items p ks none others h = absurd h
-items-after n ns i (a ∷ hs) (item (table f ss) xs) p ks none others h =
-    let below : List (Mention Source) = under (at_element i) ns in
-    let zeroth : i + 0 ≡ i = omega arith in
-    let none_here : HaveNone n below = subst (λ j. HaveNone n (under (at_element j) ns)) zeroth (none 0) in
-    first-none n (visit_of (to_element p i) ks true f ss ∷ slots_walk ss (to_element p i) ks) (items_walk xs p ks (suc i))
-    (first-other n (visit_of (to_element p i) ks true f ss) (slots_walk ss (to_element p i) ks)
-    (ap (λ (g : TableFields). is_number n g.position) h.0 ∙ header-other n a.source a.source.statement others.0)
-    (slots-none n below (kept below) ss (to_element p i) ks (none-below n below none_here) (none-kept n below (none-below n below none_here)) h.1))
-    (items-after n ns (suc i) hs xs p ks
-    (λ j. let next : i + suc j ≡ suc i + j = omega arith in subst (λ k. HaveNone n (under (at_element k) ns)) next (none (suc j))) others.1 h.2)
-items-after n ns i (a ∷ hs) (item nothing xs) p ks none others h = absurd h
-items-after n ns i (a ∷ hs) (item (leaf s r d) xs) p ks none others h = absurd h
-items-after n ns i (a ∷ hs) (item (list f us) xs) p ks none others h = absurd h
-items-after n ns i (a ∷ hs) (item (inline f us) xs) p ks none others h = absurd h
-items-after n ns i (a ∷ hs) (item (tables e us) xs) p ks none others h = absurd h
+  -- one slot has the table, and the others none
+  pub slots-one : (n : ℕ) (k : Text) (P : Visit → Type 0) (ms ls : List (Mention Source)) (ss : Slots) (q : Path) (ks : List Key)
+      → AreSlotsOf (owned_in mode) ms ls ss → is_among k (map (λ m. m.segment.key) ls) ≡ true → AreDistinct ls
+      → ((m : Mention Source) (key : Key) (node : Node) → Among m ls → same_text k m.segment.key ≡ false → IsNodeOf (owned_in mode) (under (at_key m.segment.key) ms) m node
+      → filter (numbered n) (node_walk node (to_key q m.segment.key) (ks ++ one key) false) ≡ [])
+      → ((m : Mention Source) (key : Key) (node : Node) → Among m ls → k ≡ m.segment.key → key ≡ key_at (owned_in mode) m → IsNodeOf (owned_in mode) (under (at_key m.segment.key) ms) m node
+      → (v : Visit) × (filter (numbered n) (node_walk node (to_key q m.segment.key) (ks ++ one key) false) ≡ one v) × P v)
+      → (v : Visit) × (filter (numbered n) (slots_walk ss q ks) ≡ one v) × P v
+  slots-one n k P ms [] no_slots q ks h among distinct none here = absurd cc
+  slots-one n k P ms [] (slot key node ss) q ks h among distinct none here = absurd h
+  slots-one n k P ms (m ∷ ls) no_slots q ks h among distinct none here = absurd h
+  slots-one n k P ms (m ∷ ls) (slot key node ss) q ks h among distinct none here =
+      by_key (same_text k m.segment.key) refl among (λ e. slots-one n k P ms ls ss q ks h.2 e distinct.1 (λ o j x a. none o j x (inr a)) (λ o j x a. here o j x (inr a)))
+    where
+      name : key.name ≡ m.segment.key
+      name = ap (λ (j : Key). j.name) h.0
 
--- the element of a header
-pub record IsElement (n : ℕ) (ns : List (Mention Source)) (i : ℕ) (xs : Items) (p : Path) (ks : List Key) (from : ℕ) (a : Mention Source) : Type 0 where
-  pub fields : TableFields
-  pub slots : Slots
-  pub walk : filter (numbered n) (items_walk xs p ks from) ≡ one (visit_of (to_element p i) ks true fields slots)
-  pub fields_are : fields ≡ header_fields owned_form a.source a.source.statement
-  pub slots_are : AreSlotsOf owned_form (under (at_element i) ns) (kept (under (at_element i) ns)) slots
+      first : List Visit
+      first = node_walk node (to_key q key.name) (ks ++ one key) false
 
-pub items-here : (n : ℕ) (ns : List (Mention Source)) (at i from : ℕ) (hs : List (Mention Source)) (xs : Items) (p : Path) (ks : List Key) (a : Mention Source) → i ≡ from + at
-    → HaveNoneBelow n ns → AreElementsOf owned_form ns from hs xs → nth at hs ≡ Some a → filter (λ x. x.source.headers == n) hs ≡ one a
-    → (a.source.headers == n) ≡ true → is_line a.source.statement ≡ false → IsElement n ns i xs p ks from a
-items-here n ns at i from [] xs p ks a e none h found only number head = absurd cc
-items-here n ns at i from (x ∷ hs) no_items p ks a e none h found only number head = absurd h
-items-here n ns zero i from (x ∷ hs) (item (table f ss) xs) p ks a e none h found only number head =
-    let same : x ≡ a = cc in
-    let here : i ≡ from = omega arith in
-    let passes : (x.source.headers == n) ≡ true = ap (λ (y : Mention Source). y.source.headers == n) same ∙ number in
-    let after : filter (λ (y : Mention Source). y.source.headers == n) hs ≡ [] =
-    (let whole : x ∷ filter (λ (y : Mention Source). y.source.headers == n) hs ≡ one a = rw passes at only in cc) in
-    let below : List (Mention Source) = under (at_element from) ns in
-    let none_here : HaveNone n below = none-under n (at_element from) ns none in
-    let fields_are : f ≡ header_fields owned_form a.source a.source.statement = h.0 ∙ ap (λ (y : Mention Source). header_fields owned_form y.source y.source.statement) same in
-    let v : Visit = visit_of (to_element p from) ks true f ss in
-    record {
-      fields = f;
-      slots = ss;
-      walk =
-          filter-append (numbered n) (v ∷ slots_walk ss (to_element p from) ks) (items_walk xs p ks (suc from))
-          ∙ ap (λ vs. filter (numbered n) (v ∷ slots_walk ss (to_element p from) ks) ++ vs) (items-none n ns (suc from) hs xs p ks none (numbers-none n hs after) h.2)
-          ∙ rw (ap (λ (g : TableFields). is_number n g.position) fields_are ∙ header-own n a.source a.source.statement head number)
-          (ap (λ vs. v ∷ (vs ++ []))
-          (slots-none n below (kept below) ss (to_element p from) ks (none-below n below none_here) (none-kept n below (none-below n below none_here)) h.1)
-          ∙ ap (λ j. one (visit_of (to_element p j) ks true f ss)) (sym here));
-      fields_are = fields_are;
-      slots_are = subst (λ j. AreSlotsOf owned_form (under (at_element j) ns) (kept (under (at_element j) ns)) ss) (sym here) h.1;
-    }
-items-here n ns (suc at) i from (x ∷ hs) (item (table f ss) xs) p ks a e none h found only number head =
-    let other : (x.source.headers == n) ≡ false = number-other (λ (y : Mention Source). y.source.headers == n) x hs a only (nth-among at hs a found) number in
-    let below : List (Mention Source) = under (at_element from) ns in
-    let none_here : HaveNone n below = none-under n (at_element from) ns none in
-    let next : i ≡ suc from + at = omega arith in
-    let v : Visit = visit_of (to_element p from) ks true f ss in
-    let more = items-here n ns at i (suc from) hs xs p ks a next none h.2 found (rw other at only) number head in
-    record {
-      fields = more.fields;
-      slots = more.slots;
-      walk =
-          filter-append (numbered n) (v ∷ slots_walk ss (to_element p from) ks) (items_walk xs p ks (suc from))
-          ∙ ap (λ vs. vs ++ filter (numbered n) (items_walk xs p ks (suc from)))
-          (first-other n v (slots_walk ss (to_element p from) ks) (ap (λ (g : TableFields). is_number n g.position) h.0 ∙ header-other n x.source x.source.statement other)
-          (slots-none n below (kept below) ss (to_element p from) ks (none-below n below none_here) (none-kept n below (none-below n below none_here)) h.1))
-          ∙ more.walk;
-      fields_are = more.fields_are;
-      slots_are = more.slots_are;
-    }
-items-here n ns at i from (x ∷ hs) (item nothing xs) p ks a e none h found only number head = absurd h
-items-here n ns at i from (x ∷ hs) (item (leaf s r d) xs) p ks a e none h found only number head = absurd h
-items-here n ns at i from (x ∷ hs) (item (list f us) xs) p ks a e none h found only number head = absurd h
-items-here n ns at i from (x ∷ hs) (item (inline f us) xs) p ks a e none h found only number head = absurd h
-items-here n ns at i from (x ∷ hs) (item (tables g us) xs) p ks a e none h found only number head = absurd h
+      rest_none : (ls : List (Mention Source)) (ss : Slots) → AreSlotsOf (owned_in mode) ms ls ss → first_of_key k ls ≡ None
+          → ((o : Mention Source) (j : Key) (x : Node) → Among o ls → same_text k o.segment.key ≡ false → IsNodeOf (owned_in mode) (under (at_key o.segment.key) ms) o x
+          → filter (numbered n) (node_walk x (to_key q o.segment.key) (ks ++ one j) false) ≡ [])
+          → filter (numbered n) (slots_walk ss q ks) ≡ []
+      rest_none [] no_slots g e f = refl
+      rest_none [] (slot j x us) g e f = absurd g
+      rest_none (o ∷ ls) no_slots g e f = absurd g
+      rest_none (o ∷ ls) (slot j x us) g e f =
+          elim (cases_Bool (same_text k o.segment.key)) [
+            | inl s ↦ (let clash : Some o ≡ None = rw s at e in absurd cc)
+            | inr s ↦
+                first-none n (node_walk x (to_key q j.name) (ks ++ one j) false) (slots_walk us q ks)
+                (ap (λ t. filter (numbered n) (node_walk x (to_key q t) (ks ++ one j) false)) (ap (λ (i : Key). i.name) g.0) ∙ f o j x (inl refl) s g.1)
+                (rest_none ls us g.2 (rw s at e) (λ i j x a. f i j x (inr a)))
+          ]
 
--- the element in which the table is, further down
-pub items-down : (n : ℕ) (ns : List (Mention Source)) (at i from : ℕ) (hs : List (Mention Source)) (xs : Items) (p : Path) (ks : List Key) (P : Visit → Type 0) → i ≡ from + at
-    → ((j : ℕ) → (j ≡ i → ⊥) → HaveNone n (under (at_element j) ns)) → HaveOtherNumbers n hs → AreElementsOf owned_form ns from hs xs → at < length hs
-    → ((ss : Slots) → AreSlotsOf owned_form (under (at_element i) ns) (kept (under (at_element i) ns)) ss
-    → (v : Visit) × (filter (numbered n) (slots_walk ss (to_element p i) ks) ≡ one v) × P v)
-    → (v : Visit) × (filter (numbered n) (items_walk xs p ks from) ≡ one v) × P v
-items-down n ns at i from [] xs p ks P e none others h less here = (let none_less : at < 0 = less in absurd (omega arith))
-items-down n ns at i from (x ∷ hs) no_items p ks P e none others h less here = absurd h
-items-down n ns zero i from (x ∷ hs) (item (table f ss) xs) p ks P e none others h less here =
-    let same : from ≡ i = omega arith in
-    let v : Visit = visit_of (to_element p from) ks true f ss in
-    let found = here ss (subst (λ j. AreSlotsOf owned_form (under (at_element j) ns) (kept (under (at_element j) ns)) ss) same h.1) in (
-      found.0,
-      filter-append (numbered n) (v ∷ slots_walk ss (to_element p from) ks) (items_walk xs p ks (suc from))
-          ∙ ap (λ vs. filter (numbered n) (v ∷ slots_walk ss (to_element p from) ks) ++ vs)
-          (items-after n ns (suc from) hs xs p ks (λ j. none (suc from + j) (λ g. let clash : suc from + j ≡ i = g in absurd (omega arith))) others.1 h.2)
-          ∙ rw (ap (λ (g : TableFields). is_number n g.position) h.0 ∙ header-other n x.source x.source.statement others.0)
-          (append-nil (filter (numbered n) (slots_walk ss (to_element p from) ks))
-          ∙ ap (λ j. filter (numbered n) (slots_walk ss (to_element p j) ks)) same ∙ found.1),
-      found.2,
-    )
-items-down n ns (suc at) i from (x ∷ hs) (item (table f ss) xs) p ks P e none others h less here =
-    let bound : suc at < suc (length hs) = less in
-    let below : List (Mention Source) = under (at_element from) ns in
-    let none_here : HaveNone n below = none from (λ g. let clash : from ≡ i = g in absurd (omega arith)) in
-    let next : i ≡ suc from + at = omega arith in
-    let v : Visit = visit_of (to_element p from) ks true f ss in
-    let found = items-down n ns at i (suc from) hs xs p ks P next none others.1 h.2 (omega arith) here in (
-      found.0,
-      filter-append (numbered n) (v ∷ slots_walk ss (to_element p from) ks) (items_walk xs p ks (suc from))
-          ∙ ap (λ vs. vs ++ filter (numbered n) (items_walk xs p ks (suc from)))
-          (first-other n v (slots_walk ss (to_element p from) ks) (ap (λ (g : TableFields). is_number n g.position) h.0 ∙ header-other n x.source x.source.statement others.0)
-          (slots-none n below (kept below) ss (to_element p from) ks (none-below n below none_here) (none-kept n below (none-below n below none_here)) h.1))
-          ∙ found.1,
-      found.2,
-    )
-items-down n ns at i from (x ∷ hs) (item nothing xs) p ks P e none others h less here = absurd h
-items-down n ns at i from (x ∷ hs) (item (leaf s r d) xs) p ks P e none others h less here = absurd h
-items-down n ns at i from (x ∷ hs) (item (list f us) xs) p ks P e none others h less here = absurd h
-items-down n ns at i from (x ∷ hs) (item (inline f us) xs) p ks P e none others h less here = absurd h
-items-down n ns at i from (x ∷ hs) (item (tables g us) xs) p ks P e none others h less here = absurd h
+      by_key : (b : Bool) → same_text k m.segment.key ≡ b → (b || is_among k (map (λ (o : Mention Source). o.segment.key) ls)) ≡ true
+          → (is_among k (map (λ (o : Mention Source). o.segment.key) ls) ≡ true → (v : Visit) × (filter (numbered n) (slots_walk ss q ks) ≡ one v) × P v)
+          → (v : Visit) × (filter (numbered n) (slots_walk (slot key node ss) q ks) ≡ one v) × P v
+      by_key true e g ih =
+          let same : k ≡ m.segment.key = same_text-is k m.segment.key e in
+          let found = here m key node (inl refl) same h.0 h.1 in
+          let none_after : first_of_key k ls ≡ None = ap (λ t. first_of_key t ls) same ∙ distinct.0 in (
+            found.0,
+            filter-append (numbered n) first (slots_walk ss q ks)
+                ∙ ap (λ t. filter (numbered n) (node_walk node (to_key q t) (ks ++ one key) false) ++ filter (numbered n) (slots_walk ss q ks)) name
+                ∙ ap (λ vs. vs ++ filter (numbered n) (slots_walk ss q ks)) found.1
+                ∙ ap (λ vs. found.0 ∷ vs) (rest_none ls ss h.2 none_after (λ o j x a. none o j x (inr a))),
+            found.2,
+          )
+      by_key false e g ih =
+          let found = ih g in (
+            found.0,
+            filter-append (numbered n) first (slots_walk ss q ks)
+                ∙ ap (λ t. filter (numbered n) (node_walk node (to_key q t) (ks ++ one key) false) ++ filter (numbered n) (slots_walk ss q ks)) name
+                ∙ ap (λ vs. vs ++ filter (numbered n) (slots_walk ss q ks)) (none m key node (inl refl) e h.1)
+                ∙ found.1,
+            found.2,
+          )
+
+  -- ---- elements
+
+  pub header-own : (n : ℕ) (s : Source) (t : Statement) → is_line t ≡ false → (s.headers == n) ≡ true → is_number n (header_fields (owned_in mode) s t).position ≡ true
+  header-own n s (header h end) l e = e
+  header-own n s (key_line f v end) l e = absurd cc
+
+  -- the elements from one on have none
+  items-after : (n : ℕ) (ns : List (Mention Source)) (i : ℕ) (hs : List (Mention Source)) (xs : Items) (p : Path) (ks : List Key)
+      → ((j : ℕ) → HaveNone n (under (at_element (i + j)) ns)) → HaveOtherNumbers n hs → AreElementsOf (owned_in mode) ns i hs xs → filter (numbered n) (items_walk xs p ks i) ≡ []
+  items-after n ns i [] no_items p ks none others h = refl
+  items-after n ns i [] (item x xs) p ks none others h = absurd h
+  items-after n ns i (a ∷ hs) no_items p ks none others h = absurd h
+  items-after n ns i (a ∷ hs) (item (table f ss) xs) p ks none others h =
+      let below : List (Mention Source) = under (at_element i) ns in
+      let zeroth : i + 0 ≡ i = omega arith in
+      let none_here : HaveNone n below = subst (λ j. HaveNone n (under (at_element j) ns)) zeroth (none 0) in
+      first-none n (visit_of (to_element p i) ks true f ss ∷ slots_walk ss (to_element p i) ks) (items_walk xs p ks (suc i))
+      (first-other n (visit_of (to_element p i) ks true f ss) (slots_walk ss (to_element p i) ks)
+      (ap (λ (g : TableFields). is_number n g.position) h.0 ∙ header-other mode n a.source a.source.statement others.0)
+      (slots-none mode n below (kept below) ss (to_element p i) ks (none-below n below none_here) (none-kept n below (none-below n below none_here)) h.1))
+      (items-after n ns (suc i) hs xs p ks
+      (λ j. let next : i + suc j ≡ suc i + j = omega arith in subst (λ k. HaveNone n (under (at_element k) ns)) next (none (suc j))) others.1 h.2)
+  items-after n ns i (a ∷ hs) (item nothing xs) p ks none others h = absurd h
+  items-after n ns i (a ∷ hs) (item (leaf s r d) xs) p ks none others h = absurd h
+  items-after n ns i (a ∷ hs) (item (list f us) xs) p ks none others h = absurd h
+  items-after n ns i (a ∷ hs) (item (inline f us) xs) p ks none others h = absurd h
+  items-after n ns i (a ∷ hs) (item (tables e us) xs) p ks none others h = absurd h
+
+  -- the element of a header
+  pub record IsElement (n : ℕ) (ns : List (Mention Source)) (i : ℕ) (xs : Items) (p : Path) (ks : List Key) (from : ℕ) (a : Mention Source) : Type 0 where
+    pub fields : TableFields
+    pub slots : Slots
+    pub walk : filter (numbered n) (items_walk xs p ks from) ≡ one (visit_of (to_element p i) ks true fields slots)
+    pub fields_are : fields ≡ header_fields (owned_in mode) a.source a.source.statement
+    pub slots_are : AreSlotsOf (owned_in mode) (under (at_element i) ns) (kept (under (at_element i) ns)) slots
+
+  pub items-here : (n : ℕ) (ns : List (Mention Source)) (at i from : ℕ) (hs : List (Mention Source)) (xs : Items) (p : Path) (ks : List Key) (a : Mention Source) → i ≡ from + at
+      → HaveNoneBelow n ns → AreElementsOf (owned_in mode) ns from hs xs → nth at hs ≡ Some a → filter (λ x. x.source.headers == n) hs ≡ one a
+      → (a.source.headers == n) ≡ true → is_line a.source.statement ≡ false → IsElement n ns i xs p ks from a
+  items-here n ns at i from [] xs p ks a e none h found only number head = absurd cc
+  items-here n ns at i from (x ∷ hs) no_items p ks a e none h found only number head = absurd h
+  items-here n ns zero i from (x ∷ hs) (item (table f ss) xs) p ks a e none h found only number head =
+      let same : x ≡ a = cc in
+      let here : i ≡ from = omega arith in
+      let passes : (x.source.headers == n) ≡ true = ap (λ (y : Mention Source). y.source.headers == n) same ∙ number in
+      let after : filter (λ (y : Mention Source). y.source.headers == n) hs ≡ [] =
+      (let whole : x ∷ filter (λ (y : Mention Source). y.source.headers == n) hs ≡ one a = rw passes at only in cc) in
+      let below : List (Mention Source) = under (at_element from) ns in
+      let none_here : HaveNone n below = none-under n (at_element from) ns none in
+      let fields_are : f ≡ header_fields (owned_in mode) a.source a.source.statement = h.0 ∙ ap (λ (y : Mention Source). header_fields (owned_in mode) y.source y.source.statement) same in
+      let v : Visit = visit_of (to_element p from) ks true f ss in
+      record {
+        fields = f;
+        slots = ss;
+        walk =
+            filter-append (numbered n) (v ∷ slots_walk ss (to_element p from) ks) (items_walk xs p ks (suc from))
+            ∙ ap (λ vs. filter (numbered n) (v ∷ slots_walk ss (to_element p from) ks) ++ vs) (items-none mode n ns (suc from) hs xs p ks none (numbers-none n hs after) h.2)
+            ∙ rw (ap (λ (g : TableFields). is_number n g.position) fields_are ∙ header-own n a.source a.source.statement head number)
+            (ap (λ vs. v ∷ (vs ++ []))
+            (slots-none mode n below (kept below) ss (to_element p from) ks (none-below n below none_here) (none-kept n below (none-below n below none_here)) h.1)
+            ∙ ap (λ j. one (visit_of (to_element p j) ks true f ss)) (sym here));
+        fields_are = fields_are;
+        slots_are = subst (λ j. AreSlotsOf (owned_in mode) (under (at_element j) ns) (kept (under (at_element j) ns)) ss) (sym here) h.1;
+      }
+  items-here n ns (suc at) i from (x ∷ hs) (item (table f ss) xs) p ks a e none h found only number head =
+      let other : (x.source.headers == n) ≡ false = number-other (λ (y : Mention Source). y.source.headers == n) x hs a only (nth-among at hs a found) number in
+      let below : List (Mention Source) = under (at_element from) ns in
+      let none_here : HaveNone n below = none-under n (at_element from) ns none in
+      let next : i ≡ suc from + at = omega arith in
+      let v : Visit = visit_of (to_element p from) ks true f ss in
+      let more = items-here n ns at i (suc from) hs xs p ks a next none h.2 found (rw other at only) number head in
+      record {
+        fields = more.fields;
+        slots = more.slots;
+        walk =
+            filter-append (numbered n) (v ∷ slots_walk ss (to_element p from) ks) (items_walk xs p ks (suc from))
+            ∙ ap (λ vs. vs ++ filter (numbered n) (items_walk xs p ks (suc from)))
+            (first-other n v (slots_walk ss (to_element p from) ks) (ap (λ (g : TableFields). is_number n g.position) h.0 ∙ header-other mode n x.source x.source.statement other)
+            (slots-none mode n below (kept below) ss (to_element p from) ks (none-below n below none_here) (none-kept n below (none-below n below none_here)) h.1))
+            ∙ more.walk;
+        fields_are = more.fields_are;
+        slots_are = more.slots_are;
+      }
+  items-here n ns at i from (x ∷ hs) (item nothing xs) p ks a e none h found only number head = absurd h
+  items-here n ns at i from (x ∷ hs) (item (leaf s r d) xs) p ks a e none h found only number head = absurd h
+  items-here n ns at i from (x ∷ hs) (item (list f us) xs) p ks a e none h found only number head = absurd h
+  items-here n ns at i from (x ∷ hs) (item (inline f us) xs) p ks a e none h found only number head = absurd h
+  items-here n ns at i from (x ∷ hs) (item (tables g us) xs) p ks a e none h found only number head = absurd h
+
+  -- the element in which the table is, further down
+  pub items-down : (n : ℕ) (ns : List (Mention Source)) (at i from : ℕ) (hs : List (Mention Source)) (xs : Items) (p : Path) (ks : List Key) (P : Visit → Type 0) → i ≡ from + at
+      → ((j : ℕ) → (j ≡ i → ⊥) → HaveNone n (under (at_element j) ns)) → HaveOtherNumbers n hs → AreElementsOf (owned_in mode) ns from hs xs → at < length hs
+      → ((ss : Slots) → AreSlotsOf (owned_in mode) (under (at_element i) ns) (kept (under (at_element i) ns)) ss
+      → (v : Visit) × (filter (numbered n) (slots_walk ss (to_element p i) ks) ≡ one v) × P v)
+      → (v : Visit) × (filter (numbered n) (items_walk xs p ks from) ≡ one v) × P v
+  items-down n ns at i from [] xs p ks P e none others h less here = (let none_less : at < 0 = less in absurd (omega arith))
+  items-down n ns at i from (x ∷ hs) no_items p ks P e none others h less here = absurd h
+  items-down n ns zero i from (x ∷ hs) (item (table f ss) xs) p ks P e none others h less here =
+      let same : from ≡ i = omega arith in
+      let v : Visit = visit_of (to_element p from) ks true f ss in
+      let found = here ss (subst (λ j. AreSlotsOf (owned_in mode) (under (at_element j) ns) (kept (under (at_element j) ns)) ss) same h.1) in (
+        found.0,
+        filter-append (numbered n) (v ∷ slots_walk ss (to_element p from) ks) (items_walk xs p ks (suc from))
+            ∙ ap (λ vs. filter (numbered n) (v ∷ slots_walk ss (to_element p from) ks) ++ vs)
+            (items-after n ns (suc from) hs xs p ks (λ j. none (suc from + j) (λ g. let clash : suc from + j ≡ i = g in absurd (omega arith))) others.1 h.2)
+            ∙ rw (ap (λ (g : TableFields). is_number n g.position) h.0 ∙ header-other mode n x.source x.source.statement others.0)
+            (append-nil (filter (numbered n) (slots_walk ss (to_element p from) ks))
+            ∙ ap (λ j. filter (numbered n) (slots_walk ss (to_element p j) ks)) same ∙ found.1),
+        found.2,
+      )
+  items-down n ns (suc at) i from (x ∷ hs) (item (table f ss) xs) p ks P e none others h less here =
+      let bound : suc at < suc (length hs) = less in
+      let below : List (Mention Source) = under (at_element from) ns in
+      let none_here : HaveNone n below = none from (λ g. let clash : from ≡ i = g in absurd (omega arith)) in
+      let next : i ≡ suc from + at = omega arith in
+      let v : Visit = visit_of (to_element p from) ks true f ss in
+      let found = items-down n ns at i (suc from) hs xs p ks P next none others.1 h.2 (omega arith) here in (
+        found.0,
+        filter-append (numbered n) (v ∷ slots_walk ss (to_element p from) ks) (items_walk xs p ks (suc from))
+            ∙ ap (λ vs. vs ++ filter (numbered n) (items_walk xs p ks (suc from)))
+            (first-other n v (slots_walk ss (to_element p from) ks) (ap (λ (g : TableFields). is_number n g.position) h.0 ∙ header-other mode n x.source x.source.statement others.0)
+            (slots-none mode n below (kept below) ss (to_element p from) ks (none-below n below none_here) (none-kept n below (none-below n below none_here)) h.1))
+            ∙ found.1,
+        found.2,
+      )
+  items-down n ns at i from (x ∷ hs) (item nothing xs) p ks P e none others h less here = absurd h
+  items-down n ns at i from (x ∷ hs) (item (leaf s r d) xs) p ks P e none others h less here = absurd h
+  items-down n ns at i from (x ∷ hs) (item (list f us) xs) p ks P e none others h less here = absurd h
+  items-down n ns at i from (x ∷ hs) (item (inline f us) xs) p ks P e none others h less here = absurd h
+  items-down n ns at i from (x ∷ hs) (item (tables g us) xs) p ks P e none others h less here = absurd h

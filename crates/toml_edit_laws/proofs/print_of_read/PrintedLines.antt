@@ -2,17 +2,19 @@
 use Rattle.std.proofs.Common.{◌≡◌, refl, sym, ◌∙◌, ap, subst, ℕ, ◌+◌, true, false, List, [], ◌∷◌, ◌++◌, append_assoc, inl, inr}
 use Rattle.std.specs.Prelude.{◌⊎◌, ◌&&◌, ◌||◌, not, map, filter}
 use Rattle.std.specs.List.{AllByRecursion, list_all}
-use Rattle.toml_edit_model.specs.Text.{newline, is_empty, without_returns}
-use Rattle.toml_edit_model.specs.Syntax.{Segment, Frame, Statement, key_line, header}
+use Rattle.toml_edit_laws.proofs.common.LineEnds.{ended}
+use Rattle.toml_edit_model.specs.Mode.{Mode, shown_text, line_end, line_newline, with_return}
+use Rattle.toml_edit_model.specs.Text.{is_empty, Text}
+use Rattle.toml_edit_model.specs.Syntax.{Segment, Frame, Statement, key_line, header, Value}
 use Rattle.toml_edit_model.specs.Paths.{Path, same_path, to_key, Role, dotted_role, value_role, may_meet, may_meet_inline, Mention, Source, Placed, Context, next_start, line_mentions, mentions_of, context_after, placed_from}
 use Rattle.toml_edit_model.specs.Accepted.{agree}
-use Rattle.toml_edit_model.specs.Normal.{stands_before, rank, sorted_by, bare_ends, kept_segment, lean_frame, normal_statement}
+use Rattle.toml_edit_model.specs.Normal.{stands_before, rank, bare_ends, kept_segment, normal_statement, normal_end}
 use Rattle.toml_edit_model.specs.Tree.{Decor, Key, Node, Slots, shown_prefix, shown_suffix, node_decor}
-use Rattle.toml_edit_model.specs.TreeOf.{owned_form, decor_at, value_start, statement_leaf, kept, IsLineNode, AreSlotsOf}
+use Rattle.toml_edit_model.specs.TreeOf.{owned_in, decor_at, value_start, statement_leaf, kept, IsLineNode, AreSlotsOf}
 use Rattle.toml_edit_model.specs.Print.{blank, Line, segments, last_leaf, is_line_node, value_of, table_lines, line_statement}
 use Rattle.toml_edit_laws.proofs.common.Tests.{and_left, and_right, append-nil}
 use Rattle.toml_edit_laws.proofs.common.OrderLaws.{sorted-alike}
-use Rattle.toml_edit_laws.proofs.common.WhiteSpace.{white-returns}
+use Rattle.toml_edit_laws.proofs.common.WhiteSpace.{white-shown}
 use Rattle.toml_edit_laws.proofs.values.ValueItems.{owned-decor, value-line}
 use Rattle.toml_edit_laws.proofs.values.ValueNormal.{value_normal}
 use Rattle.toml_edit_laws.proofs.mentions.GatherLaws.{under-deeper}
@@ -25,7 +27,7 @@ use Rattle.toml_edit_laws.proofs.mentions.RankLaws.{RanksFollow}
 use Rattle.toml_edit_laws.proofs.clashes.ClashContext.{HasKey}
 use Rattle.toml_edit_laws.proofs.clashes.ClashMentions.{AreOfStatements}
 use Rattle.toml_edit_laws.proofs.mentions.KeptOrder.{HaveOneHeader}
-use Rattle.toml_edit_laws.proofs.adding.DeeperMentions.{below, under_path, line-block}
+use Rattle.toml_edit_laws.proofs.adding.DeeperMentions.{below, line-block}
 use Rattle.toml_edit_laws.proofs.print_of_read.BlockLines.{PrintsLine, IsLevel, block-lines}
 use Rattle.toml_edit_laws.proofs.print_of_read.Blocks.{IsBlock, HaveLines, IsDown, is_of, block-way}
 use Rattle.toml_edit_laws.proofs.print_of_read.Chunks.{place_path, place_start, Chunk, lead_lines, chunks, lines_before}
@@ -37,58 +39,14 @@ use Rattle.toml_edit_laws.proofs.mentions.Placed.{mentions_in, placed_at}
 use Rattle.toml_edit_laws.proofs.common.Agreement.{agree-append}
 use Rattle.toml_edit_laws.proofs.common.Each.{all-map}
 use Rattle.toml_edit_laws.proofs.print_of_read.Seats.{IsSeat}
+use Rattle.toml_edit_model.specs.Order.{sorted_by}
+use Rattle.toml_edit_laws.specs.KeptKeys.{under_path}
 
 -- ---- one line
 
 -- the kept segments of a place's path
 abbrev pub kept_of : List (Mention Source) → Placed → List Segment
 kept_of all s = map (kept_segment all) s.mentions
-
--- the line is printed as the normal one
-abbrev pub PrintsNormal : List (Mention Source) → Line → Placed → Type 0
-PrintsNormal all l s = line_statement l ≡ normal_statement all s s.source.statement
-
--- a frame of the decors of its last key and its value
-abbrev framed : Decor → List Segment → Decor → Frame
-framed key path value =
-    record {
-      leading = shown_prefix [] key;
-      path = path;
-      before_equals = shown_suffix blank key;
-      after_equals = shown_prefix blank value;
-      trailing = shown_suffix [] value;
-    }
-
-statement-printed : (all : List (Mention Source)) (s : Placed) (t : Statement) → IsRightStatement t → (n : Node) (ks : List Key) → IsLineNode owned_form s.source t n
-    → last_leaf ks ≡ statement_leaf owned_form s.source t → segments ks ≡ bare_ends (kept_of all s)
-    → (is_line_node n ≡ true) × (line_statement (record { keys = ks; item = n; value = value_of n }) ≡ normal_statement all s t)
-statement-printed all s (header h end) right n ks is leaf_is path_is = absurd is
-statement-printed all s (key_line f v end) right n ks is leaf_is path_is =
-    let i : ℕ = s.source.start + value_start owned_form f in
-    let leaf : Decor = statement_leaf owned_form s.source (key_line f v end) in
-    let decor_is : node_decor n ≡ decor_at owned_form 0 f.after_equals 0 f.trailing = owned-decor v i 0 0 f.after_equals f.trailing n is in (
-      value-line owned_form v i f.after_equals f.trailing n is,
-      ap (λ d. key_line (framed d (segments ks) (node_decor n)) (value_of n) newline) leaf_is
-          ∙ ap (λ p. key_line (framed leaf p (node_decor n)) (value_of n) newline) path_is
-          ∙ ap (λ d. key_line (framed leaf (bare_ends (kept_of all s)) d) (value_of n) newline) decor_is
-          ∙ ap (λ t. key_line (record (lean_frame f) { path = bare_ends (kept_of all s); before_equals = t; after_equals = without_returns f.after_equals }) (value_of n) newline)
-          (white-returns f.before_equals right.0.0.before_equals)
-          ∙ ap (λ t. key_line (record (lean_frame f) { path = bare_ends (kept_of all s); after_equals = t }) (value_of n) newline) (white-returns f.after_equals right.0.0.after_equals)
-          ∙ ap (λ w. key_line (record (lean_frame f) { path = bare_ends (kept_of all s) }) w newline)
-          (value_normal v i f.after_equals f.trailing n right.1 right.2 is),
-    )
-
-prints-normal : (all : List (Mention Source)) (s : Placed) → IsRightStatement s.source.statement → PrintsLine (λ (x : Placed). x.source) (kept_of all) (PrintsNormal all) s
-prints-normal all s right n ks is leaf_is path_is = statement-printed all s s.source.statement right n ks is leaf_is path_is
-
-lines-same : (all : List (Mention Source)) (ls : List Line) (xs : List Placed) → AreLines (PrintsNormal all) ls xs
-    → map line_statement ls ≡ map (λ s. normal_statement all s s.source.statement) xs
-lines-same all [] [] h = refl
-lines-same all [] (x ∷ xs) h = absurd h
-lines-same all (l ∷ ls) [] h = absurd h
-lines-same all (l ∷ ls) (x ∷ xs) h = ap (λ t. t ∷ map line_statement ls) h.0 ∙ ap (λ ts. normal_statement all x x.source.statement ∷ ts) (lines-same all ls xs h.1)
-
--- ---- the lines of a block
 
 under-below : {S : Type 0} (p : Path) (ns : List (Mention S)) → under_path p (below p ns) ≡ ns
 under-below [] ns = refl
@@ -117,31 +75,87 @@ block-sorted mss b j xs h =
     ∙ ap (stands_before (rank mss) (line_mentions x.source (place_start x) b (place_path x))) q.mentions
     ∙ stands-comes (rank mss) x.source y.source (place_start x) (place_start y) b (place_path x) (place_path y)) xs h
 
--- The lines of a table that has these slots are the normal lines of its block, in their order.
-pub lines-printed : (all : List (Mention Source)) (mss : List (List (Mention Source))) (b : Path) (j : ℕ) (xs : List Placed) (ms : List (Mention Source)) (ss : Slots)
-    → IsSeat all b ms → RanksFollow (rank mss) [] all → AreOfStatements all → HaveOneHeader all → HaveLines all → IsBlock all b j
-    → AllByRecursion (IsLineIn b j) xs → AllPart place_path xs → AllByRecursion (λ s. IsRightStatement s.source.statement) xs
-    → filter (λ m. is_of j m.source) all ≡ mentions_in xs → AreSlotsOf owned_form ms (kept ms) ss
-    → map line_statement (table_lines ss []) ≡ map (λ s. normal_statement all s s.source.statement) (sorted_by (lines_before mss) xs)
-lines-printed all mss b j xs ms ss seat follow are one_header lines block in_block part right own slots =
-    let source : Placed → Source = λ s. s.source in
-    let mentioned : lower (filter (λ (m : Mention Source). is_of j m.source) ms) ≡ flat_lines source place_start place_path xs =
-    ap lower
-    (ap (filter (λ (m : Mention Source). is_of j m.source)) seat.is
-    ∙ path-filter (is_of j) b all
-    ∙ ap (under_path b) own
-    ∙ lines-below b j xs in_block)
-    ∙ lower-lines source place_start place_path xs in
-    let level : IsLevel all (is_of j) (IsDown all b) source (rank mss) (kept_of all) (PrintsNormal all) b place_path place_start [] xs ms =
-    seat-level all (is_of j) (IsDown all b) source (rank mss) (kept_of all) (PrintsNormal all) b place_path place_start [] xs ms seat follow
-    ([], sym (append-nil b), tt)
-    (all-map (IsLineIn b j) (λ s. is_empty (place_path s) ≡ false) xs (λ s h. h.filled) in_block) part mentioned
-    (all-map (IsLineIn b j) (λ s. kept_of all s ≡ kept_below (kept_in all) b (place_path s)) xs
-    (λ s h. ap (map (kept_segment all)) h.mentions ∙ own-kept all s.source (place_start s) b (place_path s)) in_block)
-    (all-map (λ (s : Placed). IsRightStatement s.source.statement) (PrintsLine source (kept_of all) (PrintsNormal all)) xs (λ s h. prints-normal all s h) right) in
-    lines-same all (table_lines ss []) (sorted_by (λ x y. keys_before (rank mss) b (place_path x) (place_path y)) xs)
-    (block-lines all (is_of j) (IsDown all b) source (rank mss) (kept_of all) (PrintsNormal all) (block-way all b j are one_header lines block) ss b place_path place_start [] xs ms level slots)
-    ∙ ap (map (λ (s : Placed). normal_statement all s s.source.statement)) (sym (block-sorted mss b j xs in_block))
+module _ (mode : Mode) where
+  -- the line is printed as the normal one
+  abbrev pub PrintsNormal : List (Mention Source) → Line → Placed → Type 0
+  PrintsNormal all l s = line_statement mode l ≡ normal_statement mode all s s.source.statement
+
+  -- a frame of the decors of its last key and its value
+  abbrev framed : Decor → List Segment → Decor → Frame
+  framed key path value =
+      record {
+        leading = shown_prefix mode [] key;
+        path = path;
+        before_equals = shown_suffix mode blank key;
+        after_equals = shown_prefix mode blank value;
+        trailing = line_end mode (shown_suffix mode [] value);
+      }
+
+  abbrev framed_line : Decor → List Segment → Decor → Value → Statement
+  framed_line key path value v = key_line (framed key path value) v (line_newline mode (shown_suffix mode [] value))
+
+  statement-printed : (all : List (Mention Source)) (s : Placed) (t : Statement) → IsRightStatement t → (n : Node) (ks : List Key) → IsLineNode (owned_in mode) s.source t n
+      → last_leaf ks ≡ statement_leaf (owned_in mode) s.source t → segments mode ks ≡ bare_ends (kept_of all s)
+      → (is_line_node n ≡ true) × (line_statement mode (record { keys = ks; item = n; value = value_of mode n }) ≡ normal_statement mode all s t)
+  statement-printed all s (header h end) right n ks is leaf_is path_is = absurd is
+  statement-printed all s (key_line f v end) right n ks is leaf_is path_is =
+      let i : ℕ = s.source.start + value_start (owned_in mode) f in
+      let after : Text = with_return mode f.trailing end in
+      let leaf : Decor = statement_leaf (owned_in mode) s.source (key_line f v end) in
+      let ends = ended mode f.trailing end right.0.0.trailing right.3 in
+      let decor_is : node_decor n ≡ decor_at (owned_in mode) 0 f.after_equals 0 after = owned-decor mode v i 0 0 f.after_equals after n is in (
+        value-line (owned_in mode) v i f.after_equals after n is,
+        ap (λ d. framed_line d (segments mode ks) (node_decor n) (value_of mode n)) leaf_is
+            ∙ ap (λ p. framed_line leaf p (node_decor n) (value_of mode n)) path_is
+            ∙ ap (λ d. framed_line leaf (bare_ends (kept_of all s)) d (value_of mode n)) decor_is
+            ∙ ap (λ t. with_parts f t (shown_text mode f.after_equals) (line_end mode (shown_text mode after)) (value_of mode n) (line_newline mode (shown_text mode after))) (white-shown mode f.before_equals right.0.0.before_equals)
+            ∙ ap (λ t. with_parts f f.before_equals t (line_end mode (shown_text mode after)) (value_of mode n) (line_newline mode (shown_text mode after))) (white-shown mode f.after_equals right.0.0.after_equals)
+            ∙ ap (λ t. with_parts f f.before_equals f.after_equals t (value_of mode n) (line_newline mode (shown_text mode after))) ends.trailing
+            ∙ ap (λ t. with_parts f f.before_equals f.after_equals (shown_text mode f.trailing) (value_of mode n) t) ends.newline
+            ∙ ap (λ w. with_parts f f.before_equals f.after_equals (shown_text mode f.trailing) w (normal_end mode end)) (value_normal mode v i f.after_equals after n right.1 right.2 is),
+      )
+    where
+      with_parts : Frame → Text → Text → Text → Value → Text → Statement
+      with_parts g b a t w e =
+          key_line (record { leading = shown_text mode g.leading; path = bare_ends (kept_of all s); before_equals = b; after_equals = a; trailing = t }) w e
+
+  prints-normal : (all : List (Mention Source)) (s : Placed) → IsRightStatement s.source.statement → PrintsLine mode (λ (x : Placed). x.source) (kept_of all) (PrintsNormal all) s
+  prints-normal all s right n ks is leaf_is path_is = statement-printed all s s.source.statement right n ks is leaf_is path_is
+
+  lines-same : (all : List (Mention Source)) (ls : List Line) (xs : List Placed) → AreLines (PrintsNormal all) ls xs
+      → map (line_statement mode) ls ≡ map (λ s. normal_statement mode all s s.source.statement) xs
+  lines-same all [] [] h = refl
+  lines-same all [] (x ∷ xs) h = absurd h
+  lines-same all (l ∷ ls) [] h = absurd h
+  lines-same all (l ∷ ls) (x ∷ xs) h = ap (λ t. t ∷ map (line_statement mode) ls) h.0 ∙ ap (λ ts. normal_statement mode all x x.source.statement ∷ ts) (lines-same all ls xs h.1)
+
+  -- ---- the lines of a block
+
+  -- The lines of a table that has these slots are the normal lines of its block, in their order.
+  pub lines-printed : (all : List (Mention Source)) (mss : List (List (Mention Source))) (b : Path) (j : ℕ) (xs : List Placed) (ms : List (Mention Source)) (ss : Slots)
+      → IsSeat all b ms → RanksFollow (rank mss) [] all → AreOfStatements all → HaveOneHeader all → HaveLines all → IsBlock all b j
+      → AllByRecursion (IsLineIn b j) xs → AllPart place_path xs → AllByRecursion (λ s. IsRightStatement s.source.statement) xs
+      → filter (λ m. is_of j m.source) all ≡ mentions_in xs → AreSlotsOf (owned_in mode) ms (kept ms) ss
+      → map (line_statement mode) (table_lines mode ss []) ≡ map (λ s. normal_statement mode all s s.source.statement) (sorted_by (lines_before mss) xs)
+  lines-printed all mss b j xs ms ss seat follow are one_header lines block in_block part right own slots =
+      let source : Placed → Source = λ s. s.source in
+      let mentioned : lower (filter (λ (m : Mention Source). is_of j m.source) ms) ≡ flat_lines source place_start place_path xs =
+      ap lower
+      (ap (filter (λ (m : Mention Source). is_of j m.source)) seat.is
+      ∙ path-filter (is_of j) b all
+      ∙ ap (under_path b) own
+      ∙ lines-below b j xs in_block)
+      ∙ lower-lines source place_start place_path xs in
+      let level : IsLevel mode all (is_of j) (IsDown all b) source (rank mss) (kept_of all) (PrintsNormal all) b place_path place_start [] xs ms =
+      seat-level mode all (is_of j) (IsDown all b) source (rank mss) (kept_of all) (PrintsNormal all) b place_path place_start [] xs ms seat follow
+      ([], sym (append-nil b), tt)
+      (all-map (IsLineIn b j) (λ s. is_empty (place_path s) ≡ false) xs (λ s h. h.filled) in_block) part mentioned
+      (all-map (IsLineIn b j) (λ s. kept_of all s ≡ kept_below (kept_in all) b (place_path s)) xs
+      (λ s h. ap (map (kept_segment all)) h.mentions ∙ own-kept all s.source (place_start s) b (place_path s)) in_block)
+      (all-map (λ (s : Placed). IsRightStatement s.source.statement) (PrintsLine mode source (kept_of all) (PrintsNormal all)) xs (λ s h. prints-normal all s h) right) in
+      lines-same all (table_lines mode ss []) (sorted_by (λ x y. keys_before (rank mss) b (place_path x) (place_path y)) xs)
+      (block-lines mode all (is_of j) (IsDown all b) source (rank mss) (kept_of all) (PrintsNormal all) (block-way all b j are one_header lines block) ss b place_path place_start [] xs ms level slots)
+      ∙ ap (map (λ (s : Placed). normal_statement mode all s s.source.statement)) (sym (block-sorted mss b j xs in_block))
 
 -- ---- lines that agree part ways
 

@@ -3,9 +3,9 @@ use Rattle.std.proofs.Common.{◌≡◌, ◌≤◌, refl, sym, ◌∙◌, ap, �
 use Rattle.std.specs.Prelude.{◌<◌, nat_le, filter, flat_map, ◌==◌, if◌then◌else◌}
 use Rattle.std.specs.List.{AllByRecursion}
 use Rattle.std.proofs.lemmas.Bool.{cases_Bool, leb-true, leb-false, eq-eqb, ne_eqb, cases_lt}
-use Rattle.toml_edit_model.specs.Normal.{insert_by, sorted_by}
 use Rattle.toml_edit_laws.proofs.common.Tests.{true-false}
 use Rattle.toml_edit_laws.proofs.common.Each.{all-insert, all-filter, all-map}
+use Rattle.toml_edit_model.specs.Order.{insert_by, sorted_by}
 
 abbrev pub by_key : {A : Type 0} → (A → ℕ) → A → A → Bool
 by_key key a b = nat_le (key a) (key b)

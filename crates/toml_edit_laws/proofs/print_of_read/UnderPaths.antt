@@ -13,9 +13,9 @@ use Rattle.toml_edit_laws.proofs.mentions.KeptOrder.{HaveOneHeader, under-header
 use Rattle.toml_edit_laws.proofs.mentions.KeptOfPaths.{under-kept, kept_source, under-source}
 use Rattle.toml_edit_laws.proofs.mentions.KeptPaths.{kept_in}
 use Rattle.toml_edit_laws.proofs.mentions.RankLaws.{RanksFollow, under-follow}
-use Rattle.toml_edit_laws.proofs.adding.DeeperMentions.{under_path}
 use Rattle.toml_edit_laws.proofs.print_of_read.LevelFacts.{all-under, under-filter}
 use Rattle.toml_edit_laws.proofs.mentions.SomeAt.{under-append}
+use Rattle.toml_edit_laws.specs.KeptKeys.{under_path}
 
 pub path-step : {S : Type 0} (p : Path) (s : Step) (ms : List (Mention S)) → under_path (p ++ one s) ms ≡ under s (under_path p ms)
 path-step [] s ms = refl

@@ -3,11 +3,12 @@ use Rattle.std.proofs.Common.{◌≡◌, ◌≤◌, refl, sym, subst, arith, inl
 use Rattle.toml_edit_model.specs.Text.{Text}
 use Rattle.toml_edit_model.specs.Syntax.{Document, IsDocument}
 use Rattle.toml_edit_model.specs.Paths.{at_key, Path, Mention, Source, placed_from, start_context, all_mentions}
-use Rattle.toml_edit_model.specs.Accepted.{all_right_after, is_accepted}
+use Rattle.toml_edit_model.specs.Accepted.{is_accepted}
 use Rattle.toml_edit_model.specs.Meaning.{Fact, fact, a_table, SameFacts, facts_from, meaning}
 use Rattle.toml_edit_model.specs.Tree.{Slots}
 use Rattle.toml_edit_model.specs.TreeOf.{Form, kept, AreSlotsOf}
 use Rattle.toml_edit_model.specs.Shown.{slots_facts, shown_meaning}
+use Rattle.toml_edit_laws.specs.OneByOne.{all_right_after}
 use Rattle.toml_edit_laws.specs.ReadTrees.{TreesMean, TakenRootsMean}
 use Rattle.toml_edit_laws.proofs.common.Members.{Among, from-contained, to-contained}
 use Rattle.toml_edit_laws.proofs.adding.StatementMentions.{document_table}
@@ -18,11 +19,11 @@ use Rattle.toml_edit_laws.proofs.read_trees.ReadSoFar.{read_document}
 use Rattle.toml_edit_laws.proofs.read_trees.BelowKeys.{Readable, way-begins}
 use Rattle.toml_edit_laws.proofs.read_trees.TreeFacts.{Same, root-tells}
 use Rattle.toml_edit_laws.proofs.read_trees.TextFacts.{facts-forth, told-back, number-back}
+use Rattle.toml_edit_laws.proofs.one_by_one.Together.{accepted-right}
 
 module _ (d : Document) (grammar : IsDocument d) (accepted : is_accepted d ≡ true) where
   each-right : all_right_after [] (placed_from (start_context d) d.statements) ≡ true
-  unfolding is_accepted
-  each-right = accepted
+  each-right = accepted-right d accepted
 
   pub document-readable : Readable (all_mentions d)
   document-readable =

@@ -1,5 +1,6 @@
 -- A document has at most one tree in each form.
 use Rattle.std.proofs.Common.{◌≡◌, refl, sym, ◌∙◌, ap, subst, ℕ, suc, ◌+◌, List, [], ◌∷◌}
+use Rattle.toml_edit_model.specs.Mode.{with_return}
 use Rattle.toml_edit_model.specs.Syntax.{Statement, key_line, header, Document}
 use Rattle.toml_edit_model.specs.Paths.{at_key, at_element, Role, array_role, value_role, Mention, Source, all_mentions}
 use Rattle.toml_edit_model.specs.Tree.{Node, nothing, leaf, list, inline, table, tables, Items, no_items, item, Slots, no_slots, slot, Tree}
@@ -18,7 +19,7 @@ not-both r h e = let clash : array_role ≡ value_role = sym h ∙ e in cc
 
 module _ (form : Form) where
   one-line : (s : Source) (st : Statement) (n o : Node) → IsLineNode form s st n → IsLineNode form s st o → n ≡ o
-  one-line s (key_line f v end) n o h g = one-node form v (s.start + value_start form f) f.after_equals f.trailing n o h g
+  one-line s (key_line f v end) n o h g = one-node form v (s.start + value_start form f) f.after_equals (with_return form.mode f.trailing end) n o h g
   one-line s (header h end) n o a b = absurd a
 
   mutual

@@ -5,8 +5,9 @@ use Rattle.std.specs.List.{AllByRecursion}
 use Rattle.std.proofs.lemmas.Grind.{flat_map-append}
 use Rattle.toml_edit_model.specs.Syntax.{Segment, Statement, key_line, header, Document, IsDocument}
 use Rattle.toml_edit_model.specs.Paths.{Step, at_key, Path, same_path, to_key, to_element, Role, dotted_role, implied_role, header_role, array_role, through_role, may_meet, Mention, Source, Placed, Context, line_mentions, header_mentions, header_path, next_start, elements_at, in_last, passing_role, header_role_of, path_start, source_of, mentions_of, context_after, placed_from, start_context, all_mentions}
-use Rattle.toml_edit_model.specs.Accepted.{agree, is_right_after, all_right_after, is_accepted}
+use Rattle.toml_edit_model.specs.Accepted.{agree, is_accepted}
 use Rattle.toml_edit_model.specs.TreeOf.{under, some_at, is_array_role}
+use Rattle.toml_edit_laws.specs.OneByOne.{is_right_after, all_right_after}
 use Rattle.toml_edit_laws.proofs.common.Tests.{and_left, and_right, true-false}
 use Rattle.toml_edit_laws.proofs.common.Members.{Among, among-left, among-right, among-cases}
 use Rattle.toml_edit_laws.proofs.mentions.KeptMentions.{moved, under-has, under-is}
@@ -18,6 +19,7 @@ use Rattle.toml_edit_laws.proofs.read_trees.WaysOfPaths.{Way, way-more, way-key,
 use Rattle.toml_edit_laws.proofs.mentions.Placed.{mentions_in, right-agrees}
 use Rattle.toml_edit_laws.proofs.common.PathLaws.{same_path-refl}
 use Rattle.toml_edit_laws.proofs.mentions.SomeAt.{among-test}
+use Rattle.toml_edit_laws.proofs.one_by_one.Together.{accepted-right}
 
 -- ---- what is made by keys on a path has something below it
 
@@ -219,5 +221,4 @@ read_all c (s ∷ ss) earlier keyed h right =
     (and_right (is_right_after earlier here) later right))
 
 pub read_document : (d : Document) → IsDocument d → is_accepted d ≡ true → HaveBeenRead (all_mentions d)
-unfolding is_accepted
-read_document d is h = read_all (start_context d) d.statements [] (keyed_statements d.final d.statements is.0) (read_none d) h
+read_document d is h = read_all (start_context d) d.statements [] (keyed_statements d.final d.statements is.0) (read_none d) (accepted-right d h)

@@ -1,12 +1,13 @@
 -- The spellings of a tree with spans are spans, and cut what spells.
 use Rattle.std.proofs.Common.{refl, sym, subst, ℕ, suc, ◌+◌, inl, inr, true, false, List, [], ◌∷◌, length, Option, Some, None, option_map}
+use Rattle.toml_edit_model.specs.Mode.{Mode, with_return}
 use Rattle.toml_edit_model.specs.Text.{Text}
 use Rattle.toml_edit_model.specs.Scalars.{Date, Time, Offset, Scalar, string, integer, float, boolean, datetime}
 use Rattle.toml_edit_model.specs.Spelling.{Sign, plus, minus, unsigned, hexadecimal, octal, binary, Digits, IsDecimal, SpellsKey, SpellsInteger, IsFloat, SpellsParts, Spells, SpellsInRange}
 use Rattle.toml_edit_model.specs.Syntax.{Value, scalar, array, inline_table, Elements, no_elements, element, value_text, Statement, key_line, header}
 use Rattle.toml_edit_model.specs.Paths.{at_key, at_element, Mention, Source}
 use Rattle.toml_edit_model.specs.Tree.{Raw, owned, span, Key, Node, nothing, leaf, list, inline, table, tables, Items, no_items, item, Slots, no_slots, slot, HasTrueSpelling, IsWellMade, ItemsAreWellMade, SlotsAreWellMade}
-use Rattle.toml_edit_model.specs.TreeOf.{spanned_form, span_of, Entry, entries, under, kept, arrays, ends_path, value_start, IsValueNode, AreElementNodes, AreEntrySlots, IsLineNode, IsNodeOf, AreElementsOf, AreSlotsOf, OptionFits, NodeFits, ItemsFit, SlotsFit, owned_raw, owned_node, owned_items, owned_slots}
+use Rattle.toml_edit_model.specs.TreeOf.{spanned_in, span_of, Entry, entries, under, kept, arrays, ends_path, value_start, IsValueNode, AreElementNodes, AreEntrySlots, IsLineNode, IsNodeOf, AreElementsOf, AreSlotsOf, OptionFits, NodeFits, ItemsFit, SlotsFit, owned_raw, owned_node, owned_items, owned_slots}
 use Rattle.toml_edit_laws.specs.ReadTrees.{IsCutAs, HasCutSpellings, ItemsHaveCutSpellings, HaveCutSpellings}
 use Rattle.toml_edit_laws.proofs.inline_tables.SlotsOfEntries.{IsMadeByKey, slot-key, slot-node, slot-rest, either-way}
 use Rattle.toml_edit_laws.proofs.values.ValueKinds.{not-value}
@@ -93,81 +94,82 @@ abbrev mutual
   HaveSpans no_slots = Unit {0}
   HaveSpans (slot k n ss) = IsSpanned k.spelling × HasSpans n × HaveSpans ss
 
-mutual
-  value-spans : (n : Node) (v : Value) (i : ℕ) (before after : Text) → IsValueNode spanned_form v i before after n → HasSpans n
-  value-spans (leaf s r d) (scalar x t) i before after is = subst IsSpanned (sym is.1) (is-spanned (i + length before) t)
-  value-spans (list f xs) (array es comma t) i before after is = items-spans xs es (i + length before + 1) is.1
-  value-spans (inline f ss) (inline_table ps comma t) i before after is =
-      entry-spans ss (entries spanned_form ps (i + length before + 1)) (kept (entries spanned_form ps (i + length before + 1))) is.1
-  value-spans (leaf s r d) (array es comma t) i before after is = elim is [ ]
-  value-spans (leaf s r d) (inline_table ps comma t) i before after is = elim is [ ]
-  value-spans (list f xs) (scalar t u) i before after is = elim is [ ]
-  value-spans (list f xs) (inline_table ps comma t) i before after is = elim is [ ]
-  value-spans (inline f ss) (scalar t u) i before after is = elim is [ ]
-  value-spans (inline f ss) (array es comma t) i before after is = elim is [ ]
-  value-spans (table f ss) v i before after is = absurd (not-value spanned_form (table f ss) v i before after refl is)
-  value-spans (tables e xs) v i before after is = absurd (not-value spanned_form (tables e xs) v i before after refl is)
-  value-spans nothing v i before after is = absurd (not-value spanned_form nothing v i before after refl is)
+module _ (mode : Mode) where
+  mutual
+    value-spans : (n : Node) (v : Value) (i : ℕ) (before after : Text) → IsValueNode (spanned_in mode) v i before after n → HasSpans n
+    value-spans (leaf s r d) (scalar x t) i before after is = subst IsSpanned (sym is.1) (is-spanned (i + length before) t)
+    value-spans (list f xs) (array es comma t) i before after is = items-spans xs es (i + length before + 1) is.1
+    value-spans (inline f ss) (inline_table ps comma t) i before after is =
+        entry-spans ss (entries (spanned_in mode) ps (i + length before + 1)) (kept (entries (spanned_in mode) ps (i + length before + 1))) is.1
+    value-spans (leaf s r d) (array es comma t) i before after is = elim is [ ]
+    value-spans (leaf s r d) (inline_table ps comma t) i before after is = elim is [ ]
+    value-spans (list f xs) (scalar t u) i before after is = elim is [ ]
+    value-spans (list f xs) (inline_table ps comma t) i before after is = elim is [ ]
+    value-spans (inline f ss) (scalar t u) i before after is = elim is [ ]
+    value-spans (inline f ss) (array es comma t) i before after is = elim is [ ]
+    value-spans (table f ss) v i before after is = absurd (not-value (spanned_in mode) (table f ss) v i before after refl is)
+    value-spans (tables e xs) v i before after is = absurd (not-value (spanned_in mode) (tables e xs) v i before after refl is)
+    value-spans nothing v i before after is = absurd (not-value (spanned_in mode) nothing v i before after refl is)
 
-  items-spans : (xs : Items) (es : Elements) (i : ℕ) → AreElementNodes spanned_form es i xs → ItemsHaveSpans xs
-  items-spans no_items no_elements i is = tt
-  items-spans (item n xs) (element a v es) i is =
-      (value-spans n v i a.before a.after is.0, items-spans xs es (i + length a.before + length (value_text v) + length a.after + 1) is.1)
-  items-spans no_items (element a v es) i is = elim is [ ]
-  items-spans (item n xs) no_elements i is = elim is [ ]
+    items-spans : (xs : Items) (es : Elements) (i : ℕ) → AreElementNodes (spanned_in mode) es i xs → ItemsHaveSpans xs
+    items-spans no_items no_elements i is = tt
+    items-spans (item n xs) (element a v es) i is =
+        (value-spans n v i a.before a.after is.0, items-spans xs es (i + length a.before + length (value_text v) + length a.after + 1) is.1)
+    items-spans no_items (element a v es) i is = elim is [ ]
+    items-spans (item n xs) no_elements i is = elim is [ ]
 
-  made-spans : (n : Node) (m : Mention Entry) (ns : List (Mention Entry)) → IsMadeByKey spanned_form m ns n → HasSpans n
-  made-spans (inline f ss) m ns is = entry-spans ss ns (kept ns) is.1
-  made-spans (leaf s r x) m ns is = elim is [ ]
-  made-spans (list f xs) m ns is = elim is [ ]
-  made-spans (table f ss) m ns is = elim is [ ]
-  made-spans (tables e xs) m ns is = elim is [ ]
-  made-spans nothing m ns is = elim is [ ]
+    made-spans : (n : Node) (m : Mention Entry) (ns : List (Mention Entry)) → IsMadeByKey (spanned_in mode) m ns n → HasSpans n
+    made-spans (inline f ss) m ns is = entry-spans ss ns (kept ns) is.1
+    made-spans (leaf s r x) m ns is = elim is [ ]
+    made-spans (list f xs) m ns is = elim is [ ]
+    made-spans (table f ss) m ns is = elim is [ ]
+    made-spans (tables e xs) m ns is = elim is [ ]
+    made-spans nothing m ns is = elim is [ ]
 
-  entry-spans : (ss : Slots) (ms ks : List (Mention Entry)) → AreEntrySlots spanned_form ms ks ss → HaveSpans ss
-  entry-spans no_slots ms [] is = tt
-  entry-spans (slot key n ss) ms (k ∷ ks) is = (
-    subst (λ (x : Key). IsSpanned x.spelling) (sym (slot-key spanned_form ms k ks key n ss is)) (is-spanned k.start k.segment.spelled),
-    either-way (ends_path k.role) _ _ _
-        (λ x. value-spans n k.source.value k.source.start k.source.before k.source.after x)
-        (λ x. made-spans n k (under (at_key k.segment.key) ms) x)
-        (slot-node spanned_form ms k ks key n ss is),
-    entry-spans ss ms ks (slot-rest spanned_form ms k ks key n ss is),
-  )
-  entry-spans no_slots ms (k ∷ ks) is = elim is [ ]
-  entry-spans (slot key n ss) ms [] is = elim is [ ]
+    entry-spans : (ss : Slots) (ms ks : List (Mention Entry)) → AreEntrySlots (spanned_in mode) ms ks ss → HaveSpans ss
+    entry-spans no_slots ms [] is = tt
+    entry-spans (slot key n ss) ms (k ∷ ks) is = (
+      subst (λ (x : Key). IsSpanned x.spelling) (sym (slot-key (spanned_in mode) ms k ks key n ss is)) (is-spanned k.start k.segment.spelled),
+      either-way (ends_path k.role) _ _ _
+          (λ x. value-spans n k.source.value k.source.start k.source.before k.source.after x)
+          (λ x. made-spans n k (under (at_key k.segment.key) ms) x)
+          (slot-node (spanned_in mode) ms k ks key n ss is),
+      entry-spans ss ms ks (slot-rest (spanned_in mode) ms k ks key n ss is),
+    )
+    entry-spans no_slots ms (k ∷ ks) is = elim is [ ]
+    entry-spans (slot key n ss) ms [] is = elim is [ ]
 
-line-spans : (s : Source) (st : Statement) (n : Node) → IsLineNode spanned_form s st n → HasSpans n
-line-spans s (key_line f v end) n is = value-spans n v (s.start + value_start spanned_form f) f.after_equals f.trailing is
-line-spans s (header g end) n is = absurd is
+  line-spans : (s : Source) (st : Statement) (n : Node) → IsLineNode (spanned_in mode) s st n → HasSpans n
+  line-spans s (key_line f v end) n is = value-spans n v (s.start + value_start (spanned_in mode) f) f.after_equals (with_return mode f.trailing end) is
+  line-spans s (header g end) n is = absurd is
 
-mutual
-  node-spans : (n : Node) (ns : List (Mention Source)) (m : Mention Source) → IsNodeOf spanned_form ns m n → HasSpans n
-  node-spans (table f ss) ns m is = slots-spans ss ns (kept ns) is.2
-  node-spans (tables e xs) ns m is = elements-spans xs ns 0 (arrays ns) is.2
-  node-spans (leaf s r d) ns m is = line-spans m.source m.source.statement (leaf s r d) is.1
-  node-spans (list f xs) ns m is = line-spans m.source m.source.statement (list f xs) is.1
-  node-spans (inline f ss) ns m is = line-spans m.source m.source.statement (inline f ss) is.1
-  node-spans nothing ns m is = absurd is
+  mutual
+    node-spans : (n : Node) (ns : List (Mention Source)) (m : Mention Source) → IsNodeOf (spanned_in mode) ns m n → HasSpans n
+    node-spans (table f ss) ns m is = slots-spans ss ns (kept ns) is.2
+    node-spans (tables e xs) ns m is = elements-spans xs ns 0 (arrays ns) is.2
+    node-spans (leaf s r d) ns m is = line-spans m.source m.source.statement (leaf s r d) is.1
+    node-spans (list f xs) ns m is = line-spans m.source m.source.statement (list f xs) is.1
+    node-spans (inline f ss) ns m is = line-spans m.source m.source.statement (inline f ss) is.1
+    node-spans nothing ns m is = absurd is
 
-  elements-spans : (xs : Items) (ns : List (Mention Source)) (i : ℕ) (more : List (Mention Source)) → AreElementsOf spanned_form ns i more xs
-      → ItemsHaveSpans xs
-  elements-spans no_items ns i [] is = tt
-  elements-spans (item (table f ss) xs) ns i (a ∷ more) is =
-      (slots-spans ss (under (at_element i) ns) (kept (under (at_element i) ns)) is.1, elements-spans xs ns (suc i) more is.2)
-  elements-spans no_items ns i (a ∷ more) is = absurd is
-  elements-spans (item n xs) ns i [] is = absurd is
-  elements-spans (item n xs) ns i (a ∷ more) is = absurd is
+    elements-spans : (xs : Items) (ns : List (Mention Source)) (i : ℕ) (more : List (Mention Source)) → AreElementsOf (spanned_in mode) ns i more xs
+        → ItemsHaveSpans xs
+    elements-spans no_items ns i [] is = tt
+    elements-spans (item (table f ss) xs) ns i (a ∷ more) is =
+        (slots-spans ss (under (at_element i) ns) (kept (under (at_element i) ns)) is.1, elements-spans xs ns (suc i) more is.2)
+    elements-spans no_items ns i (a ∷ more) is = absurd is
+    elements-spans (item n xs) ns i [] is = absurd is
+    elements-spans (item n xs) ns i (a ∷ more) is = absurd is
 
-  pub slots-spans : (ss : Slots) (ms ks : List (Mention Source)) → AreSlotsOf spanned_form ms ks ss → HaveSpans ss
-  slots-spans no_slots ms [] is = tt
-  slots-spans (slot key n ss) ms (k ∷ ks) is = (
-    subst (λ (x : Key). IsSpanned x.spelling) (sym is.0) (is-spanned k.start k.segment.spelled),
-    node-spans n (under (at_key k.segment.key) ms) k is.1,
-    slots-spans ss ms ks is.2,
-  )
-  slots-spans no_slots ms (k ∷ ks) is = absurd is
-  slots-spans (slot key n ss) ms [] is = absurd is
+    pub slots-spans : (ss : Slots) (ms ks : List (Mention Source)) → AreSlotsOf (spanned_in mode) ms ks ss → HaveSpans ss
+    slots-spans no_slots ms [] is = tt
+    slots-spans (slot key n ss) ms (k ∷ ks) is = (
+      subst (λ (x : Key). IsSpanned x.spelling) (sym is.0) (is-spanned k.start k.segment.spelled),
+      node-spans n (under (at_key k.segment.key) ms) k is.1,
+      slots-spans ss ms ks is.2,
+    )
+    slots-spans no_slots ms (k ∷ ks) is = absurd is
+    slots-spans (slot key n ss) ms [] is = absurd is
 
 -- ---- what they cut spells
 

@@ -6,13 +6,15 @@ use Rattle.toml_edit_model.specs.Text.{Text, one}
 use Rattle.toml_edit_model.specs.Trivia.{IsLineEnd}
 use Rattle.toml_edit_model.specs.Syntax.{Segment, Statement, key_line, header, Document, IsSpelledSegment, IsFrame, IsValue, IsHeader, AreStatements, IsDocument, keeps_ranges, keeps_limits}
 use Rattle.toml_edit_model.specs.Paths.{Path, to_key, Role, Mention, Source, Placed, Context, header_mentions, next_start, elements_at, in_last, header_role_of, path_start, source_of, mentions_of, context_after, placed_from, start_context, all_mentions}
-use Rattle.toml_edit_model.specs.Accepted.{has_agreeing_pairs, is_sound, is_right_after, all_right_after, is_accepted}
+use Rattle.toml_edit_model.specs.Accepted.{has_agreeing_pairs, is_sound, is_accepted}
+use Rattle.toml_edit_laws.specs.OneByOne.{is_right_after, all_right_after}
 use Rattle.toml_edit_laws.proofs.common.Tests.{and_left, and_right}
 use Rattle.toml_edit_laws.proofs.common.Members.{Among, among-cases}
 use Rattle.toml_edit_laws.proofs.mentions.KeyMentions.{line-source}
 use Rattle.toml_edit_laws.proofs.values.ValueMade.{IsRight}
 use Rattle.toml_edit_laws.proofs.read_trees.MentionsStand.{Holds}
 use Rattle.toml_edit_laws.proofs.mentions.Placed.{source-statement, header-source, line-spelled}
+use Rattle.toml_edit_laws.proofs.one_by_one.Together.{accepted-right}
 
 -- ---- in the grammar
 
@@ -97,5 +99,4 @@ places-right c (s ∷ ss) earlier h g m a =
 
 -- The mentions of an accepted document are right.
 pub document-right : (d : Document) → IsDocument d → is_accepted d ≡ true → AreRight (all_mentions d)
-unfolding is_accepted
-document-right d h g = places-right (start_context d) d.statements [] (statements-grammar d.final d.statements h.0) g
+document-right d h g = places-right (start_context d) d.statements [] (statements-grammar d.final d.statements h.0) (accepted-right d g)

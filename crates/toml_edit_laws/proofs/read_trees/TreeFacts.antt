@@ -1,6 +1,7 @@
 -- The slots of the tree of a document show the facts that its mentions tell.
 use Rattle.std.proofs.Common.{◌≡◌, ◌⊎◌, ◌<◌, ◌≤◌, ℕ, zero, suc, ◌+◌, refl, sym, ap, subst, ◌∙◌, arith, inl, inr, true, false, List, [], ◌∷◌, ◌++◌, append-nil, length}
 use Rattle.std.specs.Prelude.{◌||◌, not, if◌then◌else◌}
+use Rattle.toml_edit_model.specs.Mode.{with_return}
 use Rattle.toml_edit_model.specs.Text.{Text}
 use Rattle.toml_edit_model.specs.Syntax.{Statement, key_line, header}
 use Rattle.toml_edit_model.specs.Paths.{at_key, at_element, Path, to_key, to_element, Role, dotted_role, implied_role, header_role, array_role, value_role, through_role, Mention, Source}
@@ -32,14 +33,14 @@ module _ (form : Form) where
   line-value : (s : Source) (st : Statement) (n : Node) → HasRightValue st → IsLineNode form s st n → (p : Path) (f : Fact)
       → Same (Among f (inside_facts n p)) (Among f (role_told value_role st p))
   line-value s (key_line g v end) n h is p f =
-      let same = value_meaning v form (s.start + value_start form g) g.after_equals g.trailing n p h.grammar h.agrees is f in (
+      let same = value_meaning v form (s.start + value_start form g) g.after_equals (with_return form.mode g.trailing end) n p h.grammar h.agrees is f in (
         λ a. from-contained f (role_told value_role (key_line g v end) p) (same.0 (to-contained f (inside_facts n p) a)),
         λ a. from-contained f (inside_facts n p) (same.1 (to-contained f (role_told value_role (key_line g v end) p) a)),
       )
   line-value s (header g end) n h is p f = absurd is
 
   line-shown : (s : Source) (st : Statement) (n : Node) → IsLineNode form s st n → is_shown n ≡ true
-  line-shown s (key_line g v end) n is = (value_is_shown v form (s.start + value_start form g) g.after_equals g.trailing n is).1
+  line-shown s (key_line g v end) n is = (value_is_shown v form (s.start + value_start form g) g.after_equals (with_return form.mode g.trailing end) n is).1
   line-shown s (header g end) n is = absurd is
 
 value-told : (r : Role) (st : Statement) (q : Path) (f : Fact) → is_table_role r ≡ false → is_array_role r ≡ false → Among f (role_told r st q) → r ≡ value_role

@@ -1,40 +1,31 @@
 -- What is read as a date-time is spelled so, and what is spelled is read again.
-use Rattle.std.proofs.Common.{◌≡◌, ℕ, not, ◌+◌, ◌/◌, ◌%◌, ◌<◌, ◌≤◌, Bool, true, false, ◌&&◌, ◌==◌, List, [], ◌∷◌, ◌++◌, length, drop, get_or, Option, Some, None, refl, sym, ap, subst, ◌∙◌, inl, inr, arith, append-nil}
+use Rattle.std.proofs.Common.{◌≡◌, ℕ, not, ◌/◌, ◌%◌, ◌<◌, ◌≤◌, Bool, true, false, ◌&&◌, ◌==◌, List, [], ◌∷◌, ◌++◌, drop, get_or, Option, Some, None, refl, sym, ap, subst, ◌∙◌, inl, inr, arith, append-nil}
 use Rattle.std.specs.Prelude.{ℤ}
-use Rattle.std.specs.List.{prefix_len, list_all, AllByRecursion}
+use Rattle.std.specs.List.{list_all, AllByRecursion}
 use Rattle.std.specs.Char.{is_digit}
 use Rattle.std.proofs.lemmas.Bool.{and_parts, false≢true}
 use Rattle.std.proofs.lemmas.Bool.Decides.{nat_tests}
-use Rattle.std.proofs.lemmas.List.{drop-drop}
-use Rattle.std.proofs.Math.Seq.{drop-append-add}
 use Rattle.toml_edit_model.specs.Scalars.{Date, Time, Offset, Datetime, zulu, shift, datetime, is_real_date, is_real_time}
-use Rattle.toml_edit_model.specs.Spelling.{Sign, plus, minus, unsigned, sign_text, digit, date_text, SpellsOffset, SpellsTime, SpellsParts, SpellsDatetime, is_date_time_mark, is_time_byte, offset_clock, is_real_offset, is_in_range, SpellsInteger, truth_text, Digits, digits_text, IsDigits, Base, hexadecimal, octal, binary, base_number, base_prefix}
+use Rattle.toml_edit_model.specs.Spelling.{Sign, plus, minus, unsigned, sign_text, digit, date_text, clock_text, SpellsOffset, SpellsTime, SpellsParts, SpellsDatetime, is_date_time_mark, is_real_offset, is_in_range, SpellsInteger, truth_text, Digits, digits_text, IsDigits, Base, hexadecimal, octal, binary, base_number, base_prefix}
 use Rattle.toml_edit_model.specs.Trivia.{Each}
 use Rattle.toml_edit_laws.specs.reading.Tokens.{whole}
 use Rattle.toml_edit_laws.specs.reading.DatetimeReading.{Parts, OffsetParts, starts_datetime, date_at, time_at, offset_at, after_time, after_date, parts_of, parts_datetime, datetime_of, are_real}
 use Rattle.toml_edit_laws.specs.reading.Runs.{Read}
 use Rattle.toml_edit_laws.proofs.reading.Steps.{chosen}
 use Rattle.toml_edit_laws.proofs.common.OptionSteps.{bind_some, map_some, guard_read}
-use Rattle.toml_edit_laws.proofs.reading.RunLaws.{prefix_len-run}
 use Rattle.toml_edit_laws.proofs.reading.FieldLaws.{date_takes, date_again}
 use Rattle.toml_edit_laws.proofs.reading.TimeLaws.{time_takes, time_again, EndsTime}
 use Rattle.toml_edit_laws.proofs.reading.OffsetLaws.{own_range, offset_takes, offset_again, offset_parts, offset_ends}
-use Rattle.toml_edit_laws.proofs.spellings.OffsetLaws.{digit-ascii, time-bytes}
+use Rattle.toml_edit_laws.proofs.spellings.OffsetLaws.{digit-ascii, clock-is}
 
 -- ---- the range of an offset in a whole text
 
-offset_clock_is : (d : Date) (mark : ℕ) (time text : List ℕ) → Each is_time_byte time → EndsTime text
-    → offset_clock (date_text d ++ mark ∷ time ++ text) ≡ drop 1 text
-offset_clock_is d mark time text bytes ends =
-    let t = date_text d ++ mark ∷ time ++ text in
-    let run = prefix_len-run is_time_byte time text bytes ends in
-    let count : 12 + prefix_len is_time_byte (time ++ text) ≡ 11 + (length time + 1) = omega arith in
-    ap (λ (n : ℕ). drop n t) count ∙ sym (drop-drop (length time + 1) 11 t) ∙ drop-append-add time text 1
-
-pub range_is : (o : Offset) (d : Date) (mark : ℕ) (time text : List ℕ) → Each is_time_byte time → SpellsOffset o text
+pub range_is : (o : Offset) (d : Date) (mark : ℕ) (time text : List ℕ) → SpellsOffset o text
     → is_real_offset o (date_text d ++ mark ∷ time ++ text) ≡ own_range o text
-range_is zulu d mark time text bytes spells = refl
-range_is (shift z) d mark time text bytes spells = rw (offset_clock_is d mark time text bytes (offset_ends (shift z) text spells)) refl
+range_is zulu d mark time text spells = refl
+range_is (shift z) d mark time text (plus, h, m, some, lh, lm, value, same) = rw same (rw (clock-is d mark 43 time (clock_text h m) refl) refl)
+range_is (shift z) d mark time text (minus, h, m, some, lh, lm, value, same) = rw same (rw (clock-is d mark 45 time (clock_text h m) refl) refl)
+range_is (shift z) d mark time text (unsigned, h, m, some, lh, lm, value, same) = absurd (some refl)
 
 -- ---- reading
 
@@ -76,7 +67,7 @@ offset_take t date mark time offset more rest found marked read last =
     let whole_text : t ≡ date_text date ++ mark ∷ text ++ third =
     front ∙ ap (λ (x : List ℕ). date_text date ++ mark ∷ x) (back ∙ ap (λ (x : List ℕ). text ++ x) (tail ∙ append-nil third)) in
     let range : is_real_offset offset.offset t ≡ offset.is_real =
-    ap (is_real_offset offset.offset) whole_text ∙ range_is offset.offset date mark text third (time-bytes time text spells) offset_spells ∙ sym real in (
+    ap (is_real_offset offset.offset) whole_text ∙ range_is offset.offset date mark text third offset_spells ∙ sym real in (
       (date_text date, text, third, mark, (ly, lm, ld, refl), marked, spells, offset_spells, whole_text),
       ap (λ (b : Bool). (is_real_date date && is_real_time time) && b) range,
     )

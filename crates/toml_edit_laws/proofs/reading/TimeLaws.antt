@@ -1,5 +1,5 @@
 -- A time that was read is spelled so, and one that is spelled is read again.
-use Rattle.std.proofs.Common.{◌≡◌, ℕ, ◌<◌, false, ◌==◌, List, [], ◌∷◌, ◌++◌, length, take, drop, get_or, Option, Some, None, refl, sym, ap, subst, ◌∙◌, inl, inr, arith, take_at, drop_at}
+use Rattle.std.proofs.Common.{◌≡◌, ℕ, ◌<◌, Bool, false, ◌||◌, ◌==◌, List, [], ◌∷◌, ◌++◌, length, take, drop, get_or, Option, Some, None, refl, sym, ap, subst, ◌∙◌, inl, inr, arith, take_at, drop_at}
 use Rattle.std.specs.List.{prefix_len}
 use Rattle.std.specs.Char.{is_ascii_digit}
 use Rattle.std.proofs.lemmas.Bool.{eqb-false, ne_eqb}
@@ -9,12 +9,16 @@ use Rattle.std.proofs.lemmas.Option.{some_pair_parts}
 use Rattle.toml_edit_model.specs.Text.{is_empty}
 use Rattle.toml_edit_model.specs.Scalars.{Time}
 use Rattle.toml_edit_model.specs.Trivia.{Each}
-use Rattle.toml_edit_model.specs.Spelling.{two_digits, clock_text, nanoseconds, SpellsFraction, SpellsSeconds, SpellsTime, is_time_byte}
+use Rattle.toml_edit_model.specs.Spelling.{two_digits, clock_text, nanoseconds, SpellsFraction, SpellsSeconds, SpellsTime}
 use Rattle.toml_edit_laws.specs.reading.DatetimeReading.{optional, two_at, clock_at, fraction_at, seconds_at, time_at}
 use Rattle.toml_edit_laws.proofs.reading.Steps.{chosen, same_parts, starts}
 use Rattle.toml_edit_laws.proofs.common.OptionSteps.{bind_some, map_some}
 use Rattle.toml_edit_laws.proofs.reading.RunLaws.{prefix_len-run, Each-run, run_some}
 use Rattle.toml_edit_laws.proofs.reading.FieldLaws.{two_takes, two_again, clock_takes, clock_again}
+
+-- a byte of a time of day
+abbrev pub is_time_byte : ℕ → Bool
+is_time_byte c = (is_ascii_digit c || c == 0x3A) || c == 0x2E
 
 -- the text does not go on with a byte of a time
 abbrev pub EndsTime : List ℕ → Type 0

@@ -12,7 +12,7 @@ use Rattle.toml_edit_model.specs.Spelling.{plus, minus, signed, digit, date_text
 use Rattle.toml_edit_model.specs.DefaultSpelling.{fraction_digits, nanosecond_spelling, seconds_spelling, time_spelling, offset_spelling, part_spelling, datetime_spelling}
 use Rattle.toml_edit_model.specs.Tree.{is_real_shift, has_real_parts}
 use Rattle.toml_edit_laws.proofs.common.Tests.{and_left, and_right, and_both, append-nil}
-use Rattle.toml_edit_laws.proofs.spellings.OffsetLaws.{digit-value, digit-ascii, time-bytes, offset-real}
+use Rattle.toml_edit_laws.proofs.spellings.OffsetLaws.{digit-value, digit-ascii, offset-real}
 
 -- ---- dates
 
@@ -169,11 +169,11 @@ offset-ranged d t None h g = refl
 offset-ranged d t (Some zulu) h g = refl
 offset-ranged d t (Some (shift (pos n))) h g =
     let below : n < 1440 = ltb-true n 1440 g in
-    offset-real (pos n) d 0x54 0x2B (time_spelling t) (n / 60) (n % 60) (time-bytes t (time_spelling t) (time-spells t h)) refl (omega arith) (omega arith)
+    offset-real (pos n) d 0x54 0x2B (time_spelling t) (n / 60) (n % 60) (omega arith) (omega arith)
     ∙ clock-below n below
 offset-ranged d t (Some (shift (negsuc n))) h g =
     let below : suc n < 1440 = ltb-true (suc n) 1440 g in
-    offset-real (negsuc n) d 0x54 0x2D (time_spelling t) (suc n / 60) (suc n % 60) (time-bytes t (time_spelling t) (time-spells t h)) refl (omega arith) (omega arith)
+    offset-real (negsuc n) d 0x54 0x2D (time_spelling t) (suc n / 60) (suc n % 60) (omega arith) (omega arith)
     ∙ clock-below (suc n) below
 
 -- ---- dates with times

@@ -1,6 +1,8 @@
 -- The text before a closing bracket, which the last element has where no comma ends the list.
 use Rattle.std.proofs.Common.{◌≡◌, refl, sym, ◌∙◌, ap, subst, Bool, true, false, [], inl, inr}
-use Rattle.toml_edit_model.specs.Text.{Text, without_returns}
+use Rattle.toml_edit_laws.proofs.common.WhiteSpace.{shown-none}
+use Rattle.toml_edit_model.specs.Mode.{Mode, shown_text}
+use Rattle.toml_edit_model.specs.Text.{Text}
 use Rattle.toml_edit_model.specs.Syntax.{array, inline_table, Elements, no_elements, element, Pairs, no_pairs, pair, IsClose, has_elements, has_pairs}
 use Rattle.toml_edit_model.specs.Normal.{normal_elements}
 use Rattle.toml_edit_model.specs.Print.{add_after, close_array, add_after_pairs, close_inline}
@@ -25,24 +27,27 @@ no-comma : (b comma : Bool) (t : Text) → IsClose b comma t → b ≡ false →
 no-comma b true t h e = (let clash : true ≡ false = sym h.1 ∙ e in cc)
 no-comma b false t h e = refl
 
-pub close-elements : (es : Elements) (comma : Bool) (t : Text) → IsClose (has_elements es) comma t
-    → close_array comma (without_returns t) es ≡ array es comma (without_returns t)
-close-elements no_elements comma t h = ap (λ c. array no_elements c (without_returns t)) (sym (no-comma false comma t h refl))
-close-elements (element a v es) true t h = refl
-close-elements (element a v es) false t h =
-    let none : t ≡ [] = closing-text true false t h refl refl in
-    subst (λ u. close_array false (without_returns u) (element a v es) ≡ array (element a v es) false (without_returns u)) (sym none)
-    (ap (λ x. array x false []) (add-none (element a v es)))
+module _ (mode : Mode) where
+  pub close-elements : (es : Elements) (comma : Bool) (t : Text) → IsClose (has_elements es) comma t
+      → close_array comma (shown_text mode t) es ≡ array es comma (shown_text mode t)
+  close-elements no_elements comma t h = ap (λ c. array no_elements c (shown_text mode t)) (sym (no-comma false comma t h refl))
+  close-elements (element a v es) true t h = refl
+  close-elements (element a v es) false t h =
+      let none : t ≡ [] = closing-text true false t h refl refl in
+      let bare : shown_text mode t ≡ [] = ap (shown_text mode) none ∙ shown-none mode in
+      subst (λ u. close_array false u (element a v es) ≡ array (element a v es) false u) (sym bare)
+      (ap (λ x. array x false []) (add-none (element a v es)))
 
-pub close-pairs : (ps : Pairs) (comma : Bool) (t : Text) → IsClose (has_pairs ps) comma t
-    → close_inline comma (without_returns t) ps ≡ inline_table ps comma (without_returns t)
-close-pairs no_pairs comma t h = ap (λ c. inline_table no_pairs c (without_returns t)) (sym (no-comma false comma t h refl))
-close-pairs (pair f v ps) true t h = refl
-close-pairs (pair f v ps) false t h =
-    let none : t ≡ [] = closing-text true false t h refl refl in
-    subst (λ u. close_inline false (without_returns u) (pair f v ps) ≡ inline_table (pair f v ps) false (without_returns u)) (sym none)
-    (ap (λ x. inline_table x false []) (add-none-pairs (pair f v ps)))
+  pub close-pairs : (ps : Pairs) (comma : Bool) (t : Text) → IsClose (has_pairs ps) comma t
+      → close_inline comma (shown_text mode t) ps ≡ inline_table ps comma (shown_text mode t)
+  close-pairs no_pairs comma t h = ap (λ c. inline_table no_pairs c (shown_text mode t)) (sym (no-comma false comma t h refl))
+  close-pairs (pair f v ps) true t h = refl
+  close-pairs (pair f v ps) false t h =
+      let none : t ≡ [] = closing-text true false t h refl refl in
+      let bare : shown_text mode t ≡ [] = ap (shown_text mode) none ∙ shown-none mode in
+      subst (λ u. close_inline false u (pair f v ps) ≡ inline_table (pair f v ps) false u) (sym bare)
+      (ap (λ x. inline_table x false []) (add-none-pairs (pair f v ps)))
 
-pub has-normal : (es : Elements) → has_elements (normal_elements es) ≡ has_elements es
-has-normal no_elements = refl
-has-normal (element a v es) = refl
+  pub has-normal : (es : Elements) → has_elements (normal_elements mode es) ≡ has_elements es
+  has-normal no_elements = refl
+  has-normal (element a v es) = refl

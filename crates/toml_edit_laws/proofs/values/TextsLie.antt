@@ -1,9 +1,10 @@
 -- Texts that lie in a source at places where it may be cut, and the segments of paths there.
 use Rattle.std.proofs.Common.{length, ℕ, ◌+◌, ◌-◌, subst, ◌≡◌, arith, ◌∷◌, ◌++◌, [], List, codes, sym, inr, inl}
+use Rattle.toml_edit_model.specs.Mode.{Mode}
 use Rattle.toml_edit_model.specs.Syntax.{Frame, Value, IsFrame, frame_text, value_text, Segment, segment_text, IsSpacedSegment, path_text}
 use Rattle.toml_edit_model.specs.Text.{Text}
 use Rattle.std.specs.Str.{IsCharBoundary, IsUtf8}
-use Rattle.toml_edit_model.specs.TreeOf.{spanned_form, value_start, frame_leaf, DecorFits, RawFits, span_of}
+use Rattle.toml_edit_model.specs.TreeOf.{spanned_in, value_start, frame_leaf, DecorFits, RawFits, span_of}
 use Rattle.toml_edit_laws.proofs.values.ValueOwned.{stands-at, around-stands}
 use Rattle.toml_edit_laws.specs.Standing.{Stands}
 use Rattle.std.proofs.lemmas.List.{length-append}
@@ -85,43 +86,44 @@ line-fits text source i p (s ∷ r ∷ rest) utf8 h spaced first last m (inr a) 
     let fits = first-fits text i s r rest utf8 h spaced.0 first last in
     line-fits text source (next_start i s) (to_key p s.key) (r ∷ rest) utf8 fits.others spaced.1 fits.start fits.end m a
 
--- a pair or key line that begins at this byte: the decor of its key, and where its path and its value stand
-pub record FrameFits (text : Text) (i : ℕ) (f : Frame) (v : Value) : Type 0 where
-  pub leaf : DecorFits text (frame_leaf spanned_form i f)
-  pub path : Lies text (i + length f.leading) (path_text f.path)
-  pub path_stands : Stands text (i + length f.leading) (path_text f.path)
-  pub stands : Stands text (i + value_start spanned_form f) (f.after_equals ++ (value_text v ++ f.trailing))
-  pub first : IsCharBoundary text (i + value_start spanned_form f)
-  pub last : IsCharBoundary text (i + value_start spanned_form f + length (f.after_equals ++ (value_text v ++ f.trailing)))
+module _ (mode : Mode) where
+  -- a pair or key line that begins at this byte: the decor of its key, and where its path and its value stand
+  pub record FrameFits (text : Text) (i : ℕ) (f : Frame) (v : Value) : Type 0 where
+    pub leaf : DecorFits text (frame_leaf (spanned_in mode) i f)
+    pub path : Lies text (i + length f.leading) (path_text f.path)
+    pub path_stands : Stands text (i + length f.leading) (path_text f.path)
+    pub stands : Stands text (i + value_start (spanned_in mode) f) (f.after_equals ++ (value_text v ++ f.trailing))
+    pub first : IsCharBoundary text (i + value_start (spanned_in mode) f)
+    pub last : IsCharBoundary text (i + value_start (spanned_in mode) f + length (f.after_equals ++ (value_text v ++ f.trailing)))
 
-pub frame-fits : (text : Text) (i : ℕ) (f : Frame) (v : Value) (P : Text → Type 0) → IsUtf8 text → Stands text i (frame_text f (value_text v)) → IsFrame P f
-    → IsCharBoundary text i → IsCharBoundary text (i + length (frame_text f (value_text v))) → FrameFits text i f v
-frame-fits text i f v P utf8 h frame first last =
-    let from_value = f.after_equals ++ (value_text v ++ f.trailing) in
-    let from_equals = codes "=" ++ from_value in
-    let from_space = f.before_equals ++ from_equals in
-    let from_path = path_text f.path ++ from_space in
-    let at_path = stands-right text i f.leading from_path h in
-    let at_space = stands-right text (i + length f.leading) (path_text f.path) from_space at_path in
-    let at_equals = stands-right text (i + length f.leading + length (path_text f.path)) f.before_equals from_equals at_space in
-    let equals = i + length f.leading + length (path_text f.path) + length f.before_equals in
-    let before_equals : IsCharBoundary text equals = edge-before text equals 61 from_value at_equals (omega arith) in
-    let after_equals : IsCharBoundary text (equals + 1) = edge-after text equals 61 from_value utf8 at_equals (omega arith) in
-    let leading = end-edge text i f.leading utf8 (stands-left text i f.leading from_path h) (trivia-ends f.leading frame.0.leading) first in
-    let path_end = start-edge text (i + length f.leading + length (path_text f.path)) f.before_equals
-    (stands-left text (i + length f.leading + length (path_text f.path)) f.before_equals from_equals at_space) (white-starts f.before_equals frame.0.before_equals) before_equals in
-    let start : equals + 1 ≡ i + value_start spanned_form f = omega arith in
-    let value = stands-at text (equals + 1) (i + value_start spanned_form f) from_value (stands-right text equals (codes "=") from_value at_equals) start in
-    let end : i + length (frame_text f (value_text v)) ≡ i + value_start spanned_form f + length from_value =
-    omega (arith, length-append f.leading from_path, length-append (path_text f.path) from_space, length-append f.before_equals from_equals) in
-    record {
-      leaf = (
-        raw-fits text i f.leading (record { start = first; end = leading }),
-        raw-fits text (i + length f.leading + length (path_text f.path)) f.before_equals (record { start = path_end; end = before_equals }),
-      );
-      path = record { start = leading; end = path_end };
-      path_stands = stands-left text (i + length f.leading) (path_text f.path) from_space at_path;
-      stands = value;
-      first = subst (IsCharBoundary text) start after_equals;
-      last = subst (IsCharBoundary text) end last;
-    }
+  pub frame-fits : (text : Text) (i : ℕ) (f : Frame) (v : Value) (P : Text → Type 0) → IsUtf8 text → Stands text i (frame_text f (value_text v)) → IsFrame P f
+      → IsCharBoundary text i → IsCharBoundary text (i + length (frame_text f (value_text v))) → FrameFits text i f v
+  frame-fits text i f v P utf8 h frame first last =
+      let from_value = f.after_equals ++ (value_text v ++ f.trailing) in
+      let from_equals = codes "=" ++ from_value in
+      let from_space = f.before_equals ++ from_equals in
+      let from_path = path_text f.path ++ from_space in
+      let at_path = stands-right text i f.leading from_path h in
+      let at_space = stands-right text (i + length f.leading) (path_text f.path) from_space at_path in
+      let at_equals = stands-right text (i + length f.leading + length (path_text f.path)) f.before_equals from_equals at_space in
+      let equals = i + length f.leading + length (path_text f.path) + length f.before_equals in
+      let before_equals : IsCharBoundary text equals = edge-before text equals 61 from_value at_equals (omega arith) in
+      let after_equals : IsCharBoundary text (equals + 1) = edge-after text equals 61 from_value utf8 at_equals (omega arith) in
+      let leading = end-edge text i f.leading utf8 (stands-left text i f.leading from_path h) (trivia-ends f.leading frame.0.leading) first in
+      let path_end = start-edge text (i + length f.leading + length (path_text f.path)) f.before_equals
+      (stands-left text (i + length f.leading + length (path_text f.path)) f.before_equals from_equals at_space) (white-starts f.before_equals frame.0.before_equals) before_equals in
+      let start : equals + 1 ≡ i + value_start (spanned_in mode) f = omega arith in
+      let value = stands-at text (equals + 1) (i + value_start (spanned_in mode) f) from_value (stands-right text equals (codes "=") from_value at_equals) start in
+      let end : i + length (frame_text f (value_text v)) ≡ i + value_start (spanned_in mode) f + length from_value =
+      omega (arith, length-append f.leading from_path, length-append (path_text f.path) from_space, length-append f.before_equals from_equals) in
+      record {
+        leaf = (
+          raw-fits text i f.leading (record { start = first; end = leading }),
+          raw-fits text (i + length f.leading + length (path_text f.path)) f.before_equals (record { start = path_end; end = before_equals }),
+        );
+        path = record { start = leading; end = path_end };
+        path_stands = stands-left text (i + length f.leading) (path_text f.path) from_space at_path;
+        stands = value;
+        first = subst (IsCharBoundary text) start after_equals;
+        last = subst (IsCharBoundary text) end last;
+      }

@@ -121,23 +121,23 @@ line-parts x y i j p (s ∷ []) = refl
 line-parts x y i j p (s ∷ r ∷ rest) =
     ap (λ ps. (to_key p s.key, dotted_role) ∷ ps) (line-parts x y (next_start i s) (next_start j s) (to_key p s.key) (r ∷ rest))
 
-pairs-parts : (i j m n : ℕ) (ps : Pairs) → map cores (pair_mentions i m ps) ≡ map cores (pair_mentions j n ps)
+pairs-parts : (i j m n : ℕ) (ps : Pairs) → map cores (pair_mentions i ps) ≡ map cores (pair_mentions j ps)
 pairs-parts i j m n no_pairs = refl
 pairs-parts i j m n (pair f v ps) =
-    ap (λ ms. ms ∷ map cores (pair_mentions (i + length (frame_text f (value_text v)) + 1) (suc m) ps))
-    (line-parts (record { number = m; frame = f; value = v }) (record { number = n; frame = f; value = v }) (i + length f.leading) (j + length f.leading) [] f.path)
-    ∙ ap (λ mss. cores {S = PairSource} (line_mentions (record { number = n; frame = f; value = v }) (j + length f.leading) [] f.path) ∷ mss)
+    ap (λ ms. ms ∷ map cores (pair_mentions (i + length (frame_text f (value_text v)) + 1) ps))
+    (line-parts (record { frame = f; value = v }) (record { frame = f; value = v }) (i + length f.leading) (j + length f.leading) [] f.path)
+    ∙ ap (λ mss. cores {S = PairSource} (line_mentions (record { frame = f; value = v }) (j + length f.leading) [] f.path) ∷ mss)
     (pairs-parts (i + length (frame_text f (value_text v)) + 1) (j + length (frame_text f (value_text v)) + 1) (suc m) (suc n) ps)
 
 -- Where the pairs stand does not matter.
-pub agree-anywhere : (may : Role → Role → Bool) (i j m n : ℕ) (ps : Pairs) → all_agree may (pair_mentions i m ps) ≡ all_agree may (pair_mentions j n ps)
+pub agree-anywhere : (may : Role → Role → Bool) (i j m n : ℕ) (ps : Pairs) → all_agree may (pair_mentions i ps) ≡ all_agree may (pair_mentions j ps)
 agree-anywhere may i j m n ps =
-    all-parts may (pair_mentions i m ps) ∙ ap (all_parts_agree may) (pairs-parts i j m n ps) ∙ sym (all-parts may (pair_mentions j n ps))
+    all-parts may (pair_mentions i ps) ∙ ap (all_parts_agree may) (pairs-parts i j m n ps) ∙ sym (all-parts may (pair_mentions j ps))
 
-pub is_empty-clashes : (start : ℕ) (ps : Pairs) → is_empty (pair_clashes [] (pair_mentions start 0 ps)) ≡ all_agree may_meet_inline (pair_mentions 0 0 ps)
+pub is_empty-clashes : (start : ℕ) (ps : Pairs) → is_empty (pair_clashes [] (pair_mentions start ps)) ≡ all_agree may_meet_inline (pair_mentions 0 ps)
 is_empty-clashes start ps =
-    no-clashes [] (pair_mentions start 0 ps)
-    ∙ ap (λ b. b && all_agree may_meet_inline (pair_mentions start 0 ps)) (none (pair_mentions start 0 ps))
+    no-clashes [] (pair_mentions start ps)
+    ∙ ap (λ b. b && all_agree may_meet_inline (pair_mentions start ps)) (none (pair_mentions start ps))
     ∙ agree-anywhere may_meet_inline start 0 0 0 ps
   where
     none : (mss : List (List (Mention PairSource))) → list_all (agree may_meet_inline []) mss ≡ true
@@ -227,8 +227,8 @@ mutual
       (elements_have_short_keys es && (elements_keep_ranges es && elements_have_agreeing_pairs es)) h
       (λ less. right-elements es (start + 1) (suc level) less)
   right-value (inline_table ps comma t) start level h =
-      let clashes : List Fault = pair_clashes [] (pair_mentions (start + 1) 0 ps) in
-      let apart : Bool = all_agree may_meet_inline (pair_mentions 0 0 ps) in
+      let clashes : List Fault = pair_clashes [] (pair_mentions (start + 1) ps) in
+      let apart : Bool = all_agree may_meet_inline (pair_mentions 0 ps) in
       inside-bracket level start (pairs_depth ps) (clashes ++ pairs_faults ps (start + 1) (suc level))
       (pairs_have_short_keys ps && (pairs_keep_ranges ps && (apart && pairs_have_agreeing_pairs ps))) h
       (λ less. is_empty-append clashes (pairs_faults ps (start + 1) (suc level))

@@ -1,10 +1,11 @@
 -- The laws of single values, as documents use them.
 use Rattle.std.proofs.Common.{◌≡◌, ℕ, true, ◌++◌}
+use Rattle.toml_edit_model.specs.Mode.{Mode}
 use Rattle.toml_edit_model.specs.Text.{Text}
 use Rattle.toml_edit_model.specs.Syntax.{Value, value_text, IsValue, keeps_ranges}
 use Rattle.toml_edit_model.specs.Accepted.{has_agreeing_pairs}
 use Rattle.toml_edit_model.specs.Tree.{Node, IsWellMade}
-use Rattle.toml_edit_model.specs.TreeOf.{Form, spanned_form, owned_form, IsValueNode, owned_node}
+use Rattle.toml_edit_model.specs.TreeOf.{Form, spanned_in, owned_in, IsValueNode, owned_node}
 use Rattle.toml_edit_laws.specs.Standing.{Stands}
 use Rattle.toml_edit_laws.proofs.values.SomeNode.{one_item}
 use Rattle.toml_edit_laws.proofs.values.ValueOwned as owned
@@ -15,14 +16,15 @@ pub one_node : (v : Value) (form : Form) (i : ℕ) (before after : Text)
     → (n : Node) × IsValueNode form v i before after n × ((m : Node) → IsValueNode form v i before after m → m ≡ n)
 one_node v form i before after = one_item form v i before after
 
--- What its spans cut makes the item of the same value with owned texts.
-pub value_owned : (v : Value) (source : Text) (i : ℕ) (before after : Text) (n : Node) → IsValue v
-    → Stands source i (before ++ (value_text v ++ after))
-    → IsValueNode spanned_form v i before after n → IsValueNode owned_form v i before after (owned_node source n)
-value_owned v source i before after n is stands node = owned.value_owned source v i before after n node stands
+module _ (mode : Mode) where
+  -- What its spans cut makes the item of the same value with owned texts.
+  pub value_owned : (v : Value) (source : Text) (i : ℕ) (before after : Text) (n : Node) → IsValue v
+      → Stands source i (before ++ (value_text v ++ after))
+      → IsValueNode (spanned_in mode) v i before after n → IsValueNode (owned_in mode) v i before after (owned_node source n)
+  value_owned v source i before after n is stands node = owned.value_owned mode source v i before after n node stands
 
--- With owned texts it is well made.
-pub value_well_made : (v : Value) (i : ℕ) (before after : Text) (n : Node) → IsValue v → has_agreeing_pairs v ≡ true → keeps_ranges v ≡ true
-    → IsValueNode owned_form v i before after n → IsWellMade n
-value_well_made v i before after n is agree ranges node =
-    made_well n v i before after (record { grammar = is; agrees = agree; ranged = ranges }) node
+  -- With owned texts it is well made.
+  pub value_well_made : (v : Value) (i : ℕ) (before after : Text) (n : Node) → IsValue v → has_agreeing_pairs v ≡ true → keeps_ranges v ≡ true
+      → IsValueNode (owned_in mode) v i before after n → IsWellMade n
+  value_well_made v i before after n is agree ranges node =
+      made_well mode n v i before after (record { grammar = is; agrees = agree; ranged = ranges }) node

@@ -2,13 +2,14 @@
 use Rattle.std.proofs.Common.{◌≡◌, ℕ, ◌+◌, refl, sym, ap, subst, ◌∙◌, inl, inr, true, false, Bool, List, [], ◌∷◌, ◌++◌, length}
 use Rattle.std.specs.Prelude.{◌&&◌, ◌||◌, if◌then◌else◌}
 use Rattle.std.proofs.lemmas.List.Folds.{list_any-append}
+use Rattle.toml_edit_model.specs.Mode.{Mode}
 use Rattle.toml_edit_model.specs.Text.{Text, same_text}
 use Rattle.toml_edit_model.specs.Spelling.{SpellsKey, SpellsInRange}
 use Rattle.toml_edit_model.specs.Syntax.{Value, scalar, array, inline_table, Elements, no_elements, element, Pairs, no_pairs, pair, IsSpelledSegment, IsValue, AreElements, ArePairs, keeps_ranges, elements_keep_ranges, pairs_keep_ranges, value_text, frame_text}
 use Rattle.toml_edit_model.specs.Paths.{at_key, same_path, may_meet_inline, Mention, line_mentions, pair_mentions}
 use Rattle.toml_edit_model.specs.Accepted.{has_agreeing_pairs, elements_have_agreeing_pairs, pairs_have_agreeing_pairs, all_agree}
 use Rattle.toml_edit_model.specs.Tree.{Key, Node, nothing, leaf, list, inline, table, tables, Items, no_items, item, Slots, no_slots, slot, has_key, IsRealScalar, HasTrueSpelling, IsWellMade, ItemsAreWellMade, SlotsAreWellMade}
-use Rattle.toml_edit_model.specs.TreeOf.{Form, owned_form, Entry, entry_of, entries, under, is_slot, some_at, any_role, kept_from, kept, IsValueNode, AreElementNodes, AreEntrySlots}
+use Rattle.toml_edit_model.specs.TreeOf.{Form, owned_in, Entry, entry_of, entries, under, is_slot, some_at, any_role, kept_from, kept, IsValueNode, AreElementNodes, AreEntrySlots}
 use Rattle.toml_edit_laws.proofs.common.Tests.{and_left, and_right, or-left, or-right, false-by, true-false, same_text-is}
 use Rattle.toml_edit_laws.proofs.common.Members.{Among, among-cases}
 use Rattle.toml_edit_laws.proofs.mentions.KeptMentions.{under-is, HaveNoHeaders, Kept, kept-is}
@@ -102,71 +103,72 @@ under-right k ms h m a =
     let right = h up.mention up.among in
     subst IsRightMention (sym up.same) (record { key = right.key; value = right.value })
 
-mutual
-  -- The node in owned form is well made.
-  pub made_well : (n : Node) (v : Value) (i : ℕ) (before after : Text) → IsRight v → IsValueNode owned_form v i before after n → IsWellMade n
-  made_well (leaf s r d) (scalar x t) i before after h is = (
-    subst (HasTrueSpelling (SpellsInRange s)) (sym is.1) (subst (λ y. SpellsInRange y t) (sym is.0) (h.grammar, h.ranged)),
-    subst IsRealScalar (sym is.0) (is-real x t h.grammar h.ranged),
-  )
-  made_well (list f xs) (array es comma t) i before after h is = items-well xs es (i + length before + 1) h.grammar.1 h.agrees h.ranged is.1
-  made_well (inline f ss) (inline_table ps comma t) i before after h is =
-      let j = i + length before + 1 in
-      let ms = entries owned_form ps j in
-      let agree = entries-agree owned_form ps j (and_left (all_agree may_meet_inline (pair_mentions 0 0 ps)) _ h.agrees) in
-      let right = entry-value owned_form IsRight ps j
-      (each-right ps h.grammar.1 (and_right (all_agree may_meet_inline (pair_mentions 0 0 ps)) _ h.agrees) h.ranged) in
-      slots-well ss ms (kept ms) agree
-      (λ m a. record { key = entry-spelled owned_form ps j h.grammar.1 m a; value = right m a })
-      (λ m a. kept-is [] m ms a) (kept-distinct ms agree) is.1
-  made_well (leaf s r d) (array es comma t) i before after h is = elim is [ ]
-  made_well (leaf s r d) (inline_table ps comma t) i before after h is = elim is [ ]
-  made_well (list g xs) (scalar t u) i before after h is = elim is [ ]
-  made_well (list g xs) (inline_table ps comma t) i before after h is = elim is [ ]
-  made_well (inline g ss) (scalar t u) i before after h is = elim is [ ]
-  made_well (inline g ss) (array es comma t) i before after h is = elim is [ ]
-  made_well (table g ss) v i before after h is = absurd (not-value owned_form (table g ss) v i before after refl is)
-  made_well (tables e xs) v i before after h is = absurd (not-value owned_form (tables e xs) v i before after refl is)
-  made_well nothing v i before after h is = absurd (not-value owned_form nothing v i before after refl is)
+module _ (mode : Mode) where
+  mutual
+    -- The node in owned form is well made.
+    pub made_well : (n : Node) (v : Value) (i : ℕ) (before after : Text) → IsRight v → IsValueNode (owned_in mode) v i before after n → IsWellMade n
+    made_well (leaf s r d) (scalar x t) i before after h is = (
+      subst (HasTrueSpelling (SpellsInRange s)) (sym is.1) (subst (λ y. SpellsInRange y t) (sym is.0) (h.grammar, h.ranged)),
+      subst IsRealScalar (sym is.0) (is-real x t h.grammar h.ranged),
+    )
+    made_well (list f xs) (array es comma t) i before after h is = items-well xs es (i + length before + 1) h.grammar.1 h.agrees h.ranged is.1
+    made_well (inline f ss) (inline_table ps comma t) i before after h is =
+        let j = i + length before + 1 in
+        let ms = entries (owned_in mode) ps j in
+        let agree = entries-agree (owned_in mode) ps j (and_left (all_agree may_meet_inline (pair_mentions 0 ps)) _ h.agrees) in
+        let right = entry-value (owned_in mode) IsRight ps j
+        (each-right ps h.grammar.1 (and_right (all_agree may_meet_inline (pair_mentions 0 ps)) _ h.agrees) h.ranged) in
+        slots-well ss ms (kept ms) agree
+        (λ m a. record { key = entry-spelled (owned_in mode) ps j h.grammar.1 m a; value = right m a })
+        (λ m a. kept-is [] m ms a) (kept-distinct ms agree) is.1
+    made_well (leaf s r d) (array es comma t) i before after h is = elim is [ ]
+    made_well (leaf s r d) (inline_table ps comma t) i before after h is = elim is [ ]
+    made_well (list g xs) (scalar t u) i before after h is = elim is [ ]
+    made_well (list g xs) (inline_table ps comma t) i before after h is = elim is [ ]
+    made_well (inline g ss) (scalar t u) i before after h is = elim is [ ]
+    made_well (inline g ss) (array es comma t) i before after h is = elim is [ ]
+    made_well (table g ss) v i before after h is = absurd (not-value (owned_in mode) (table g ss) v i before after refl is)
+    made_well (tables e xs) v i before after h is = absurd (not-value (owned_in mode) (tables e xs) v i before after refl is)
+    made_well nothing v i before after h is = absurd (not-value (owned_in mode) nothing v i before after refl is)
 
-  items-well : (xs : Items) (es : Elements) (i : ℕ) → AreElements es → elements_have_agreeing_pairs es ≡ true → elements_keep_ranges es ≡ true
-      → AreElementNodes owned_form es i xs → ItemsAreWellMade xs
-  items-well no_items no_elements i h g r is = tt
-  items-well (item n xs) (element a v es) i h g r is = (
-    made_well n v i a.before a.after
-        (record { grammar = h.2; agrees = and_left (has_agreeing_pairs v) (elements_have_agreeing_pairs es) g; ranged = and_left (keeps_ranges v) (elements_keep_ranges es) r }) is.0,
-    items-well xs es (i + length a.before + length (value_text v) + length a.after + 1) h.3 (and_right (has_agreeing_pairs v) (elements_have_agreeing_pairs es) g)
-        (and_right (keeps_ranges v) (elements_keep_ranges es) r) is.1,
-  )
-  items-well no_items (element a v es) i h g r is = elim is [ ]
-  items-well (item n xs) no_elements i h g r is = elim is [ ]
+    items-well : (xs : Items) (es : Elements) (i : ℕ) → AreElements es → elements_have_agreeing_pairs es ≡ true → elements_keep_ranges es ≡ true
+        → AreElementNodes (owned_in mode) es i xs → ItemsAreWellMade xs
+    items-well no_items no_elements i h g r is = tt
+    items-well (item n xs) (element a v es) i h g r is = (
+      made_well n v i a.before a.after
+          (record { grammar = h.2; agrees = and_left (has_agreeing_pairs v) (elements_have_agreeing_pairs es) g; ranged = and_left (keeps_ranges v) (elements_keep_ranges es) r }) is.0,
+      items-well xs es (i + length a.before + length (value_text v) + length a.after + 1) h.3 (and_right (has_agreeing_pairs v) (elements_have_agreeing_pairs es) g)
+          (and_right (keeps_ranges v) (elements_keep_ranges es) r) is.1,
+    )
+    items-well no_items (element a v es) i h g r is = elim is [ ]
+    items-well (item n xs) no_elements i h g r is = elim is [ ]
 
-  key-made : (n : Node) (m : Mention Entry) (ns : List (Mention Entry)) → AgreeingMentions ns → AreRight ns → IsMadeByKey owned_form m ns n → IsWellMade n
-  key-made (inline f ss) m ns agree right is =
-      slots-well ss ns (kept ns) agree right (λ k a. kept-is [] k ns a) (kept-distinct ns agree) is.1
-  key-made (leaf s r x) m ns agree right is = elim is [ ]
-  key-made (list g xs) m ns agree right is = elim is [ ]
-  key-made (table g ss) m ns agree right is = elim is [ ]
-  key-made (tables e xs) m ns agree right is = elim is [ ]
-  key-made nothing m ns agree right is = elim is [ ]
+    key-made : (n : Node) (m : Mention Entry) (ns : List (Mention Entry)) → AgreeingMentions ns → AreRight ns → IsMadeByKey (owned_in mode) m ns n → IsWellMade n
+    key-made (inline f ss) m ns agree right is =
+        slots-well ss ns (kept ns) agree right (λ k a. kept-is [] k ns a) (kept-distinct ns agree) is.1
+    key-made (leaf s r x) m ns agree right is = elim is [ ]
+    key-made (list g xs) m ns agree right is = elim is [ ]
+    key-made (table g ss) m ns agree right is = elim is [ ]
+    key-made (tables e xs) m ns agree right is = elim is [ ]
+    key-made nothing m ns agree right is = elim is [ ]
 
-  slots-well : (ss : Slots) (ms ks : List (Mention Entry)) → AgreeingMentions ms → AreRight ms → ((k : Mention Entry) → Among k ks → Kept [] k ms)
-      → AreDistinct ks → AreEntrySlots owned_form ms ks ss → SlotsAreWellMade ss
-  slots-well no_slots ms [] agree right are apart is = tt
-  slots-well (slot key n ss) ms (k ∷ ks) agree right are apart is =
-      let at = are k (inl refl) in
-      let of_key = slot-key owned_form ms k ks key n ss is in
-      let is_node = slot-node owned_form ms k ks key n ss is in
-      let rest = slot-rest owned_form ms k ks key n ss is in
-      let others = λ (j : Mention Entry) (a : Among j ks). are j (inr a) in (
-        subst (λ x. has_key x ss ≡ false) (sym (ap (λ x. x.name) of_key)) (no-such-key owned_form ss ms ks k agree at others apart.0 rest),
-        subst (λ (x : Key). HasTrueSpelling (SpellsKey x.name) x.spelling) (sym of_key) (right k at.among).key,
-        elim (agree.roles k at.among) [
-          | inl d ↦
-              key-made n k (under (at_key k.segment.key) ms) (under-agrees (at_key k.segment.key) ms agree) (under-right k.segment.key ms right) (dotted-slot k.role _ _ d is_node)
-          | inr v ↦ made_well n k.source.value k.source.start k.source.before k.source.after (right k at.among).value (value-slot k.role _ _ v is_node)
-        ],
-        slots-well ss ms ks agree right others apart.1 rest,
-      )
-  slots-well no_slots ms (k ∷ ks) agree right are apart is = elim is [ ]
-  slots-well (slot key n ss) ms [] agree right are apart is = elim is [ ]
+    slots-well : (ss : Slots) (ms ks : List (Mention Entry)) → AgreeingMentions ms → AreRight ms → ((k : Mention Entry) → Among k ks → Kept [] k ms)
+        → AreDistinct ks → AreEntrySlots (owned_in mode) ms ks ss → SlotsAreWellMade ss
+    slots-well no_slots ms [] agree right are apart is = tt
+    slots-well (slot key n ss) ms (k ∷ ks) agree right are apart is =
+        let at = are k (inl refl) in
+        let of_key = slot-key (owned_in mode) ms k ks key n ss is in
+        let is_node = slot-node (owned_in mode) ms k ks key n ss is in
+        let rest = slot-rest (owned_in mode) ms k ks key n ss is in
+        let others = λ (j : Mention Entry) (a : Among j ks). are j (inr a) in (
+          subst (λ x. has_key x ss ≡ false) (sym (ap (λ x. x.name) of_key)) (no-such-key (owned_in mode) ss ms ks k agree at others apart.0 rest),
+          subst (λ (x : Key). HasTrueSpelling (SpellsKey x.name) x.spelling) (sym of_key) (right k at.among).key,
+          elim (agree.roles k at.among) [
+            | inl d ↦
+                key-made n k (under (at_key k.segment.key) ms) (under-agrees (at_key k.segment.key) ms agree) (under-right k.segment.key ms right) (dotted-slot k.role _ _ d is_node)
+            | inr v ↦ made_well n k.source.value k.source.start k.source.before k.source.after (right k at.among).value (value-slot k.role _ _ v is_node)
+          ],
+          slots-well ss ms ks agree right others apart.1 rest,
+        )
+    slots-well no_slots ms (k ∷ ks) agree right are apart is = elim is [ ]
+    slots-well (slot key n ss) ms [] agree right are apart is = elim is [ ]

@@ -143,7 +143,7 @@ slot-told p ms ks k f fs gs here others = (
     back t (inr a) = among-right f fs gs (others.1 (record { slot = t.slot; kept = a; told = t.told }))
 
 -- the facts of an inline table's pairs
-pairs-below : (form : Form) (ps : Pairs) (i : ℕ) (p : Path) (f : Fact) (fs : List Fact) → ArePairs ps → all_agree may_meet_inline (pair_mentions 0 0 ps) ≡ true
+pairs-below : (form : Form) (ps : Pairs) (i : ℕ) (p : Path) (f : Fact) (fs : List Fact) → ArePairs ps → all_agree may_meet_inline (pair_mentions 0 ps) ≡ true
     → ((Among f fs → ToldBelow p (entries form ps i) (kept (entries form ps i)) f)
     × (ToldBelow p (entries form ps i) (kept (entries form ps i)) f → Among f fs))
     → (Among f fs → Among f (pairs_facts ps p)) × (Among f (pairs_facts ps p) → Among f fs)
@@ -164,7 +164,7 @@ module _ (form : Form) where
         alike-cons (fact p an_array) (list_facts xs p 0) (elements_facts es p 0) (items-facts xs es (i + length before + 1) h.0.1 h.1 is.1 p 0)
     node-facts (inline g ss) (inline_table ps comma t) i before after h is p =
         let j = i + length before + 1 in
-        let all = all_agree may_meet_inline (pair_mentions 0 0 ps) in
+        let all = all_agree may_meet_inline (pair_mentions 0 ps) in
         let agree = and_left all (pairs_have_agreeing_pairs ps) h.1 in
         let sound = entry-value form IsSound ps j (each-sound ps h.0.1 (and_right all (pairs_have_agreeing_pairs ps) h.1)) in
         alike-cons (fact p a_table) (inside_slots_facts ss p) (pairs_facts ps p) (λ f.

@@ -6,9 +6,9 @@ use Rattle.toml_edit_model.specs.Syntax.{Segment, Value, Statement, key_line, Do
 use Rattle.toml_edit_model.specs.Print.{print}
 use Rattle.toml_edit_model.specs.Fits.{is_steady}
 use Rattle.toml_edit_model.specs.TreeOf.{owned_form}
-use Rattle.toml_edit_model.specs.ComputedTree.{tree_of}
+use Rattle.toml_edit_model.specs.examples.ComputedTree.{tree_of}
 use Rattle.toml_edit_model.specs.SlotLists.{Slot, changed, inserted, without_key}
-use Rattle.toml_edit_model.specs.ExampleParts.{line, head, document, a, b, c, d, x, y, one_value, two_value, three_value, plain_int}
+use Rattle.toml_edit_model.specs.examples.Parts.{line, head, document, a, b, c, d, x, y, one_value, two_value, three_value, plain_int}
 use Rattle.toml_edit_laws.specs.Locality.{Turn, into_table, into_element, edited, written, in_tables, without_item}
 
 -- the document's tree prints the first text, the edited tree the second, and both are steady

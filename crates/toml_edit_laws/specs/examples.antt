@@ -1,0 +1,3 @@
+-- Worked examples of edits of trees and of the program's commands.
+pub mod Edits
+pub mod Commands
