@@ -7,6 +7,8 @@ ghost use Rattle.toml_edit_datetime.specs.OffsetView.{offset_view};
 
 use crate::date::Date;
 use crate::time::Time;
+use std::error::Error;
+use std::fmt;
 
 /// How far a local time is from Coordinated Universal Time.
 #[derive(Clone, Copy, Debug, PartialEq, Eq, Hash)]
@@ -20,6 +22,19 @@ pub enum Offset {
 /// A text that is no date or time, or one out of range.
 #[derive(Clone, Copy, Debug, PartialEq, Eq, Hash)]
 pub struct DatetimeFault;
+
+/// `invalid date-time`.
+impl fmt::Display for DatetimeFault {
+    ghost use Rattle.std.specs.Prelude.{Some, codes};
+
+    ghost output = { λ _. Some (codes "invalid date-time") };
+
+    fn fmt<W: fmt::Write>(&self, f: &mut fmt::Formatter<W>) -> fmt::Result {
+        f.write_str("invalid date-time")
+    }
+}
+
+impl Error for DatetimeFault {}
 
 /// A date, a time of day, or both, and then perhaps an offset of less than a day.
 #[derive(Clone, Copy, Debug, PartialEq, Eq, Hash)]

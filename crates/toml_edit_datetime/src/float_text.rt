@@ -1,5 +1,5 @@
 //! Floats, which are kept as their texts.
-ghost use Rattle.std.specs.Prelude.{◌≡◌, ◌↔◌, false, IsTrue, IsOk, IfOk, IfErr, Some, slice_index, string_bytes, nat_eq};
+ghost use Rattle.std.specs.Prelude.{◌≡◌, ◌↔◌, false, if◌then◌else◌, IsTrue, IsOk, IfOk, IfErr, None, Some, IsSome, string_bytes, nat_eq};
 ghost use Rattle.std.specs.Option.{option_copied};
 ghost use Rattle.std.specs.Hash as fed;
 ghost use Rattle.std.specs.Cmp.{partial_equiv_from_equiv};
@@ -13,12 +13,6 @@ use std::alloc::{AllocError, Global};
 use std::fmt;
 use std::hash::{Hash, Hasher};
 use std::marker::Model;
-
-fn byte_at(text: &[u8], index: usize) -> u8
-    ensures { result ≡ slice_index text.now index }
-{
-    text.get(index).copied().unwrap_or(0)
-}
 
 // The text behind an optional sign.
 fn without_sign(text: &[u8]) -> &[u8]
@@ -52,7 +46,7 @@ fn after_digits(text: &[u8]) -> Option<&[u8]>
 fn leads_with_zero(text: &[u8]) -> bool
     ensures { result ≡ spec.leads_with_zero text.now }
 {
-    byte_at(text, 0) == b'0' && matches!(byte_at(text, 1), b'0'..=b'9' | b'_')
+    matches!(text, [b'0', b'0'..=b'9' | b'_', ..])
 }
 
 // Whether the text is `e` or `E`, an optional sign and digits.
@@ -138,6 +132,19 @@ impl FloatText {
         } else {
             Err(text)
         }
+    }
+
+    /// The float that the text spells, which is copied, or `None` if it spells none. The only error is want of memory.
+    pub fn from_text(alloc: Global, text: &str) -> Result<Option<FloatText>, AllocError>
+        ensures float { IfOk result (λ o. IsSome o ↔ IsFloat text.now) }
+        ensures same { IfOk result (λ o. o ≡ (if spec.is_float_text text.now then Some text.now else None)) }
+    {
+        if !is_float(text) {
+            return Ok(None);
+        }
+        Ok(Some(FloatText {
+            text: String::from_str(alloc, text)?,
+        }))
     }
 
     /// The text.

@@ -1,5 +1,6 @@
 //! Reading a date-time that is in range.
 ghost use Rattle.std.specs.Prelude.{◌≡◌, ◌↔◌, ◌==◌, IsTrue, Some, None, is_some, if◌then◌else◌, option_map};
+ghost use Rattle.std.specs.Result.{result_ok};
 ghost use Rattle.toml_edit_model.specs.Scalars.{Datetime as DatetimeRecord, is_absent_or, is_real_date, is_real_time};
 ghost use Rattle.toml_edit_model.specs.Spelling.{SpellsDatetime};
 ghost use Rattle.toml_edit_datetime.specs.DateView.{date_view};
@@ -34,53 +35,55 @@ impl FromStr for Datetime {
     ghost from_str_gives = { ReadsDatetime };
 
     fn from_str(text: &str) -> Result<Datetime, DatetimeFault> {
-        real_datetime(text).ok_or(DatetimeFault)
+        real_datetime(text)
     }
 }
 
 /// The date-time that a text spells and that exists.
-fn real_datetime(text: &str) -> Option<Datetime>
-    ensures { option_map datetime_view result ≡ spec.ranged_of text.now }
+fn real_datetime(text: &str) -> Result<Datetime, DatetimeFault>
+    ensures { option_map datetime_view (result_ok result) ≡ spec.ranged_of text.now }
 {
-    let parts = reading::read(text.as_bytes())?;
+    let parts = reading::read(text.as_bytes()).ok_or(DatetimeFault)?;
     let date = real_date(parts.date)?;
     let time = real_time(parts.time)?;
     let offset = real_offset(parts.offset)?;
-    Datetime::new(date, time, offset)
+    Datetime::new(date, time, offset).ok_or(DatetimeFault)
 }
 
 /// The date, if there is one, unless the calendar has no such day.
-fn real_date(parts: Option<DateParts>) -> Option<Option<Date>>
-    ensures { option_map (option_map date_view) result
+fn real_date(parts: Option<DateParts>) -> Result<Option<Date>, DatetimeFault>
+    ensures { option_map (option_map date_view) (result_ok result)
         ≡ (if is_absent_or is_real_date (option_map date_parts_view parts) then Some (option_map date_parts_view parts) else None) }
 {
     let Some(parts) = parts else {
-        return Some(None);
+        return Ok(None);
     };
-    let date = Date::new(parts.year, parts.month, parts.day)?;
-    Some(Some(date))
+    let date = Date::new(parts.year, parts.month, parts.day).ok_or(DatetimeFault)?;
+    Ok(Some(date))
 }
 
 /// The time, if there is one, unless no day has it.
-fn real_time(parts: Option<TimeParts>) -> Option<Option<Time>>
-    ensures { option_map (option_map time_view) result
+fn real_time(parts: Option<TimeParts>) -> Result<Option<Time>, DatetimeFault>
+    ensures { option_map (option_map time_view) (result_ok result)
         ≡ (if is_absent_or is_real_time (option_map time_parts_view parts) then Some (option_map time_parts_view parts) else None) }
 {
     let Some(parts) = parts else {
-        return Some(None);
+        return Ok(None);
     };
-    let time = Time::new(parts.hour, parts.minute, parts.second, parts.nanosecond)?;
-    Some(Some(time))
+    let time = Time::new(parts.hour, parts.minute, parts.second, parts.nanosecond).ok_or(
+        DatetimeFault,
+    )?;
+    Ok(Some(time))
 }
 
 /// The offset, if there is one, unless its hours or minutes are not those of a day.
-fn real_offset(parts: Option<OffsetParts>) -> Option<Option<Offset>>
-    ensures { option_map (option_map offset_view) result
+fn real_offset(parts: Option<OffsetParts>) -> Result<Option<Offset>, DatetimeFault>
+    ensures { option_map (option_map offset_view) (result_ok result)
         ≡ (if is_absent_or (λ o. o.is_real) (option_map offset_parts_view parts) then Some (option_map (λ o. o.offset) (option_map offset_parts_view parts)) else None) }
 {
     match parts {
-        None => Some(None),
-        Some(parts) if parts.is_real => Some(Some(parts.offset)),
-        Some(_) => None,
+        None => Ok(None),
+        Some(parts) if parts.is_real => Ok(Some(parts.offset)),
+        Some(_) => Err(DatetimeFault),
     }
 }

@@ -15,15 +15,15 @@ use crate::parts::{DateParts, OffsetParts, Parts, TimeParts};
 pub(crate) fn read(text: &[u8]) -> Option<Parts>
     ensures { option_map parts_view result ≡ spec.parts_of text.now }
 {
-    if byte_at(text, 2) == b':' {
-        let time = whole(time(text))?;
+    if matches!(text, [_, _, b':', ..]) {
+        let time = whole(read_time(text))?;
         return Some(Parts {
             date: None,
             time: Some(time),
             offset: None,
         });
     }
-    let (date, rest) = date(text)?;
+    let (date, rest) = read_date(text)?;
     after_date(date, rest)
 }
 
@@ -42,11 +42,11 @@ fn after_date(date: DateParts, text: &[u8]) -> Option<Parts>
     if !matches!(mark, b'T' | b't' | b' ') {
         return None;
     }
-    let (time, rest) = time(rest)?;
+    let (time, rest) = read_time(rest)?;
     let offset = if rest.is_empty() {
         None
     } else {
-        Some(whole(offset(rest))?)
+        Some(whole(read_offset(rest))?)
     };
     Some(Parts {
         date: Some(date),
@@ -56,7 +56,7 @@ fn after_date(date: DateParts, text: &[u8]) -> Option<Parts>
 }
 
 #[tactic(auto, unfolding(toml_edit_laws::specs::reading::DatetimeReading::date_at))]
-fn date(text: &[u8]) -> Option<(DateParts, &[u8])>
+fn read_date(text: &[u8]) -> Option<(DateParts, &[u8])>
     ensures { read_as date_parts_view result ≡ spec.date_at text.now }
 {
     let (century, rest) = two_digits(text)?;
@@ -72,11 +72,11 @@ fn date(text: &[u8]) -> Option<(DateParts, &[u8])>
 }
 
 #[tactic(auto, unfolding(toml_edit_laws::specs::reading::DatetimeReading::time_at))]
-fn time(text: &[u8]) -> Option<(TimeParts, &[u8])>
+fn read_time(text: &[u8]) -> Option<(TimeParts, &[u8])>
     ensures { read_as time_parts_view result ≡ spec.time_at text.now }
 {
-    let ((hour, minute), rest) = clock(text)?;
-    let ((second, nanosecond), rest) = seconds(rest)?;
+    let ((hour, minute), rest) = read_clock(text)?;
+    let ((second, nanosecond), rest) = read_seconds(rest)?;
     let time = TimeParts {
         hour,
         minute,
@@ -88,7 +88,7 @@ fn time(text: &[u8]) -> Option<(TimeParts, &[u8])>
 
 /// `hh:mm`.
 #[tactic(auto, unfolding(toml_edit_laws::specs::reading::DatetimeReading::clock_at))]
-fn clock(text: &[u8]) -> Option<((u8, u8), &[u8])>
+fn read_clock(text: &[u8]) -> Option<((u8, u8), &[u8])>
     ensures value { read_of result ≡ spec.clock_at text.now }
     ensures small { IfSome result (λ p. (p.0.0 < 100) × (p.0.1 < 100)) }
 {
@@ -99,23 +99,23 @@ fn clock(text: &[u8]) -> Option<((u8, u8), &[u8])>
 
 /// Nothing, or `:ss` and perhaps a fraction.
 #[tactic(auto, unfolding(toml_edit_laws::specs::reading::DatetimeReading::seconds_at))]
-fn seconds(text: &[u8]) -> Option<((Option<u8>, Option<u32>), &[u8])>
+fn read_seconds(text: &[u8]) -> Option<((Option<u8>, Option<u32>), &[u8])>
     ensures { read_of result ≡ spec.seconds_at text.now }
 {
-    if byte_at(text, 0) != b':' {
+    let [b':', rest @ ..] = text else {
         return Some(((None, None), text));
-    }
-    let (second, rest) = two_digits(&text[1..])?;
-    if byte_at(rest, 0) != b'.' {
+    };
+    let (second, rest) = two_digits(rest)?;
+    let [b'.', digits @ ..] = rest else {
         return Some(((Some(second), None), rest));
-    }
-    let (nanosecond, rest) = fraction(&rest[1..])?;
+    };
+    let (nanosecond, rest) = read_fraction(digits)?;
     Some(((Some(second), Some(nanosecond)), rest))
 }
 
 /// The digits behind a point, as nanoseconds.
 #[tactic(auto, unfolding(toml_edit_laws::specs::reading::DatetimeReading::fraction_at))]
-fn fraction(text: &[u8]) -> Option<(u32, &[u8])>
+fn read_fraction(text: &[u8]) -> Option<(u32, &[u8])>
     ensures { read_of result ≡ spec.fraction_at text.now }
 {
     let len = digits_len(text);
@@ -123,11 +123,11 @@ fn fraction(text: &[u8]) -> Option<(u32, &[u8])>
         return None;
     }
     let (digits, rest) = text.split_at(len);
-    Some((nanosecond(digits), rest))
+    Some((nanoseconds_of(digits), rest))
 }
 
 /// The number of nine digits: the first of these, and then zeros.
-fn nanosecond(digits: &[u8]) -> u32
+fn nanoseconds_of(digits: &[u8]) -> u32
     requires { (k : ℕ) → k < length digits.now → is_ascii_digit (slice_index digits.now k) ≡ true }
     ensures { result ≡ nanoseconds digits.now }
 {
@@ -152,7 +152,7 @@ fn digits_len(text: &[u8]) -> usize
 
 /// `Z`, `z`, or a sign and `hh:mm`.
 #[tactic(auto, unfolding(toml_edit_laws::specs::reading::DatetimeReading::offset_at))]
-fn offset(text: &[u8]) -> Option<(OffsetParts, &[u8])>
+fn read_offset(text: &[u8]) -> Option<(OffsetParts, &[u8])>
     ensures { read_as offset_parts_view result ≡ spec.offset_at text.now }
 {
     match text {
@@ -164,12 +164,12 @@ fn offset(text: &[u8]) -> Option<(OffsetParts, &[u8])>
             Some((parts, rest))
         }
         [b'+', rest @ ..] => {
-            let ((hours, minutes), rest) = clock(rest)?;
+            let ((hours, minutes), rest) = read_clock(rest)?;
             let all = 60 * u16::from(hours) + u16::from(minutes);
             Some((shift(all as i16, hours, minutes), rest))
         }
         [b'-', rest @ ..] => {
-            let ((hours, minutes), rest) = clock(rest)?;
+            let ((hours, minutes), rest) = read_clock(rest)?;
             let all = 60 * u16::from(hours) + u16::from(minutes);
             Some((shift(-(all as i16), hours, minutes), rest))
         }
@@ -207,12 +207,6 @@ fn after_byte(text: &[u8], byte: u8) -> Option<&[u8]>
         [first, rest @ ..] if *first == byte => Some(rest),
         _ => None,
     }
-}
-
-fn byte_at(text: &[u8], index: usize) -> u8
-    ensures { result ≡ slice_index text.now index }
-{
-    text.get(index).copied().unwrap_or(0)
 }
 
 fn whole<T: Copy>(read: Option<(T, &[u8])>) -> Option<T>

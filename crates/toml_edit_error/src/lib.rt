@@ -3,4 +3,4 @@
 
 pub mod toml_error;
 
-pub use toml_error::{ParseFault, TomlError};
+pub use toml_error::{ParseFault, TomlError, refusal};

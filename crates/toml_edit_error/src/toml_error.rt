@@ -1,8 +1,9 @@
 //! What is wrong with a text, and where.
-ghost use Rattle.std.specs.Prelude.{◌≡◌, option_map, string_bytes};
+ghost use Rattle.std.specs.Prelude.{◌≡◌, IfOk, option_map, string_bytes};
+ghost use Rattle.toml_edit_error.specs.Fault.{IfToml};
 ghost use Rattle.toml_edit_error.specs.Report.{SpanIsIn};
 
-use std::alloc::{AllocError, AllocFailed};
+use std::alloc::{AllocError, AllocFailed, Global};
 use std::error::Error;
 use std::fmt;
 use std::marker::Model;
@@ -119,34 +120,27 @@ impl<T: Drop> From<AllocFailed<T>> for ParseFault {
     }
 }
 
-#[cfg(test)]
-mod tests {
-    use super::{ParseFault, TomlError};
-    use std::alloc::{AllocError, Global};
-    use std::test::Fail;
-
-    fn sample(alloc: Global) -> Result<TomlError, AllocError> {
-        let message = String::from_str(alloc, "duplicate key")?;
-        let input = String::from_str(alloc, "a = 1\na = 2\n")?;
-        Ok(TomlError::new(message, None, input))
+/// The fault of a text that is refused with a message about the bytes in the span, if it has one. Text and message are copied.
+pub fn refusal(alloc: Global, text: &str, message: &str, span: Option<(usize, usize)>) -> ParseFault
+    requires { ∥ SpanIsIn text.now span ∥₁ }
+    ensures { IfToml result (λ r. r ≡ record { message = message.now; span = span; input = text.now }) }
+{
+    match error(alloc, text, message, span) {
+        Ok(error) => ParseFault::Toml(error),
+        Err(_) => ParseFault::Memory,
     }
+}
 
-    #[test]
-    fn shows_its_message(rt: HostRuntime) -> Result<(), Fail> {
-        let error = sample(rt.alloc())?;
-        assert_eq!(rt; error.message(), "duplicate key");
-        assert!(rt; error.span().is_none());
-        let shown = error.to_string(rt.alloc())?;
-        assert_eq!(rt; shown.as_str(), "duplicate key\n");
-        Ok(())
-    }
-
-    #[test]
-    fn shows_a_fault(rt: HostRuntime) -> Result<(), Fail> {
-        let shown = ParseFault::Toml(sample(rt.alloc())?).to_string(rt.alloc())?;
-        assert_eq!(rt; shown.as_str(), "duplicate key\n");
-        let shown = ParseFault::Memory.to_string(rt.alloc())?;
-        assert_eq!(rt; shown.as_str(), "out of memory\n");
-        Ok(())
-    }
+fn error(
+    alloc: Global,
+    text: &str,
+    message: &str,
+    span: Option<(usize, usize)>,
+) -> Result<TomlError, AllocError>
+    requires { ∥ SpanIsIn text.now span ∥₁ }
+    ensures { IfOk result (λ r. r ≡ record { message = message.now; span = span; input = text.now }) }
+{
+    let message = String::from_str(alloc, message)?;
+    let input = String::from_str(alloc, text)?;
+    Ok(TomlError::new(message, span, input))
 }

@@ -1,23 +1,13 @@
 -- The turns of reading a path.
-use Rattle.std.proofs.Common.{◌≡◌, ℕ, zero, suc, ◌<◌, List, [], ◌∷◌, ◌++◌, length, Option, Some, None, refl, sym, ap, ◌∙◌, arith, append_assoc}
+use Rattle.std.proofs.Common.{◌≡◌, ℕ, zero, suc, ◌<◌, List, [], ◌∷◌, ◌++◌, length, Option, Some, None, refl, sym, ap, subst, ◌∙◌, arith, append_assoc, append-nil, length-append}
 use Rattle.std.specs.Prelude.{option_map, option_and_then}
 use Rattle.toml_edit_model.specs.Text.{Text}
 use Rattle.toml_edit_model.specs.Trivia.{is_blank}
 use Rattle.toml_edit_model.specs.Tree.{Key, unset}
 use Rattle.toml_edit_model.specs.Lone.{path_key}
 use Rattle.toml_edit_laws.specs.reading.Runs.{split_while}
-use Rattle.toml_edit_key.specs.PathReading.{front_key, after_dot, segment, outer, keys_at, lone_at}
+use Rattle.toml_edit_key.specs.PathReading.{front_key, after_dot, segment, outer, keys_at, lone_at, joined_keys, HasRead, HasReadTo, GoesOn, StopsIn}
 use Rattle.toml_edit_key.proofs.PathLaws.{StepAt, Step, keys_step}
-
--- these keys, and then those of what is left
-abbrev pub joined_keys : List Key → Option (List Key) → Option (List Key)
-joined_keys ks o = option_map (λ more. ks ++ more) o
-
--- The keys of the whole are those read so far, and then those of what is left, which has room for its segments.
-pub record HasRead (t before : Text) (ks : List Key) (gap rest : Text) : Type 0 where
-  pub fuel : ℕ
-  pub room : length rest < fuel
-  pub read : lone_at t ≡ joined_keys ks (keys_at fuel before gap rest)
 
 joined_nothing : (o : Option (List Key)) → joined_keys [] o ≡ o
 joined_nothing None = refl
@@ -108,3 +98,43 @@ goes_on t before gap rest after white next tail gap' rest' k ks h found cut some
           ∙ ap (λ (w : Text × Text). joined_keys ks (option_map (λ ks. path_key unset (segment gap k white) ∷ ks) (keys_at n before w.0 w.1))) (sym cut')
           ∙ joined_further ks (path_key unset (segment gap k white)) (keys_at n before gap' rest');
     }
+
+-- ---- the tail of a path that is too long
+
+-- what was read up to the one tail was read up to the other, with more keys
+abbrev pub Reaches : Text → Text → Type 0
+Reaches tail rest = (t before : Text) (ks : List Key) → HasReadTo t before ks tail → (more : List Key) × HasReadTo t before (ks ++ more) rest
+
+pub reaches_itself : (tail : Text) → Reaches tail tail
+reaches_itself tail t before ks h = ([], subst (λ (x : List Key). HasReadTo t before x tail) (sym (append-nil ks)) h)
+
+module _ (tail rest gap start : Text) (cut : ◌≡◌ {A = Text × Text} (gap, start) (split_while is_blank rest)) (reaches : Reaches tail rest) where
+  -- the key that is read next, from the white space before it
+  here : (t before : Text) (ks : List Key) → HasReadTo t before ks rest → HasRead t before ks gap start
+  here t before ks h = subst (λ (w : Text × Text). HasRead t before ks w.0 w.1) (sym cut) h
+
+  pub tail_no_key : front_key start ≡ None → StopsIn tail
+  tail_no_key none t before ks h =
+      let (more, read) = reaches t before ks h in
+      no_key t before gap start (ks ++ more) (here t before (ks ++ more) read) none
+
+  module _ (after white next : Text) (k : Text × Text) (found : front_key start ≡ Some (k, after)) (cut' : ◌≡◌ {A = Text × Text} (white, next) (split_while is_blank after)) where
+    pub tail_ends : length next ≡ 0 → GoesOn tail
+    tail_ends none t before ks h =
+        let (more, read) = reaches t before ks h in
+        let last = path_key (outer before white) (segment gap k []) in
+        let all = ends t before gap start after white next k (ks ++ more) (here t before (ks ++ more) read) found cut' none in
+        (more ++ (last ∷ []), omega (arith, length-append more (last ∷ [])), all ∙ ap Some (append_assoc ks more (last ∷ [])))
+
+    pub tail_no_dot : 0 < length next → after_dot next ≡ None → StopsIn tail
+    tail_no_dot some none t before ks h =
+        let (more, read) = reaches t before ks h in
+        no_dot t before gap start after white next k (ks ++ more) (here t before (ks ++ more) read) found cut' some none
+
+    pub tail_more : 0 < length next → (behind : Text) → after_dot next ≡ Some behind → length (split_while is_blank behind).1 < length start → Reaches tail behind
+    tail_more some behind dot less t before ks h =
+        let (more, read) = reaches t before ks h in
+        let key = path_key unset (segment gap k white) in
+        let w = split_while is_blank behind in
+        let on = goes_on t before gap start after white next behind w.0 w.1 k (ks ++ more) (here t before (ks ++ more) read) found cut' some dot refl less in
+        (more ++ (key ∷ []), subst (λ (x : List Key). HasReadTo t before x behind) (append_assoc ks more (key ∷ [])) on)

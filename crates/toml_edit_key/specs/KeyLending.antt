@@ -5,7 +5,7 @@ use Rattle.std.specs.Borrow.{Lends, MutBor, Fml}
 use Rattle.toml_edit_model.specs.Tree.{Decor}
 use Rattle.toml_edit_key.specs.declared.key.key_mut.KeyMut.{KeyMut}
 use Rattle.toml_edit_key.specs.contracts.key.key_mut.KeyMut as key_mut
-use Rattle.toml_edit_repr.specs.contracts.raw_string.Decor as decor
+use Rattle.toml_edit_repr.specs.contracts.repr.Decor as decor
 
 -- the key ends with the last decor behind r as its leaf decor, or as its dotted decor
 abbrev pub LendsLeafMut : MutBor KeyMut → MutBor Decor → Fml

@@ -1,7 +1,7 @@
 -- What is lent out of keys.
 use Rattle.std.specs.Borrow.{Lends, MutBor, Fml}
 use Rattle.toml_edit_model.specs.Tree.{Decor, Key}
-use Rattle.toml_edit_repr.specs.contracts.raw_string.Decor as decor
+use Rattle.toml_edit_repr.specs.contracts.repr.Decor as decor
 use Rattle.toml_edit_key.specs.contracts.key.Key as key
 
 -- the key ends with the last decor behind r as its leaf decor, or as its dotted decor

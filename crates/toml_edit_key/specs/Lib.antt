@@ -1,6 +1,7 @@
 -- What the contracts of this crate cite.
 pub mod Keys
 pub mod LendingParts
+pub mod KeyMutView
 pub mod KeyLending
 pub mod PathReading
 pub mod ReadKeys

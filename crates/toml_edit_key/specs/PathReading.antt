@@ -1,5 +1,5 @@
 -- Reading a lone path from left to right, as the keys that it is made into.
-use Rattle.std.specs.Prelude.{ℕ, zero, suc, ◌-◌, ◌==◌, if◌then◌else◌, List, [], ◌∷◌, length, take, drop, Option, Some, None, option_map, option_and_then}
+use Rattle.std.specs.Prelude.{◌≡◌, ◌<◌, ◌++◌, ℕ, zero, suc, ◌-◌, ◌==◌, if◌then◌else◌, List, [], ◌∷◌, length, take, drop, Option, Some, None, option_map, option_and_then}
 use Rattle.toml_edit_model.specs.Text.{Text, is_empty}
 use Rattle.toml_edit_model.specs.Trivia.{is_blank}
 use Rattle.toml_edit_model.specs.Syntax.{Segment}
@@ -45,3 +45,27 @@ keys_at (suc n) before gap t =
 -- the keys of a lone path of any length
 unfoldable pub lone_at : Text → Option (List Key)
 lone_at t = let white = split_while is_blank t in keys_at (suc (length white.1)) white.0 [] white.1
+
+-- ---- on the way
+
+-- these keys, and then those of what is left
+abbrev pub joined_keys : List Key → Option (List Key) → Option (List Key)
+joined_keys ks o = option_map (λ more. ks ++ more) o
+
+-- The keys of the whole are those read so far, and then those of what is left, which has room for its segments.
+pub record HasRead (t before : Text) (ks : List Key) (gap rest : Text) : Type 0 where
+  pub fuel : ℕ
+  pub room : length rest < fuel
+  pub read : lone_at t ≡ joined_keys ks (keys_at fuel before gap rest)
+
+-- a text of which keys were read, up to a dot and this tail
+abbrev pub HasReadTo : Text → Text → List Key → Text → Type 0
+HasReadTo t before ks tail = let next = split_while is_blank tail in HasRead t before ks next.0 next.1
+
+-- any such text reads as these keys and more
+abbrev pub GoesOn : Text → Type 0
+GoesOn tail = (t before : Text) (ks : List Key) → HasReadTo t before ks tail → (more : List Key) × (0 < length more) × (lone_at t ≡ Some (ks ++ more))
+
+-- no such text reads as keys
+abbrev pub StopsIn : Text → Type 0
+StopsIn tail = (t before : Text) (ks : List Key) → HasReadTo t before ks tail → lone_at t ≡ None

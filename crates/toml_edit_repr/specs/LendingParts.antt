@@ -5,7 +5,7 @@ use Rattle.toml_edit_model.specs.Tree.{Decor}
 use Rattle.toml_edit_repr.specs.Views.{FormattedView}
 use Rattle.toml_edit_repr.specs.declared.repr.ScalarValue as value
 use Rattle.toml_edit_repr.specs.declared.repr.ValueRepr as spelled
-use Rattle.toml_edit_repr.specs.contracts.raw_string.Decor as decor
+use Rattle.toml_edit_repr.specs.contracts.repr.Decor as decor
 use Rattle.toml_edit_repr.specs.contracts.repr.Formatted as formatted
 
 -- the scalar ends with the last decor behind r

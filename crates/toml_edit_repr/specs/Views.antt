@@ -1,18 +1,17 @@
 -- What a contract sees of texts and scalars.
-use Rattle.std.specs.Prelude.{ℕ, Bool, true, ◌||◌, Option, None, Some}
+use Rattle.std.specs.Prelude.{ℕ, Bool, true, nat_le, length, Option, None, Some}
 use Rattle.std.specs.declared.ops.Range.{Range}
-use Rattle.toml_edit_model.specs.Text.{Text, same_text, is_empty}
+use Rattle.toml_edit_model.specs.Text.{Text}
 use Rattle.toml_edit_model.specs.Tree.{Raw, owned, span, Decor}
-use Rattle.toml_edit_model.specs.Print.{blank}
 
 -- the text, unless it is a span
 abbrev pub text_of : Raw → Option Text
 text_of (owned t) = Some t
 text_of (span i j) = None
 
--- the text takes no memory: nothing, or one space
+-- the text takes no memory: it has at most 16 bytes
 abbrev pub is_free : Text → Bool
-is_free t = is_empty t || same_text t blank
+is_free t = nat_le (length t) 16
 
 -- it takes no memory: such a text, or a span
 abbrev pub is_free_raw : Raw → Bool

@@ -6,6 +6,6 @@ pub mod raw_string;
 pub mod repr;
 pub mod write;
 
-pub use raw_string::{Decor, Mem, RawString};
-pub use repr::{Formatted, Repr, ScalarValue, ValueRepr, despan_spelling};
+pub use raw_string::{Mem, RawString};
+pub use repr::{Decor, Formatted, Repr, ScalarValue, ValueRepr, clone_spelling, despan_spelling};
 pub use write::{spelling_text, write_raw, write_scalar, write_side};

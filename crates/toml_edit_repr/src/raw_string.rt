@@ -1,9 +1,10 @@
-//! Texts that are kept beside values, as texts of their own or as spans of the source, and decors.
-ghost use Rattle.std.specs.Prelude.{◌≡◌, ◌↔◌, [], None, Some, IsOk, IsTrue, IfOk, OnOk, OnErr, option_map, string_bytes};
+//! Texts that are kept beside values, as texts of their own or as spans of the source.
+ghost use Rattle.std.specs.Prelude.{◌≡◌, ◌↔◌, [], IsOk, IsTrue, IfOk, OnOk, OnErr, string_bytes};
 ghost use Rattle.std.specs.Option.{option_copied};
-ghost use Rattle.toml_edit_model.specs.Tree.{owned, span, unset};
-ghost use Rattle.toml_edit_model.specs.TreeOf.{RawFits, OptionFits, DecorFits, owned_raw, owned_decor};
+ghost use Rattle.toml_edit_model.specs.Tree.{owned, span};
+ghost use Rattle.toml_edit_model.specs.TreeOf.{RawFits, owned_raw};
 
+use arrayvec::ArrayString;
 use std::alloc::{AllocError, Global};
 use std::hash::{Hash, Hasher};
 use std::marker::Model;
@@ -14,9 +15,10 @@ pub type Mem<T> = Result<T, AllocError>;
 
 #[derive(Debug, Drop)]
 enum Inner {
-    // these two take no memory
+    // these three take no memory
     Empty,
     Space,
+    Short(ArrayString<16>),
     Text(String),
     Span(usize, usize),
 }
@@ -39,7 +41,7 @@ impl Model for RawString {
 impl RawString {
     ghost use Rattle.toml_edit_repr.specs.Views.{text_of, range_of, is_free, is_free_raw};
 
-    /// A copy of the text. The only error is want of memory. The empty text and one space take none.
+    /// A copy of the text. The only error is want of memory. A text of at most 16 bytes takes none.
     pub fn from_text(alloc: Global, text: &str) -> Mem<RawString>
         ensures ok { IfOk result (λ raw. raw ≡ owned text.now) }
         ensures free { IsTrue (is_free text.now) → IsOk result }
@@ -52,6 +54,11 @@ impl RawString {
         if text == " " {
             return Ok(RawString {
                 inner: Inner::Space,
+            });
+        }
+        if let Ok(short) = ArrayString::from(text) {
+            return Ok(RawString {
+                inner: Inner::Short(short),
             });
         }
         Ok(RawString {
@@ -75,12 +82,13 @@ impl RawString {
         match &self.inner {
             Inner::Empty => Some(""),
             Inner::Space => Some(" "),
+            Inner::Short(text) => Some(text.as_str()),
             Inner::Text(text) => Some(text.as_str()),
             Inner::Span(_, _) => None,
         }
     }
 
-    /// An equal copy. The only error is want of memory. The empty text, one space and a span take none.
+    /// An equal copy. The only error is want of memory. A text of at most 16 bytes and a span take none.
     pub fn clone(&self, alloc: Global) -> Mem<RawString>
         ensures equal { IfOk result (λ copy. copy ≡ self.now) }
         ensures free { IsTrue (is_free_raw self.now) → IsOk result }
@@ -89,6 +97,9 @@ impl RawString {
             Inner::Empty => Ok(RawString::default()),
             Inner::Space => Ok(RawString {
                 inner: Inner::Space,
+            }),
+            Inner::Short(text) => Ok(RawString {
+                inner: Inner::Short(*text),
             }),
             Inner::Text(text) => RawString::from_text(alloc, text.as_str()),
             Inner::Span(start, end) => Ok(RawString::from_span(*start, *end)),
@@ -112,7 +123,13 @@ impl RawString {
         ensures err { OnErr result (self.new ≡ self.old) }
     {
         if let Inner::Span(start, end) = &self.inner {
-            *self = RawString::from_text(alloc, &source[*start..*end])?;
+            let text = &source[*start..*end];
+            // Most sides are one space.
+            if text != " " {
+                *self = RawString::from_text(alloc, text)?;
+            } else {
+                self.inner = Inner::Space;
+            }
         }
         Ok(())
     }
@@ -186,156 +203,5 @@ impl Hash for RawString {
                 self.as_str().unwrap_or("").hash(state);
             }
         }
-    }
-}
-
-/// What stands before and after a key or a value. A side that is unset is printed as its place wants it.
-#[derive(Debug, Drop)]
-pub struct Decor {
-    prefix: Option<RawString>,
-    suffix: Option<RawString>,
-}
-
-impl Model for Decor {
-    ghost use Rattle.toml_edit_model.specs.Tree.{Decor as DecorView};
-
-    ghost Value = { DecorView };
-
-    ghost view = { λ a. record { prefix = a.prefix; suffix = a.suffix } };
-}
-
-fn despan_side(alloc: Global, side: &mut Option<RawString>, source: &str) -> Mem<()>
-    requires { OptionFits source.now side.old }
-    ensures ok { OnOk result (side.new ≡ option_map (owned_raw source.now) side.old) }
-    ensures err { OnErr result (side.new ≡ side.old) }
-{
-    match side {
-        None => Ok(()),
-        Some(raw) => raw.despan(alloc, source),
-    }
-}
-
-fn clone_side(alloc: Global, side: &Option<RawString>) -> Mem<Option<RawString>>
-    ensures { IfOk result (λ copy. copy ≡ side.now) }
-{
-    match side {
-        None => Ok(None),
-        Some(raw) => Ok(Some(raw.clone(alloc)?)),
-    }
-}
-
-impl Decor {
-    /// Both sides.
-    pub fn new(prefix: RawString, suffix: RawString) -> Decor
-        ensures { result ≡ record { prefix = Some prefix; suffix = Some suffix } }
-    {
-        Decor {
-            prefix: Some(prefix),
-            suffix: Some(suffix),
-        }
-    }
-
-    /// An equal copy. The only error is want of memory.
-    pub fn clone(&self, alloc: Global) -> Mem<Decor>
-        ensures { IfOk result (λ copy. copy ≡ self.now) }
-    {
-        Ok(Decor {
-            prefix: clone_side(alloc, &self.prefix)?,
-            suffix: clone_side(alloc, &self.suffix)?,
-        })
-    }
-
-    /// Unsets both sides.
-    pub fn clear(&mut self)
-        ensures { self.new ≡ unset }
-    {
-        self.prefix = None;
-        self.suffix = None;
-    }
-
-    /// What stands before.
-    pub fn prefix(&self) -> Option<&RawString>
-        ensures { option_copied result ≡ self.now.prefix }
-    {
-        self.prefix.as_ref()
-    }
-
-    /// Sets what stands before.
-    pub fn set_prefix(&mut self, prefix: RawString)
-        ensures { self.new ≡ record self.old { prefix = Some prefix } }
-    {
-        self.prefix = Some(prefix);
-    }
-
-    /// What stands after.
-    pub fn suffix(&self) -> Option<&RawString>
-        ensures { option_copied result ≡ self.now.suffix }
-    {
-        self.suffix.as_ref()
-    }
-
-    /// Sets what stands after.
-    pub fn set_suffix(&mut self, suffix: RawString)
-        ensures { self.new ≡ record self.old { suffix = Some suffix } }
-    {
-        self.suffix = Some(suffix);
-    }
-
-    /// Turns spans of `source` into the texts that stand there. The only error is want of memory, and then either side may be
-    /// a span still: the document that the decor is of is to be given up.
-    pub fn despan(&mut self, alloc: Global, source: &str) -> Mem<()>
-        requires { DecorFits source.now self.old }
-        ensures { OnOk result (self.new ≡ owned_decor source.now self.old) }
-    {
-        despan_side(alloc, &mut self.prefix, source)?;
-        despan_side(alloc, &mut self.suffix, source)
-    }
-}
-
-impl Default for Decor {
-    ghost is_default = { λ d. d ≡ unset };
-
-    fn default() -> Decor {
-        Decor {
-            prefix: None,
-            suffix: None,
-        }
-    }
-}
-
-/// Two decors are equal if both of their sides are. An unset side differs from an empty one.
-impl PartialEq for Decor {
-    ghost use Rattle.toml_edit_repr.specs.Sameness.{same_decor};
-    ghost use Rattle.toml_edit_repr.specs.SamenessLaws.{same_decor_partial_equiv};
-
-    ghost eq = { same_decor };
-
-    ghost laws = { same_decor_partial_equiv };
-
-    fn eq(&self, other: &Decor) -> bool
-        ensures answer { result ≡ same_decor self.now other.now }
-        ensures exact { IsTrue result ↔ (self.now ≡ other.now) }
-    {
-        self.prefix == other.prefix && self.suffix == other.suffix
-    }
-}
-
-impl Eq for Decor {
-    ghost use Rattle.toml_edit_repr.specs.SamenessLaws.{same_decor_equiv};
-
-    ghost laws = { same_decor_equiv };
-}
-
-impl Hash for Decor {
-    ghost use Rattle.toml_edit_repr.specs.Sameness.{decor_hash_input};
-    ghost use Rattle.toml_edit_repr.specs.SamenessLaws.{decor_hash_respects};
-
-    ghost hash_input = { decor_hash_input };
-
-    ghost respects_eq = { decor_hash_respects };
-
-    fn hash<H: Hasher>(&self, state: &mut H) {
-        self.prefix.hash(state);
-        self.suffix.hash(state);
     }
 }

@@ -1,4 +1,4 @@
-//! Spellings, and scalars with their spelling and their decor.
+//! Spellings, decors, and scalars with their spelling and their decor.
 ghost use Rattle.std.specs.Prelude.{◌≡◌, ◌↔◌, IsTrue, None, Some, IsSome, IsOkAnd, IfOk, OnOk, OnErr, option_map, option_and_then, string_bytes};
 ghost use Rattle.std.specs.Option.{option_copied};
 ghost use Rattle.std.specs.Cow.{cow_str_bytes, IsBorrowedStr};
@@ -9,7 +9,7 @@ ghost use Rattle.toml_edit_model.specs.Spelling.{SpellsInRange};
 ghost use Rattle.toml_edit_model.specs.Tree.{owned, span, unset, HasTrueSpelling, scalar_text};
 ghost use Rattle.toml_edit_model.specs.TreeOf.{RawFits, OptionFits, DecorFits, owned_raw, owned_decor};
 
-use crate::raw_string::{Decor, Mem, RawString};
+use crate::raw_string::{Mem, RawString};
 use crate::write::{spelling_text, write_scalar, write_side};
 use std::alloc::Global;
 use std::borrow::CowStr;
@@ -102,6 +102,157 @@ impl Hash for Repr {
     }
 }
 
+/// What stands before and after a key or a value. A side that is unset is printed as its place wants it.
+#[derive(Debug, Drop)]
+pub struct Decor {
+    prefix: Option<RawString>,
+    suffix: Option<RawString>,
+}
+
+impl Model for Decor {
+    ghost use Rattle.toml_edit_model.specs.Tree.{Decor as DecorView};
+
+    ghost Value = { DecorView };
+
+    ghost view = { λ a. record { prefix = a.prefix; suffix = a.suffix } };
+}
+
+fn despan_side(alloc: Global, side: &mut Option<RawString>, source: &str) -> Mem<()>
+    requires { OptionFits source.now side.old }
+    ensures ok { OnOk result (side.new ≡ option_map (owned_raw source.now) side.old) }
+    ensures err { OnErr result (side.new ≡ side.old) }
+{
+    match side {
+        None => Ok(()),
+        Some(raw) => raw.despan(alloc, source),
+    }
+}
+
+fn clone_side(alloc: Global, side: &Option<RawString>) -> Mem<Option<RawString>>
+    ensures { IfOk result (λ copy. copy ≡ side.now) }
+{
+    match side {
+        None => Ok(None),
+        Some(raw) => Ok(Some(raw.clone(alloc)?)),
+    }
+}
+
+impl Decor {
+    /// Both sides.
+    pub fn new(prefix: RawString, suffix: RawString) -> Decor
+        ensures { result ≡ record { prefix = Some prefix; suffix = Some suffix } }
+    {
+        Decor {
+            prefix: Some(prefix),
+            suffix: Some(suffix),
+        }
+    }
+
+    /// An equal copy. The only error is want of memory.
+    pub fn clone(&self, alloc: Global) -> Mem<Decor>
+        ensures { IfOk result (λ copy. copy ≡ self.now) }
+    {
+        Ok(Decor {
+            prefix: clone_side(alloc, &self.prefix)?,
+            suffix: clone_side(alloc, &self.suffix)?,
+        })
+    }
+
+    /// Unsets both sides.
+    pub fn clear(&mut self)
+        ensures { self.new ≡ unset }
+    {
+        self.prefix = None;
+        self.suffix = None;
+    }
+
+    /// What stands before.
+    pub fn prefix(&self) -> Option<&RawString>
+        ensures { option_copied result ≡ self.now.prefix }
+    {
+        self.prefix.as_ref()
+    }
+
+    /// Sets what stands before.
+    pub fn set_prefix(&mut self, prefix: RawString)
+        ensures { self.new ≡ record self.old { prefix = Some prefix } }
+    {
+        self.prefix = Some(prefix);
+    }
+
+    /// What stands after.
+    pub fn suffix(&self) -> Option<&RawString>
+        ensures { option_copied result ≡ self.now.suffix }
+    {
+        self.suffix.as_ref()
+    }
+
+    /// Sets what stands after.
+    pub fn set_suffix(&mut self, suffix: RawString)
+        ensures { self.new ≡ record self.old { suffix = Some suffix } }
+    {
+        self.suffix = Some(suffix);
+    }
+
+    /// Turns spans of `source` into the texts that stand there. The only error is want of memory, and then either side may be
+    /// a span still: the document that the decor is of is to be given up.
+    pub fn despan(&mut self, alloc: Global, source: &str) -> Mem<()>
+        requires { DecorFits source.now self.old }
+        ensures { OnOk result (self.new ≡ owned_decor source.now self.old) }
+    {
+        despan_side(alloc, &mut self.prefix, source)?;
+        despan_side(alloc, &mut self.suffix, source)
+    }
+}
+
+impl Default for Decor {
+    ghost is_default = { λ d. d ≡ unset };
+
+    fn default() -> Decor {
+        Decor {
+            prefix: None,
+            suffix: None,
+        }
+    }
+}
+
+/// Two decors are equal if both of their sides are. An unset side differs from an empty one.
+impl PartialEq for Decor {
+    ghost use Rattle.toml_edit_repr.specs.Sameness.{same_decor};
+    ghost use Rattle.toml_edit_repr.specs.SamenessLaws.{same_decor_partial_equiv};
+
+    ghost eq = { same_decor };
+
+    ghost laws = { same_decor_partial_equiv };
+
+    fn eq(&self, other: &Decor) -> bool
+        ensures answer { result ≡ same_decor self.now other.now }
+        ensures exact { IsTrue result ↔ (self.now ≡ other.now) }
+    {
+        self.prefix == other.prefix && self.suffix == other.suffix
+    }
+}
+
+impl Eq for Decor {
+    ghost use Rattle.toml_edit_repr.specs.SamenessLaws.{same_decor_equiv};
+
+    ghost laws = { same_decor_equiv };
+}
+
+impl Hash for Decor {
+    ghost use Rattle.toml_edit_repr.specs.Sameness.{decor_hash_input};
+    ghost use Rattle.toml_edit_repr.specs.SamenessLaws.{decor_hash_respects};
+
+    ghost hash_input = { decor_hash_input };
+
+    ghost respects_eq = { decor_hash_respects };
+
+    fn hash<H: Hasher>(&self, state: &mut H) {
+        self.prefix.hash(state);
+        self.suffix.hash(state);
+    }
+}
+
 /// Turns a spelling that spans `source` into the text that stands there. The only error is want of memory, which leaves it as it was.
 pub fn despan_spelling(alloc: Global, repr: &mut Option<Repr>, source: &str) -> Mem<()>
     requires { OptionFits source.now repr.old }
@@ -114,7 +265,8 @@ pub fn despan_spelling(alloc: Global, repr: &mut Option<Repr>, source: &str) -> 
     }
 }
 
-fn clone_spelling(alloc: Global, repr: &Option<Repr>) -> Mem<Option<Repr>>
+/// An equal copy of a spelling, where there is one. The only error is want of memory.
+pub fn clone_spelling(alloc: Global, repr: &Option<Repr>) -> Mem<Option<Repr>>
     ensures { IfOk result (λ copy. copy ≡ repr.now) }
 {
     match repr {

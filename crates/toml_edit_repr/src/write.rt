@@ -3,6 +3,7 @@ ghost use Rattle.std.specs.Prelude.{◌≡◌, ◌<◌, false, ◌++◌, length,
 ghost use Rattle.std.specs.Option.{option_copied};
 ghost use Rattle.std.specs.Fmt.{WritesOnOk};
 ghost use Rattle.toml_edit_model.specs.Text.{without_returns};
+ghost use Rattle.toml_edit_model.specs.Mode.{plain};
 ghost use Rattle.toml_edit_model.specs.Tree.{scalar_text, shown_side, shown_raw};
 ghost use Rattle.toml_edit_repr.specs.Views.{text_of};
 
@@ -46,7 +47,7 @@ pub fn write_side<W: Write>(
     side: Option<&RawString>,
     default: &str,
 ) -> fmt::Result
-    ensures { WritesOnOk W.write_str_gives f.old result (shown_side default.now (option_copied side.entry)) f.new }
+    ensures { WritesOnOk W.write_str_gives f.old result (shown_side plain default.now (option_copied side.entry)) f.new }
 {
     match side_text(side) {
         Some(text) => write_without_returns(f, text),
@@ -56,7 +57,7 @@ pub fn write_side<W: Write>(
 
 /// Writes the text without its carriage returns. A span has none.
 pub fn write_raw<W: Write>(f: &mut Formatter<W>, raw: &RawString) -> fmt::Result
-    ensures { WritesOnOk W.write_str_gives f.old result (shown_raw raw.now) f.new }
+    ensures { WritesOnOk W.write_str_gives f.old result (shown_raw plain raw.now) f.new }
 {
     match raw.as_str() {
         Some(text) => write_without_returns(f, text),

@@ -1,18 +1,20 @@
 -- Whole texts: what is decoded is spelled, and what is spelled is decoded.
-use Rattle.std.proofs.Common.{◌≡◌, Bool, true, false, cond, List, [], ◌∷◌, Option, Some, None, Result, Ok, Err, refl, sym, ap, ◌∙◌, inl, inr, append-nil}
+use Rattle.std.proofs.Common.{◌≡◌, ℤ, Bool, true, false, cond, List, [], ◌∷◌, Option, Some, None, Result, Ok, Err, refl, sym, ap, subst, ◌∙◌, inl, inr, append-nil}
 use Rattle.std.specs.Prelude.{option_map, IfOk, IfSome, IsSomeAnd, MatchOption}
 use Rattle.std.specs.Result.{result_ok}
 use Rattle.std.proofs.lemmas.Bool.{cases_Bool}
 use Rattle.toml_edit_model.specs.Text.{Text, is_empty}
 use Rattle.toml_edit_model.specs.Scalars as scalars
+use Rattle.toml_edit_model.specs.Scalars.{fits_integer}
 use Rattle.toml_edit_model.specs.Spelling.{SpellsKey, Spells, SpellsDatetime, is_in_range, SpellsInRange}
 use Rattle.toml_edit_laws.specs.reading.DatetimeReading.{datetime_of}
 use Rattle.toml_edit_token.specs.Decoded.{IsSpelling}
 use Rattle.toml_edit_laws.specs.reading.Runs.{Read}
-use Rattle.toml_edit_laws.specs.reading.Tokens.{key_at, whole, ranged}
+use Rattle.toml_edit_laws.specs.reading.Tokens.{key_at, whole, ranged, fitting, integer_of}
 use Rattle.toml_edit_laws.specs.reading.ScalarReading.{scalar_at}
 use Rattle.toml_edit_laws.proofs.common.OptionSteps.{bind_some, map_some}
 use Rattle.toml_edit_laws.proofs.reading.Steps.{guard_some}
+use Rattle.toml_edit_laws.proofs.reading.NumberLaws.{integer_takes, integer_again}
 use Rattle.toml_edit_laws.proofs.reading.DatetimeLaws.{datetime_takes, datetime_again}
 use Rattle.toml_edit_laws.proofs.reading.TokenLaws.{key_takes, key_again, scalar_takes, scalar_again}
 
@@ -101,3 +103,36 @@ module _ (t : Text) where
       sym (ap (λ (o : Option scalars.Datetime). ranged t (option_map (λ d. scalars.datetime d) o)) (datetime_again t (view d) spells) ∙ read_range (scalars.datetime (view d)) true fits)
   datetime_read {D} view (Err e) found only =
       out_of_range (datetime_of t) refl (λ d is. absurd (cc (only d is.0 is.1)))
+
+-- what fits was read
+fitting_is : (o : Option ℤ) (z : ℤ) → fitting o ≡ Some z → (o ≡ Some z) × (fits_integer z ≡ true)
+fitting_is o z e =
+    let (y, is, rest) = bind_some o (λ (y : ℤ). cond (fits_integer y) (Some y) None) z e in
+    let (fits, same) = guard_some (fits_integer y) y z rest in
+    (is ∙ ap Some same, ap fits_integer (sym same) ∙ fits)
+
+-- an integer that was decoded is spelled by the text, and in range
+pub integer_found : (t : Text) (o : Option ℤ) → o ≡ fitting (integer_of t) → IfSome o (λ z. IsSpelling t (scalars.integer z))
+integer_found t None e = tt
+integer_found t (Some z) e =
+    let (read, fits) = fitting_is (integer_of t) z (sym e) in
+    record { spells = integer_takes t z read; in_range = fits }
+
+-- what an integer that was decoded spells is that integer alone
+pub integer_only : (t : Text) (o : Option ℤ) → o ≡ fitting (integer_of t) → (s : scalars.Scalar) → Spells s t
+    → MatchOption o ((z : ℤ) → s ≡ scalars.integer z → is_in_range s t ≡ false) (λ z. s ≡ scalars.integer z)
+integer_only t None e s spells = λ z same.
+    let again : integer_of t ≡ Some z = integer_again t z (subst (λ (x : scalars.Scalar). Spells x t) same spells) in
+    let none : cond (fits_integer z) (Some z) None ≡ None = sym (e ∙ ap fitting again) in
+    elim (cases_Bool (fits_integer z)) [
+      | inl fits ↦ absurd cc
+      | inr past ↦ ap (λ (x : scalars.Scalar). is_in_range x t) same ∙ past
+    ]
+integer_only t (Some z) e s spells =
+    let (read, fits) = fitting_is (integer_of t) z (sym e) in
+    let own : scalar_at t ≡ Some (s, []) = ap scalar_at (sym (append-nil t)) ∙ scalar_again s t [] spells refl in
+    let other : scalar_at t ≡ Some (scalars.integer z, []) =
+    ap scalar_at (sym (append-nil t)) ∙ scalar_again (scalars.integer z) t [] (integer_takes t z read) refl in
+    let both : ◌≡◌ {A = Option (scalars.Scalar × Text)} (Some (s, [])) (Some (scalars.integer z, [])) = sym own ∙ other in
+    let pair : ◌≡◌ {A = scalars.Scalar × Text} (s, []) (scalars.integer z, []) = cc in
+    ap (λ (x : scalars.Scalar × Text). x.0) pair

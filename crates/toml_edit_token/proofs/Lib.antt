@@ -6,3 +6,4 @@ pub mod NumberLoop
 pub mod Decoding
 pub mod Escaping
 pub mod LoneLaws
+pub mod Ends

@@ -1,11 +1,10 @@
 //! Strings of several lines.
 ghost use Rattle.std.specs.Prelude.{◌≡◌, ℕ, ◌<◌, ◌≤◌, length, drop, option_map, string_bytes, IfOk, IfSome, MatchOption};
-ghost use Rattle.toml_edit_model.specs.Text.{line_feed, has_byte};
 ghost use Rattle.toml_edit_laws.specs.reading.Tokens.{whole};
 ghost use Rattle.toml_edit_laws.specs.reading.BlockReading as spec;
 ghost use Rattle.toml_edit_token.specs.BlockPieces as pieces;
 
-use crate::run::{Class, byte_at, first, is_blank, skip, split_run};
+use crate::run::{Class, byte_at, first, has_line_feed, is_blank, skip, split_run};
 use crate::string::escape;
 use std::alloc::{AllocError, Global};
 
@@ -99,12 +98,6 @@ fn gap_len(s: &str) -> usize
         }
     }
     s.len()
-}
-
-fn has_line_feed(bytes: &[u8]) -> bool
-    ensures { result ≡ has_byte line_feed bytes.now }
-{
-    bytes.iter().any(|b| *b == b'\n')
 }
 
 /// The form of the string that opens here, and the text behind its opening and the newline there.

@@ -1,5 +1,5 @@
 //! What keys and scalars say.
-ghost use Rattle.std.specs.Prelude.{◌≡◌, false, IfOk, IfSome, IsSomeAnd, MatchOption, option_map, string_bytes};
+ghost use Rattle.std.specs.Prelude.{◌≡◌, ℤ, false, IfOk, IfSome, IsSomeAnd, MatchOption, option_map, string_bytes};
 ghost use Rattle.toml_edit_model.specs.Text.{Text};
 ghost use Rattle.toml_edit_model.specs.Scalars as scalars;
 ghost use Rattle.toml_edit_model.specs.Spelling.{SpellsKey, Spells, is_in_range};
@@ -10,13 +10,14 @@ ghost use Rattle.toml_edit_datetime.specs.DatetimeView.{datetime_view};
 ghost use Rattle.toml_edit_laws.specs.reading.Tokens as spec;
 
 use crate::block_string::read_block;
-use crate::number::{decode_integer, is_integer};
+use crate::number;
+use crate::number::is_integer;
 use crate::run::{Class, first, is_bare, is_word, split_run};
 use crate::string::decode_string;
 use crate::token::{opens_block, split_word};
 use std::alloc::{AllocError, Global};
 use std::str::FromStr;
-use toml_edit_datetime::{Datetime, FloatText, is_float};
+use toml_edit_datetime::{Datetime, FloatText};
 
 /// A scalar without its spelling.
 #[derive(Debug, Drop)]
@@ -45,6 +46,16 @@ pub fn decode_scalar(alloc: Global, text: &str) -> Result<Option<Scalar>, AllocE
         → MatchOption o (is_in_range s text.now ≡ false) (λ x. s ≡ scalar_view x)) }
 {
     read_scalar(alloc, text)
+}
+
+/// The integer that is spelled so. `None` if the text spells none, or one that 64 bits don't hold.
+pub fn decode_integer(text: &str) -> Option<i64>
+    ensures found { IfSome result (λ z. IsSpelling text.now (scalars.integer z)) }
+    // What the text spells is that integer, and where there is none it is no integer, or out of range.
+    ensures only { (s : scalars.Scalar) → Spells s text.now
+        → MatchOption result ((z : ℤ) → s ≡ scalars.integer z → is_in_range s text.now ≡ false) (λ z. s ≡ scalars.integer z) }
+{
+    number::decode_integer(text.as_bytes())
 }
 
 /// What the whole text says, read as a simple key.
@@ -97,12 +108,9 @@ fn read_word(alloc: Global, word: &str) -> Result<Option<Scalar>, AllocError>
     } else if word == "false" {
         Ok(Some(Scalar::Boolean(false)))
     } else if is_integer(word.as_bytes()) {
-        Ok(decode_integer(word.as_bytes()).map(Scalar::Integer))
-    } else if is_float(word) {
-        match FloatText::new(String::from_str(alloc, word)?) {
-            Ok(float) => Ok(Some(Scalar::Float(float))),
-            Err(_) => Ok(None),
-        }
+        Ok(number::decode_integer(word.as_bytes()).map(Scalar::Integer))
+    } else if let Some(float) = FloatText::from_text(alloc, word)? {
+        Ok(Some(Scalar::Float(float)))
     } else {
         match read_datetime(word) {
             Some(datetime) => Ok(Some(Scalar::Datetime(datetime))),

@@ -10,7 +10,7 @@ pub mod spelling;
 mod string;
 pub mod token;
 
-pub use decode::{Scalar, decode_key, decode_scalar};
+pub use decode::{Scalar, decode_integer, decode_key, decode_scalar};
 pub use lone::range_message;
 pub use spelling::{write_key, write_string};
 pub use token::{after_key, after_scalar};

@@ -1,6 +1,7 @@
 //! Single bytes and runs of bytes.
 ghost use Rattle.std.specs.Prelude.{◌≡◌, ◌+◌, ◌-◌, ◌<◌, ◌≤◌, length, drop, slice_index};
 ghost use Rattle.std.specs.List.{prefix_len};
+ghost use Rattle.toml_edit_model.specs.Text.{line_feed, has_byte};
 ghost use Rattle.toml_edit_model.specs.Trivia as trivia;
 ghost use Rattle.toml_edit_model.specs.Spelling as spelling;
 ghost use Rattle.toml_edit_laws.specs.reading.Runs.{is_word_byte, split_while};
@@ -29,6 +30,13 @@ pub fn skip(s: &str, n: usize) -> &str
     ensures len { length result.now + n ≡ length s.now }
 {
     &s[n..]
+}
+
+/// Whether a line feed stands among the bytes.
+pub(crate) fn has_line_feed(bytes: &[u8]) -> bool
+    ensures { result ≡ has_byte line_feed bytes.now }
+{
+    bytes.iter().any(|b| *b == b'\n')
 }
 
 /// A set of bytes, to find a run of them.
@@ -73,7 +81,8 @@ pub fn is_bare(byte: u8) -> bool
 pub fn is_word(byte: u8) -> bool
     ensures { result ≡ is_word_byte byte }
 {
-    is_bare(byte) || byte == b'+' || byte == b'.' || byte == b':'
+    // digits first: most words are numbers
+    byte.is_ascii_digit() || is_bare(byte) || byte == b'+' || byte == b'.' || byte == b':'
 }
 
 fn is_in(class: Class, byte: u8) -> bool

@@ -2,12 +2,12 @@
 ghost use Rattle.std.specs.Prelude.{◌≡◌, ◌+◌, ◌<◌, false, length, drop, slice_index};
 ghost use Rattle.std.specs.Fmt.{WritesOnOk};
 ghost use Rattle.std.specs.List.{list_all};
-ghost use Rattle.toml_edit_model.specs.Text.{has_byte, line_feed, quote, one};
+ghost use Rattle.toml_edit_model.specs.Text.{quote, one};
 ghost use Rattle.toml_edit_model.specs.DefaultSpelling as spec;
 ghost use Rattle.toml_edit_model.specs.Spelling.{is_plain};
 ghost use Rattle.toml_edit_token.specs.Classes.{class_test};
 
-use crate::run::{Class, first, split_run};
+use crate::run::{Class, first, has_line_feed, split_run};
 use std::fmt;
 use std::fmt::{Formatter, Write};
 
@@ -20,7 +20,7 @@ pub fn write_string<W: Write>(f: &mut Formatter<W>, value: &str) -> fmt::Result
         write_between(f, "\"", value)
     } else if is_all(value, Class::Literal) {
         write_between(f, "'", value)
-    } else if has_line_feed(value) {
+    } else if has_line_feed(value.as_bytes()) {
         f.write_str("\"\"\"\n")?;
         write_escaped(f, value, true)?;
         f.write_str("\"\"\"")
@@ -48,12 +48,6 @@ fn is_all(s: &str, class: Class) -> bool
     ensures { result ≡ list_all (class_test class) s.now }
 {
     split_run(s, class).1.is_empty()
-}
-
-fn has_line_feed(s: &str) -> bool
-    ensures { result ≡ has_byte line_feed s.now }
-{
-    s.as_bytes().iter().any(|b| *b == b'\n')
 }
 
 fn write_between<W: Write>(f: &mut Formatter<W>, delimiter: &str, text: &str) -> fmt::Result

@@ -1,5 +1,8 @@
 //! The ends of keys and scalars.
-ghost use Rattle.std.specs.Prelude.{◌≡◌, ◌≤◌, length, take, drop, is_some, option_map, IfSome};
+ghost use Rattle.std.specs.Prelude.{◌≡◌, ◌≤◌, ◌++◌, true, Some, length, take, drop, is_some, option_map, IfSome};
+ghost use Rattle.toml_edit_model.specs.Text.{Text};
+ghost use Rattle.toml_edit_model.specs.Scalars.{Scalar};
+ghost use Rattle.toml_edit_model.specs.Spelling.{SpellsKey, Spells};
 ghost use Rattle.toml_edit_laws.specs.reading.BlockReading as block;
 ghost use Rattle.toml_edit_laws.specs.reading.ScalarReading as scalar;
 ghost use Rattle.toml_edit_laws.specs.reading.Tokens as spec;
@@ -10,9 +13,20 @@ use crate::run::{Class, byte_at, first, is_bare, is_word, run_len, split_run};
 use crate::string::after_string;
 use toml_edit_datetime::{is_datetime, is_float};
 
-/// The text after the simple key at the front, or `None` if there is none.
-#[tactic(auto, unfolding(toml_edit_laws::specs::reading::Tokens::key_at))]
+/// The text after the simple key at the front, or `None` if there is none. A bare key goes as far as its bytes do.
 pub fn after_key(s: &str) -> Option<&str>
+    ensures found { IfSome result (λ rest. (k spelled : Text) × SpellsKey k spelled × (s.now ≡ spelled ++ rest.now)) }
+    // Each key that stands there and ends where keys do is that one.
+    ensures only { (k spelled rest : Text) → SpellsKey k spelled → spec.ends_key rest ≡ true → s.now ≡ spelled ++ rest
+        → option_map (λ r. r.now) result ≡ Some rest }
+    ensures rest { option_map (λ r. r.now) result ≡ option_map (λ p. p.1) (spec.key_at s.now) }
+    ensures within { IfSome result (λ r. length r.now ≤ length s.now) }
+{
+    behind_key(s)
+}
+
+#[tactic(auto, unfolding(toml_edit_laws::specs::reading::Tokens::key_at))]
+fn behind_key(s: &str) -> Option<&str>
     ensures rest { option_map (λ r. r.now) result ≡ option_map (λ p. p.1) (spec.key_at s.now) }
     ensures within { IfSome result (λ r. length r.now ≤ length s.now) }
 {
@@ -68,9 +82,20 @@ pub(crate) fn opens_block(s: &str) -> bool
     (quote == b'"' || quote == b'\'') && byte_at(s, 1) == quote && byte_at(s, 2) == quote
 }
 
-/// The text after the scalar at the front, or `None` if there is none.
-#[tactic(auto, unfolding(toml_edit_laws::specs::reading::ScalarReading::scalar_at))]
+/// The text after the scalar at the front, or `None` if there is none. A word goes as far as its bytes do.
 pub fn after_scalar(s: &str) -> Option<&str>
+    ensures found { IfSome result (λ rest. (x : Scalar) × (spelled : Text) × Spells x spelled × (s.now ≡ spelled ++ rest.now)) }
+    // Each scalar that stands there and ends where scalars do is that one.
+    ensures only { (x : Scalar) (spelled rest : Text) → Spells x spelled → scalar.ends_scalar rest ≡ true → s.now ≡ spelled ++ rest
+        → option_map (λ r. r.now) result ≡ Some rest }
+    ensures rest { option_map (λ r. r.now) result ≡ option_map (λ p. p.1) (scalar.scalar_at s.now) }
+    ensures within { IfSome result (λ r. length r.now ≤ length s.now) }
+{
+    behind_scalar(s)
+}
+
+#[tactic(auto, unfolding(toml_edit_laws::specs::reading::ScalarReading::scalar_at))]
+fn behind_scalar(s: &str) -> Option<&str>
     ensures rest { option_map (λ r. r.now) result ≡ option_map (λ p. p.1) (scalar.scalar_at s.now) }
     ensures within { IfSome result (λ r. length r.now ≤ length s.now) }
 {

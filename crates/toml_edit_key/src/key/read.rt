@@ -1,22 +1,20 @@
 //! Texts of one key or one path.
-ghost use Rattle.std.specs.Prelude.{◌≡◌, ◌+◌, ◌<◌, ◌≤◌, ◌++◌, None, Some, List, length, IfOk, IfErr, IfSome, MatchResult, option_map, string_bytes};
-ghost use Rattle.std.specs.List.{prefix_len};
+ghost use Rattle.std.specs.Prelude.{◌≡◌, ◌+◌, ◌<◌, ◌≤◌, ◌++◌, None, Some, List, length, IfOk, IfErr, IfSome, IfNone, MatchResult, option_map, string_bytes};
 ghost use Rattle.toml_edit_model.specs.Text.{Text};
-ghost use Rattle.toml_edit_model.specs.Trivia.{is_blank};
 ghost use Rattle.toml_edit_model.specs.Syntax.{Segment};
 ghost use Rattle.toml_edit_model.specs.Spelling.{SpellsKey};
-ghost use Rattle.toml_edit_model.specs.Lone.{IsLonePath, lone_keys, path_key};
+ghost use Rattle.toml_edit_model.specs.Lone.{IsLonePath, IsLongPath, MayRefuseKey, MayRefusePath, lone_keys, path_key};
 ghost use Rattle.toml_edit_error.specs.Fault.{IfToml};
-ghost use Rattle.toml_edit_error.specs.Report.{SpanIsIn};
-ghost use Rattle.toml_edit_laws.specs.reading.Runs.{split_while};
+ghost use Rattle.toml_edit_error.specs.Report.{SpanIsIn, fault_of};
 ghost use Rattle.toml_edit_key.specs.Keys.{lone_key};
 ghost use Rattle.toml_edit_key.specs.PathReading as spec;
-ghost use Rattle.toml_edit_key.specs.ReadKeys.{GivesValue, IsSyntaxFault, limit_fault, IsLongPath, AreLoneKeys, IsPathRefusal};
+ghost use Rattle.toml_edit_key.specs.ReadKeys.{GivesValue, IsMisread, limit_fault, AreLoneKeys, IsPathFault, IsLongerFault};
 
 use super::Key;
 use std::alloc::Global;
-use toml_edit_error::{ParseFault, TomlError};
+use toml_edit_error::{ParseFault, refusal};
 use toml_edit_repr::{Decor, Mem, RawString, Repr};
+use toml_edit_token::run::{Class, split_run};
 use toml_edit_token::{after_key, decode_key};
 
 /// The most segments of a path.
@@ -24,66 +22,80 @@ const MOST_SEGMENTS: usize = 80;
 
 impl Key {
     /// The simple key that the text spells, exactly, with this spelling and no decor. Any other text is refused, white space around
-    /// a key too.
+    /// a key too: the error marks the first character that doesn't belong there.
     pub fn from_str(alloc: Global, text: &str) -> Result<Key, ParseFault>
         ensures key { IfOk result (λ key. SpellsKey key.name text.now × (key ≡ lone_key key.name text.now)) }
         ensures every { (k : Text) → SpellsKey k text.now → GivesValue (λ key. key) result (lone_key k text.now) }
-        ensures refused { IfErr result (λ e. IfToml e (IsSyntaxFault text.now)) }
+        ensures refused { IfErr result (λ e. IfToml e (λ r. MayRefuseKey (fault_of r) × (r.input ≡ text.now))) }
     {
         match decode_key(alloc, text)? {
             Some(name) => Ok(spelled_key(alloc, name, text)?),
-            None => Err(unreadable(alloc, text)),
+            None => Err(unreadable(alloc, text, key_fault(text))),
         }
     }
 
     /// The keys of a path of 1 to 80 segments, with white space around it, each with its spelling. White space at a dot is the
     /// dotted decor of the keys beside it; white space around the path is the leaf decor of the last key, each side set only where
-    /// there is some. A longer path is refused with `recursion limit` and no span, any other text with a span.
+    /// there is some. A longer path is refused with `recursion limit` and no span; past the 80th segment nothing is kept. In any
+    /// other text the first character that doesn't belong there is marked.
     pub fn parse(alloc: Global, text: &str) -> Result<Vec<Key>, ParseFault>
         ensures keys { IfOk result (λ keys. AreLoneKeys text.now keys.items) }
         ensures every { (before : Text) (p : List Segment) (after : Text) → IsLonePath text.now before p after
             → GivesValue (λ keys. keys.items) result (lone_keys before p after) }
         ensures long { (before : Text) (p : List Segment) (after : Text) → IsLongPath text.now before p after
             → MatchResult result (λ _. ⊥) (λ e. IfToml e (λ r. r ≡ limit_fault text.now)) }
-        ensures refused { IfErr result (λ e. IfToml e (IsPathRefusal text.now)) }
+        ensures refused { IfErr result (λ e. IfToml e (λ r. MayRefusePath text.now (fault_of r) × (r.input ≡ text.now))) }
     {
-        match read_path(alloc, text) {
-            Err(fault) => Err(fault),
-            Ok(keys) => {
-                if keys.len() <= MOST_SEGMENTS {
-                    Ok(keys)
-                } else {
-                    Err(refusal(alloc, text, "recursion limit", None))
-                }
-            }
+        read_path(alloc, text)
+    }
+}
+
+/// What stands in the way of reading a text, with the text from there on.
+#[derive(Clone, Copy)]
+enum Misread<'a> {
+    /// A key is to begin here.
+    NoKey(&'a str),
+    /// This belongs to no key and no path.
+    Stray(&'a str),
+}
+
+/// The error of a text in which this stands in the way.
+fn unreadable(alloc: Global, text: &str, fault: Misread<'_>) -> ParseFault
+    ensures { IfToml result (IsMisread text.now) }
+{
+    match fault {
+        Misread::NoKey(rest) => {
+            refusal(alloc, text, "expected a key", Some(first_of(text, rest)))
+        }
+        Misread::Stray(rest) => {
+            refusal(
+                alloc,
+                text,
+                "unexpected character",
+                Some(first_of(text, rest)),
+            )
         }
     }
 }
 
-fn error(alloc: Global, text: &str, message: &str, span: Option<(usize, usize)>) -> Mem<TomlError>
-    requires { ∥ SpanIsIn text.now span ∥₁ }
-    ensures { IfOk result (λ r. r ≡ record { message = message.now; span = span; input = text.now }) }
+/// The first character of the rest of the text, or the text's end where none is left.
+fn first_of(text: &str, rest: &str) -> (usize, usize)
+    ensures { SpanIsIn text.now (Some result) }
 {
-    let message = String::from_str(alloc, message)?;
-    let input = String::from_str(alloc, text)?;
-    Ok(TomlError::new(message, span, input))
-}
-
-fn refusal(alloc: Global, text: &str, message: &str, span: Option<(usize, usize)>) -> ParseFault
-    requires { ∥ SpanIsIn text.now span ∥₁ }
-    ensures { IfToml result (λ r. r ≡ record { message = message.now; span = span; input = text.now }) }
-{
-    match error(alloc, text, message, span) {
-        Ok(error) => ParseFault::Toml(error),
-        Err(_) => ParseFault::Memory,
+    let at = text.len().saturating_sub(rest.len());
+    let start = text.floor_char_boundary(at);
+    if start == text.len() {
+        return (start, start);
     }
+    (start, text.ceil_char_boundary(start + 1))
 }
 
-/// The error of a text that is no key or path.
-fn unreadable(alloc: Global, text: &str) -> ParseFault
-    ensures { IfToml result (IsSyntaxFault text.now) }
-{
-    refusal(alloc, text, "expected a key", Some((0, text.len())))
+/// What stands in the way of a text that is no key.
+fn key_fault(text: &str) -> Misread<'_> {
+    match after_key(text) {
+        Some(rest) => Misread::Stray(rest),
+        None => Misread::NoKey(text),
+    }
 }
 
 fn spelled_key(alloc: Global, name: String, spelling: &str) -> Mem<Key>
@@ -97,27 +109,6 @@ fn spelled_key(alloc: Global, name: String, spelling: &str) -> Mem<Key>
         leaf: Decor::default(),
         dotted: Decor::default(),
     })
-}
-
-/// The spaces and tabs at the front, and the rest.
-fn split_blank(s: &str) -> (&str, &str)
-    ensures parts { (result.0.now, result.1.now) ≡ split_while is_blank s.now }
-    ensures lens { length result.0.now + length result.1.now ≡ length s.now }
-{
-    s.split_at(blank_len(s.as_bytes()))
-}
-
-fn blank_len(bytes: &[u8]) -> usize
-    ensures len { result ≡ prefix_len is_blank bytes.now }
-    ensures within { result ≤ length bytes.now }
-{
-    bytes.iter().take_while(|b| is_white(**b)).count()
-}
-
-fn is_white(byte: u8) -> bool
-    ensures { result ≡ is_blank byte }
-{
-    byte == b' ' || byte == b'\t'
 }
 
 fn after_dot(s: &str) -> Option<&str>
@@ -191,29 +182,65 @@ fn path_part(alloc: Global, part: Part<'_>, before: &str, after: &str, leaf: Dec
     )
 }
 
-/// The keys of a path of any length.
+/// The keys of a path of at most 80 segments.
 fn read_path(alloc: Global, text: &str) -> Result<Vec<Key>, ParseFault>
-    ensures { MatchResult result (λ keys. spec.lone_at text.now ≡ Some keys.items)
-        (λ e. IfToml e (λ r. (spec.lone_at text.now ≡ None) × IsSyntaxFault text.now r)) }
+    ensures keys { IfOk result (λ keys. (spec.lone_at text.now ≡ Some keys.items) × (length keys.items ≤ 80)) }
+    ensures refused { IfErr result (λ e. IfToml e (IsPathFault text.now)) }
 {
-    let (before, start) = split_blank(text);
+    let (before, start) = split_run(text, Class::Blank);
     let mut keys = Vec::new(alloc);
     let mut gap = "";
     let mut rest = start;
     'segments: loop {
         let Some((part, after)) = read_part(alloc, rest)? else {
-            return Err(unreadable(alloc, text));
+            return Err(unreadable(alloc, text, Misread::NoKey(rest)));
         };
-        let (white, next) = split_blank(after);
+        let (white, next) = split_run(after, Class::Blank);
         if next.is_empty() {
             let leaf = outer_decor(alloc, before, white)?;
             keys.push(path_part(alloc, part, gap, "", leaf)?)?;
             return Ok(keys);
         }
         let Some(tail) = after_dot(next) else {
-            return Err(unreadable(alloc, text));
+            return Err(unreadable(alloc, text, Misread::Stray(next)));
         };
+        let count = keys.len() + 1;
+        if count == MOST_SEGMENTS {
+            return Err(longer(alloc, text, tail));
+        }
         keys.push(path_part(alloc, part, gap, white, Decor::default())?)?;
-        (gap, rest) = split_blank(tail);
+        (gap, rest) = split_run(tail, Class::Blank);
+    }
+}
+
+/// The error of a text that has as many segments as a path may have, a dot, and then this tail.
+fn longer(alloc: Global, text: &str, tail: &str) -> ParseFault
+    ensures { IfToml result (IsLongerFault text.now tail.now) }
+{
+    match tail_fault(tail) {
+        Some(fault) => unreadable(alloc, text, fault),
+        None => refusal(alloc, text, "recursion limit", None),
+    }
+}
+
+/// What stands in the way of a path that goes on with this text, behind a dot.
+fn tail_fault(tail: &str) -> Option<Misread<'_>>
+    ensures none { IfNone result (spec.GoesOn tail.now) }
+    ensures some { IfSome result (λ _. spec.StopsIn tail.now) }
+{
+    let mut rest = tail;
+    'segments: loop {
+        let (_, start) = split_run(rest, Class::Blank);
+        let Some(after) = after_key(start) else {
+            return Some(Misread::NoKey(start));
+        };
+        let (_, next) = split_run(after, Class::Blank);
+        if next.is_empty() {
+            return None;
+        }
+        let Some(more) = after_dot(next) else {
+            return Some(Misread::Stray(next));
+        };
+        rest = more;
     }
 }

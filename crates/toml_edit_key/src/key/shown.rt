@@ -1,7 +1,6 @@
 //! Keys as texts.
-ghost use Rattle.std.specs.Prelude.{◌≡◌, Some, IfOk, option_and_then, string_bytes};
-ghost use Rattle.std.specs.Option.{option_copied};
-ghost use Rattle.std.specs.Cow.{cow_str_bytes};
+ghost use Rattle.std.specs.Prelude.{◌≡◌, Some, IsSome, IsOkAnd, IfOk, option_and_then, string_bytes};
+ghost use Rattle.std.specs.Cow.{cow_str_bytes, IsBorrowedStr};
 ghost use Rattle.toml_edit_model.specs.Tree.{owned, key_text};
 ghost use Rattle.toml_edit_model.specs.DefaultSpelling.{key_spelling};
 ghost use Rattle.toml_edit_model.specs.SlotLists.{new_key};
@@ -12,7 +11,7 @@ use std::alloc::Global;
 use std::borrow::CowStr;
 use std::fmt;
 use std::fmt::{Formatter, Write};
-use toml_edit_repr::{Mem, RawString, Repr};
+use toml_edit_repr::{Mem, RawString, Repr, spelling_text};
 use toml_edit_token::write_key;
 
 impl Key {
@@ -24,21 +23,16 @@ impl Key {
         Ok(Repr::new(RawString::from(spelling)))
     }
 
-    /// The spelling as it is printed: the key's own one if it is a text, else the default one. The only error is want of memory.
+    /// The spelling as it is printed: the key's own one if it is a text, else the default one. The only error is want of memory; a
+    /// spelling that is a text takes none.
     pub fn display_repr(&self, alloc: Global) -> Mem<CowStr<'_>>
-        ensures { IfOk result (λ text. cow_str_bytes text ≡ key_text self.now) }
+        ensures text { IfOk result (λ text. cow_str_bytes text ≡ key_text self.now) }
+        ensures free { IsSome (option_and_then text_of self.now.spelling) → IsOkAnd result IsBorrowedStr }
     {
-        match self.own_spelling() {
+        match spelling_text(self.as_repr()) {
             Some(spelling) => Ok(CowStr::Borrowed(spelling)),
             None => Ok(CowStr::Owned(DefaultSpelling { name: self.get() }.to_string(alloc)?)),
         }
-    }
-
-    // The spelling, unless it is a span or the default one.
-    fn own_spelling(&self) -> Option<&str>
-        ensures { option_copied result ≡ option_and_then text_of self.now.spelling }
-    {
-        self.as_repr()?.as_raw().as_str()
     }
 }
 
@@ -47,7 +41,7 @@ impl fmt::Display for Key {
     ghost output = { λ key. Some (key_text key) };
 
     fn fmt<W: Write>(&self, f: &mut Formatter<W>) -> fmt::Result {
-        match self.own_spelling() {
+        match spelling_text(self.as_repr()) {
             Some(spelling) => f.write_str(spelling),
             None => write_key(f, self.get()),
         }

@@ -1,9 +1,11 @@
--- The whole text is a span of it.
-use Rattle.std.proofs.Common.{arith}
-use Rattle.std.proofs.lemmas.Str.{IsCharBoundary-start, IsCharBoundary-end}
+-- The message is one of those that there are.
+use Rattle.std.proofs.Common.{refl, lit<}
+use Rattle.std.specs.Prelude.{codes}
+use Rattle.toml_edit_key.proofs.ParseLaws.{marked}
 use Rattle.toml_edit_key.proofs.key.read.unreadable.Goals as goal
 
-pub refusal-requires : goal.refusal-requires
-refusal-requires c =
-    let t = c.args.text.now in
-    ∣ (IsCharBoundary-start t c.utf8.text, IsCharBoundary-end t, omega arith) ∣₁
+pub returns-in-NoKey : goal.returns-in-NoKey
+returns-in-NoKey c = marked c.args.text.now (codes "expected a key") c.first_of.result c.refusal.result (1, lit< tt, refl) c.refusal.ensures
+
+pub returns-in-Stray : goal.returns-in-Stray
+returns-in-Stray c = marked c.args.text.now (codes "unexpected character") c.first_of-in-Stray.result c.refusal-in-Stray.result (0, lit< tt, refl) c.refusal-in-Stray.ensures

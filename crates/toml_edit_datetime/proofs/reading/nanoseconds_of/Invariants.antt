@@ -2,7 +2,7 @@
 use Rattle.std.proofs.Common.{◌≡◌, ◌^◌, ◌<◌, ◌++◌, take}
 use Rattle.std.specs.Str.Parse.{digits_value}
 use Rattle.toml_edit_datetime.proofs.Fractions.{zeros}
-use Rattle.toml_edit_datetime.proofs.reading.nanosecond.Given as goal
+use Rattle.toml_edit_datetime.proofs.reading.nanoseconds_of.Given as goal
 
 abbrev pub invariant-loop-place : goal.invariant-loop-place
 invariant-loop-place l = record {

@@ -2,7 +2,7 @@
 use Rattle.std.proofs.Common.{arith}
 use Rattle.std.proofs.lemmas.Grind.{common_steps}
 use Rattle.toml_edit_laws.specs.reading.DatetimeReading.{offset_at}
-use Rattle.toml_edit_datetime.proofs.reading.offset.Goals as goal
+use Rattle.toml_edit_datetime.proofs.reading.read_offset.Goals as goal
 
 pub returns-in_ok-hours-in-45 : goal.returns-in_ok-hours-in-45
 unfolding offset_at

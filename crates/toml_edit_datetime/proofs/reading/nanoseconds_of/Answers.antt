@@ -2,8 +2,8 @@
 use Rattle.std.proofs.Common.{◌≡◌, ◌+◌, ◌-◌, ◌*◌, ◌<◌, ◌≤◌, length, get_or, ◌∙◌, sym, ap, arith}
 use Rattle.std.proofs.lemmas.Grind.{common_steps}
 use Rattle.toml_edit_datetime.proofs.Fractions.{power_room, digit_more, zero_more, digit_below, tenfold}
-use Rattle.toml_edit_datetime.proofs.reading.nanosecond.Goals as goal
-use Rattle.toml_edit_datetime.proofs.reading.nanosecond.Goals.{in-Some, in-None}
+use Rattle.toml_edit_datetime.proofs.reading.nanoseconds_of.Goals as goal
+use Rattle.toml_edit_datetime.proofs.reading.nanoseconds_of.Goals.{in-Some, in-None}
 
 pub loop-place-preserved : goal.loop-place-preserved
 loop-place-preserved c =

@@ -1,0 +1,9 @@
+-- What stands there is what is read there.
+use Rattle.toml_edit_token.proofs.Ends.{key_found, key_only}
+use Rattle.toml_edit_token.proofs.token.after_key.Goals as goal
+
+pub returns-clause-found : goal.returns-clause-found
+returns-clause-found c = key_found (λ r. r.now) c.args.s.now c.behind_key.result c.behind_key.ensures.rest
+
+pub returns-clause-only : goal.returns-clause-only
+returns-clause-only c = key_only (λ r. r.now) c.args.s.now c.behind_key.result c.behind_key.ensures.rest
