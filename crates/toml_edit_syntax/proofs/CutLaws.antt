@@ -1,30 +1,27 @@
--- What reads as a cut is one, and a cut is read again.
-use Rattle.std.proofs.Common.{◌≡◌, ℕ, zero, suc, ◌+◌, ◌-◌, ◌<◌, Bool, true, false, ◌==◌, ◌&&◌, List, [], ◌∷◌, ◌++◌, ◌⊎◌, length, map, drop, take, None, refl, sym, ap, subst, ◌∙◌, inl, inr, arith, append_assoc, append-nil, take_at, drop_at, eqb-true, le_refl}
+-- What reads as statements are statements, and statements are read again, up to a bracket that is one too many.
+use Rattle.std.proofs.Common.{◌≡◌, ℕ, zero, suc, ◌+◌, ◌-◌, ◌<◌, Bool, true, false, ◌==◌, ◌&&◌, List, [], ◌∷◌, ◌++◌, length, map, drop, take, refl, sym, ap, subst, ◌∙◌, inl, inr, arith, append_assoc, append-nil, take_at, drop_at, eqb-true, le_refl}
 use Rattle.std.specs.List.{flat_map}
 use Rattle.std.proofs.lemmas.Bool.{ne_eqb, and_parts, false≢true}
 use Rattle.std.proofs.lemmas.Bool.Decides.{nat_tests}
 use Rattle.std.proofs.lemmas.List.{take-append-drop, length-append, nil_from_length, drop_all}
 use Rattle.toml_edit_model.specs.Text.{Text, joined}
 use Rattle.toml_edit_model.specs.Trivia.{comment, piece_text, IsWholeTrivia, IsNewline, IsFinalTrivia}
-use Rattle.toml_edit_model.specs.Spelling.{SpellsKey}
-use Rattle.toml_edit_model.specs.Syntax.{Frame, Value, value_text, depth, statement_text, mark_text, document_text}
-use Rattle.toml_edit_model.specs.Flat.{Line, line_frame, line_statement, flat_document}
-use Rattle.toml_edit_laws.specs.reading.Runs.{first}
-use Rattle.toml_edit_syntax.specs.declared.event.EventKind.TheVariants.{LineEnd}
-use Rattle.toml_edit_syntax.specs.declared.event.Event.{Event}
-use Rattle.toml_edit_syntax.specs.Scanning.{turn, scan}
-use Rattle.toml_edit_syntax.specs.ValueEvents.{event, frame_events, value_at_byte, value_events, shortened}
+use Rattle.toml_edit_model.specs.Syntax.{Statement, key_line, header, statement_text, IsStatement, AreStatements, most}
+use Rattle.toml_edit_syntax.specs.Scanning.{scan}
+use Rattle.toml_edit_syntax.specs.ValueEvents.{shortened}
 use Rattle.toml_edit_syntax.specs.ValueReading.{Reading, got, deep, wrong, follow, changed, behind}
-use Rattle.toml_edit_syntax.specs.Events.{line_events, events_from}
-use Rattle.toml_edit_syntax.specs.Reading.{entry_at, lines_at}
+use Rattle.toml_edit_syntax.specs.Events.{statement_events, events_from}
+use Rattle.toml_edit_syntax.specs.Reading.{statement_at, statements_at}
 use Rattle.toml_edit_laws.proofs.reading.Steps.{chosen}
 use Rattle.toml_edit_syntax.proofs.ScanningLaws.{IsEnding}
-use Rattle.toml_edit_syntax.proofs.ReadingSteps.{same_got, follow_got, changed_got, behind_got}
-use Rattle.toml_edit_syntax.proofs.ShortenedLaws.{Stays, Stops, stays_then, stops_first, stops_then, stays_frame, value_stays, value_stops, Fits, Exceeds, cases_fits}
-use Rattle.toml_edit_syntax.proofs.ValueAgain.{outcome, has_room, has_room_true, has_room_false, changed_outcome, behind_outcome}
-use Rattle.toml_edit_syntax.proofs.TriviaLaws.{further, scan_stop, scan_nil, scan-pieces, scan-comment, scan_took, Outside}
-use Rattle.toml_edit_laws.proofs.reading.Begins.{key_begins, StartsAscii, ascii_begins, ascii_trivia, ascii_final}
-use Rattle.toml_edit_syntax.proofs.LineLaws.{line_text, IsLine, Entry, tail_text, line_then, entry_takes, line_length, one_line, entry_events, entry_reads}
+use Rattle.toml_edit_syntax.proofs.ReadingSteps.{same_got, follow_got, changed_got, behind_got, scan_again}
+use Rattle.toml_edit_syntax.proofs.ShortenedLaws.{Stays, Stops, stays_then, stops_first, stops_then, Fits, cases_fits}
+use Rattle.toml_edit_syntax.proofs.ValueAgain.{ValueBegins, outcome, has_room, has_room_true, has_room_false, changed_outcome, behind_outcome}
+use Rattle.toml_edit_syntax.proofs.TriviaLaws.{further, scan_nil, scan-pieces, scan-comment, scan_took, Outside}
+use Rattle.toml_edit_laws.proofs.reading.Begins.{StartsAscii, ascii_trivia, ascii_final}
+use Rattle.toml_edit_syntax.proofs.SpanLaws.{ascii_value}
+use Rattle.toml_edit_syntax.proofs.HeaderLaws.{Entry}
+use Rattle.toml_edit_syntax.proofs.StatementLaws.{EndsAt, leading_of, tail_text, statement_then, leading_is, tail_begins, some_statement, statement_takes, depth_of, statement_stays, statement_stops, statement_reads}
 
 -- ---- final trivia
 
@@ -51,223 +48,187 @@ final_takes text ended =
     let all : take n text ≡ text = sym (append-nil (take n text)) ∙ ap (λ (x : Text). take n text ++ x) (sym nothing) ∙ take-append-drop n text in
     subst IsFinalTrivia all (outside_final (scan false text).1 (take n text) (scan_took false text))
 
--- ---- lines
+-- ---- statements
 
--- lines with a newline each, and final trivia; where the text ends the last line may lack its newline
-abbrev pub AreLines : List Line → Text → Type 0
-AreLines [] final = IsFinalTrivia final
-AreLines (l ∷ ls) final = IsLine l × ((IsNewline l.end × AreLines ls final) ⊎ ((l.end ≡ []) × (ls ≡ []) × (final ≡ [])))
+abbrev pub statements_text : List Statement → Text
+statements_text ss = joined (map statement_text ss)
 
-abbrev pub lines_text : List Line → Text
-lines_text ls = flat_map line_text ls
+-- what ends a statement depends on what follows it
+pub ends_weaken : (Weak Strong : Text → Type 0) (s : Statement) → ((end : Text) → Weak end → Strong end) → IsStatement Weak s → IsStatement Strong s
+ends_weaken Weak Strong (key_line f v end) more (frame, value, ends) = (frame, value, more end ends)
+ends_weaken Weak Strong (header h end) more (is, ends) = (is, more end ends)
 
-lines_nil : (n at : ℕ) (ls : List Line) (final : Text) → lines_at n at [] ≡ got ls final → (ls ≡ []) × (final ≡ [])
-unfolding lines_at scan
-lines_nil zero at ls final e = absurd cc
-lines_nil (suc n) at ls final e = let (a, b) = same_got [] ls [] final e in (sym a, sym b)
+-- the first of the statements, and the others
+pub first_of : (s : Statement) (ss : List Statement) (final : Text) → AreStatements final (s ∷ ss) → EndsAt (statements_text ss ++ final) s
+first_of s [] final is = is
+first_of s (r ∷ rest) final (is, more) = ends_weaken IsNewline (λ end. IsEnding end (statements_text (r ∷ rest) ++ final)) s (λ end newline. inl newline) is
 
-abbrev pub Taken : Text → List Line → Text → Type 0
-Taken text ls final = AreLines ls final × (text ≡ lines_text ls ++ final)
+pub later_of : (s : Statement) (ss : List Statement) (final : Text) → AreStatements final (s ∷ ss) → AreStatements final ss
+later_of s [] final is = tt
+later_of s (r ∷ rest) final (is, more) = more
 
-taken_more : (n at : ℕ) (text rest : Text) (l : Line) (ls : List Line) (final : Text) → lines_at n at rest ≡ got ls final → Entry text l rest → Taken rest ls final → Taken text (l ∷ ls) final
-taken_more n at text rest l ls final e (is, inl newline, parts) (lines, whole) =
-    ((is, inl (newline, lines)), parts ∙ ap (λ (x : Text). line_text l ++ x) whole ∙ sym (append_assoc (line_text l) (lines_text ls) final))
-taken_more n at text rest l ls final e (is, inr (nothing, ended), parts) (lines, whole) =
-    let (none, last) = lines_nil n at ls final (ap (lines_at n at) (sym ended) ∙ e) in
-    ((is, inr (nothing, none, last)), parts ∙ ap (λ (x : Text). line_text l ++ x) whole ∙ sym (append_assoc (line_text l) (lines_text ls) final))
+not_empty : (s : Statement) (ss : List Statement) (final : Text) → AreStatements final (s ∷ ss) → statements_text (s ∷ ss) ++ final ≡ [] → ⊥
+not_empty s ss final is empty =
+    let some = some_statement (λ end. IsEnding end (statements_text ss ++ final)) s (first_of s ss final is) in
+    omega (arith, some, ap length empty, length-append (statements_text (s ∷ ss)) final, length-append (statement_text s) (statements_text ss))
 
--- behind a line of this text
-abbrev pub then_lines : ℕ → ℕ → Text → Line → Text → Reading (List Line)
-then_lines n at t l rest = behind (line_events at (line_frame l) l.value) (changed (λ ls. l ∷ ls) (lines_at n (at + (length t - length rest)) rest))
+more_statements : (s : Statement) (ss : List Statement) (final : Text) → EndsAt (statements_text ss ++ final) s → AreStatements final ss → AreStatements final (s ∷ ss)
+more_statements s [] final is are = is
+more_statements s (r ∷ rest) final is are = (ends_weaken (λ end. IsEnding end (statements_text (r ∷ rest) ++ final)) IsNewline s (λ end ending. newline_of end ending) is, are)
+  where
+    newline_of : (end : Text) → IsEnding end (statements_text (r ∷ rest) ++ final) → IsNewline end
+    newline_of end (inl newline) = newline
+    newline_of end (inr (nothing, ended)) = absurd (not_empty r rest final are ended)
 
-lines_then : (n at : ℕ) (text : Text) (ls : List Line) (final : Text) → ((k : ℕ) (t : Text) (ms : List Line) → lines_at n k t ≡ got ms final → Taken t ms final) → (scan false text).1 ≡ false
-    → follow (entry_at at (take (scan false text).0 text) (drop (scan false text).0 text)) (then_lines n at text) ≡ got ls final → Taken text ls final
-lines_then n at text ls final later outside e =
+pub statements_then : (s : Statement) (ss : List Statement) (final : Text) → statements_text (s ∷ ss) ++ final ≡ statement_text s ++ (statements_text ss ++ final)
+statements_then s ss final = append_assoc (statement_text s) (statements_text ss) final
+
+-- ---- what is read
+
+abbrev pub Taken : Text → List Statement → Text → Type 0
+Taken text ss final = AreStatements final ss × IsFinalTrivia final × (text ≡ statements_text ss ++ final)
+
+taken_more : (text rest : Text) (s : Statement) (ss : List Statement) (final : Text) → Entry text s rest → Taken rest ss final → Taken text (s ∷ ss) final
+taken_more text rest s ss final (is, parts) (are, last, whole) =
+    let ends : EndsAt (statements_text ss ++ final) s = subst (λ (x : Text). EndsAt x s) whole is in
+    (more_statements s ss final ends are, last, parts ∙ ap (λ (x : Text). statement_text s ++ x) whole ∙ sym (statements_then s ss final))
+
+-- behind a statement of this text
+abbrev pub then_statements : ℕ → ℕ → ℕ → Text → Statement → Text → Reading (List Statement)
+then_statements n level at t s rest = behind (statement_events at s) (changed (λ ss. s ∷ ss) (statements_at n level (at + (length t - length rest)) rest))
+
+-- trivia that is scanned, before the rest
+pub scanned_trivia : (t : Text) → (scan false t).1 ≡ false → IsWholeTrivia (take (scan false t).0 t)
+scanned_trivia t outside =
+    let took : Outside (scan false t).1 (take (scan false t).0 t) = scan_took false t in
+    subst (λ (b : Bool). Outside b (take (scan false t).0 t)) outside took
+
+later_taken : (n at : ℕ) (text : Text) (ss : List Statement) (final : Text) → ((k : ℕ) (t : Text) (rs : List Statement) → statements_at n 0 k t ≡ got rs final → Taken t rs final) → (scan false text).1 ≡ false
+    → follow (statement_at 0 at (take (scan false text).0 text) (drop (scan false text).0 text)) (then_statements n 0 at text) ≡ got ss final → Taken text ss final
+later_taken n at text ss final later outside e =
     let len = (scan false text).0 in
     let leading = take len text in
-    let (l, rest, found, g) = follow_got (entry_at at leading (drop len text)) (then_lines n at text) ls final e in
+    let (s, rest, found, g) = follow_got (statement_at 0 at leading (drop len text)) (then_statements n 0 at text) ss final e in
     let next = at + (length text - length rest) in
-    let (ms, read, same) = changed_got (λ (ms : List Line). l ∷ ms) (lines_at n next rest) ls final (behind_got (line_events at (line_frame l) l.value) _ ls final g) in
-    let took : Outside (scan false text).1 leading = scan_took false text in
-    let whole : IsWholeTrivia leading = subst (λ (b : Bool). Outside b leading) outside took in
-    let entry : Entry text l rest = subst (λ (t : Text). Entry t l rest) (take-append-drop len text) (entry_takes at leading (drop len text) l rest whole found) in
-    subst (λ (y : List Line). Taken text y final) same (taken_more n next text rest l ms final read entry (later next rest ms read))
+    let (rs, read, same) = changed_got (λ (rs : List Statement). s ∷ rs) (statements_at n 0 next rest) ss final (behind_got (statement_events at s) _ ss final g) in
+    let entry : Entry text s rest = subst (λ (t : Text). Entry t s rest) (take-append-drop len text) (statement_takes at leading (drop len text) rest s (scanned_trivia text outside) found) in
+    subst (λ (y : List Statement). Taken text y final) same (taken_more text rest s rs final entry (later next rest rs read))
 
-pub lines_take : (n at : ℕ) (text : Text) (ls : List Line) (final : Text) → lines_at n at text ≡ got ls final → Taken text ls final
-unfolding lines_at
-lines_take zero at text ls final e = absurd cc
-lines_take (suc n) at text ls final e =
+pub statements_take : (n at : ℕ) (text : Text) (ss : List Statement) (final : Text) → statements_at n 0 at text ≡ got ss final → Taken text ss final
+unfolding statements_at
+statements_take zero at text ss final e = absurd cc
+statements_take (suc n) at text ss final e =
     let len = (scan false text).0 in
-    elim (chosen (length (drop len text) == 0) (got [] text) _ (got ls final) e) [
+    elim (chosen (length (drop len text) == 0) (got [] text) _ (got ss final) e) [
       | inl (ended, h) ↦
-          let (same, rest) = same_got [] ls text final h in
-          subst (λ (x : Text). Taken text ls x) rest (subst (λ (y : List Line). Taken text y text) same (final_takes text (eqb-true _ _ ended), refl))
-      | inr (goes, h) ↦ elim (chosen (scan false text).1 wrong _ (got ls final) h) [
+          let (same, rest) = same_got [] ss text final h in
+          subst (λ (x : Text). Taken text ss x) rest (subst (λ (y : List Statement). Taken text y text) same (tt, final_takes text (eqb-true _ _ ended), refl))
+      | inr (goes, h) ↦ elim (chosen (scan false text).1 wrong _ (got ss final) h) [
         | inl (inside, bad) ↦ absurd cc
-        | inr (outside, g) ↦ lines_then n at text ls final (λ k t ms. lines_take n k t ms final) outside g
+        | inr (outside, g) ↦ later_taken n at text ss final (λ k t rs. statements_take n k t rs final) outside g
       ]
     ]
 
--- what a key begins with ends trivia
-key_turn : (k t rest : Text) → SpellsKey k t → (c : ℕ) × (cs : Text) × (t ++ rest ≡ c ∷ cs) × (turn false c (first cs) ≡ None)
-key_turn k t rest is =
-    let (c, cs, e, opening) = key_begins k t is in
-    (c, cs ++ rest, ap (λ (x : Text). x ++ rest) e, grind (arith, nat_tests))
+-- ---- where the events of statements are cut
 
-scan_leading : (leading k t rest : Text) → IsWholeTrivia leading → SpellsKey k t → (scan false (leading ++ (t ++ rest)) ≡ (length leading, false)) × (0 < length (t ++ rest))
-scan_leading leading k t rest (ps, each, is) key =
-    let (c, cs, front, stops) = key_turn k t rest key in
-    let same : leading ++ (t ++ rest) ≡ flat_map piece_text ps ++ (c ∷ cs) = ap (λ (x : Text). x ++ (t ++ rest)) is ∙ ap (λ (x : Text). flat_map piece_text ps ++ x) front in
-    let e : scan false (leading ++ (t ++ rest)) ≡ (length (flat_map piece_text ps) + 0, false) =
-    ap (λ (x : Text). scan false x) same ∙ scan-pieces ps (c ∷ cs) each ∙ ap (further (length (flat_map piece_text ps))) (scan_stop false c cs stops) in
-    let len : length (flat_map piece_text ps) + 0 ≡ length leading = omega (arith, ap length is) in
-    (e ∙ ap (λ (n : ℕ). (n, false)) len, omega (arith, ap length front))
+-- the values of these statements are not too deep inside so many brackets
+abbrev pub statements_fit : ℕ → List Statement → Bool
+statements_fit level [] = true
+statements_fit level (s ∷ ss) = has_room level (depth_of s) && statements_fit level ss
 
-lines_open : (n at : ℕ) (leading tail : Text) → scan false (leading ++ tail) ≡ (length leading, false) → 0 < length tail → lines_at (suc n) at (leading ++ tail) ≡ follow (entry_at at leading tail) (then_lines n at (leading ++ tail))
-unfolding lines_at
-lines_open n at leading tail scanned some =
+-- inside more brackets than may be open nothing is too deep
+pub all_fit : (ss : List Statement) → statements_fit (suc most) ss ≡ true
+all_fit [] = refl
+all_fit (s ∷ ss) = rw (has_room_true (suc most) (depth_of s) (λ below. absurd (omega arith)), all_fit ss) refl
+
+fits_from : (level d : ℕ) → has_room level d ≡ true → Fits level d
+fits_from level d e = elim (cases_fits level d) [ inl big ↦ absurd (false≢true (sym (has_room_false level d big) ∙ e)) | inr fits ↦ fits ]
+
+-- the events of statements are cut nowhere where their values are not too deep
+pub statements_stay : (level at : ℕ) (ss : List Statement) → statements_fit level ss ≡ true → Stays level (events_from at ss)
+statements_stay level at [] fits = λ more. refl
+statements_stay level at (s ∷ ss) fits =
+    let (here, later) = and_parts (has_room level (depth_of s)) (statements_fit level ss) fits in
+    let next = at + length (statement_text s) in
+    stays_then level (statement_events at s) (events_from next ss) (statement_stays level at s (fits_from level (depth_of s) here)) (statements_stay level next ss later)
+
+pub statements_stop : (level at : ℕ) (ss : List Statement) → statements_fit level ss ≡ false → Stops level (events_from at ss)
+statements_stop level at [] exceeds = absurd (false≢true (sym exceeds))
+statements_stop level at (s ∷ ss) exceeds =
+    let next = at + length (statement_text s) in
+    let here = statement_events at s in
+    let later = events_from next ss in
+    elim (cases_fits level (depth_of s)) [
+      | inl big ↦ stops_first level here later (statement_stops level at s big)
+      | inr fits ↦
+          let none : statements_fit level ss ≡ false = sym (ap (λ (b : Bool). b && statements_fit level ss) (has_room_true level (depth_of s) fits)) ∙ exceeds in
+          stops_then level here later (statement_stays level at s fits) (statements_stop level next ss none)
+    ]
+
+-- ---- statements are read again
+
+scan_leading : (leading tail : Text) → IsWholeTrivia leading → ValueBegins tail → (scan false (leading ++ tail) ≡ (length leading, false)) × (0 < length tail)
+scan_leading leading tail whole (c, cs, begins, opening) = (scan_again leading tail c cs whole begins (grind (arith, nat_tests)), omega (arith, ap length begins))
+
+statements_open : (n level at : ℕ) (leading tail : Text) → scan false (leading ++ tail) ≡ (length leading, false) → 0 < length tail
+    → statements_at (suc n) level at (leading ++ tail) ≡ follow (statement_at level at leading tail) (then_statements n level at (leading ++ tail))
+unfolding statements_at
+statements_open n level at leading tail scanned some =
     rw (scanned, take_at leading tail _ refl, drop_at leading tail _ refl, ne_eqb (length tail) 0 (λ e. omega (arith, e))) refl
 
-pub ending_of : (l : Line) (ls : List Line) (final : Text) → AreLines (l ∷ ls) final → IsEnding l.end (lines_text ls ++ final)
-ending_of l ls final (is, inl (newline, lines)) = inl newline
-ending_of l ls final (is, inr (nothing, none, last)) = inr (nothing, ap (λ (x : List Line). lines_text x ++ final) none ∙ last)
-
-pub later_of : (l : Line) (ls : List Line) (final : Text) → AreLines (l ∷ ls) final → AreLines ls final
-later_of l ls final (is, inl (newline, lines)) = lines
-later_of l ls final (is, inr (nothing, none, last)) =
-    let empty : AreLines [] [] = ([], [], ([], tt, refl), inl refl, refl) in
-    subst (λ (x : List Line). AreLines x final) (sym none) (subst (λ (x : Text). AreLines [] x) (sym last) empty)
-
--- the values of these lines are not too deep
-abbrev pub lines_fit : List Line → Bool
-lines_fit [] = true
-lines_fit (l ∷ ls) = has_room 0 (depth l.value) && lines_fit ls
-
-pub line_stays : (at : ℕ) (f : Frame) (v : Value) → Fits 0 (depth v) → Stays 0 (line_events at f v)
-line_stays at f v fits =
-    let value = value_at_byte at f in
-    let last = event LineEnd (value + length (value_text v)) f.trailing ∷ [] in
-    stays_then 0 (frame_events at f) (value_events value v ++ last) (stays_frame 0 at f) (stays_then 0 (value_events value v) last (value_stays v 0 value fits) (λ more. refl))
-
--- a line with a bracket that is one too many
-pub line_stops : (at : ℕ) (f : Frame) (v : Value) (later : List Event) → Exceeds 0 (depth v)
-    → shortened 0 (line_events at f v ++ later) ≡ frame_events at f ++ shortened 0 (value_events (value_at_byte at f) v)
-line_stops at f v later big =
-    let value = value_at_byte at f in
-    let vs = value_events value v in
-    let last = event LineEnd (value + length (value_text v)) f.trailing ∷ [] in
-    let stops = value_stops v 0 value big.0 big.1 in
-    stops_then 0 (frame_events at f) (vs ++ last) (stays_frame 0 at f) (stops_first 0 vs last stops) later ∙ stays_frame 0 at f (vs ++ last) ∙ ap (λ (x : List Event). frame_events at f ++ x) (stops last)
-
--- the statement of a line has its text
-pub statement_line : (l : Line) → statement_text (line_statement l) ≡ line_text l
-statement_line l =
-    let path : [] ++ (l.spelled ++ []) ≡ l.spelled = append-nil l.spelled in
-    ap (λ (x : Text). (l.leading ++ (x ++ (l.before_equals ++ (61 ∷ (l.after_equals ++ (value_text l.value ++ l.trailing)))))) ++ l.end) path ∙ simp append_assoc
-
--- the events of lines are cut nowhere where their values are not too deep
-pub lines_stay : (at : ℕ) (ls : List Line) → lines_fit ls ≡ true → Stays 0 (events_from at (map line_statement ls))
-lines_stay at [] fits = λ more. refl
-lines_stay at (l ∷ ls) fits =
-    let (here, later) = and_parts (has_room 0 (depth l.value)) (lines_fit ls) fits in
-    let next = at + length (statement_text (line_statement l)) in
-    stays_then 0 (line_events at (line_frame l) l.value) (events_from next (map line_statement ls)) (line_stays at (line_frame l) l.value (fits_from 0 (depth l.value) here)) (lines_stay next ls later)
-  where
-    fits_from : (level d : ℕ) → has_room level d ≡ true → Fits level d
-    fits_from level d e = elim (cases_fits level d) [ inl big ↦ absurd (false≢true (sym (has_room_false level d big) ∙ e)) | inr fits ↦ fits ]
-
-pub lines_stop : (at : ℕ) (ls : List Line) → lines_fit ls ≡ false → Stops 0 (events_from at (map line_statement ls))
-lines_stop at [] exceeds = absurd (false≢true (sym exceeds))
-lines_stop at (l ∷ ls) exceeds =
-    let next = at + length (statement_text (line_statement l)) in
-    let here = line_events at (line_frame l) l.value in
-    let later = events_from next (map line_statement ls) in
-    elim (cases_fits 0 (depth l.value)) [
-      | inl big ↦ stops_first 0 here later (λ more. line_stops at (line_frame l) l.value more big ∙ sym (line_stops at (line_frame l) l.value [] big) ∙ ap (shortened 0) (append-nil here))
-      | inr fits ↦
-          let none : lines_fit ls ≡ false = sym (ap (λ (b : Bool). b && lines_fit ls) (has_room_true 0 (depth l.value) fits)) ∙ exceeds in
-          stops_then 0 here later (line_stays at (line_frame l) l.value fits) (lines_stop next ls none)
-    ]
-
--- a line, from what comes of the lines after it
-line_outcome : (n at : ℕ) (l : Line) (ls : List Line) (final rest t : Text) → t ≡ line_text l ++ rest → IsLine l → IsEnding l.end rest
-    → lines_at n (at + length (statement_text (line_statement l))) rest ≡ outcome (lines_fit ls) ls final (shortened 0 (events_from (at + length (statement_text (line_statement l))) (map line_statement ls)))
-    → follow (entry_at at l.leading (tail_text l rest)) (then_lines n at t) ≡ outcome (lines_fit (l ∷ ls)) (l ∷ ls) final (shortened 0 (events_from at (map line_statement (l ∷ ls))))
-line_outcome n at l ls final rest t parts is ending read =
-    let f = line_frame l in
-    let v = l.value in
-    let next = at + length (statement_text (line_statement l)) in
-    let later = events_from next (map line_statement ls) in
-    let all = line_events at f v ++ later in
-    let place : at + (length t - length rest) ≡ next = omega (arith, ap length parts, length-append (line_text l) rest, ap length (statement_line l)) in
-    ap (λ (r : Reading Line). follow r (then_lines n at t)) (entry_reads at l rest is ending)
-    ∙ elim (cases_fits 0 (depth v)) [
+-- a statement, from what comes of those after it
+statement_outcome : (n level at : ℕ) (s : Statement) (ss : List Statement) (final rest t : Text) → t ≡ statement_text s ++ rest → EndsAt rest s
+    → statements_at n level (at + length (statement_text s)) rest ≡ outcome (statements_fit level ss) ss final (shortened level (events_from (at + length (statement_text s)) ss))
+    → follow (statement_at level at (leading_of s) (tail_text s rest)) (then_statements n level at t) ≡ outcome (statements_fit level (s ∷ ss)) (s ∷ ss) final (shortened level (events_from at (s ∷ ss)))
+statement_outcome n level at s ss final rest t parts is read =
+    let next = at + length (statement_text s) in
+    let here = statement_events at s in
+    let later = events_from next ss in
+    let d = depth_of s in
+    let place : at + (length t - length rest) ≡ next = omega (arith, ap length parts, length-append (statement_text s) rest) in
+    ap (λ (r : Reading Statement). follow r (then_statements n level at t)) (statement_reads level at s rest is)
+    ∙ elim (cases_fits level d) [
       | inl big ↦
-          let none : has_room 0 (depth v) ≡ false = has_room_false 0 (depth v) big in
-          ap (λ (b : Bool). follow (outcome b l rest (entry_events at l)) (then_lines n at t)) none
-          ∙ ap deep (sym (line_stops at f v later big))
-          ∙ ap (λ (b : Bool). outcome (b && lines_fit ls) (l ∷ ls) final (shortened 0 all)) (sym none)
+          let none : has_room level d ≡ false = has_room_false level d big in
+          ap (λ (b : Bool). follow (outcome b s rest (shortened level here)) (then_statements n level at t)) none
+          ∙ ap deep (sym (statement_stops level at s big later))
+          ∙ ap (λ (b : Bool). outcome (b && statements_fit level ss) (s ∷ ss) final (shortened level (here ++ later))) (sym none)
       | inr fits ↦
-          let some : has_room 0 (depth v) ≡ true = has_room_true 0 (depth v) fits in
-          ap (λ (b : Bool). follow (outcome b l rest (entry_events at l)) (then_lines n at t)) some
-          ∙ ap (λ (k : ℕ). behind (line_events at f v) (changed (λ (ms : List Line). l ∷ ms) (lines_at n k rest))) place
-          ∙ ap (λ (r : Reading (List Line)). behind (line_events at f v) (changed (λ (ms : List Line). l ∷ ms) r)) read
-          ∙ ap (behind (line_events at f v)) (changed_outcome (λ (ms : List Line). l ∷ ms) (lines_fit ls) ls final (shortened 0 later))
-          ∙ behind_outcome (line_events at f v) (lines_fit ls) (l ∷ ls) final (shortened 0 later)
-          ∙ ap (outcome (lines_fit ls) (l ∷ ls) final) (sym (line_stays at f v fits later))
-          ∙ ap (λ (b : Bool). outcome (b && lines_fit ls) (l ∷ ls) final (shortened 0 all)) (sym some)
+          let some : has_room level d ≡ true = has_room_true level d fits in
+          ap (λ (b : Bool). follow (outcome b s rest (shortened level here)) (then_statements n level at t)) some
+          ∙ ap (λ (k : ℕ). behind here (changed (λ (rs : List Statement). s ∷ rs) (statements_at n level k rest))) place
+          ∙ ap (λ (r : Reading (List Statement)). behind here (changed (λ (rs : List Statement). s ∷ rs) r)) read
+          ∙ ap (behind here) (changed_outcome (λ (rs : List Statement). s ∷ rs) (statements_fit level ss) ss final (shortened level later))
+          ∙ behind_outcome here (statements_fit level ss) (s ∷ ss) final (shortened level later)
+          ∙ ap (outcome (statements_fit level ss) (s ∷ ss) final) (sym (statement_stays level at s fits later))
+          ∙ ap (λ (b : Bool). outcome (b && statements_fit level ss) (s ∷ ss) final (shortened level (here ++ later))) (sym some)
     ]
 
-pub lines_read_again : (ls : List Line) (final : Text) (n at : ℕ) → AreLines ls final → length (lines_text ls ++ final) < n
-    → lines_at n at (lines_text ls ++ final) ≡ outcome (lines_fit ls) ls final (shortened 0 (events_from at (map line_statement ls)))
-unfolding lines_at
-lines_read_again ls final zero at lines room = absurd (omega arith)
-lines_read_again [] final (suc n) at is room = rw (scan_final final is, drop_all (length final) final (le_refl _)) refl
-lines_read_again (l ∷ ls) final (suc n) at lines room =
-    let rest = lines_text ls ++ final in
-    let same : (line_text l ++ lines_text ls) ++ final ≡ l.leading ++ tail_text l rest = append_assoc (line_text l) (lines_text ls) final ∙ line_then l rest in
-    let (scanned, some) = scan_leading l.leading l.key l.spelled (l.before_equals ++ (61 ∷ (l.after_equals ++ (value_text l.value ++ (l.trailing ++ (l.end ++ rest)))))) lines.0.leading lines.0.key in
-    let full : 0 < length (line_text l) = omega (arith, line_length l) in
-    let fits : length rest < n = omega (arith, ap length (append_assoc (line_text l) (lines_text ls) final), length-append (line_text l) rest) in
-    ap (lines_at (suc n) at) same
-    ∙ lines_open n at l.leading (tail_text l rest) scanned some
-    ∙ line_outcome n at l ls final rest (l.leading ++ tail_text l rest) (sym (line_then l rest)) lines.0 (ending_of l ls final lines)
-    (lines_read_again ls final n (at + length (statement_text (line_statement l))) (later_of l ls final lines) fits)
+pub statements_read_again : (ss : List Statement) (final : Text) (n level at : ℕ) → AreStatements final ss → IsFinalTrivia final → length (statements_text ss ++ final) < n
+    → statements_at n level at (statements_text ss ++ final) ≡ outcome (statements_fit level ss) ss final (shortened level (events_from at ss))
+unfolding statements_at
+statements_read_again ss final zero level at are last room = absurd (omega arith)
+statements_read_again [] final (suc n) level at are last room = rw (scan_final final last, drop_all (length final) final (le_refl _)) refl
+statements_read_again (s ∷ ss) final (suc n) level at are last room =
+    let rest = statements_text ss ++ final in
+    let is = first_of s ss final are in
+    let same : statements_text (s ∷ ss) ++ final ≡ leading_of s ++ tail_text s rest = statements_then s ss final ∙ statement_then s rest in
+    let (scanned, some) = scan_leading (leading_of s) (tail_text s rest) (leading_is s rest is) (tail_begins s rest is) in
+    let full = some_statement (λ end. IsEnding end rest) s is in
+    let fits : length rest < n = omega (arith, ap length (statements_then s ss final), length-append (statement_text s) rest) in
+    ap (statements_at (suc n) level at) same
+    ∙ statements_open n level at (leading_of s) (tail_text s rest) scanned some
+    ∙ statement_outcome n level at s ss final rest (leading_of s ++ tail_text s rest) (sym (statement_then s rest)) is
+    (statements_read_again ss final n level (at + length (statement_text s)) (later_of s ss final are) last fits)
 
--- ---- the lines of a text are one list
+-- ---- statements begin with an ASCII byte
 
--- final trivia is no line
-final_no_line : (f : Text) (l : Line) (rest : Text) → IsFinalTrivia f → IsLine l → f ≡ line_text l ++ rest → ⊥
-final_no_line f l rest final is same =
-    let more = l.before_equals ++ (61 ∷ (l.after_equals ++ (value_text l.value ++ (l.trailing ++ (l.end ++ rest))))) in
-    let (scanned, some) = scan_leading l.leading l.key l.spelled more is.leading is.key in
-    let whole : f ≡ l.leading ++ tail_text l rest = same ∙ line_then l rest in
-    let ends : length l.leading ≡ length f = sym (ap (λ (r : ℕ × Bool). r.0) (ap (scan false) whole ∙ scanned)) ∙ scan_final f final in
-    omega (arith, ends, some, ap length whole, length-append l.leading (tail_text l rest))
+pub ascii_statement : (s : Statement) (rest : Text) → EndsAt rest s → StartsAscii (statement_text s ++ rest)
+ascii_statement s rest is =
+    let (c, cs, begins, opening) = tail_begins s rest is in
+    let low : StartsAscii (tail_text s rest) = subst StartsAscii (append-nil (tail_text s rest)) (ascii_value (tail_text s rest) [] (c, cs, begins, opening)) in
+    rw (statement_then s rest) (ascii_trivia (leading_of s) (tail_text s rest) (leading_is s rest is) low)
 
-pub one_list : (ls ms : List Line) (f g : Text) → AreLines ls f → AreLines ms g → lines_text ls ++ f ≡ lines_text ms ++ g → (ls ≡ ms) × (f ≡ g)
-one_list [] [] f g lines other same = (refl, same)
-one_list [] (m ∷ ms) f g lines other same = absurd (final_no_line f m (lines_text ms ++ g) lines other.0 (same ∙ append_assoc (line_text m) (lines_text ms) g))
-one_list (l ∷ ls) [] f g lines other same = absurd (final_no_line g l (lines_text ls ++ f) other lines.0 (sym same ∙ append_assoc (line_text l) (lines_text ls) f))
-one_list (l ∷ ls) (m ∷ ms) f g lines other same =
-    let (here, after) = one_line l m (lines_text ls ++ f) (lines_text ms ++ g) lines.0 other.0 (ending_of l ls f lines) (ending_of m ms g other) (sym (append_assoc (line_text l) (lines_text ls) f) ∙ same ∙ append_assoc (line_text m) (lines_text ms) g) in
-    let (later, last) = one_list ls ms f g (later_of l ls f lines) (later_of m ms g other) after in
-    (ap (λ (x : Line). x ∷ ls) here ∙ ap (λ (x : List Line). m ∷ x) later, last)
-
--- lines begin with an ASCII byte
-pub ascii_line : (l : Line) (rest : Text) → IsLine l → StartsAscii (line_text l ++ rest)
-ascii_line l rest is =
-    rw (line_then l rest) (ascii_trivia l.leading (tail_text l rest) is.leading (ascii_begins l.spelled _ (key_begins l.key l.spelled is.key)))
-
-pub ascii_lines : (ls : List Line) (final : Text) → AreLines ls final → StartsAscii (lines_text ls ++ final)
-ascii_lines [] final is = ascii_final final is
-ascii_lines (l ∷ ls) final (is, more) = rw (append_assoc (line_text l) (lines_text ls) final) (ascii_line l (lines_text ls ++ final) is)
-
--- ---- documents
-
-pub statements_lines : (ls : List Line) → joined (map statement_text (map line_statement ls)) ≡ lines_text ls
-statements_lines [] = refl
-statements_lines (l ∷ ls) = ap (λ (x : Text). x ++ joined (map statement_text (map line_statement ls))) (statement_line l) ∙ ap (λ (x : Text). line_text l ++ x) (statements_lines ls)
-
-pub flat_text : (marked : Bool) (ls : List Line) (final : Text) → document_text (flat_document marked ls final) ≡ mark_text marked ++ (lines_text ls ++ final)
-flat_text marked ls final = ap (λ (x : Text). mark_text marked ++ (x ++ final)) (statements_lines ls)
+pub ascii_statements : (ss : List Statement) (final : Text) → AreStatements final ss → IsFinalTrivia final → StartsAscii (statements_text ss ++ final)
+ascii_statements [] final are last = ascii_final final last
+ascii_statements (s ∷ ss) final are last = rw (statements_then s ss final) (ascii_statement s (statements_text ss ++ final) (first_of s ss final are))

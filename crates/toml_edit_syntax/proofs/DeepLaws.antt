@@ -55,7 +55,7 @@ wrong_deep es e = absurd cc
 pub same_deep : {A : Type 0} (es ms : List Event) → ◌≡◌ {A = Reading A} (deep es) (deep ms) → es ≡ ms
 same_deep es ms e = cc
 
-trivia_deep : (t : Text) (es : List Event) → trivia_at t ≡ deep es → ⊥
+pub trivia_deep : (t : Text) (es : List Event) → trivia_at t ≡ deep es → ⊥
 unfolding trivia_at
 trivia_deep t es e =
     elim (chosen (scan false t).1 wrong (got (take (scan false t).0 t) (drop (scan false t).0 t)) (deep es) e) [
@@ -63,7 +63,7 @@ trivia_deep t es e =
       | inr (outside, h) ↦ not_deep (take (scan false t).0 t) (drop (scan false t).0 t) es h
     ]
 
-frame_deep : (leading t : Text) (es : List Event) → frame_at leading t ≡ deep es → ⊥
+pub frame_deep : (leading t : Text) (es : List Event) → frame_at leading t ≡ deep es → ⊥
 frame_deep leading t es e =
     elim (follow_deep (reading (path_at t)) _ es e) [
       | inl h ↦ reading_deep (path_at t) es h
@@ -117,7 +117,7 @@ open_deep kind bracket whole t level at r utf8 here some low c inner es e =
           (ascii, subst (DeepIn whole) parts (deep_later whole (event kind at (bracket ∷ []) ∷ []) more (byte_span whole (drop 1 t) at bracket kind utf8 low c0, tt) (inner room (further whole (bracket ∷ []) (drop 1 t) at c0) more read)))
     ]
 
-scalar_deep : (t : Text) (o : Read Scalar) (es : List Event) → lone_scalar t o ≡ deep es → ⊥
+pub scalar_deep : (t : Text) (o : Read Scalar) (es : List Event) → lone_scalar t o ≡ deep es → ⊥
 scalar_deep t None es e = wrong_deep es e
 scalar_deep t (Some p) es e = absurd cc
 
@@ -162,7 +162,7 @@ item_deep whole head r next es e here later =
     ]
 
 -- it is behind a comma then
-comma_deep : {L : Type 0} (whole : Text) (bracket : ℕ) (more : Text) (before : List Event) (inner : Reading (L × (Bool × Text))) (add : L → L) (last : L) (ms : List Event)
+pub comma_deep : {L : Type 0} (whole : Text) (bracket : ℕ) (more : Text) (before : List Event) (inner : Reading (L × (Bool × Text))) (add : L → L) (last : L) (ms : List Event)
     → cond (first more == 44) (behind {A = L × (Bool × Text)} before (changed (λ p. (add p.0, p.1)) inner)) (cond (first more == bracket) (got (last, (false, [])) (drop 1 more)) wrong) ≡ deep ms
     → (more ≡ 44 ∷ drop 1 more) × (ks : List Event) × (inner ≡ deep ks) × (before ++ ks ≡ ms)
 comma_deep {L} whole bracket more before inner add last ms e =
@@ -243,7 +243,7 @@ pairs_value n level at start whole t leading key u f utf8 room value pairs parts
     (head (subst StartsAscii (sym took.parts) (ascii_value (value_text v) after_value (value_begins v took.is))), subst (DeepIn whole) joined (deep_later whole (value_events start v ++ event After (start + length (value_text v)) after ∷ []) ks spans is)))
 
 -- where the value of a pair that is read begins
-frame_place : (at : ℕ) (leading key u : Text) (f : Frame) → FrameTook leading key f u → at + (length key + length leading) - length u ≡ value_at_byte at f
+pub frame_place : (at : ℕ) (leading key u : Text) (f : Frame) → FrameTook leading key f u → at + (length key + length leading) - length u ≡ value_at_byte at f
 frame_place at leading key u f took =
     omega (
       arith,

@@ -13,20 +13,20 @@ use Rattle.toml_edit_syntax.specs.declared.value.Brackets.{Brackets}
 use Rattle.toml_edit_syntax.specs.declared.value.Brackets.TheVariants as brackets
 use Rattle.toml_edit_laws.specs.reading.Runs.{first}
 use Rattle.toml_edit_syntax.specs.ValueEvents.{event, close_events}
-use Rattle.toml_edit_syntax.specs.ValueReading.{Reading, got, deep, wrong, trivia_at, elements_at, pairs_at}
-use Rattle.toml_edit_syntax.specs.EventReading.{preceded, closing, closing_byte, close_read, head_read, value_read, items_read}
+use Rattle.toml_edit_syntax.specs.ValueReading.{Reading, got, wrong, trivia_at, elements_at, pairs_at}
+use Rattle.toml_edit_syntax.specs.EventReading.{preceded, closing_byte, close_read, head_read, value_read, items_read}
 use Rattle.toml_edit_syntax.specs.Gives.{StopsAs, IsBefore, Leaves}
-use Rattle.toml_edit_syntax.proofs.EventSteps.{between, event_is, preceded-twice, followed, goes, sinks, fails, added}
+use Rattle.toml_edit_syntax.proofs.EventSteps.{between, event_is, preceded-twice, followed, goes, sinks, fails}
 use Rattle.toml_edit_syntax.proofs.ItemTurns.{less_one, trivia_length, end_read, tail_read, element_turn, pair_turn}
 
 -- what stops reading stops it before what would follow
 pub stops : (new old : List Event) (r : Reading (List Event)) (next : Text → Reading (List Event)) (why : Stop) → StopsAs new (preceded old r) why → StopsAs new (preceded old (followed r next)) why
 stops new old r next stop.Memory h = tt
-stops new old r next (stop.Before left) h = fails old r next h
+stops new old r next (stop.Before mistake left) h = fails old r next h
 stops new old r next stop.TooDeep h = sinks old new r next h
 
 pub stops_before : (new : List Event) (r : Reading (List Event)) (why : Stop) → IsBefore why → r ≡ wrong → StopsAs new r why
-stops_before new r why (left, is) e = subst (StopsAs new r) (sym is) e
+stops_before new r why (mistake, left, is) e = subst (StopsAs new r) (sym is) e
 
 -- an error that is handed on
 pub leaves_err : (new : List Event) (result : Result (Bor Text) Stop) (r : Reading (List Event)) (why : Stop) (Q : Stop → Type 0) → IsErrAnd result Q → ((y : Stop) → Q y → y ≡ why) → StopsAs new r why → Leaves new result r

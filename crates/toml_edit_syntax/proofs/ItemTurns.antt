@@ -1,10 +1,9 @@
 -- The events of an array or an inline table, an element or a pair at a time.
-use Rattle.std.proofs.Common.{◌≡◌, ◌≢◌, ℕ, suc, ◌+◌, ◌-◌, ◌≤◌, Bool, true, false, if◌then◌else◌, ◌==◌, List, [], ◌∷◌, ◌++◌, ◌⊎◌, length, drop, codes, refl, sym, ap, ◌∙◌, inl, inr, arith, append_assoc}
-use Rattle.std.proofs.lemmas.Bool.{cases_Bool, ne_eqb, eq-eqb}
+use Rattle.std.proofs.Common.{◌≡◌, ◌≢◌, ℕ, suc, ◌+◌, ◌-◌, ◌≤◌, Bool, true, false, if◌then◌else◌, ◌==◌, List, [], ◌∷◌, ◌++◌, length, drop, codes, refl, sym, ap, ◌∙◌, inl, inr, arith, append_assoc}
+use Rattle.std.proofs.lemmas.Bool.{cases_Bool, ne_eqb}
 use Rattle.std.proofs.lemmas.List.{length-append}
 use Rattle.toml_edit_model.specs.Text.{Text}
 use Rattle.toml_edit_model.specs.Syntax.{Frame, Value, Elements, no_elements, element, Pairs, no_pairs, pair, value_text, path_text, most}
-use Rattle.toml_edit_syntax.specs.declared.event.EventKind.{EventKind}
 use Rattle.toml_edit_syntax.specs.declared.event.EventKind.TheVariants.{ArrayClose, InlineTableClose, Before, After}
 use Rattle.toml_edit_syntax.specs.declared.event.Event.{Event}
 use Rattle.toml_edit_syntax.specs.declared.value.Brackets.{Brackets}
@@ -12,7 +11,7 @@ use Rattle.toml_edit_syntax.specs.declared.value.Brackets.TheVariants as bracket
 use Rattle.toml_edit_laws.specs.reading.Runs.{first}
 use Rattle.toml_edit_syntax.specs.ValueEvents.{event, close_events, value_at_byte, frame_events, value_events, elements_events, pairs_events}
 use Rattle.toml_edit_syntax.specs.ValueReading.{Reading, got, deep, wrong, follow, changed, behind, trivia_at, frame_at, around, value_at, elements_at, pairs_at}
-use Rattle.toml_edit_syntax.specs.EventReading.{seen, preceded, closing, closing_byte, close_read, head_read, value_read, items_read}
+use Rattle.toml_edit_syntax.specs.EventReading.{seen, preceded, closing, closing_byte, head_read, value_read, items_read}
 use Rattle.toml_edit_syntax.proofs.ReadingSteps.{trivia_takes}
 use Rattle.toml_edit_syntax.proofs.PathLaws.{head_text, frame_takes}
 use Rattle.toml_edit_syntax.proofs.ValueTakes.{value_takes}

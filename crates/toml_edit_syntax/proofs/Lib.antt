@@ -6,13 +6,10 @@ pub mod ShortenedLaws
 pub mod ValueTakes
 pub mod ValueAgain
 pub mod ValueLaws
-pub mod LineLaws
 pub mod CutLaws
 pub mod DocumentLaws
 pub mod SpanLaws
-pub mod LineSpans
 pub mod DeepLaws
-pub mod LineDeep
 pub mod DeepEvents
 pub mod Whole
 pub mod LoneValueLaws
@@ -22,6 +19,11 @@ pub mod ScalarTurns
 pub mod ItemTurns
 pub mod ItemLoop
 pub mod ValueTurns
-pub mod EntryTurns
-pub mod LinesLoop
 pub mod LoneTurns
+pub mod HeaderLaws
+pub mod StatementLaws
+pub mod StatementSpans
+pub mod StatementDeep
+pub mod TooManyLaws
+pub mod StatementTurns
+pub mod StatementsLoop

@@ -1,5 +1,5 @@
 -- The events of a lone value, a part at a time.
-use Rattle.std.proofs.Common.{◌≡◌, ◌≢◌, ℕ, ◌+◌, ◌*◌, ◌-◌, Bool, true, false, cond, if◌then◌else◌, ◌==◌, List, [], ◌∷◌, ◌++◌, ◌⊎◌, length, refl, sym, ap, ◌∙◌, inl, inr, arith, append-nil}
+use Rattle.std.proofs.Common.{◌≡◌, ℕ, ◌+◌, ◌*◌, ◌-◌, Bool, cond, if◌then◌else◌, ◌==◌, List, [], length, refl, sym, ap, ◌∙◌, inl, inr, arith, append-nil}
 use Rattle.std.proofs.lemmas.Bool.{cases_Bool, ne_eqb, eq-eqb}
 use Rattle.toml_edit_model.specs.Text.{Text}
 use Rattle.toml_edit_model.specs.Trivia.{is_blank}
@@ -9,8 +9,8 @@ use Rattle.toml_edit_laws.specs.reading.Runs.{split_while}
 use Rattle.toml_edit_syntax.specs.ValueEvents.{value_events}
 use Rattle.toml_edit_syntax.specs.ValueReading.{Reading, got, deep, wrong, follow, value_at}
 use Rattle.toml_edit_syntax.specs.Reading.{lone_at}
-use Rattle.toml_edit_syntax.specs.EventReading.{seen, preceded, value_read}
-use Rattle.toml_edit_syntax.specs.LineReading.{lone_value_read}
+use Rattle.toml_edit_syntax.specs.EventReading.{seen, value_read}
+use Rattle.toml_edit_syntax.specs.StatementReading.{lone_value_read}
 use Rattle.toml_edit_syntax.proofs.EventSteps.{followed}
 
 -- nothing but white space is left

@@ -222,17 +222,27 @@ path_begins (s ∷ p) is =
 abbrev pub behind_trivia : Frame → Text → Text
 behind_trivia f rest = path_text f.path ++ (f.before_equals ++ (61 ∷ (f.after_equals ++ rest)))
 
-ends_equals : (b rest : Text) → IsWhiteSpace b → EndsPath (b ++ (61 ∷ rest))
-ends_equals b rest each =
+-- the parts of a pair that is read up to its value
+pub frame_parts : (leading text rest : Text) (f : Frame) → frame_at leading text ≡ got f rest → leading ++ text ≡ f.leading ++ behind_trivia f rest
+frame_parts leading text rest f e =
+    let (p, middle, found, h) = follow_got (reading (path_at text)) _ f rest e in
+    let (white, signs, same) = changed_got (λ (white : Text × Text). record { leading = leading; path = p; before_equals = white.0; after_equals = white.1; trailing = [] }) (reading (equals_at middle)) f rest h in
+    let took = path_takes text middle p (reading_got (path_at text) p middle found) in
+    let (before, after, parts) = equals_takes middle rest white (reading_got (equals_at middle) white rest signs) in
+    subst (λ (y : Frame). leading ++ text ≡ y.leading ++ behind_trivia y rest) same (ap (λ (x : Text). leading ++ x) (took.parts ∙ ap (λ (x : Text). path_text p ++ x) parts))
+
+-- white space and then a byte that is none of a bare key, no white space and no dot
+pub ends_path : (b rest : Text) (c : ℕ) → IsWhiteSpace b → ends_key (c ∷ []) ≡ true → is_blank c ≡ false → (c == 46) ≡ false → EndsPath (b ++ (c ∷ rest))
+ends_path b rest c each key blank dot =
     record {
-      stops = blank_first (λ c. ends_key (c ∷ [])) b (61 ∷ rest) (λ c h. grind (arith, nat_tests)) each refl;
-      undotted = ap (λ (x : Text × Text). first x.1 == 46) (split_while-run is_blank b (61 ∷ rest) each refl);
+      stops = blank_first (λ c. ends_key (c ∷ [])) b (c ∷ rest) (λ c h. grind (arith, nat_tests)) each key;
+      undotted = ap (λ (x : Text × Text). first x.1 == 46) (split_while-run is_blank b (c ∷ rest) each blank) ∙ dot;
     }
 
-pub frame_again : (f : Frame) (rest : Text) → IsFrame IsWholeTrivia f → is_blank (first rest) ≡ false
+pub frame_again : (MayFollow : Text → Type 0) (f : Frame) (rest : Text) → IsFrame MayFollow f → is_blank (first rest) ≡ false
     → frame_at f.leading (behind_trivia f rest) ≡ got (record f { trailing = [] }) rest
-frame_again f rest (spaced, path) stop =
+frame_again MayFollow f rest (spaced, path) stop =
     rw (
-      path_again f.path (f.before_equals ++ (61 ∷ (f.after_equals ++ rest))) path spaced.segments (ends_equals f.before_equals (f.after_equals ++ rest) spaced.before_equals),
+      path_again f.path (f.before_equals ++ (61 ∷ (f.after_equals ++ rest))) path spaced.segments (ends_path f.before_equals (f.after_equals ++ rest) 61 spaced.before_equals refl refl refl),
       equals_again f.before_equals f.after_equals rest spaced.before_equals spaced.after_equals stop,
     ) refl

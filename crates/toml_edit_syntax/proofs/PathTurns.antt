@@ -1,5 +1,5 @@
 -- The events of a key and of a pair up to its value, a step at a time.
-use Rattle.std.proofs.Common.{◌≡◌, ◌≢◌, ℕ, zero, suc, ◌+◌, ◌-◌, ◌≤◌, false, ◌==◌, List, [], ◌∷◌, ◌++◌, ◌⊎◌, length, take, drop, Option, Some, None, refl, sym, ap, subst, ◌∙◌, inl, inr, arith}
+use Rattle.std.proofs.Common.{◌≡◌, ◌≢◌, ℕ, zero, suc, ◌+◌, ◌-◌, ◌≤◌, ◌==◌, List, [], ◌∷◌, ◌++◌, length, drop, Option, Some, None, refl, sym, ap, ◌∙◌, inl, inr, arith}
 use Rattle.std.specs.Prelude.{option_map}
 use Rattle.std.proofs.lemmas.Bool.{ne_eqb, eq-eqb}
 use Rattle.std.proofs.lemmas.Option.{none-some}
@@ -13,7 +13,7 @@ use Rattle.toml_edit_laws.specs.reading.Runs.{first, split_while, Read}
 use Rattle.toml_edit_laws.specs.reading.Tokens.{key_at, string_at}
 use Rattle.toml_edit_syntax.specs.Scanning.{front, equals_at}
 use Rattle.toml_edit_syntax.specs.ValueEvents.{event, path_events, frame_events}
-use Rattle.toml_edit_syntax.specs.ValueReading.{Reading, got, deep, wrong, follow, changed, reading, segments_at, path_at, frame_at}
+use Rattle.toml_edit_syntax.specs.ValueReading.{got, wrong, follow, changed, reading, segments_at, path_at}
 use Rattle.toml_edit_syntax.specs.EventReading.{seen, preceded, equals_read, path_read, frame_read}
 use Rattle.toml_edit_laws.proofs.reading.Steps.{chosen}
 use Rattle.toml_edit_laws.proofs.common.OptionSteps.{bind_some, map_some}

@@ -74,16 +74,18 @@ trivia_takes t w rest e =
 abbrev pub stops_trivia : ℕ → Bool
 stops_trivia c = not (is_blank c || (c == 10 || (c == 13 || c == 35)))
 
--- trivia is read again in front of a byte that stops it
-pub trivia_again : (w rest : Text) (c : ℕ) (cs : Text) → IsWholeTrivia w → rest ≡ c ∷ cs → stops_trivia c ≡ true → trivia_at (w ++ rest) ≡ got w rest
-unfolding trivia_at
-trivia_again w rest c cs (ps, each, is) starts stops =
+-- trivia is scanned again in front of a byte that stops it
+pub scan_again : (w rest : Text) (c : ℕ) (cs : Text) → IsWholeTrivia w → rest ≡ c ∷ cs → stops_trivia c ≡ true → scan false (w ++ rest) ≡ (length w, false)
+scan_again w rest c cs (ps, each, is) starts stops =
     let stop : turn false c (first cs) ≡ None = grind (arith, nat_tests) in
     let none : scan false rest ≡ (0, false) = ap (scan false) starts ∙ scan_stop false c cs stop in
     let len : length (flat_map piece_text ps) + 0 ≡ length w = omega (arith, ap length is) in
-    let e : scan false (w ++ rest) ≡ (length w, false) =
-    ap (λ (x : Text). scan false (x ++ rest)) is ∙ scan-pieces ps rest each ∙ ap (further (length (flat_map piece_text ps))) none ∙ ap (λ (n : ℕ). (n, false)) len in
-    rw (e, take_at w rest _ refl, drop_at w rest _ refl) refl
+    ap (λ (x : Text). scan false (x ++ rest)) is ∙ scan-pieces ps rest each ∙ ap (further (length (flat_map piece_text ps))) none ∙ ap (λ (n : ℕ). (n, false)) len
+
+-- and read again
+pub trivia_again : (w rest : Text) (c : ℕ) (cs : Text) → IsWholeTrivia w → rest ≡ c ∷ cs → stops_trivia c ≡ true → trivia_at (w ++ rest) ≡ got w rest
+unfolding trivia_at
+trivia_again w rest c cs whole starts stops = rw (scan_again w rest c cs whole starts stops, take_at w rest _ refl, drop_at w rest _ refl) refl
 
 -- what ends a scalar may have trivia before it
 ends_pieces : (ps : List Piece) (rest : Text) → AllByRecursion IsPiece ps → ends_scalar rest ≡ true → ends_scalar (flat_map piece_text ps ++ rest) ≡ true

@@ -1,16 +1,15 @@
 -- The event of a scalar.
-use Rattle.std.proofs.Common.{◌≡◌, ℕ, ◌+◌, ◌-◌, ◌<◌, ◌≤◌, List, [], ◌∷◌, ◌++◌, length, Option, Some, None, refl, sym, ap, ◌∙◌, arith}
+use Rattle.std.proofs.Common.{◌≡◌, ℕ, ◌-◌, ◌<◌, ◌≤◌, [], ◌∷◌, length, Option, Some, refl, ap, ◌∙◌, arith}
 use Rattle.std.specs.Prelude.{option_map}
 use Rattle.std.proofs.lemmas.List.{length-append, length-take-le}
 use Rattle.toml_edit_model.specs.Text.{Text}
 use Rattle.toml_edit_model.specs.Scalars.{Scalar}
-use Rattle.toml_edit_model.specs.Syntax.{scalar}
 use Rattle.toml_edit_syntax.specs.declared.event.EventKind.TheVariants as kinds
 use Rattle.toml_edit_syntax.specs.declared.event.Event.{Event}
 use Rattle.toml_edit_laws.specs.reading.ScalarReading.{scalar_at}
 use Rattle.toml_edit_syntax.specs.Scanning.{front}
 use Rattle.toml_edit_syntax.specs.ValueEvents.{event, value_events}
-use Rattle.toml_edit_syntax.specs.ValueReading.{Reading, got, wrong, lone_scalar}
+use Rattle.toml_edit_syntax.specs.ValueReading.{got, lone_scalar}
 use Rattle.toml_edit_syntax.specs.EventReading.{seen, scalar_read}
 use Rattle.toml_edit_laws.proofs.common.OptionSteps.{map_some}
 use Rattle.toml_edit_laws.proofs.reading.TokenLaws.{scalar_takes, scalar-some}

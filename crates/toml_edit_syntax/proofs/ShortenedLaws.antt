@@ -29,7 +29,7 @@ stops_then level a b ha hb more =
 
 -- ---- a pair up to its value
 
-stays_path : (level start : ℕ) (p : List Segment) → Stays level (path_events start p)
+pub stays_path : (level start : ℕ) (p : List Segment) → Stays level (path_events start p)
 stays_path level start [] more = refl
 stays_path level start (s ∷ []) more = refl
 stays_path level start (s ∷ r ∷ rest) more =

@@ -72,7 +72,7 @@ path_front r (s ∷ p) rest = (r.after ++ (46 ∷ (path_text (s ∷ p) ++ rest))
 segment_length : (s : Segment) → length (segment_text s) ≡ length s.before + (length s.spelled + length s.after)
 segment_length s = omega (arith, length-append s.before (s.spelled ++ s.after), length-append s.spelled s.after)
 
-path_spans : (t rest : Text) (at : ℕ) (p : List Segment) → AllByRecursion IsSpelledSegment p → AllByRecursion IsSpacedSegment p → StartsAscii rest → Cut t at (path_text p ++ rest) → AreSpans t (path_events at p)
+pub path_spans : (t rest : Text) (at : ℕ) (p : List Segment) → AllByRecursion IsSpelledSegment p → AllByRecursion IsSpacedSegment p → StartsAscii rest → Cut t at (path_text p ++ rest) → AreSpans t (path_events at p)
 path_spans t rest at [] spelled spaced ascii c = tt
 path_spans t rest at (s ∷ []) (spells, none) ((before, after), more) ascii c =
     let c0 = cut_as t (path_text (s ∷ []) ++ rest) (s.before ++ (s.spelled ++ (s.after ++ rest))) at at (three_parts s.before s.spelled s.after rest) refl c in

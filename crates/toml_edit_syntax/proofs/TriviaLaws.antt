@@ -4,10 +4,12 @@ use Rattle.std.proofs.lemmas.Bool.{and_parts, and_from, or_cases, cases_eq, fals
 use Rattle.std.proofs.lemmas.Bool.Decides.{nat_tests}
 use Rattle.std.proofs.lemmas.List.{drop_more, drop_all, length-append}
 use Rattle.std.specs.List.{flat_map, AllByRecursion, list_all}
+use Rattle.std.specs.Prelude.{slice_index}
 use Rattle.toml_edit_laws.specs.reading.Runs.{first}
 use Rattle.toml_edit_model.specs.Text.{Text}
 use Rattle.toml_edit_model.specs.Trivia.{is_blank, is_visible, Each, Newline, lf, crlf, newline_text, comment, Piece, blank, break, remark, piece_text, IsPiece, IsWholeTrivia}
 use Rattle.toml_edit_syntax.specs.Scanning.{turn, scan}
+use Rattle.toml_edit_syntax.specs.ValueReading.{got, trivia_at}
 use Rattle.toml_edit_laws.proofs.reading.Steps.{chosen}
 
 -- ---- the loop, a turn at a time
@@ -45,6 +47,25 @@ module _ (start : ℕ × Bool) (inside : Bool) where
 
   pub scan_ends : (xs : Text) (i : ℕ) → length xs ≤ i → start ≡ further i (scan inside (drop i xs)) → start ≡ (i, inside)
   scan_ends xs i h loop = loop ∙ ap (λ l. further i (scan inside l)) (drop_all i xs h) ∙ ap (further i) (scan_nil inside) ∙ rw add-zero refl
+
+-- ---- little trivia
+
+-- none, where none begins with the first byte
+pub solid_trivia : (t : Text) → ((next : ℕ) → turn false (first t) next ≡ None) → trivia_at t ≡ got (take 0 t) (drop 0 t)
+unfolding trivia_at
+solid_trivia [] h = rw (scan_nil false) refl
+solid_trivia (c ∷ cs) h = rw (scan_stop false c cs (h (first cs))) refl
+
+spaced_turn : (c next : ℕ) → c ≡ 32 → turn false c next ≡ Some false
+spaced_turn c next e = rw e refl
+
+-- one space, where none begins with the byte behind it
+pub spaced_trivia : (t : Text) → first t ≡ 32 → ((next : ℕ) → turn false (slice_index t 1) next ≡ None) → trivia_at t ≡ got (take 1 t) (drop 1 t)
+unfolding trivia_at
+spaced_trivia [] e h = absurd cc
+spaced_trivia (c ∷ []) e h = rw (scan_more false c [] false (spaced_turn c 0 e), scan_nil false) refl
+spaced_trivia (c ∷ d ∷ ds) e h =
+    rw (scan_more false c (d ∷ ds) false (spaced_turn c d e), scan_stop false d ds (h (first ds))) refl
 
 -- ---- trivia is scanned
 

@@ -342,7 +342,7 @@ unfolding value_at
 pairs_end n level at comma w rest whole = rw (trivia_again w (125 ∷ rest) 125 rest whole refl refl) refl
 
 -- where the value of a pair begins
-value_place : (at : ℕ) (f : Frame) (t : Text) → at + (length (behind_trivia f t) + length f.leading) - length t ≡ value_at_byte at f
+pub value_place : (at : ℕ) (f : Frame) (t : Text) → at + (length (behind_trivia f t) + length f.leading) - length t ≡ value_at_byte at f
 value_place at f t =
     omega (arith, length-append (path_text f.path) (f.before_equals ++ (61 ∷ (f.after_equals ++ t))), length-append f.before_equals (61 ∷ (f.after_equals ++ t)), length-append f.after_equals t)
 
@@ -370,7 +370,7 @@ pair_reads n values f v ps level at comma ends w more c cs rest frame is starts 
     let more_ends : ends_scalar more ≡ true = ap ends_scalar starts ∙ rw no_blank stop in
     let lens : length t ≤ length key = omega (arith, length-append (path_text f.path) after_path, length-append f.before_equals (61 ∷ (f.after_equals ++ t)), length-append f.after_equals t) in
     let read = values v level start (f.trailing ++ more) is (ends_trivia f.trailing more spaced.trailing more_ends) (omega (arith, length-append f.leading key)) in
-    pairs_open n level at comma f.leading key (followed_by f []) t leads no_end (frame_again f t frame no_blank_value)
+    pairs_open n level at comma f.leading key (followed_by f []) t leads no_end (frame_again IsWholeTrivia f t frame no_blank_value)
     ∙ ap (λ (x : ℕ). behind (frame_events at f) (follow (value_at n level x t) (λ v after_value. follow (trivia_at after_value) (pair_then n level x (followed_by f []) v)))) (value_place at f t)
     ∙ item_outcome (frame_events at f) (value_at n level start t) (pair_then n level start (followed_by f [])) level start (pairs_depth ps) v f.trailing more c cs (pair f v ps, (ends, w)) rest
     (event After end f.trailing) (pairs_events (end + length f.trailing + 1) ps) (stays_frame level at f) spaced.trailing starts stops refl read goes

@@ -1,8 +1,8 @@
 -- The events of a value by its first byte.
-use Rattle.std.proofs.Common.{◌≡◌, ◌≢◌, ℕ, suc, ◌+◌, ◌-◌, ◌≤◌, Bool, true, false, ◌==◌, List, [], ◌∷◌, ◌++◌, length, drop, codes, refl, sym, ap, ◌∙◌, arith}
+use Rattle.std.proofs.Common.{◌≡◌, ◌≢◌, ℕ, suc, ◌+◌, ◌-◌, ◌≤◌, Bool, false, [], ◌∷◌, ◌++◌, length, drop, codes, refl, ap, ◌∙◌, arith}
 use Rattle.std.proofs.lemmas.Bool.{ne_eqb, eq-eqb}
 use Rattle.toml_edit_model.specs.Text.{Text}
-use Rattle.toml_edit_model.specs.Syntax.{Value, array, inline_table, Elements, Pairs, value_text, most}
+use Rattle.toml_edit_model.specs.Syntax.{array, inline_table, Elements, Pairs, value_text, most}
 use Rattle.toml_edit_syntax.specs.declared.event.EventKind.{EventKind}
 use Rattle.toml_edit_syntax.specs.declared.event.EventKind.TheVariants.{ArrayOpen, ArrayClose, InlineTableOpen, InlineTableClose, TooDeep}
 use Rattle.toml_edit_syntax.specs.declared.event.Event.{Event}
@@ -10,7 +10,7 @@ use Rattle.toml_edit_syntax.specs.declared.value.Brackets.{Brackets}
 use Rattle.toml_edit_syntax.specs.declared.value.Brackets.TheVariants as brackets
 use Rattle.toml_edit_laws.specs.reading.Runs.{first}
 use Rattle.toml_edit_syntax.specs.ValueEvents.{event, close_events, value_events, elements_events, pairs_events}
-use Rattle.toml_edit_syntax.specs.ValueReading.{Reading, got, deep, wrong, changed, behind, value_at, elements_at, pairs_at}
+use Rattle.toml_edit_syntax.specs.ValueReading.{Reading, got, deep, changed, behind, value_at, elements_at, pairs_at}
 use Rattle.toml_edit_syntax.specs.EventReading.{seen, preceded, opening, opening_byte, scalar_read, value_read, items_read}
 use Rattle.toml_edit_syntax.proofs.EventSteps.{between, event_is, seen_behind}
 use Rattle.toml_edit_syntax.proofs.ItemTurns.{less_one, value_length}

@@ -1,14 +1,15 @@
 -- The events of a text: the parts of its one cut, each with its place.
-use Rattle.std.specs.Prelude.{◌≡◌, ◌≤◌, ℕ, ◌+◌, ◌-◌, Bool, false, List, [], ◌∷◌, ◌++◌, length, nat_lt}
+use Rattle.std.specs.Prelude.{◌≡◌, ◌≤◌, ℕ, ◌+◌, ◌-◌, Bool, true, false, ◌||◌, ◌==◌, if◌then◌else◌, List, [], ◌∷◌, ◌++◌, length, nat_lt}
 use Rattle.std.specs.List.{list_any}
 use Rattle.std.specs.Str.{IsCharBoundary}
 use Rattle.toml_edit_model.specs.Text.{Text}
-use Rattle.toml_edit_model.specs.Syntax.{Frame, Value, Statement, key_line, header, Document, value_text, statement_text, mark_text, document_text, depth, most}
-use Rattle.toml_edit_model.specs.Flat.{IsFlatCut}
-use Rattle.toml_edit_syntax.specs.declared.event.EventKind.TheVariants.{LineEnd, Final}
+use Rattle.toml_edit_model.specs.Trivia.{Each}
+use Rattle.toml_edit_model.specs.Syntax.{Frame, Value, Header, Statement, key_line, header, Document, path_text, value_text, opening_brackets, closing_brackets, statement_text, mark_text, document_text, IsCut, depth, most}
+use Rattle.toml_edit_syntax.specs.declared.event.EventKind.{EventKind}
+use Rattle.toml_edit_syntax.specs.declared.event.EventKind.TheVariants.{Leading, HeaderOpen, ArrayHeaderOpen, BeforeKey, AfterKey, HeaderClose, LineEnd, Final}
 use Rattle.toml_edit_syntax.specs.declared.event.Event.{Event}
 use Rattle.toml_edit_syntax.specs.declared.event.Span.{Span}
-use Rattle.toml_edit_syntax.specs.ValueEvents.{event, frame_events, value_at_byte, value_events, shortened, are_deep}
+use Rattle.toml_edit_syntax.specs.ValueEvents.{event, path_events, frame_events, value_at_byte, value_events, shortened, are_deep}
 
 -- a key line that begins at this byte
 abbrev pub line_events : ℕ → Frame → Value → List Event
@@ -16,9 +17,30 @@ line_events start f v =
     let value = value_at_byte start f in
     frame_events start f ++ (value_events value v ++ event LineEnd (value + length (value_text v)) f.trailing ∷ [])
 
+-- what the opening brackets of a header are, by whether they are two
+abbrev pub header_open : Bool → EventKind
+header_open is_array = if is_array then ArrayHeaderOpen else HeaderOpen
+
+-- a header that begins at this byte
+abbrev pub header_events : ℕ → Header → List Event
+header_events start h =
+    let brackets = start + length h.leading in
+    let before = brackets + length (opening_brackets h.is_array) in
+    let key = before + length h.opening in
+    let after = key + length (path_text h.path) in
+    let close = after + length h.closing in
+    event Leading start h.leading
+    ∷ event (header_open h.is_array) brackets (opening_brackets h.is_array)
+    ∷ event BeforeKey before h.opening
+    ∷ path_events key h.path
+    ++ (event AfterKey after h.closing
+    ∷ event HeaderClose close (closing_brackets h.is_array)
+    ∷ event LineEnd (close + length (closing_brackets h.is_array)) h.trailing
+    ∷ [])
+
 abbrev pub statement_events : ℕ → Statement → List Event
 statement_events start (key_line f v end) = line_events start f v
-statement_events start (header h end) = []
+statement_events start (header h end) = header_events start h
 
 abbrev pub events_from : ℕ → List Statement → List Event
 events_from start [] = []
@@ -44,10 +66,26 @@ abbrev pub has_deep_value : Statement → Bool
 has_deep_value (key_line f v end) = exceeds_depth v
 has_deep_value (header h end) = false
 
--- The text's events: of whatever flat cut it has, they are the parts, up to a bracket that is one too many, which there is exactly
--- where a value is too deep; and it has one, unless there is such a bracket.
+abbrev pub is_closing_bracket : ℕ → Bool
+is_closing_bracket c = c == 0x5D || c == 0x7D
+
+-- More arrays and inline tables are open in one another, in a front of the text in which nothing is outside the grammar, than may be:
+-- closing brackets alone make that front a text of the grammar, with a value that is too deep.
+pub record OpensTooMany (t : Text) : Type 0 where
+  pub front : Text
+  pub behind_it : Text
+  pub closing : Text
+  pub document : Document
+  pub parts : t ≡ front ++ behind_it
+  pub closes : Each is_closing_bracket closing
+  pub cut : IsCut document (front ++ closing)
+  pub deep : list_any has_deep_value document.statements ≡ true
+
+-- The text's events: of whatever cut it has, they are the parts, up to a bracket that is one too many, which there is exactly where
+-- a value is too deep; and it has one, unless there is such a bracket, and the text opens too many then.
 pub record AreEventsOf (t : Text) (es : List Event) : Type 0 where
-  pub every : (d : Document) → IsFlatCut d t → es ≡ shortened 0 (events_of d)
-  pub deep : (d : Document) → IsFlatCut d t → are_deep es ≡ list_any has_deep_value d.statements
-  pub has_cut : are_deep es ≡ false → (d : Document) × IsFlatCut d t
-  pub only : (d other : Document) → IsFlatCut d t → IsFlatCut other t → other ≡ d
+  pub every : (d : Document) → IsCut d t → es ≡ shortened 0 (events_of d)
+  pub deep : (d : Document) → IsCut d t → are_deep es ≡ list_any has_deep_value d.statements
+  pub has_cut : are_deep es ≡ false → (d : Document) × IsCut d t
+  pub only : (d other : Document) → IsCut d t → IsCut other t → other ≡ d
+  pub brackets : are_deep es ≡ true → OpensTooMany t

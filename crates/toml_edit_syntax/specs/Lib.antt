@@ -4,7 +4,7 @@ pub mod ValueReading
 pub mod Events
 pub mod Reading
 pub mod EventReading
-pub mod LineReading
 pub mod Faults
 pub mod Gives
 pub mod LoneEvents
+pub mod StatementReading

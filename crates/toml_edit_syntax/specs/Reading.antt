@@ -1,75 +1,87 @@
 -- Reading a text from left to right.
-use Rattle.std.specs.Prelude.{ℕ, zero, suc, ◌+◌, ◌*◌, ◌-◌, Bool, false, ◌&&◌, ◌==◌, if◌then◌else◌, List, [], ◌∷◌, ◌++◌, length, map, take, drop, slice_index, Option, Some, None, option_map}
+use Rattle.std.specs.Prelude.{ℕ, zero, suc, ◌+◌, ◌*◌, ◌-◌, Bool, ◌&&◌, ◌==◌, if◌then◌else◌, false, List, [], ◌∷◌, ◌++◌, length, take, drop, slice_index, Option, Some, None, option_map, option_and_then}
 use Rattle.toml_edit_model.specs.Text.{Text}
 use Rattle.toml_edit_model.specs.Trivia.{is_blank}
-use Rattle.toml_edit_model.specs.Syntax.{Frame, Value, Document, mark_text}
-use Rattle.toml_edit_model.specs.Flat.{Line, line_frame, line_statement, flat_document}
+use Rattle.toml_edit_model.specs.Syntax.{Segment, Value, Statement, key_line, header, Document, mark_text}
 use Rattle.toml_edit_syntax.specs.declared.event.EventKind.TheVariants.{Final}
 use Rattle.toml_edit_syntax.specs.declared.event.Event.{Event}
 use Rattle.toml_edit_laws.specs.reading.Runs.{first, split_while, Read}
-use Rattle.toml_edit_laws.specs.reading.Tokens.{key_at}
-use Rattle.toml_edit_syntax.specs.Scanning.{front, scan, line_end_rest, newline_rest, equals_at}
+use Rattle.toml_edit_syntax.specs.Scanning.{front, scan, line_end_rest, newline_rest, opening_at, closing_rest}
 use Rattle.toml_edit_syntax.specs.ValueEvents.{event, frame_events, value_events}
-use Rattle.toml_edit_syntax.specs.ValueReading.{Reading, got, deep, wrong, follow, changed, behind, reading, value_at}
-use Rattle.toml_edit_syntax.specs.Events.{line_events, events_from, events_of}
+use Rattle.toml_edit_syntax.specs.ValueReading.{Reading, got, deep, wrong, follow, changed, behind, reading, path_at, frame_at, value_at}
+use Rattle.toml_edit_syntax.specs.Events.{statement_events, events_from, events_of}
 
--- ---- lines
+-- ---- statements
 
--- a line up to its value, of a simple key that is spelled so, with this white space round `=`
-abbrev pub key_frame : Text → Text → Text → Text × Text → Frame
-key_frame leading key spelled white =
-    record {
-      leading = leading;
-      path = record { before = []; key = key; spelled = spelled; after = [] } ∷ [];
-      before_equals = white.0;
-      after_equals = white.1;
-      trailing = [];
-    }
-
--- what follows a value in its line, and the newline
+-- what follows a value in its line, or the brackets of a header, and the newline
 abbrev pub end_at : Text → Read (Text × Text)
 end_at t = option_map (λ rest. ((front t (line_end_rest t), front (line_end_rest t) rest), rest)) (newline_rest (line_end_rest t))
 
--- the rest of a line behind its trivia, which begins at this byte
-unfoldable pub entry_at : ℕ → Text → Text → Reading Line
-entry_at at leading t =
-    follow (reading (key_at t)) (λ key rest. follow (reading (equals_at rest)) (λ white value.
+-- The rest of a key line behind its trivia, which begins at this byte, and whose value stands inside so many brackets: none in a
+-- document. Where more are open than may be, none is one too many.
+unfoldable pub key_line_at : ℕ → ℕ → Text → Text → Reading Statement
+key_line_at level at leading t =
+    follow (frame_at leading t) (λ f value.
     let start = at + (length t + length leading) - length value in
-    behind (frame_events at (key_frame leading key (front t rest) white)) (follow (value_at (2 * length value + 2) 0 start value) (λ v after. changed (λ e. record {
-      leading = leading;
-      key = key;
-      spelled = front t rest;
-      before_equals = white.0;
-      after_equals = white.1;
-      value = v;
-      trailing = e.0;
-      end = e.1;
-    }) (reading (end_at after))))))
+    behind (frame_events at f) (follow (value_at (2 * length value + 2) level start value) (λ v after.
+    changed (λ e. key_line (record f { trailing = e.0 }) v e.1) (reading (end_at after)))))
 
--- the lines of a text of fewer than n lines, which begins at this byte, and its final trivia
-unfoldable pub lines_at : ℕ → ℕ → Text → Reading (List Line)
-lines_at zero at t = wrong
-lines_at (suc n) at t =
+-- the white space before the closing brackets of a header, and what follows them with the newline
+unfoldable pub header_end_at : Bool → Text → Read (Text × (Text × Text))
+header_end_at is_array t =
+    let white = split_while is_blank t in
+    option_and_then (λ after. option_map (λ e. ((white.0, e.0), e.1)) (end_at after)) (closing_rest is_array white.1)
+
+-- a header with these parts
+abbrev pub made_header : Text → Bool → Text → List Segment → Text × (Text × Text) → Statement
+made_header leading is_array opening path e =
+    header (record {
+      leading = leading;
+      is_array = is_array;
+      opening = opening;
+      path = path;
+      closing = e.0;
+      trailing = e.1.0;
+    }) e.1.1
+
+-- a header behind its trivia
+unfoldable pub header_at : Text → Text → Reading Statement
+header_at leading t =
+    let brackets = opening_at t in
+    let white = split_while is_blank brackets.1 in
+    follow (reading (path_at white.1)) (λ path rest. changed (made_header leading brackets.0 white.0 path) (reading (header_end_at brackets.0 rest)))
+
+-- a statement behind its trivia
+unfoldable pub statement_at : ℕ → ℕ → Text → Text → Reading Statement
+statement_at level at leading t = if first t == 0x5B then header_at leading t else key_line_at level at leading t
+
+-- the statements of a text of fewer than n, which begins at this byte, and its final trivia
+unfoldable pub statements_at : ℕ → ℕ → ℕ → Text → Reading (List Statement)
+statements_at zero level at t = wrong
+statements_at (suc n) level at t =
     let len = (scan false t).0 in
     if length (drop len t) == 0 then got [] t
     else if (scan false t).1 then wrong
-    else follow (entry_at at (take len t) (drop len t)) (λ l rest.
-    behind (line_events at (line_frame l) l.value) (changed (λ ls. l ∷ ls) (lines_at n (at + (length t - length rest)) rest)))
+    else follow (statement_at level at (take len t) (drop len t)) (λ s rest.
+    behind (statement_events at s) (changed (λ ss. s ∷ ss) (statements_at n level (at + (length t - length rest)) rest)))
 
 abbrev pub is_marked : Text → Bool
 is_marked t = (first t == 0xEF && slice_index t 1 == 0xBB) && slice_index t 2 == 0xBF
 
--- the flat cut of a whole text
-unfoldable pub cut_of : Text → Reading Document
-cut_of t =
-    follow (lines_at (suc (length t)) (length (mark_text (is_marked t))) (if is_marked t then drop 3 t else t))
-    (λ ls final. got (flat_document (is_marked t) ls final) [])
+abbrev pub document : Bool → List Statement → Text → Document
+document has_mark statements final = record { has_mark = has_mark; statements = statements; final = final }
+
+-- the cut of a whole text
+unfoldable pub cut_of : ℕ → Text → Reading Document
+cut_of level t =
+    follow (statements_at (suc (length t)) level (length (mark_text (is_marked t))) (if is_marked t then drop 3 t else t))
+    (λ ss final. got (document (is_marked t) ss final) [])
 
 -- ---- events
 
--- the parts of these lines, of which the first begins at this byte, and of the final trivia of a text of so many bytes
-abbrev pub events_with_final : ℕ → ℕ → List Line → Text → List Event
-events_with_final whole at ls final = events_from at (map line_statement ls) ++ event Final (whole - length final) final ∷ []
+-- the parts of these statements, of which the first begins at this byte, and of the final trivia of a text of so many bytes
+abbrev pub events_with_final : ℕ → ℕ → List Statement → Text → List Event
+events_with_final whole at ss final = events_from at ss ++ event Final (whole - length final) final ∷ []
 
 -- the events of what reading gives: of all parts, or of those up to a bracket that is one too many
 abbrev pub events_seen : {A : Type 0} → (A → Text → List Event) → Reading A → Option (List Event)
@@ -77,13 +89,13 @@ events_seen events (got a rest) = Some (events a rest)
 events_seen events (deep es) = Some es
 events_seen events wrong = None
 
--- the events of a text that begins at this byte and ends a text of so many bytes, in fewer than n lines
-abbrev pub lines_read : ℕ → ℕ → ℕ → Text → Option (List Event)
-lines_read n whole at t = events_seen (events_with_final whole at) (lines_at n at t)
+-- the events of a text that begins at this byte and ends a text of so many bytes, in fewer than n statements
+abbrev pub statements_read : ℕ → ℕ → ℕ → Text → Option (List Event)
+statements_read n whole at t = events_seen (events_with_final whole at) (statements_at n 0 at t)
 
 -- the events of a whole text
 abbrev pub text_read : Text → Option (List Event)
-text_read t = events_seen (λ d _. events_of d) (cut_of t)
+text_read t = events_seen (λ d _. events_of d) (cut_of 0 t)
 
 -- ---- lone values
 

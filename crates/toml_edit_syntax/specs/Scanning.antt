@@ -1,4 +1,4 @@
--- Reading trivia and white space, from left to right.
+-- Reading trivia, white space and the brackets of headers, from left to right.
 use Rattle.std.specs.Prelude.{ℕ, suc, ◌-◌, Bool, true, false, not, ◌&&◌, ◌||◌, ◌==◌, if◌then◌else◌, [], ◌∷◌, length, take, drop, slice_index, Option, Some, None, is_some, unwrap_or}
 use Rattle.toml_edit_model.specs.Text.{Text}
 use Rattle.toml_edit_model.specs.Trivia.{is_blank, is_visible}
@@ -45,3 +45,14 @@ equals_at t =
     let before = split_while is_blank t in
     let after = split_while is_blank (drop 1 before.1) in
     if first before.1 == 61 then Some ((before.0, after.0), after.1) else None
+
+-- ---- the brackets of headers
+
+-- whether two brackets open the header at the front, and what stands behind the one or the two
+unfoldable pub opening_at : Text → Bool × Text
+opening_at t = if slice_index t 1 == 0x5B then (true, drop 2 t) else (false, drop 1 t)
+
+-- behind the closing brackets of a header, two of an array's element
+unfoldable pub closing_rest : Bool → Text → Option Text
+closing_rest is_array t =
+    if first t == 0x5D && (not is_array || slice_index t 1 == 0x5D) then Some (if is_array then drop 2 t else drop 1 t) else None

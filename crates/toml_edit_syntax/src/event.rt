@@ -42,6 +42,16 @@ pub enum EventKind {
     Inner,
     /// An opening bracket inside as many as may be open: nothing follows it.
     TooDeep,
+    /// The bracket that opens the header of a table.
+    HeaderOpen,
+    /// The two brackets that open the header of an array's element.
+    ArrayHeaderOpen,
+    /// The white space between the opening brackets of a header and its key.
+    BeforeKey,
+    /// The white space between the key of a header and its closing brackets.
+    AfterKey,
+    /// The bracket that closes the header of a table, or the two that close that of an array's element.
+    HeaderClose,
     /// The white space and the comment after a statement.
     LineEnd,
     /// What follows the last statement.

@@ -1,16 +1,17 @@
 //! Text to events.
 ghost use Rattle.std.specs.Prelude.{◌≡◌, ◌⊎◌, ℕ, ◌-◌, ◌<◌, ◌≤◌, drop, if◌then◌else◌, length, IfOk, IsOk, IsErrOf};
 ghost use Rattle.std.specs.List.{AllByRecursion};
-ghost use Rattle.toml_edit_model.specs.Syntax.{Document};
-ghost use Rattle.toml_edit_model.specs.Flat.{IsFlatCut};
+ghost use Rattle.toml_edit_model.specs.Syntax.{Document, IsCut};
 ghost use Rattle.toml_edit_syntax.specs.Events.{AreEventsOf, IsSpanOf};
 ghost use Rattle.toml_edit_syntax.specs.Faults.{HasSpanIn};
 ghost use Rattle.toml_edit_syntax.specs.Gives.{Adds};
-ghost use Rattle.toml_edit_syntax.specs.LineReading as read;
 ghost use Rattle.toml_edit_syntax.specs.Reading as spec;
+ghost use Rattle.toml_edit_syntax.specs.StatementReading as read;
 
 use crate::event::{Event, EventKind, Span};
-use crate::line::{line, trivia};
+use crate::line::trivia;
+use crate::mistake::{Mistake, at};
+use crate::statement::statement;
 use std::alloc::{AllocError, AllocFailed, Global};
 use toml_edit_token::run::{byte_at, first};
 
@@ -19,8 +20,8 @@ use toml_edit_token::run::{byte_at, first};
 pub enum SyntaxFault {
     /// No memory was left.
     Memory,
-    /// The text isn't one that is read so far; something of it stands at this span.
-    Text(Span),
+    /// The text is not in the grammar: this is wrong at this span.
+    Text(Mistake, Span),
 }
 
 /// Why reading stops.
@@ -28,8 +29,8 @@ pub enum SyntaxFault {
 pub(crate) enum Stop {
     /// No memory was left.
     Memory,
-    /// The text is not one that is read, where so many bytes of it are left.
-    Before(usize),
+    /// The text is not one that is read: this is wrong where so many bytes of it are left.
+    Before(Mistake, usize),
     /// A bracket is one too many: its event is the last of those that were added.
     TooDeep,
 }
@@ -84,17 +85,17 @@ fn parts<'a>(events: &mut Vec<Event>, whole: usize, s: &'a str) -> Result<&'a st
     ensures { (n : ℕ) → length s.now < n → Adds events.old.items events.new.items result (read.rest_read n whole s.now) }
 {
     let mut rest = s;
-    'lines: loop {
+    'statements: loop {
         let (len, inside) = trivia(rest);
-        let (leading, statement) = rest.split_at(len);
-        if statement.is_empty() {
+        let (leading, text) = rest.split_at(len);
+        if text.is_empty() {
             events.push(part(EventKind::Final, whole - rest.len(), whole))?;
             return Ok(rest);
         }
         if inside {
-            return Err(Stop::Before(statement.len()));
+            return Err(Stop::Before(at(text, Mistake::ExpectedNewline), text.len()));
         }
-        rest = line(events, whole, leading, statement)?;
+        rest = statement(events, whole, leading, text)?;
     }
 }
 
@@ -117,8 +118,8 @@ pub(crate) fn place(source: &str, left: usize) -> Span
 pub fn events(alloc: Global, source: &str) -> Result<Vec<Event>, SyntaxFault>
     ensures cut { IfOk result (λ es. AreEventsOf source.now es.items) }
     ensures spans { IfOk result (λ es. AllByRecursion (λ e. IsSpanOf source.now e.span) es.items) }
-    // A text that has a flat cut is read, unless memory runs out.
-    ensures every { (d : Document) → IsFlatCut d source.now → IsOk result ⊎ IsErrOf result SyntaxFault.Memory }
+    // A text of the grammar is read, unless memory runs out.
+    ensures every { (d : Document) → IsCut d source.now → IsOk result ⊎ IsErrOf result SyntaxFault.Memory }
     ensures fault { HasSpanIn source.now result }
 {
     let mut events = Vec::new(alloc);
@@ -126,6 +127,6 @@ pub fn events(alloc: Global, source: &str) -> Result<Vec<Event>, SyntaxFault>
         Ok(_) => Ok(events),
         Err(Stop::TooDeep) => Ok(events),
         Err(Stop::Memory) => Err(SyntaxFault::Memory),
-        Err(Stop::Before(left)) => Err(SyntaxFault::Text(place(source, left))),
+        Err(Stop::Before(mistake, left)) => Err(SyntaxFault::Text(mistake, place(source, left))),
     }
 }

@@ -1,14 +1,13 @@
-//! A statement behind its leading trivia.
+//! Trivia, the sign of a pair, and the end of a line.
 ghost use Rattle.std.specs.Prelude.{◌≡◌, false, ◌+◌, ◌<◌, ◌≤◌, length, option_map, IfOk, IfSome};
 ghost use Rattle.std.specs.Str.{IsCharBoundary};
 ghost use Rattle.toml_edit_syntax.specs.Gives.{Reads, Adds};
-ghost use Rattle.toml_edit_syntax.specs.LineReading as read;
 ghost use Rattle.toml_edit_syntax.specs.Scanning as spec;
+ghost use Rattle.toml_edit_syntax.specs.StatementReading as read;
 
 use crate::event::{Event, EventKind};
 use crate::lexer::{Stop, part};
-use crate::value::{sides, value};
-use toml_edit_token::after_key;
+use crate::mistake::{Mistake, at};
 use toml_edit_token::run::{Class, byte_at, first, is_blank, is_visible, skip, split_run};
 
 fn turn(inside: bool, byte: u8, next: u8) -> Option<bool>
@@ -87,55 +86,16 @@ fn after_newline(s: &str) -> Option<&str>
     }
 }
 
-/// Adds the parts of a line up to its value, behind its trivia.
-fn entry<'a>(
-    events: &mut Vec<Event>,
-    whole: usize,
-    leading: &str,
-    s: &'a str,
-) -> Result<&'a str, Stop>
-    requires { length leading.now + length s.now ≤ whole }
-    ensures adds { Adds events.old.items events.new.items result (read.front_read whole leading.now s.now) }
-    ensures within { IfOk result (λ r. length r.now ≤ length s.now) }
-{
-    let Some(rest) = after_key(s) else {
-        return Err(Stop::Before(s.len()));
-    };
-    events.push(part(
-        EventKind::Leading,
-        whole - s.len() - leading.len(),
-        whole - s.len(),
-    ))?;
-    events.push(part(EventKind::Key, whole - s.len(), whole - rest.len()))?;
-    sides(events, whole, rest)
-}
-
-/// Adds what follows the value of a line.
-fn end<'a>(events: &mut Vec<Event>, whole: usize, s: &'a str) -> Result<&'a str, Stop>
+/// Adds what follows the value of a line, or the brackets of a header.
+pub(crate) fn end<'a>(events: &mut Vec<Event>, whole: usize, s: &'a str) -> Result<&'a str, Stop>
     requires { length s.now ≤ whole }
     ensures adds { Adds events.old.items events.new.items result (read.end_read whole s.now) }
     ensures within { IfOk result (λ r. length r.now ≤ length s.now) }
 {
     let end = after_line_end(s);
     let Some(rest) = after_newline(end) else {
-        return Err(Stop::Before(end.len()));
+        return Err(Stop::Before(at(end, Mistake::ExpectedNewline), end.len()));
     };
     events.push(part(EventKind::LineEnd, whole - s.len(), whole - end.len()))?;
     Ok(rest)
-}
-
-/// Adds the parts of a line behind its trivia.
-pub(crate) fn line<'a>(
-    events: &mut Vec<Event>,
-    whole: usize,
-    leading: &str,
-    s: &'a str,
-) -> Result<&'a str, Stop>
-    requires { length leading.now + length s.now ≤ whole }
-    ensures adds { Adds events.old.items events.new.items result (read.line_read whole leading.now s.now) }
-    ensures shorter { IfOk result (λ r. length r.now < length s.now) }
-{
-    let text = entry(events, whole, leading, s)?;
-    let rest = value(events, whole, 0, text)?;
-    end(events, whole, rest)
 }

@@ -1,15 +1,17 @@
 //! The end of a value, and the events of its parts.
-ghost use Rattle.std.specs.Prelude.{◌≡◌, ℕ, ◌+◌, ◌*◌, ◌-◌, ◌++◌, [], ◌∷◌, ◌<◌, ◌≤◌, false, true, length, drop, option_map, IfOk, IfErr, MatchResult};
+ghost use Rattle.std.specs.Prelude.{◌≡◌, ℕ, ◌+◌, ◌*◌, ◌-◌, ◌++◌, [], ◌∷◌, ◌<◌, ◌≤◌, false, true, length, drop, None, option_map, IfOk, IfErr, MatchResult};
 ghost use Rattle.toml_edit_syntax.specs.Gives.{Adds, IsBefore};
 ghost use Rattle.toml_edit_laws.specs.reading.Runs.{first};
+ghost use Rattle.toml_edit_syntax.specs.Scanning.{turn};
 ghost use Rattle.toml_edit_syntax.specs.ValueReading as spec;
 ghost use Rattle.toml_edit_syntax.specs.EventReading as read;
 
 use crate::event::{Event, EventKind};
 use crate::lexer::{Stop, part};
 use crate::line::{equals, trivia};
+use crate::mistake::{Mistake, at, no_key, no_scalar};
 use std::alloc::AllocError;
-use toml_edit_token::run::{Class, first, skip, split_run};
+use toml_edit_token::run::{Class, byte_at, first, skip, split_run};
 use toml_edit_token::{after_key, after_scalar};
 
 /// How many arrays and inline tables may be open at once.
@@ -51,6 +53,15 @@ impl Brackets {
         }
     }
 
+    /// What is wrong where neither a comma nor the closing bracket follows an element or a pair.
+    fn mistake(self, s: &str) -> Mistake {
+        match self {
+            _ if !s.is_empty() => at(s, Mistake::UnexpectedCharacter),
+            Brackets::Array => Mistake::UnclosedArray,
+            Brackets::InlineTable => Mistake::UnclosedInlineTable,
+        }
+    }
+
     fn closing_byte(self) -> u8
         ensures { result ≡ read.closing_byte self }
     {
@@ -61,6 +72,13 @@ impl Brackets {
     }
 }
 
+/// Whether no trivia begins with it.
+fn is_solid(byte: u8) -> bool
+    ensures { (next : ℕ) → result ≡ true → turn false byte next ≡ None }
+{
+    byte > b' ' && byte != b'#'
+}
+
 /// Trivia, and the text after it, or how many bytes are left where it stops inside a comment.
 #[tactic(auto, unfolding(crate::specs::ValueReading::trivia_at))]
 fn whole_trivia(s: &str) -> Result<(&str, &str), Stop>
@@ -68,10 +86,17 @@ fn whole_trivia(s: &str) -> Result<(&str, &str), Stop>
     ensures before { IfErr result IsBefore }
     ensures lens { IfOk result (λ p. length p.0.now + length p.1.now ≡ length s.now) }
 {
+    // Mostly nothing stands there, or one space.
+    if is_solid(first(s)) {
+        return Ok(s.split_at(0));
+    }
+    if first(s) == b' ' && is_solid(byte_at(s, 1)) {
+        return Ok(s.split_at(1));
+    }
     let (len, inside) = trivia(s);
     let (front, rest) = s.split_at(len);
     if inside {
-        return Err(Stop::Before(rest.len()));
+        return Err(Stop::Before(at(rest, Mistake::ExpectedNewline), rest.len()));
     }
     Ok((front, rest))
 }
@@ -102,7 +127,7 @@ fn close<'a>(
 }
 
 /// Adds the parts of the key at the front.
-fn path<'a>(events: &mut Vec<Event>, whole: usize, s: &'a str) -> Result<&'a str, Stop>
+pub(crate) fn path<'a>(events: &mut Vec<Event>, whole: usize, s: &'a str) -> Result<&'a str, Stop>
     requires { length s.now ≤ whole }
     ensures adds { Adds events.old.items events.new.items result (read.path_read (length s.now) whole [] s.now) }
     ensures within { IfOk result (λ r. length r.now ≤ length s.now) }
@@ -110,7 +135,7 @@ fn path<'a>(events: &mut Vec<Event>, whole: usize, s: &'a str) -> Result<&'a str
     let mut rest = s;
     'segments: loop {
         let Some(end) = after_key(rest) else {
-            return Err(Stop::Before(rest.len()));
+            return Err(Stop::Before(no_key(rest), rest.len()));
         };
         events.push(part(EventKind::Key, whole - rest.len(), whole - end.len()))?;
         let (before, dot) = split_run(end, Class::Blank);
@@ -129,14 +154,14 @@ fn path<'a>(events: &mut Vec<Event>, whole: usize, s: &'a str) -> Result<&'a str
 }
 
 /// Adds the white space on both sides of `=`.
-pub(crate) fn sides<'a>(events: &mut Vec<Event>, whole: usize, s: &'a str) -> Result<&'a str, Stop>
+fn sides<'a>(events: &mut Vec<Event>, whole: usize, s: &'a str) -> Result<&'a str, Stop>
     requires { length s.now ≤ whole }
     ensures adds { Adds events.old.items events.new.items result (read.equals_read whole s.now) }
     ensures within { IfOk result (λ r. length r.now ≤ length s.now) }
 {
     let ((before, after), rest) = match equals(s) {
         Ok(found) => found,
-        Err(left) => return Err(Stop::Before(left)),
+        Err(left) => return Err(Stop::Before(Mistake::ExpectedEquals, left)),
     };
     events.push(part(
         EventKind::BeforeEquals,
@@ -152,7 +177,7 @@ pub(crate) fn sides<'a>(events: &mut Vec<Event>, whole: usize, s: &'a str) -> Re
 }
 
 /// Adds the parts of a pair up to its value, behind its trivia.
-fn frame<'a>(
+pub(crate) fn frame<'a>(
     events: &mut Vec<Event>,
     whole: usize,
     leading: &str,
@@ -203,7 +228,7 @@ fn scalar<'a>(events: &mut Vec<Event>, whole: usize, s: &'a str) -> Result<&'a s
     ensures shorter { IfOk result (λ r. length r.now < length s.now) }
 {
     let Some(rest) = after_scalar(s) else {
-        return Err(Stop::Before(s.len()));
+        return Err(Stop::Before(no_scalar(s), s.len()));
     };
     events.push(part(EventKind::Scalar, whole - s.len(), whole - rest.len()))?;
     Ok(rest)
@@ -267,7 +292,7 @@ fn items<'a>(
             return close(events, whole, brackets, false, "", next);
         }
         if first(next) != b',' {
-            return Err(Stop::Before(next.len()));
+            return Err(Stop::Before(brackets.mistake(next), next.len()));
         }
         rest = skip(next, 1);
         comma = true;

@@ -1,23 +1,23 @@
-use Rattle.std.proofs.Common.{◌≡◌, ℕ, suc, ◌-◌, ◌<◌, if◌then◌else◌, drop, List, [], Option, Some, None, IsUtf8, length, sym, subst, ◌∙◌}
+use Rattle.std.proofs.Common.{◌≡◌, ℕ, suc, ◌-◌, ◌<◌, if◌then◌else◌, drop, List, [], Some, length, sym, subst, ◌∙◌}
 use Rattle.toml_edit_model.specs.Text.{Text}
 use Rattle.toml_edit_syntax.specs.declared.event.Event.{Event}
 use Rattle.toml_edit_syntax.specs.declared.lexer.Stop.{Stop}
 use Rattle.toml_edit_syntax.specs.declared.lexer.Stop.TheVariants as stop
 use Rattle.toml_edit_syntax.specs.ValueReading.{Reading, got, deep, wrong}
 use Rattle.toml_edit_syntax.specs.Gives.{StopsAs}
-use Rattle.toml_edit_syntax.specs.Reading.{lines_at, events_with_final, text_read, is_marked}
+use Rattle.toml_edit_syntax.specs.Reading.{statements_at, events_with_final, text_read, is_marked}
 use Rattle.toml_edit_syntax.specs.EventReading.{preceded}
-use Rattle.toml_edit_syntax.specs.LineReading.{rest_read}
+use Rattle.toml_edit_syntax.specs.StatementReading.{rest_read}
 use Rattle.toml_edit_syntax.proofs.Whole.{whole_read, are_events, spans_read, has_events}
-use Rattle.toml_edit_syntax.proofs.LinesLoop.{given, given_from}
+use Rattle.toml_edit_syntax.proofs.StatementsLoop.{given, given_from}
 use Rattle.toml_edit_syntax.proofs.lexer.events.Goals as goal
 
--- the whole text is read so, where its lines are
+-- the whole text is read so, where its statements are
 read_so : (source rest : Text) (old : List Event) (result : Reading (List Event)) → rest ≡ (if is_marked source then drop 3 source else source) → old ≡ []
     → ((n : ℕ) → length rest < n → preceded old (rest_read n (length source) rest) ≡ result) → text_read source ≡ given result
 read_so source rest old result rest-is nothing read =
     let (less, same) = whole_read source rest rest-is in
-    sym same ∙ given_from (events_with_final (length source) (length source - length rest)) (lines_at (suc (length source)) (length source - length rest) rest) old result nothing (read (suc (length source)) less)
+    sym same ∙ given_from (events_with_final (length source) (length source - length rest)) (statements_at (suc (length source)) 0 (length source - length rest) rest) old result nothing (read (suc (length source)) less)
 
 pub returns-in-Ok-clause-cut : goal.returns-in-Ok-clause-cut
 returns-in-Ok-clause-cut c =

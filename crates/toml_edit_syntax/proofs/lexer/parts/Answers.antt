@@ -1,23 +1,22 @@
--- Each turn of the loop adds the events of a line, as the text is read.
-use Rattle.std.proofs.Common.{◌≡◌, ℕ, ◌+◌, ◌<◌, ◌≤◌, List, ◌++◌, length, refl, sym, ap, subst, ◌∙◌, rules, arith, le_refl}
+-- Each turn of the loop adds the events of a statement, as the text is read.
+use Rattle.std.proofs.Common.{◌≡◌, ◌≤◌, List, length, refl, sym, ap, subst, ◌∙◌, rules, arith, le_refl}
 use Rattle.std.proofs.lemmas.Grind.{common_steps}
-use Rattle.toml_edit_model.specs.Text.{Text}
 use Rattle.toml_edit_syntax.specs.declared.event.Event.{Event}
 use Rattle.toml_edit_syntax.specs.ValueReading.{Reading, got}
 use Rattle.toml_edit_syntax.specs.Gives.{StopsAs}
 use Rattle.toml_edit_syntax.specs.EventReading.{preceded}
-use Rattle.toml_edit_syntax.specs.LineReading.{line_read, rest_read}
+use Rattle.toml_edit_syntax.specs.StatementReading.{statement_read, rest_read}
 use Rattle.toml_edit_syntax.proofs.EventSteps.{goes, added}
 use Rattle.toml_edit_syntax.proofs.ItemLoop.{stops, leaves_err}
-use Rattle.toml_edit_syntax.proofs.LinesLoop as loop
+use Rattle.toml_edit_syntax.proofs.StatementsLoop as loop
 use Rattle.toml_edit_syntax.proofs.lexer.parts.Goals as goal
 
-pub lines-init : goal.lines-init
-lines-init c = record { utf8 = search rules; shorter = le_refl _; read = λ n h. (n, h, refl) }
+pub statements-init : goal.statements-init
+statements-init c = record { utf8 = search rules; shorter = le_refl _; read = λ n h. (n, h, refl) }
 
 pub returns-then-is_empty : goal.returns-then-is_empty
 returns-then-is_empty c n h =
-    let l = c.lines in
+    let l = c.statements in
     let fits : length l.rest.now ≤ c.args.whole = omega (arith, l.invariant.shorter, c.requires) in
     let (k, room, read) = l.invariant.read n h in
     let nothing : length c.split_at.result.1.now ≡ 0 = grind (arith, common_steps) in
@@ -28,7 +27,7 @@ returns-then-is_empty c n h =
 
 pub returns-then-inside : goal.returns-then-inside
 returns-then-inside c n h =
-    let l = c.lines in
+    let l = c.statements in
     let fits : length l.rest.now ≤ c.args.whole = omega (arith, l.invariant.shorter, c.requires) in
     let (k, room, read) = l.invariant.read n h in
     read
@@ -36,20 +35,20 @@ returns-then-inside c n h =
 
 pub returns-in_err-rest : goal.returns-in_err-rest
 returns-in_err-rest c n h =
-    let l = c.lines in
+    let l = c.statements in
     let fits : length l.rest.now ≤ c.args.whole = omega (arith, l.invariant.shorter, c.requires) in
     let (k, room, read) = l.invariant.read n h in
     let why = c.in_err-rest.field-0.0 in
-    let new = c.line.new.events.items in
+    let new = c.statement.new.events.items in
     let leading = c.split_at.result.0.now in
     let tail = c.split_at.result.1.now in
     let (m, more, turn) = loop.turns c.args.whole l.rest.now fits k room c.trivia-len.result.1 c.trivia-len.result.0 leading tail c.trivia-len.ensures.value c.split_at.ensures.front c.split_at.ensures.back (grind (arith, common_steps)) c.if-inside.false in
     leaves_err new c.from_residual-in_err-rest.result _ why _ c.from_residual-in_err-rest.ensures.1 (λ y e. e)
-    (subst (λ (r : Reading (List Event)). StopsAs new r why) (sym (read ∙ ap (preceded l.events.items) turn)) (stops new l.events.items (line_read c.args.whole leading tail) (rest_read m c.args.whole) why c.in_err-rest.ensures.adds))
+    (subst (λ (r : Reading (List Event)). StopsAs new r why) (sym (read ∙ ap (preceded l.events.items) turn)) (stops new l.events.items (statement_read c.args.whole leading tail) (rest_read m c.args.whole) why c.in_err-rest.ensures.adds))
 
-pub lines-preserved : goal.lines-preserved
-lines-preserved c =
-    let l = c.lines in
+pub statements-preserved : goal.statements-preserved
+statements-preserved c =
+    let l = c.statements in
     let front = c.split_at.ensures.front_len in
     let back = c.split_at.ensures.back_len in
     let less = c.in_ok-rest.ensures.shorter in
@@ -61,8 +60,8 @@ lines-preserved c =
           let (k, room, read) = l.invariant.read n h in
           let leading = c.split_at.result.0.now in
           let tail = c.split_at.result.1.now in
-          let new = c.line.new.events.items in
+          let new = c.statement.new.events.items in
           let next = c.in_ok-rest.rest.now in
           let (m, more, turn) = loop.turns c.args.whole l.rest.now fits k room c.trivia-len.result.1 c.trivia-len.result.0 leading tail c.trivia-len.ensures.value c.split_at.ensures.front c.split_at.ensures.back (grind (arith, common_steps)) c.if-inside.false in
-          (m, omega (arith, more), read ∙ ap (preceded l.events.items) turn ∙ goes l.events.items new (line_read c.args.whole leading tail) next (rest_read m c.args.whole) c.in_ok-rest.ensures.adds);
+          (m, omega (arith, more), read ∙ ap (preceded l.events.items) turn ∙ goes l.events.items new (statement_read c.args.whole leading tail) next (rest_read m c.args.whole) c.in_ok-rest.ensures.adds);
     }

@@ -5,7 +5,7 @@ use Rattle.toml_edit_syntax.specs.Scanning.{newline_rest}
 use Rattle.toml_edit_syntax.specs.ValueReading.{got}
 use Rattle.toml_edit_syntax.specs.EventReading.{preceded}
 use Rattle.toml_edit_syntax.proofs.EventSteps.{added}
-use Rattle.toml_edit_syntax.proofs.EntryTurns.{end_found}
+use Rattle.toml_edit_syntax.proofs.StatementTurns.{end_found}
 use Rattle.toml_edit_syntax.proofs.line.end.Goals as goal
 
 pub returns-clause-adds : goal.returns-clause-adds

@@ -9,9 +9,9 @@ use Rattle.toml_edit_syntax.specs.ValueReading.{Reading, got, deep, wrong}
 use Rattle.toml_edit_syntax.specs.Gives.{StopsAs}
 use Rattle.toml_edit_syntax.specs.Reading.{lone_at, lone_read}
 use Rattle.toml_edit_syntax.specs.EventReading.{preceded}
-use Rattle.toml_edit_syntax.specs.LineReading.{lone_value_read}
+use Rattle.toml_edit_syntax.specs.StatementReading.{lone_value_read}
 use Rattle.toml_edit_syntax.proofs.LoneValueLaws.{are_lone_events, lone_spans_read, has_lone_events}
-use Rattle.toml_edit_syntax.proofs.LinesLoop.{given, given_from}
+use Rattle.toml_edit_syntax.proofs.StatementsLoop.{given, given_from}
 use Rattle.toml_edit_syntax.proofs.lone_value.lone_events.Goals as goal
 
 -- the value is read so

@@ -1,5 +1,5 @@
 -- The parts round the key are added as the pair is read.
-use Rattle.std.proofs.Common.{◌≡◌, List, [], ◌∷◌, ◌++◌, length, sym, ap, subst, ◌∙◌}
+use Rattle.std.proofs.Common.{List, [], ◌∷◌, length, sym, ap, subst, ◌∙◌}
 use Rattle.toml_edit_syntax.specs.declared.event.Event.{Event}
 use Rattle.toml_edit_syntax.specs.Gives.{Leaves}
 use Rattle.toml_edit_syntax.specs.EventReading.{preceded, equals_read, path_read}

@@ -1,4 +1,4 @@
-use Rattle.std.proofs.Common.{◌≡◌, ◌+◌, ◌≤◌, ℕ, List, [], length}
+use Rattle.std.proofs.Common.{◌≡◌, ◌+◌, ◌≤◌, ℕ, [], length}
 use denote.Text.{Utf8}
 use denote.Shadow.{shadow}
 use Rattle.toml_edit_model.specs.Text.{Text}

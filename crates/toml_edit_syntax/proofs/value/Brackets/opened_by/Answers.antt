@@ -1,4 +1,4 @@
-use Rattle.std.proofs.Common.{◌≡◌, ◌≢◌, ℕ, arith}
+use Rattle.std.proofs.Common.{◌≢◌, ℕ, arith}
 use Rattle.toml_edit_syntax.specs.declared.value.Brackets.{Brackets}
 use Rattle.toml_edit_syntax.specs.declared.value.Brackets.TheVariants as brackets
 use Rattle.toml_edit_syntax.specs.EventReading.{opening_byte}

@@ -1,22 +1,20 @@
--- The loop over lines, a turn at a time.
-use Rattle.std.proofs.Common.{◌≡◌, ℕ, suc, ◌+◌, ◌-◌, ◌<◌, ◌≤◌, Bool, true, false, ◌==◌, List, [], ◌∷◌, ◌++◌, length, map, take, drop, Option, Some, None, refl, sym, ap, ◌∙◌, arith, append_assoc}
+-- The loop over statements, a turn at a time.
+use Rattle.std.proofs.Common.{◌≡◌, ℕ, suc, ◌+◌, ◌-◌, ◌<◌, ◌≤◌, Bool, true, false, List, [], ◌∷◌, ◌++◌, length, take, drop, Option, Some, None, refl, sym, ap, ◌∙◌, arith, append_assoc}
 use Rattle.std.proofs.lemmas.Bool.{ne_eqb}
 use Rattle.std.proofs.lemmas.List.{length-append, take-append-drop}
 use Rattle.toml_edit_model.specs.Text.{Text}
-use Rattle.toml_edit_model.specs.Syntax.{statement_text}
-use Rattle.toml_edit_model.specs.Flat.{Line, line_frame, line_statement}
+use Rattle.toml_edit_model.specs.Syntax.{Statement, statement_text}
 use Rattle.toml_edit_syntax.specs.declared.event.EventKind.TheVariants.{Final}
 use Rattle.toml_edit_syntax.specs.declared.event.Event.{Event}
 use Rattle.toml_edit_syntax.specs.Scanning.{scan}
 use Rattle.toml_edit_syntax.specs.ValueEvents.{event}
-use Rattle.toml_edit_syntax.specs.ValueReading.{Reading, got, deep, wrong, follow, changed, behind}
-use Rattle.toml_edit_syntax.specs.Events.{line_events, events_from}
-use Rattle.toml_edit_syntax.specs.Reading.{entry_at, lines_at, events_with_final, events_seen}
+use Rattle.toml_edit_syntax.specs.ValueReading.{Reading, got, deep, wrong, follow}
+use Rattle.toml_edit_syntax.specs.Events.{statement_events, events_from}
+use Rattle.toml_edit_syntax.specs.Reading.{statement_at, statements_at, events_with_final, events_seen}
 use Rattle.toml_edit_syntax.specs.EventReading.{seen, preceded}
-use Rattle.toml_edit_syntax.specs.LineReading.{line_read, rest_read}
-use Rattle.toml_edit_syntax.proofs.LineLaws.{line_text, entry_takes}
-use Rattle.toml_edit_syntax.proofs.CutLaws.{statement_line}
-use Rattle.toml_edit_syntax.proofs.LineDeep.{scanned_trivia}
+use Rattle.toml_edit_syntax.specs.StatementReading.{statement_read, rest_read}
+use Rattle.toml_edit_syntax.proofs.StatementLaws.{statement_takes}
+use Rattle.toml_edit_syntax.proofs.CutLaws.{then_statements, scanned_trivia}
 use Rattle.toml_edit_syntax.proofs.EventSteps.{between, event_is, followed, preceded-nil, seen_behind}
 use Rattle.toml_edit_syntax.proofs.ItemLoop.{one_less}
 
@@ -43,36 +41,33 @@ module _ (whole : ℕ) (t : Text) (fits : length t ≤ whole) where
   at = whole - length t
 
   rest_ends : (m : ℕ) → length (drop len t) ≡ 0 → rest_read (suc m) whole t ≡ got (between Final (whole - length t) whole ∷ []) t
-  unfolding lines_at
+  unfolding statements_at
   rest_ends m ended = rw ended (ap (λ (e : Event). got (e ∷ []) t) (event_is Final _ at whole t refl (omega (arith, fits))))
 
   rest_stops : (m : ℕ) → (length (drop len t) ≡ 0 → ⊥) → (scan false t).1 ≡ true → rest_read (suc m) whole t ≡ wrong
-  unfolding lines_at
+  unfolding statements_at
   rest_stops m some inside = rw (ne_eqb (length (drop len t)) 0 some, inside) refl
 
-  abbrev then_rest : ℕ → Line → Text → Reading (List Line)
-  then_rest m l rest = behind (line_events at (line_frame l) l.value) (changed (λ ls. l ∷ ls) (lines_at m (at + (length t - length rest)) rest))
-
   rest_open : (m : ℕ) → (length (drop len t) ≡ 0 → ⊥) → (scan false t).1 ≡ false
-      → rest_read (suc m) whole t ≡ seen (events_with_final whole at) (follow (entry_at at (take len t) (drop len t)) (then_rest m))
-  unfolding lines_at
+      → rest_read (suc m) whole t ≡ seen (events_with_final whole at) (follow (statement_at 0 at (take len t) (drop len t)) (then_statements m 0 at t))
+  unfolding statements_at
   rest_open m some outside = rw (ne_eqb (length (drop len t)) 0 some, outside) refl
 
-  by_entry : (m : ℕ) → (scan false t).1 ≡ false → (r : Reading Line) → entry_at at (take len t) (drop len t) ≡ r
-      → seen (events_with_final whole at) (follow r (then_rest m)) ≡ followed (seen (λ l _. line_events at (line_frame l) l.value) r) (rest_read m whole)
-  by_entry m outside wrong found = refl
-  by_entry m outside (deep es) found = refl
-  by_entry m outside (got l rest) found =
-      let (is, ending, parts) = entry_takes at (take len t) (drop len t) l rest (scanned_trivia t outside) found in
-      let here = line_events at (line_frame l) l.value in
+  by_statement : (m : ℕ) → (scan false t).1 ≡ false → (r : Reading Statement) → statement_at 0 at (take len t) (drop len t) ≡ r
+      → seen (events_with_final whole at) (follow r (then_statements m 0 at t)) ≡ followed (seen (λ s _. statement_events at s) r) (rest_read m whole)
+  by_statement m outside wrong found = refl
+  by_statement m outside (deep es) found = refl
+  by_statement m outside (got s rest) found =
+      let (is, parts) = statement_takes at (take len t) (drop len t) rest s (scanned_trivia t outside) found in
+      let here = statement_events at s in
       let next = at + (length t - length rest) in
-      let lens : length (line_text l) + length rest ≡ length t = omega (arith, ap length (sym (take-append-drop len t) ∙ parts), length-append (line_text l) rest) in
-      let place : at + length (statement_text (line_statement l)) ≡ next = omega (arith, lens, ap length (statement_line l)) in
+      let lens : length (statement_text s) + length rest ≡ length t = omega (arith, ap length (sym (take-append-drop len t) ∙ parts), length-append (statement_text s) rest) in
+      let place : at + length (statement_text s) ≡ next = omega (arith, lens) in
       let next-is : next ≡ whole - length rest = omega (arith, lens, fits) in
-      seen_behind here (λ ls. l ∷ ls) (events_with_final whole at) (events_with_final whole next) (lines_at m next rest)
-      (λ ls final _. append_assoc here (events_from (at + length (statement_text (line_statement l))) (map line_statement ls)) (event Final (whole - length final) final ∷ [])
-      ∙ ap (λ (n : ℕ). here ++ (events_from n (map line_statement ls) ++ event Final (whole - length final) final ∷ [])) place)
-      ∙ ap (λ (n : ℕ). preceded here (seen (events_with_final whole n) (lines_at m n rest))) next-is
+      seen_behind here (λ ss. s ∷ ss) (events_with_final whole at) (events_with_final whole next) (statements_at m 0 next rest)
+      (λ ss final _. append_assoc here (events_from (at + length (statement_text s)) ss) (event Final (whole - length final) final ∷ [])
+      ∙ ap (λ (n : ℕ). here ++ (events_from n ss ++ event Final (whole - length final) final ∷ [])) place)
+      ∙ ap (λ (n : ℕ). preceded here (seen (events_with_final whole n) (statements_at m 0 n rest))) next-is
 
   module _ (k : ℕ) (room : length t < k) (inside : Bool) (n : ℕ) (leading tail : Text)
       (scanned : ◌≡◌ {A = ℕ × Bool} (n, inside) (scan false t)) (l-is : leading ≡ take n t) (t-is : tail ≡ drop n t) where
@@ -98,17 +93,17 @@ module _ (whole : ℕ) (t : Text) (fits : length t ≤ whole) where
         let (m, is) = one_less k (omega arith) in
         ap (λ (x : ℕ). rest_read x whole t) is ∙ rest_stops m (λ e. some (ap length (sym tail-is) ∙ e)) (inside-is ∙ within)
 
-    pub turns : (length tail ≡ 0 → ⊥) → inside ≡ false → (m : ℕ) × (length t ≤ m) × (rest_read k whole t ≡ followed (line_read whole leading tail) (rest_read m whole))
+    pub turns : (length tail ≡ 0 → ⊥) → inside ≡ false → (m : ℕ) × (length t ≤ m) × (rest_read k whole t ≡ followed (statement_read whole leading tail) (rest_read m whole))
     turns some outside =
         let (m, is) = one_less k (omega arith) in
         let out = inside-is ∙ outside in
         let both : leading ++ tail ≡ t = ap (λ (x : Text). x ++ tail) (sym leading-is) ∙ ap (λ (x : Text). take len t ++ x) (sym tail-is) ∙ take-append-drop len t in
         let lens : length leading + length tail ≡ length t = omega (arith, ap length both, length-append leading tail) in
         let place : at ≡ whole - length tail - length leading = omega (arith, lens) in
-        let seen_at = λ (a : ℕ) (x y : Text). followed (seen (λ l _. line_events a (line_frame l) l.value) (entry_at a x y)) (rest_read m whole) in (
+        let seen_at = λ (a : ℕ) (x y : Text). followed (seen (λ s _. statement_events a s) (statement_at 0 a x y)) (rest_read m whole) in (
           m,
           omega (arith, is),
           ap (λ (x : ℕ). rest_read x whole t) is ∙ rest_open m (λ e. some (ap length (sym tail-is) ∙ e)) out
-              ∙ by_entry m out (entry_at at (take len t) (drop len t)) refl
+              ∙ by_statement m out (statement_at 0 at (take len t) (drop len t)) refl
               ∙ ap (λ (x : Text). seen_at at x (drop len t)) leading-is ∙ ap (seen_at at leading) tail-is ∙ ap (λ (a : ℕ). seen_at a leading tail) place,
         )

@@ -1,0 +1,82 @@
+//! What is wrong with a text that is outside the grammar.
+ghost use Rattle.std.specs.Prelude.{◌≡◌};
+ghost use Rattle.toml_edit_syntax.specs.Faults.{syntax_message};
+
+use toml_edit_token::run::first;
+
+/// What stands in the way where a text leaves the grammar.
+#[derive(Clone, Copy, Debug, PartialEq, Eq)]
+pub enum Mistake {
+    /// A character that cannot stand there.
+    UnexpectedCharacter,
+    /// There is no key.
+    ExpectedKey,
+    /// There is no `=` behind a key.
+    ExpectedEquals,
+    /// There is no value.
+    ExpectedValue,
+    /// A statement doesn't end with its line.
+    ExpectedNewline,
+    /// A string that doesn't end.
+    UnclosedString,
+    /// An array that doesn't end.
+    UnclosedArray,
+    /// An inline table that doesn't end.
+    UnclosedInlineTable,
+    /// The brackets of a header aren't closed.
+    UnclosedHeader,
+    /// Digits that are no number.
+    InvalidNumber,
+    /// A control character.
+    ControlCharacter,
+    /// A carriage return that no line feed follows.
+    CarriageReturn,
+}
+
+impl Mistake {
+    /// What an error says of it.
+    pub fn message(self) -> &'static str
+        ensures { result.now ≡ syntax_message self }
+    {
+        match self {
+            Mistake::UnexpectedCharacter => "unexpected character",
+            Mistake::ExpectedKey => "expected a key",
+            Mistake::ExpectedEquals => "expected =",
+            Mistake::ExpectedValue => "expected a value",
+            Mistake::ExpectedNewline => "expected a newline",
+            Mistake::UnclosedString => "unclosed string",
+            Mistake::UnclosedArray => "unclosed array",
+            Mistake::UnclosedInlineTable => "unclosed inline table",
+            Mistake::UnclosedHeader => "unclosed header",
+            Mistake::InvalidNumber => "invalid number",
+            Mistake::ControlCharacter => "control character",
+            Mistake::CarriageReturn => "carriage return without line feed",
+        }
+    }
+}
+
+/// What is wrong where `s` goes on, if none of the characters that stand nowhere is in the way.
+pub(crate) fn at(s: &str, otherwise: Mistake) -> Mistake {
+    match first(s) {
+        b'\r' => Mistake::CarriageReturn,
+        0x01..=0x08 | 0x0B..=0x1F | 0x7F => Mistake::ControlCharacter,
+        _ => otherwise,
+    }
+}
+
+/// What is wrong where `s` should go on with a key.
+pub(crate) fn no_key(s: &str) -> Mistake {
+    match first(s) {
+        b'"' | b'\'' => Mistake::UnclosedString,
+        _ => at(s, Mistake::ExpectedKey),
+    }
+}
+
+/// What is wrong where `s` should go on with a scalar.
+pub(crate) fn no_scalar(s: &str) -> Mistake {
+    match first(s) {
+        b'"' | b'\'' => Mistake::UnclosedString,
+        b'0'..=b'9' | b'+' | b'-' => Mistake::InvalidNumber,
+        _ => at(s, Mistake::ExpectedValue),
+    }
+}

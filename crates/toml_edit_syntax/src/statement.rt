@@ -1,0 +1,144 @@
+//! A statement behind its leading trivia.
+ghost use Rattle.std.specs.Prelude.{◌≡◌, ◌+◌, ◌*◌, ◌<◌, ◌≤◌, length, option_map, IfOk, IfSome};
+ghost use Rattle.toml_edit_model.specs.Syntax.{opening_brackets};
+ghost use Rattle.toml_edit_syntax.specs.Events.{header_open};
+ghost use Rattle.toml_edit_syntax.specs.Gives.{Adds};
+ghost use Rattle.toml_edit_laws.specs.reading.Runs.{first};
+ghost use Rattle.toml_edit_syntax.specs.Scanning as spec;
+ghost use Rattle.toml_edit_syntax.specs.StatementReading as read;
+
+use crate::event::{Event, EventKind};
+use crate::lexer::{Stop, part};
+use crate::line::end;
+use crate::mistake::{Mistake, at};
+use crate::value::{frame, path, value};
+use toml_edit_token::run::{Class, byte_at, first, skip, split_run};
+
+/// Adds the parts of a key line behind its trivia.
+fn key_line<'a>(
+    events: &mut Vec<Event>,
+    whole: usize,
+    leading: &str,
+    s: &'a str,
+) -> Result<&'a str, Stop>
+    requires { length leading.now + length s.now ≤ whole }
+    ensures adds { Adds events.old.items events.new.items result (read.key_line_read whole leading.now s.now) }
+    ensures shorter { IfOk result (λ r. length r.now < length s.now) }
+{
+    let text = frame(events, whole, leading, s)?;
+    let rest = value(events, whole, 0, text)?;
+    end(events, whole, rest)
+}
+
+/// Whether two brackets open the header at the front, and the text behind the one or the two.
+#[tactic(auto, unfolding(crate::specs::Scanning::opening_at))]
+fn opened(s: &str) -> (bool, &str)
+    requires { first s.now ≡ 0x5B }
+    ensures value { (result.0, result.1.now) ≡ spec.opening_at s.now }
+    ensures lens { length (opening_brackets result.0) + length result.1.now ≡ length s.now }
+{
+    if byte_at(s, 1) == b'[' {
+        (true, skip(s, 2))
+    } else {
+        (false, skip(s, 1))
+    }
+}
+
+/// The text behind the closing brackets of a header, or `None` if others stand at the front.
+#[tactic(auto, unfolding(crate::specs::Scanning::closing_rest))]
+fn after_closing(is_array: bool, s: &str) -> Option<&str>
+    ensures value { option_map (λ r. r.now) result ≡ spec.closing_rest is_array s.now }
+    ensures within { IfSome result (λ r. length r.now ≤ length s.now) }
+{
+    if first(s) != b']' {
+        None
+    } else if !is_array {
+        Some(skip(s, 1))
+    } else if byte_at(s, 1) == b']' {
+        Some(skip(s, 2))
+    } else {
+        None
+    }
+}
+
+/// What the opening brackets of a header are.
+fn opening(is_array: bool) -> EventKind
+    ensures { result ≡ header_open is_array }
+{
+    if is_array {
+        EventKind::ArrayHeaderOpen
+    } else {
+        EventKind::HeaderOpen
+    }
+}
+
+/// Adds the closing brackets of a header, the white space before them and what follows them.
+fn header_end<'a>(
+    events: &mut Vec<Event>,
+    whole: usize,
+    is_array: bool,
+    s: &'a str,
+) -> Result<&'a str, Stop>
+    requires { length s.now ≤ whole }
+    ensures adds { Adds events.old.items events.new.items result (read.header_end_read whole is_array s.now) }
+    ensures within { IfOk result (λ r. length r.now ≤ length s.now) }
+{
+    let (_, brackets) = split_run(s, Class::Blank);
+    let Some(rest) = after_closing(is_array, brackets) else {
+        return Err(Stop::Before(at(brackets, Mistake::UnclosedHeader), brackets.len()));
+    };
+    events.push(part(EventKind::AfterKey, whole - s.len(), whole - brackets.len()))?;
+    events.push(part(
+        EventKind::HeaderClose,
+        whole - brackets.len(),
+        whole - rest.len(),
+    ))?;
+    end(events, whole, rest)
+}
+
+/// Adds the parts of a header behind its trivia.
+fn header<'a>(
+    events: &mut Vec<Event>,
+    whole: usize,
+    leading: &str,
+    s: &'a str,
+) -> Result<&'a str, Stop>
+    requires here { first s.now ≡ 0x5B }
+    requires fits { length leading.now + length s.now ≤ whole }
+    ensures adds { Adds events.old.items events.new.items result (read.header_read whole leading.now s.now) }
+    ensures shorter { IfOk result (λ r. length r.now < length s.now) }
+{
+    let (is_array, inside) = opened(s);
+    let (_, key) = split_run(inside, Class::Blank);
+    events.push(part(
+        EventKind::Leading,
+        whole - s.len() - leading.len(),
+        whole - s.len(),
+    ))?;
+    events.push(part(opening(is_array), whole - s.len(), whole - inside.len()))?;
+    events.push(part(
+        EventKind::BeforeKey,
+        whole - inside.len(),
+        whole - key.len(),
+    ))?;
+    let rest = path(events, whole, key)?;
+    header_end(events, whole, is_array, rest)
+}
+
+/// Adds the parts of a statement behind its trivia.
+pub(crate) fn statement<'a>(
+    events: &mut Vec<Event>,
+    whole: usize,
+    leading: &str,
+    s: &'a str,
+) -> Result<&'a str, Stop>
+    requires { length leading.now + length s.now ≤ whole }
+    ensures adds { Adds events.old.items events.new.items result (read.statement_read whole leading.now s.now) }
+    ensures shorter { IfOk result (λ r. length r.now < length s.now) }
+{
+    if first(s) == b'[' {
+        header(events, whole, leading, s)
+    } else {
+        key_line(events, whole, leading, s)
+    }
+}
