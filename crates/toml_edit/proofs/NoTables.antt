@@ -2,13 +2,13 @@
 use Rattle.std.proofs.Common.{◌≡◌, Bool, true, false, List, [], ◌∷◌, ap, ◌∙◌, rules}
 use Rattle.toml_edit_model.specs.Tree.{Node, nothing, leaf, list, inline, table, tables}
 use Rattle.toml_edit_slots.specs.declared.slots.Slot.{Slot}
-use Rattle.toml_edit.specs.declared.array.Array.{Array}
-use Rattle.toml_edit.specs.declared.inline_table.InlineTable.{InlineTable}
-use Rattle.toml_edit.specs.declared.item.Item.{Item, out-Item, the_lemmas}
-use Rattle.toml_edit.specs.declared.item.Item.TheOpen.{Item-F, Value-F}
-use Rattle.toml_edit.specs.declared.item.Item.TheViews.{roll-Item, roll-Value}
-use Rattle.toml_edit.specs.declared.value.Value.{Value, out-Value}
-use Rattle.toml_edit.specs.View.{item_view, slots_view, value_view}
+use Rattle.toml_edit_tree.specs.declared.array.Array.{Array}
+use Rattle.toml_edit_tree.specs.declared.inline_table.InlineTable.{InlineTable}
+use Rattle.toml_edit_tree.specs.declared.item.Item.{Item, out-Item, the_lemmas}
+use Rattle.toml_edit_tree.specs.declared.item.Item.TheOpen.{Item-F, Value-F}
+use Rattle.toml_edit_tree.specs.declared.item.Item.TheViews.{roll-Item, roll-Value}
+use Rattle.toml_edit_tree.specs.declared.value.Value.{Value, out-Value}
+use Rattle.toml_edit_tree.specs.View.{item_view, slots_view, value_view}
 use Rattle.toml_edit.proofs.PrintingLaws.{HasNoTable, HaveNoTables}
 
 -- a table, or an array of tables

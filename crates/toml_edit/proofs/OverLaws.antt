@@ -1,5 +1,6 @@
 -- What parsing gives is a tree over its text, and a reading of it.
 use Rattle.std.proofs.Common.{◌≡◌, ◌-◌, length, [], sym, ap, subst, ◌∙◌}
+use Rattle.toml_edit_model.specs.Mode.{plain}
 use Rattle.toml_edit_model.specs.Text.{Text}
 use Rattle.toml_edit_model.specs.Syntax.{Document}
 use Rattle.toml_edit_model.specs.Flat.{flat_document, FlatAs}
@@ -11,10 +12,10 @@ use Rattle.toml_edit_laws.proofs.flat.TreeLaws.{tree}
 use Rattle.toml_edit_laws.proofs.read_trees.MeaningOfTrees.{trees_mean}
 use Rattle.toml_edit_laws.proofs.read_trees.ReadLaws.{owned_trees}
 use Rattle.toml_edit_laws.proofs.read_trees.TreeMade.{tree-made}
-use Rattle.toml_edit.specs.declared.table.Table.{Table}
+use Rattle.toml_edit_tree.specs.declared.table.Table.{Table}
 use Rattle.toml_edit.specs.Documents.{IsReading}
-use Rattle.toml_edit.specs.Parsed.{IsParsed}
-use Rattle.toml_edit.specs.View.{slots_view, fields_view, tree_view}
+use Rattle.toml_edit_parser.specs.Parsed.{IsParsed}
+use Rattle.toml_edit_tree.specs.View.{slots_view, fields_view, tree_view}
 
 -- the tree of these slots and this trailing text
 abbrev pub read_tree : Slots → Raw → Tree
@@ -42,7 +43,7 @@ module _ (t : Text) (slots : Slots) (trailing : Raw) (h : IsParsed t slots trail
 
   -- in owned form it is, too
   owned-is : IsTreeOf owned_form flat (owned_tree t (read_tree slots trailing))
-  owned-is = owned_trees t flat h.cut.cut (read_tree slots trailing) is-tree
+  owned-is = owned_trees plain t flat h.cut.cut (read_tree slots trailing) is-tree
 
   -- Its spans cut texts from the source, and the spellings so cut are true.
   pub over : IsOver t (read_tree slots trailing)
@@ -51,7 +52,7 @@ module _ (t : Text) (slots : Slots) (trailing : Raw) (h : IsParsed t slots trail
         root = (tt, tt);
         slots = h.parsed.slots_fit;
         trailing = h.parsed.trailing_fits;
-        well_made = tree-made flat (owned_tree t (read_tree slots trailing)) h.cut.cut.0 flat-as.accepted owned-is;
+        well_made = tree-made plain flat (owned_tree t (read_tree slots trailing)) h.cut.cut.0 flat-as.accepted owned-is;
       }
 
   -- It is the one reading of the text.

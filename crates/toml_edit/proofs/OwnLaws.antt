@@ -1,6 +1,7 @@
 -- A document in owned form, by the document over its text.
 use mathlib.Core.Logic.{∥∥₁_elim, ∥∥₁_map}
 use Rattle.std.proofs.Common.{◌≡◌, sym, ap, subst, ◌∙◌}
+use Rattle.toml_edit_model.specs.Mode.{plain}
 use Rattle.toml_edit_model.specs.Text.{Text}
 use Rattle.toml_edit_model.specs.Syntax.{Document}
 use Rattle.toml_edit_model.specs.Flat.{FlatAs}
@@ -9,7 +10,7 @@ use Rattle.toml_edit_model.specs.Print.{print}
 use Rattle.toml_edit_model.specs.Tree.{Tree, SlotsAreWellMade}
 use Rattle.toml_edit_model.specs.TreeOf.{spanned_form, owned_form, IsTreeOf, IsOver, DecorFits, SlotsFit, RawFits, owned_raw, owned_fields, owned_slots, owned_tree}
 use Rattle.toml_edit_laws.proofs.read_trees.ReadLaws.{owned_trees}
-use Rattle.toml_edit_laws.proofs.print_of_read.PrintOfRead.{print_normal}
+use Rattle.toml_edit_laws.proofs.print_of_read.PrintOfRead.{plain_print_normal}
 use Rattle.toml_edit.proofs.SpanProps.{DecorFits-prop, SlotsFit-prop, RawFits-prop}
 
 -- ---- what is known of a tree over its text
@@ -47,4 +48,4 @@ pub stays-tree : (t : Text) (x y : Tree) → y ≡ owned_tree t x → (d : Docum
     → IsTreeOf owned_form d y × (print y ≡ normal_text d)
 stays-tree t x y e d flat is =
     let cut = flat.cut.cut in
-    let own = subst (IsTreeOf owned_form d) (sym e) (owned_trees t d cut x is) in (own, print_normal d cut.0 flat.accepted y own)
+    let own = subst (IsTreeOf owned_form d) (sym e) (owned_trees plain t d cut x is) in (own, plain_print_normal d cut.0 flat.accepted y own)

@@ -4,7 +4,7 @@ use Rattle.toml_edit_model.specs.Tree.{Tree}
 use Rattle.toml_edit.specs.declared.document.Document.{Document}
 use Rattle.toml_edit.specs.declared.document.DocumentMut.{DocumentMut}
 use Rattle.toml_edit.specs.declared.document.SourceText.{Ghosts}
-use Rattle.toml_edit.specs.View.{tree_view}
+use Rattle.toml_edit_tree.specs.View.{tree_view}
 
 -- the text that was read
 abbrev pub source : {S : Type 0} {text : Ghosts S} → Document S text → Text

@@ -1,15 +1,2 @@
-pub mod View
-pub mod ScalarRead
-pub mod ValueRead
-pub mod PairRead
-pub mod Lines
-pub mod Parsed
-pub mod Held
-pub mod Split
 pub mod DocumentView
 pub mod Documents
-pub mod Printing
-pub mod Casts
-pub mod LoneValue
-pub mod Containers
-pub mod ContainerParts

@@ -1,12 +1,12 @@
 //! Documents: as they were read, over their text, and as they can be printed.
 ghost use Rattle.toml_edit_model.specs.TreeOf.{IsOver};
-ghost use Rattle.toml_edit.specs.View.{tree_view};
+ghost use Rattle.toml_edit_tree.specs.View.{tree_view};
 
-use crate::parser;
-use crate::table::{Iter, Table};
 use std::alloc::Global;
 use toml_edit_error::ParseFault;
+use toml_edit_parser as parser;
 use toml_edit_repr::{Mem, RawString};
+use toml_edit_tree::{Iter, Table};
 
 /// What holds the text of a document: the same text each time.
 pub trait SourceText: Drop {
@@ -58,9 +58,9 @@ impl<S: SourceText> Document<S> {
     ghost use Rattle.toml_edit_error.specs.Fault.{IfToml};
     ghost use Rattle.toml_edit.specs.DocumentView.{source, tree_read, tree_owned};
     ghost use Rattle.toml_edit.specs.Documents.{IsReading};
-    ghost use Rattle.toml_edit.specs.Held.{held, held_left};
-    ghost use Rattle.toml_edit.specs.Parsed.{IsRefusal};
-    ghost use Rattle.toml_edit.specs.View.{slots_view, fields_view};
+    ghost use Rattle.toml_edit_tree.specs.Held.{held, held_left};
+    ghost use Rattle.toml_edit_parser.specs.Parsed.{IsRefusal};
+    ghost use Rattle.toml_edit_tree.specs.View.{table_slots, fields_view};
 
     /// Reads a text. The errors are a `TomlError` for a text that is refused, which names a fault of its first faulty statement, or
     /// says `not yet` of what isn't read so far; and want of memory.
@@ -82,7 +82,7 @@ impl<S: SourceText> Document<S> {
     /// The root table.
     pub fn as_table(&self) -> &Table
         ensures fields { fields_view result.now ≡ (tree_read self.now).root }
-        ensures slots { slots_view result.now.slots ≡ (tree_read self.now).slots }
+        ensures slots { table_slots result.now ≡ (tree_read self.now).slots }
     {
         &self.root
     }
@@ -139,12 +139,12 @@ impl DocumentMut {
     ghost use Rattle.std.specs.Prelude.{◌≡◌, IfOk, string_bytes};
     ghost use Rattle.toml_edit_model.specs.Print.{print as printed};
     ghost use Rattle.toml_edit.specs.DocumentView.{tree_owned};
-    ghost use Rattle.toml_edit.specs.View.{slots_view, fields_view};
+    ghost use Rattle.toml_edit_tree.specs.View.{table_slots, fields_view};
 
     /// The root table.
     pub fn as_table(&self) -> &Table
         ensures fields { fields_view result.now ≡ (tree_owned self.now).root }
-        ensures slots { slots_view result.now.slots ≡ (tree_owned self.now).slots }
+        ensures slots { table_slots result.now ≡ (tree_owned self.now).slots }
     {
         &self.root
     }

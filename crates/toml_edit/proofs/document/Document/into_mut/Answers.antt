@@ -2,7 +2,7 @@
 use Rattle.std.proofs.Common.{sym, ap, ◌∙◌}
 use Rattle.toml_edit_model.specs.TreeOf.{owned_raw}
 use Rattle.toml_edit.specs.DocumentView.{source, tree_read}
-use Rattle.toml_edit.specs.View.{tree_view}
+use Rattle.toml_edit_tree.specs.View.{tree_view}
 use Rattle.toml_edit.proofs.OwnLaws.{over-root, over-slots, over-trailing, over-true, owned-parts, stays-tree}
 use Rattle.toml_edit.proofs.document.Document.into_mut.Goals as goal
 

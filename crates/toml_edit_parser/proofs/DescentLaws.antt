@@ -1,0 +1,139 @@
+-- What the functions of the descent along a path ask of each other, and where their texts lie.
+use Rattle.std.proofs.Common.{◌≡◌, ◌<◌, ℕ, zero, suc, List, [], ◌∷◌, length, refl, sym, ap, ◌∙◌, subst, arith, true, Option, Some, slice_get}
+use Rattle.std.specs.Prelude.{Result, Ok, Err, OnOk}
+use Rattle.std.proofs.lemmas.Option.{same_Some}
+use Rattle.toml_edit_model.specs.Text.{Text}
+use Rattle.toml_edit_model.specs.Spelling.{SpellsKey}
+use Rattle.toml_edit_model.specs.Syntax.{Segment, path_text}
+use Rattle.toml_edit_model.specs.Paths.{Path, Mention, line_mentions}
+use Rattle.toml_edit_model.specs.Tree.{Raw, Decor, Key, Extent, Node, Slots, leaf, inline}
+use Rattle.toml_edit_model.specs.Scalars.{Scalar}
+use Rattle.toml_edit_model.specs.TreeOf.{Entry, KeyFits, NodeFits, SlotsFit, cut_out}
+use Rattle.toml_edit_laws.specs.FlatTree.{with_slot}
+use Rattle.toml_edit_laws.specs.InlineTree.{entry_clash, path_fields}
+use Rattle.toml_edit_laws.specs.Standing.{Stands}
+use Rattle.toml_edit_error.specs.Fault.{IfToml}
+use Rattle.toml_edit_error.specs.declared.toml_error.ParseFault.{ParseFault}
+use Rattle.toml_edit_slots.specs.declared.slots.Slot as repr
+use Rattle.toml_edit_slots.specs.Slots.{items_of, with_item}
+use Rattle.toml_edit_syntax.specs.declared.event.Event.{Event}
+use Rattle.toml_edit_syntax.specs.declared.event.Span.{Span}
+use Rattle.toml_edit_syntax.specs.Events.{IsSpanOf}
+use Rattle.toml_edit_tree.specs.declared.inline_table.InlineTable.{InlineTable}
+use Rattle.toml_edit_tree.specs.declared.item.Item.{Item}
+use Rattle.toml_edit_tree.specs.declared.item.Item.TheOpen.{Value-F}
+use Rattle.toml_edit_tree.specs.declared.item.Item.TheViews.{roll-Value}
+use Rattle.toml_edit_tree.specs.declared.value.Value.{Value, out-Value}
+use Rattle.toml_edit_tree.specs.declared.value.Value.TheVariants as values
+use Rattle.toml_edit_tree.specs.declared.array.Array.{Array}
+use Rattle.toml_edit_parser.specs.declared.pairs.KeyPath.{KeyPath}
+use Rattle.toml_edit_parser.specs.PairRead.{AddsEntry, AddsInside, IsEndOfPath, IsPathAt, NamesClash, PathView, path_of, split_dot}
+use Rattle.toml_edit_tree.specs.Containers.{ArrayView, InlineView, array_node, inline_node}
+use Rattle.toml_edit_parser.specs.ValueRead.{AreIn, split_first}
+use Rattle.toml_edit_tree.specs.View.{item_view, slots_view, value_view}
+use Rattle.toml_edit_parser.proofs.EntryLaws.{Stops, first_of, key-spelled, new-refused, same_dots, went-on}
+use Rattle.toml_edit_parser.proofs.ReadLaws.{mapped}
+use Rattle.toml_edit_parser.proofs.SlotLaws.{fits-with_slot}
+use Rattle.toml_edit_parser.proofs.ViewLaws.{rolled, view-Array, view-Boolean, view-Datetime, view-Float, view-Integer, view-String}
+
+-- ---- refusals
+
+-- the name of a path's first key can't be refused
+pub name-refused : (source : Text) (e : Entry) (p : List Segment) (start : ℕ) (above : Path) (path : KeyPath) (first : Event) (rest : List Event) (old : Slots)
+    (err : ParseFault) → IsEndOfPath p → Stands source start (path_text p) → IsPathAt e start p path → Some (first, rest) ≡ split_first path.events.now
+    → ((k : Text) → SpellsKey k (cut_out source first.span.start first.span.end) → IfToml err (λ r. ⊥))
+    → IfToml err (NamesClash source (entry_clash (line_mentions e start above p) old))
+name-refused source e [] start above path first rest old err are stands at split told = absurd (let g = are.some in cc)
+name-refused source e (s ∷ p) start above path first rest old err are stands at split told =
+    let parts = first_of start s p path.events.now first rest at.2 split in
+    mapped err (λ r. ⊥) _ (λ r none. absurd none) (told s.key (key-spelled source s p start first are stands parts.0))
+
+-- nothing stands in the way below a new key
+pub below-refused : (source : Text) (ms : List (Mention Entry)) (es : List (repr.Slot Item)) (err : ParseFault) → es ≡ [] → IfToml err (NamesClash source (entry_clash ms (slots_view es))) → IfToml err (λ r. ⊥)
+below-refused source ms es err new h =
+    new-refused source ms err (λ r. ⊥) (subst (λ (xs : List (repr.Slot Item)). IfToml err (NamesClash source (entry_clash ms (slots_view xs)))) new h)
+
+-- ---- where the parts of a path lie
+
+-- the parts behind a dot
+pub dot_in : (t : Text) (path : KeyPath) (after : Span) (inside : KeyPath) (rest : List Event)
+    → ◌≡◌ {A = Option (Span × PathView)} (Some (after, path_of inside)) (split_dot path rest) → AreIn t rest → IsSpanOf t path.prefix → IsSpanOf t path.suffix
+    → IsSpanOf t after × IsSpanOf t inside.prefix × IsSpanOf t inside.suffix × IsSpanOf t inside.before × AreIn t inside.events.now
+    × (length inside.events.now < length rest)
+dot_in t path after inside [] dot h prefix suffix = absurd cc
+dot_in t path after inside (a ∷ []) dot h prefix suffix = absurd cc
+dot_in t path after inside (a ∷ b ∷ es) dot h prefix suffix =
+    let dots = same_dots after a.span (path_of inside) _ dot in (
+      subst (IsSpanOf t) (sym dots.0) h.0,
+      subst (IsSpanOf t) (sym (ap (λ (v : PathView). v.prefix) dots.1)) prefix,
+      subst (IsSpanOf t) (sym (ap (λ (v : PathView). v.suffix) dots.1)) suffix,
+      subst (IsSpanOf t) (sym (ap (λ (v : PathView). v.before) dots.1)) h.1.0,
+      subst (AreIn t) (sym (ap (λ (v : PathView). v.events) dots.1)) h.1.1,
+      let n = ap (λ (v : PathView). length v.events) dots.1 in omega arith,
+    )
+
+-- ---- what fits a text
+
+pub on_ok : {A E : Type 0} {P Q : Type 0} (r : Result A E) → OnOk r P → (P → Q) → OnOk r Q
+on_ok (Ok x) h f = f h
+on_ok (Err e) h f = tt
+
+-- an item that stands in slots
+pub fits-found : (t : Text) (es : List (repr.Slot Item)) (at : ℕ) (x : Item) → SlotsFit t (slots_view es) → Some x ≡ slice_get (items_of es) at → NodeFits t (item_view x)
+fits-found t [] at x h there = absurd cc
+fits-found t (e ∷ es) zero x h there = subst (λ (y : Item). NodeFits t (item_view y)) (sym (same_Some x e.item there)) h.1
+fits-found t (e ∷ es) (suc at) x h there = fits-found t es at x h.2 there
+
+-- slots with another item at a place
+pub fits-put : (t : Text) (es : List (repr.Slot Item)) (at : ℕ) (y : Item) → SlotsFit t (slots_view es) → NodeFits t (item_view y) → SlotsFit t (slots_view (with_item at y es))
+fits-put t [] at y h n = h
+fits-put t (e ∷ es) zero y h n = (h.0, n, h.2)
+fits-put t (e ∷ es) (suc at) y h n = (h.0, h.1, fits-put t es at y h.2 n)
+
+-- slots with a new key that holds a dotted inline table
+pub fits-below : (t : Text) (es : List (repr.Slot Item)) (k : Key) (extent : Extent) (inner : Slots) (holder : Node) (new : Slots) → KeyFits t k
+    → SlotsFit t (slots_view es) → SlotsFit t inner → holder ≡ inline (path_fields extent) inner → new ≡ with_slot (slots_view es) k holder → SlotsFit t new
+fits-below t es k extent inner holder new key slots fits held is =
+    subst (SlotsFit t) (sym (is ∙ ap (with_slot (slots_view es) k) held))
+    (fits-with_slot t (slots_view es) k (inline (path_fields extent) inner) slots key ((tt, tt), tt, fits))
+
+-- ---- the item at a key
+
+-- what is said of an item is said of what it is
+pub same-inside : {A : Type 0} (source : Text) (m : Mention Entry) (ms : List (Mention Entry)) (n old new seen left : Node) (result : Result A ParseFault)
+    → AddsInside source m ms n old new result → seen ≡ old → left ≡ new → AddsInside source m ms n seen left result
+same-inside source m ms n old new seen left result h was is =
+    subst (λ (x : Node). AddsInside source m ms n x left result) (sym was) (subst (λ (x : Node). AddsInside source m ms n old x result) (sym is) h)
+
+-- it goes on in the slots of an inline table
+pub went-in : {A : Type 0} (source : Text) (m : Mention Entry) (ms : List (Mention Entry)) (n : Node) (held left : InlineView) (old new : Slots)
+    (result : Result A ParseFault) → held.fields.is_dotted ≡ true → old ≡ held.slots → left ≡ record { fields = held.fields; slots = new }
+    → AddsEntry source ms n old new result → AddsInside source m ms n (inline_node held) (inline_node left) result
+went-in source m ms n held left old new result dotted was is h =
+    subst (λ (v : InlineView). AddsInside source m ms n (inline_node held) (inline_node v) result) (sym is)
+    (went-on source m ms n held.fields held.slots new result dotted (subst (λ (ss : Slots). AddsEntry source ms n ss new result) was h))
+
+-- an inline table with other slots
+pub fits-in : (t : Text) (held left : InlineView) (new : Slots) → left ≡ record { fields = held.fields; slots = new } → NodeFits t (inline_node held)
+    → SlotsFit t new → NodeFits t (inline_node left)
+fits-in t held left new is h fits = subst (λ (v : InlineView). NodeFits t (inline_node v)) (sym is) (h.0, h.1, fits)
+
+stops_leaf : (n : Node) (s : Scalar) (spelling : Option Raw) (d : Decor) → n ≡ leaf s spelling d → Stops n
+stops_leaf n s spelling d e = subst Stops (sym e) tt
+
+stops_list : (n : Node) (a : ArrayView) → n ≡ array_node a → Stops n
+stops_list n a e = subst Stops (sym e) tt
+
+stops_open : (o : Value-F Item Value Array InlineTable) → ((t : InlineTable) → roll-Value o ≡ values.InlineTable t → ⊥) → Stops (value_view (roll-Value o))
+unfolding roll-Value denote.Hole.Carrier.roll
+stops_open (Value-F.String f) h = stops_leaf _ _ _ _ (view-String f)
+stops_open (Value-F.Integer f) h = stops_leaf _ _ _ _ (view-Integer f)
+stops_open (Value-F.Float f) h = stops_leaf _ _ _ _ (view-Float f)
+stops_open (Value-F.Boolean f) h = stops_leaf _ _ _ _ (view-Boolean f)
+stops_open (Value-F.Datetime f) h = stops_leaf _ _ _ _ (view-Datetime f)
+stops_open (Value-F.Array a) h = stops_list _ _ (view-Array a)
+stops_open (Value-F.InlineTable t) h = absurd (h t refl)
+
+-- a value that is no inline table stops a path
+pub stops-other : (v : Value) → ((t : InlineTable) → v ≡ values.InlineTable t → ⊥) → Stops (value_view v)
+stops-other v h = subst (λ (w : Value). Stops (value_view w)) (rolled v) (stops_open (out-Value v) (λ t e. h t (sym (rolled v) ∙ e)))

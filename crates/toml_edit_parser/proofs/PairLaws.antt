@@ -1,0 +1,300 @@
+-- One pair of an inline table: its parts, its key's length, and what its value becomes.
+use Rattle.std.proofs.Common.{◌≡◌, ℕ, zero, suc, ◌+◌, ◌*◌, ◌<◌, ◌≤◌, true, false, List, [], ◌∷◌, ◌++◌, length, take, drop, refl, sym, ap, ◌∙◌, subst, append_assoc, arith, Option, Some, None, cond, nat_lt, option_map, rules, codes, inl, inr}
+use Rattle.std.specs.Prelude.{Contains, IfOk, option_and_then, Result, Ok, Err}
+use Rattle.std.specs.Borrow.{Bor}
+use Rattle.std.specs.List.{position_or_len}
+use Rattle.std.proofs.lemmas.Bool.{cases_Bool}
+use Rattle.std.proofs.lemmas.Bool.Decides.{nat_tests}
+use Rattle.std.proofs.lemmas.List.Elements.{Contains-append_right}
+use Rattle.std.proofs.Math.Seq.{drop-append_seam, take-append_seam}
+use Rattle.toml_edit_model.specs.Text.{Text, is_empty}
+use Rattle.toml_edit_model.specs.Syntax.{Segment, Frame, Value, IsFrame, begins_bare, is_short, segment_text, path_text, frame_text, value_text}
+use Rattle.toml_edit_model.specs.Trivia.{IsWholeTrivia}
+use Rattle.toml_edit_model.specs.Faults.{Fault, recursion_limit, long_path, value_faults}
+use Rattle.toml_edit_model.specs.Tree.{Raw, Node, Slots}
+use Rattle.toml_edit_model.specs.TreeOf.{spanned_form, span_of, decor_at, frame_leaf, value_start}
+use Rattle.toml_edit_model.specs.Conversions.{with_decor}
+use Rattle.toml_edit_laws.specs.InlineTree.{pair_path}
+use Rattle.toml_edit_laws.specs.Standing.{Stands}
+use Rattle.toml_edit_laws.proofs.common.StandingLaws.{stands-left, stands-right}
+use Rattle.toml_edit_laws.proofs.values.ValueFaults.{is_empty-nil}
+use Rattle.toml_edit_error.specs.Report.{fault_of}
+use Rattle.toml_edit_error.specs.Fault.{IfToml}
+use Rattle.toml_edit_error.specs.declared.toml_error.ParseFault.{ParseFault}
+use Rattle.toml_edit_syntax.specs.declared.event.Event.{Event}
+use Rattle.toml_edit_syntax.specs.declared.event.EventKind.TheVariants.{BeforeEquals, AfterEquals, After}
+use Rattle.toml_edit_syntax.specs.declared.event.Span.{Span}
+use Rattle.toml_edit_syntax.specs.Events.{IsSpanOf}
+use Rattle.toml_edit_syntax.specs.ValueEvents.{event, path_events, shortened, value_at_byte}
+use Rattle.toml_edit_tree.specs.Casts.{both_sides}
+use Rattle.toml_edit_parser.specs.PairRead.{FrameParts, EndsPair, IsEndOfPath, NamesPair, ReadsPair, equals_place, first_before, frame_behind, is_before_equals, frame_parts, key_events, split_frame}
+use Rattle.toml_edit_parser.specs.ValueRead.{AreIn, IsRead, NamesOne, is_leading, span_at, spanned_raw, split_leading}
+use Rattle.toml_edit_parser.proofs.ArrayLaws.{spanned_raw-is}
+use Rattle.toml_edit_parser.proofs.ReadLaws.{here, mapped, same_spans}
+
+-- ---- the parts of a pair
+
+next_place : (n m : ℕ) → cond (nat_lt (1 + n) (suc m)) (Some (1 + n)) None ≡ option_map suc (cond (nat_lt n m) (Some n) None)
+next_place n m =
+    elim (cases_Bool (nat_lt n m)) [
+      | inl below ↦ grind (arith, rules, below)
+      | inr above ↦ grind (arith, rules, above)
+    ]
+
+-- the place of the first event that ends a path, event by event
+abbrev first_end : List Event → Option ℕ
+first_end [] = None
+first_end (e ∷ es) = cond (is_before_equals e.kind) (Some 0) (option_map suc (first_end es))
+
+place-position : (es : List Event) → equals_place es ≡ first_end es
+place-position [] = refl
+place-position (e ∷ es) =
+    elim (cases_Bool (is_before_equals e.kind)) [
+      | inl same ↦ rw same (grind (arith, rules))
+      | inr other ↦ rw (other, ← place-position es) (next_place (position_or_len (λ (e : Event). is_before_equals e.kind) es) (length es))
+    ]
+
+end_behind : (p : List Segment) (start at : ℕ) (t : Text) (es : List Event) → first_end (path_events start p ++ (event BeforeEquals at t ∷ es)) ≡ Some (length (path_events start p))
+end_behind [] start at t es = refl
+end_behind (s ∷ []) start at t es = refl
+end_behind (s ∷ r ∷ rest) start at t es =
+    ap (λ (o : Option ℕ). option_map suc (option_map suc (option_map suc o))) (end_behind (r ∷ rest) (start + length (segment_text s) + 1) at t es)
+
+place_behind : (p : List Segment) (start at : ℕ) (t : Text) (es : List Event) → equals_place (path_events start p ++ (event BeforeEquals at t ∷ es)) ≡ Some (length (path_events start p))
+place_behind p start at t es = place-position (path_events start p ++ (event BeforeEquals at t ∷ es)) ∙ end_behind p start at t es
+
+abbrev parts_at : Span → List Event → Span → Span → FrameParts
+parts_at leading path before after = record { leading = leading; path = path; before_equals = before; after_equals = after }
+
+-- a pair is split behind its key
+pub frame-split : (start : ℕ) (f : Frame) (leading : Span) (es : List Event) → leading ≡ span_at start f.leading
+    → split_frame leading (key_events start f ++ es) ≡ Some (frame_parts start f, es)
+frame-split start f leading es e =
+    let key = start + length f.leading in
+    let at = key + length (path_text f.path) in
+    let path = path_events key f.path in
+    let before = event BeforeEquals at f.before_equals in
+    let after = event AfterEquals (at + length f.before_equals + 1) f.after_equals in
+    let behind = before ∷ after ∷ es in
+    ap (split_frame leading) (append_assoc path (before ∷ after ∷ []) es)
+    ∙ ap (option_and_then (λ n. frame_behind leading (take n (path ++ behind)) (drop n (path ++ behind)))) (place_behind f.path key at f.before_equals (after ∷ es))
+    ∙ ap (λ (q : List Event). frame_behind leading q (drop (length path) (path ++ behind))) (take-append_seam path behind)
+    ∙ ap (λ (q : List Event). frame_behind leading path q) (drop-append_seam path behind)
+    ∙ ap (λ (l : Span). Some (parts_at l path before.span after.span, es)) e
+
+-- the text before a pair
+pub leading-in : (t : Text) (es : List Event) (leading : Span) (rest : List Event) → Some (leading, rest) ≡ split_leading es → AreIn t es
+    → IsSpanOf t leading × AreIn t rest × (length rest < length es)
+leading-in t [] leading rest e h = absurd cc
+leading-in t (x ∷ es) leading rest e h =
+    elim (cases_Bool (is_leading x.kind)) [
+      | inl is ↦
+          let f : ◌≡◌ {A = Option (Span × List Event)} (Some (leading, rest)) (Some (x.span, es)) = rw is at e in
+          let p = same_spans leading x.span rest es f in
+          (subst (IsSpanOf t) (sym p.0) h.0, subst (AreIn t) (sym p.1) h.1, let n = ap (λ (ys : List Event). length ys) p.1 in omega arith)
+      | inr is ↦ let f : ◌≡◌ {A = Option (Span × List Event)} (Some (leading, rest)) None = rw is at e in absurd cc
+    ]
+
+pub same_frames : (a b : FrameParts) (x y : List Event) → ◌≡◌ {A = Option (FrameParts × List Event)} (Some (a, x)) (Some (b, y)) → (a ≡ b) × (x ≡ y)
+same_frames a b x y e =
+    let f : ◌≡◌ {A = FrameParts × List Event} (a, x) (b, y) = cc in
+    (ap (λ (p : FrameParts × List Event). p.0) f, ap (λ (p : FrameParts × List Event). p.1) f)
+
+-- a pair has its parts
+pub no-frame : (start : ℕ) (f : Frame) (leading : Span) (events es : List Event) (P : Type 0) → leading ≡ span_at start f.leading → events ≡ key_events start f ++ es
+    → None ≡ split_frame leading events → P
+no-frame start f leading events es P same e none = absurd (let g = none ∙ ap (split_frame leading) e ∙ frame-split start f leading es same in cc)
+
+pub the-frame : (start : ℕ) (f : Frame) (leading : Span) (events es : List Event) (parts : FrameParts) (rest : List Event) → leading ≡ span_at start f.leading
+    → events ≡ key_events start f ++ es → Some (parts, rest) ≡ split_frame leading events → (parts ≡ frame_parts start f) × (rest ≡ es)
+the-frame start f leading events es parts rest same e g =
+    same_frames parts (frame_parts start f) rest es (g ∙ ap (split_frame leading) e ∙ frame-split start f leading es same)
+
+-- ---- the parts lie in the text
+
+in_take : (t : Text) (n : ℕ) (es : List Event) → AreIn t es → AreIn t (take n es)
+in_take t zero es h = tt
+in_take t (suc n) [] h = tt
+in_take t (suc n) (e ∷ es) h = (h.0, in_take t n es h.1)
+
+in_drop : (t : Text) (n : ℕ) (es : List Event) → AreIn t es → AreIn t (drop n es)
+in_drop t zero es h = h
+in_drop t (suc n) [] h = tt
+in_drop t (suc n) (e ∷ es) h = in_drop t n es h.1
+
+fewer : (n : ℕ) (es : List Event) → length (drop n es) ≤ length es
+fewer zero es = omega arith
+fewer (suc n) [] = omega arith
+fewer (suc n) (e ∷ es) = let h = fewer n es in omega (arith, h)
+
+pub record FrameIn (t : Text) (leading : Span) (events : List Event) (parts : FrameParts) (rest : List Event) : Type 0 where
+  pub front : parts.leading ≡ leading
+  pub path : AreIn t parts.path
+  pub before_equals : IsSpanOf t parts.before_equals
+  pub after_equals : IsSpanOf t parts.after_equals
+  pub others : AreIn t rest
+  pub fewer : length rest < length events
+
+behind_in : (t : Text) (leading : Span) (events path behind : List Event) (parts : FrameParts) (rest : List Event) → AreIn t path → AreIn t behind
+    → length behind ≤ length events → Some (parts, rest) ≡ frame_behind leading path behind → FrameIn t leading events parts rest
+behind_in t leading events path [] parts rest p b n e = absurd cc
+behind_in t leading events path (x ∷ []) parts rest p b n e = absurd cc
+behind_in t leading events path (x ∷ y ∷ es) parts rest p b n e =
+    let same = same_frames parts (parts_at leading path x.span y.span) rest es e in
+    let l = ap (λ (ys : List Event). length ys) same.1 in
+    record {
+      front = ap (λ (q : FrameParts). q.leading) same.0;
+      path = subst (λ (q : FrameParts). AreIn t q.path) (sym same.0) p;
+      before_equals = subst (λ (q : FrameParts). IsSpanOf t q.before_equals) (sym same.0) b.0;
+      after_equals = subst (λ (q : FrameParts). IsSpanOf t q.after_equals) (sym same.0) b.1.0;
+      others = subst (AreIn t) (sym same.1) b.1.1;
+      fewer = omega (arith, l, n);
+    }
+
+in_of : (t : Text) (leading : Span) (events : List Event) (parts : FrameParts) (rest : List Event) (o : Option ℕ) → AreIn t events
+    → Some (parts, rest) ≡ option_and_then (λ n. frame_behind leading (take n events) (drop n events)) o → FrameIn t leading events parts rest
+in_of t leading events parts rest None h e = absurd cc
+in_of t leading events parts rest (Some n) h e =
+    behind_in t leading events (take n events) (drop n events) parts rest (in_take t n events h) (in_drop t n events h) (fewer n events) e
+
+pub frame-in : (t : Text) (leading : Span) (events : List Event) (parts : FrameParts) (rest : List Event) → Some (parts, rest) ≡ split_frame leading events → AreIn t events
+    → FrameIn t leading events parts rest
+frame-in t leading events parts rest e h = in_of t leading events parts rest (equals_place events) h e
+
+-- what is behind the value is shorter than all
+pub fewer-still : (t : Text) (behind inner events : List Event) (result : Result (Bor (List Event)) ParseFault) → length behind < length events
+    → length inner < length behind → IfOk result (λ r. AreIn t r.now × (length r.now < length inner))
+    → IfOk result (λ r. AreIn t r.now × (length r.now < length events))
+fewer-still t behind inner events (Ok r) one two h = (h.0, let n = h.1 in omega (arith, one, two, n))
+fewer-still t behind inner events (Err e) one two h = tt
+
+-- ---- the length of a key
+
+path_count : (s : Segment) (p : List Segment) (start : ℕ) → length (path_events start (s ∷ p)) + 2 ≡ 3 * length (s ∷ p)
+path_count s [] start = refl
+path_count s (r ∷ rest) start =
+    let h = path_count r rest (start + length (segment_text s) + 1) in
+    omega (arith, h)
+
+short_of : (p : List Segment) → is_short p ≡ true → long_path p ≡ []
+short_of p e = rw e refl
+
+long_of : (p : List Segment) → is_short p ≡ false → long_path p ≡ record { message = recursion_limit; span = None } ∷ []
+long_of p e = rw e refl
+
+pub short-path : (p : List Segment) (start : ℕ) → is_empty p ≡ false → length (path_events start p) ≤ 238 → long_path p ≡ []
+short-path [] start some h = absurd cc
+short-path (s ∷ p) start some h =
+    let n = path_count s p start in
+    let few : length (s ∷ p) ≤ 80 = omega (arith, n, h) in
+    short_of (s ∷ p) (grind (arith, nat_tests, few))
+
+long : (p : List Segment) (start : ℕ) → is_empty p ≡ false → 238 < length (path_events start p) → long_path p ≡ record { message = recursion_limit; span = None } ∷ []
+long [] start some h = absurd cc
+long (s ∷ p) start some h =
+    let n = path_count s p start in
+    let many : 80 < length (s ∷ p) = omega (arith, n, h) in
+    long_of (s ∷ p) (grind (arith, nat_tests, many))
+
+path_some : (p : List Segment) → begins_bare p ≡ true → is_empty p ≡ false
+path_some [] e = absurd cc
+path_some (s ∷ p) e = refl
+
+-- a frame's key is not empty
+pub frame-some : (f : Frame) → IsFrame IsWholeTrivia f → is_empty f.path ≡ false
+frame-some f is = path_some f.path is.1.begins
+
+-- a key that is too long is named
+pub too-long : (source : Text) (f : Frame) (v : Value) (start level : ℕ) (old : Slots) (e : ParseFault) → IsFrame IsWholeTrivia f
+    → 238 < length (path_events (start + length f.leading) f.path) → IfToml e (λ r. r ≡ record { message = recursion_limit; span = None; input = source })
+    → IfToml e (NamesPair source f v start level old)
+too-long source f v start level old e is many h =
+    let faults = value_faults v (value_at_byte start f) level in
+    let fault : Fault = record { message = recursion_limit; span = None } in
+    mapped e _ _ (λ r same. inl (
+      ap (λ x. x.input) same,
+      subst (λ (fs : List Fault). Contains (fs ++ faults) (fault_of r)) (sym (long f.path (start + length f.leading) (frame-some f is) many))
+          (subst (Contains (fault ∷ faults)) (sym (ap fault_of same)) (here fault faults)),
+    )) h
+
+-- ---- where it stands
+
+pub path-stands : (source : Text) (start : ℕ) (f : Frame) (t : Text) → Stands source start (frame_text f t) → Stands source (start + length f.leading) (path_text f.path)
+path-stands source start f t h =
+    stands-left source (start + length f.leading) (path_text f.path) _ (stands-right source start f.leading _ h)
+
+pub value-stands : (source : Text) (start : ℕ) (f : Frame) (t : Text) → Stands source start (frame_text f t) → Stands source (value_at_byte start f) t
+value-stands source start f t h =
+    let behind : Text = t ++ f.trailing in
+    let signs : Text = codes "=" ++ (f.after_equals ++ behind) in
+    let key = start + length f.leading in
+    let at = key + length (path_text f.path) in
+    let one = stands-right source start f.leading (path_text f.path ++ (f.before_equals ++ signs)) h in
+    let two = stands-right source key (path_text f.path) (f.before_equals ++ signs) one in
+    let three = stands-right source at f.before_equals signs two in
+    let four = stands-right source (at + length f.before_equals) (codes "=") (f.after_equals ++ behind) three in
+    stands-left source (value_at_byte start f) t f.trailing (stands-right source (at + length f.before_equals + 1) f.after_equals behind four)
+
+-- ---- the value
+
+-- a value that is refused is named
+pub value-refused : (source : Text) (f : Frame) (v : Value) (start level : ℕ) (old : Slots) (e : ParseFault) → IfToml e (NamesOne source (value_faults v (value_at_byte start f) level))
+    → IfToml e (NamesPair source f v start level old)
+value-refused source f v start level old e h =
+    mapped e _ _ (λ r is. inl (is.0, Contains-append_right (long_path f.path) (value_faults v (value_at_byte start f) level) (fault_of r) is.1)) h
+
+value_place : (start : ℕ) (f : Frame) → value_at_byte start f ≡ start + value_start spanned_form f + length f.after_equals
+value_place start f = omega arith
+
+-- a pair whose value was read is added
+pub pair-read : (source : Text) (f : Frame) (v : Value) (start level : ℕ) (more : List Event) (old new : Slots) (n : Node) (inner : List Event)
+    (result : Result (Bor (List Event)) ParseFault) → long_path f.path ≡ []
+    → IsRead v (value_at_byte start f) level (event After (value_at_byte start f + length (value_text v)) f.trailing ∷ more) n inner
+    → EndsPair source (pair_path spanned_form start f v)
+    (with_decor (decor_at spanned_form (start + value_start spanned_form f) f.after_equals (value_at_byte start f + length (value_text v)) f.trailing) n)
+    (shortened level more) old new result
+    → ReadsPair source f v start level more old new result
+pair-read source f v start level more old new n inner (Ok r) short h e =
+    record {
+      short = short;
+      faultless = h.faultless;
+      rest_is = e.0;
+      item = with_decor (decor_at spanned_form (start + value_start spanned_form f) f.after_equals (value_at_byte start f + length (value_text v)) f.trailing) n;
+      node = h.node (start + value_start spanned_form f) f.after_equals f.trailing (value_place start f);
+      added = e.1;
+    }
+pair-read source f v start level more old new n inner (Err err) short h e = mapped err _ _ (λ r c. inr c) e
+
+-- the decor of a value, and of the key before it
+pub value-decor : (start end : ℕ) (f : Frame) (prefix suffix : Raw) (after : Span) → prefix ≡ spanned_raw (frame_parts start f).after_equals → suffix ≡ spanned_raw after
+    → after ≡ span_at end f.trailing → both_sides prefix suffix ≡ decor_at spanned_form (start + value_start spanned_form f) f.after_equals end f.trailing
+value-decor start end f prefix suffix after left right e =
+    let key = start + length f.leading in
+    let at = key + length (path_text f.path) + length f.before_equals + 1 in
+    let place : at ≡ start + value_start spanned_form f = omega arith in
+    ap (λ r. both_sides r suffix) (left ∙ spanned_raw-is at f.after_equals ∙ ap (λ i. span_of i f.after_equals) place)
+    ∙ ap (both_sides (span_of (start + value_start spanned_form f) f.after_equals)) (right ∙ ap spanned_raw e ∙ spanned_raw-is end f.trailing)
+
+pub key-decor : (start : ℕ) (f : Frame) (prefix suffix : Raw) → prefix ≡ spanned_raw (frame_parts start f).leading → suffix ≡ spanned_raw (frame_parts start f).before_equals
+    → both_sides prefix suffix ≡ frame_leaf spanned_form start f
+key-decor start f prefix suffix left right =
+    ap (λ r. both_sides r suffix) (left ∙ spanned_raw-is start f.leading)
+    ∙ ap (both_sides (span_of start f.leading)) (right ∙ spanned_raw-is (start + length f.leading + length (path_text f.path)) f.before_equals)
+
+begins : (p : List Segment) → begins_bare p ≡ true → first_before p ≡ []
+begins [] e = refl
+begins (s ∷ p) e = is_empty-nil s.before e
+
+nothing_at : (i : ℕ) (p : List Segment) → begins_bare p ≡ true → record { start = i; end = i } ≡ span_at i (first_before p)
+nothing_at i p e =
+    let none : i ≡ i + 0 = omega arith in
+    ap (λ j. let s : Span = record { start = i; end = j } in s) none ∙ ap (span_at i) (sym (begins p e))
+
+-- a path begins at its frame's key
+pub path-begins : (start : ℕ) (f : Frame) (leading : Span) → IsFrame IsWholeTrivia f → leading ≡ span_at start f.leading
+    → record { start = leading.end; end = leading.end } ≡ span_at (start + length f.leading) (first_before f.path)
+path-begins start f leading is e =
+    ap (λ (x : Span). let s : Span = record { start = x.end; end = x.end } in s) e ∙ nothing_at (start + length f.leading) f.path is.1.begins
+
+pub frame-ends : (f : Frame) → IsFrame IsWholeTrivia f → IsEndOfPath f.path
+frame-ends f is = record { some = frame-some f is; ends = is.1.ends; spelled = is.1.spelled }

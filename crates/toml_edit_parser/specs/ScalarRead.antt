@@ -1,0 +1,25 @@
+-- What reading a key's text, or a scalar, answers.
+use Rattle.std.specs.Prelude.{◌≡◌, ℕ, ◌+◌, true, false, length, Some, String, string_bytes, Result, Ok, Err}
+use Rattle.std.specs.declared.alloc.Global.{Global}
+use Rattle.toml_edit_model.specs.Text.{Text}
+use Rattle.toml_edit_model.specs.Scalars.{Scalar}
+use Rattle.toml_edit_model.specs.Spelling.{is_in_range}
+use Rattle.toml_edit_model.specs.Faults.{fault, range_message}
+use Rattle.toml_edit_model.specs.Tree.{span, unset, leaf}
+use Rattle.toml_edit_error.specs.Report.{fault_of}
+use Rattle.toml_edit_error.specs.Fault.{IfToml}
+use Rattle.toml_edit_error.specs.declared.toml_error.ParseFault.{ParseFault}
+use Rattle.toml_edit_tree.specs.declared.value.Value as code
+use Rattle.toml_edit_tree.specs.View.{value_view}
+
+-- the text of a key that was read; nothing but want of memory stands in the way
+abbrev pub ReadsName : Text → Result (String Global) ParseFault → Type 0
+ReadsName k (Ok s) = string_bytes s ≡ k
+ReadsName k (Err e) = IfToml e (λ r. ⊥)
+
+-- the value that was read, or a report of the text that names it as out of range
+abbrev pub ReadsScalar : Text → ℕ → Scalar → Text → Result code.Value ParseFault → Type 0
+ReadsScalar t start s spelling (Ok v) =
+    (value_view v ≡ leaf s (Some (span start (start + length spelling))) unset) × (is_in_range s spelling ≡ true)
+ReadsScalar t start s spelling (Err e) =
+    IfToml e (λ r. (r.input ≡ t) × (is_in_range s spelling ≡ false) × (fault_of r ≡ fault (range_message s) start (length spelling)))

@@ -1,0 +1,155 @@
+-- What reading a value, the elements of an array or one of them does, by the events of the text.
+use Rattle.std.specs.Prelude.{◌≡◌, ℕ, ◌+◌, Bool, true, false, List, [], ◌∷◌, ◌++◌, length, Contains, Option, Some, None, if◌then◌else◌, ◌==◌, Result, Ok, Err}
+use Rattle.std.specs.List.{AllByRecursion}
+use Rattle.std.specs.Borrow.{Bor}
+use Rattle.toml_edit_model.specs.Text.{Text}
+use Rattle.toml_edit_model.specs.Syntax.{Around, Value, Elements, no_elements, element, value_text, elements_text}
+use Rattle.toml_edit_model.specs.Faults.{Fault, value_faults, elements_faults}
+use Rattle.toml_edit_model.specs.Tree.{Raw, owned, span, unset, Node, Items}
+use Rattle.toml_edit_model.specs.TreeOf.{spanned_form, decor_at, IsValueNode, AreElementNodes}
+use Rattle.toml_edit_model.specs.Conversions.{with_decor}
+use Rattle.toml_edit_laws.specs.Standing.{Stands}
+use Rattle.toml_edit_error.specs.Report.{Report, fault_of}
+use Rattle.toml_edit_error.specs.Fault.{IfToml}
+use Rattle.toml_edit_error.specs.declared.toml_error.ParseFault.{ParseFault}
+use Rattle.toml_edit_syntax.specs.declared.event.Event.{Event}
+use Rattle.toml_edit_syntax.specs.declared.event.EventKind.{EventKind}
+use Rattle.toml_edit_syntax.specs.declared.event.EventKind.TheVariants.{Before, Scalar, Leading, Comma}
+use Rattle.toml_edit_syntax.specs.declared.event.Span.{Span}
+use Rattle.toml_edit_syntax.specs.ValueEvents.{shortened}
+use Rattle.toml_edit_syntax.specs.Events.{IsSpanOf}
+use Rattle.toml_edit_tree.specs.declared.item.Item.{Item}
+use Rattle.toml_edit_parser.specs.declared.reader.Close.{Close}
+use Rattle.toml_edit_tree.specs.declared.value.Value as code
+use Rattle.toml_edit_tree.specs.Containers.{ArrayView, array_node}
+use Rattle.toml_edit_tree.specs.View.{item_view, items_view, value_view}
+
+-- a text that begins at this byte
+abbrev pub span_at : ℕ → Text → Span
+span_at start t = record { start = start; end = start + length t }
+
+-- the spans of events lie in the text
+abbrev pub AreIn : Text → List Event → Type 0
+AreIn t es = AllByRecursion (λ e. IsSpanOf t e.span) es
+
+-- the span, or the empty text where nothing stands there
+abbrev pub spanned_raw : Span → Raw
+spanned_raw s = if s.start == s.end then owned [] else span s.start s.end
+
+-- ---- parts of a list of events
+
+abbrev pub split_first : List Event → Option (Event × List Event)
+split_first [] = None
+split_first (e ∷ es) = Some (e, es)
+
+abbrev pub is_before : EventKind → Bool
+is_before Before = true
+is_before _ = false
+
+-- the text before an element, where one comes first
+abbrev pub split_before : List Event → Option (Span × List Event)
+split_before [] = None
+split_before (e ∷ es) = if is_before e.kind then Some (e.span, es) else None
+
+abbrev pub is_scalar : EventKind → Bool
+is_scalar Scalar = true
+is_scalar _ = false
+
+-- the place of a scalar, where one comes first
+abbrev pub split_scalar : List Event → Option (Span × List Event)
+split_scalar [] = None
+split_scalar (e ∷ es) = if is_scalar e.kind then Some (e.span, es) else None
+
+abbrev pub is_leading : EventKind → Bool
+is_leading Leading = true
+is_leading _ = false
+
+-- the text before a pair, where one comes first
+abbrev pub split_leading : List Event → Option (Span × List Event)
+split_leading [] = None
+split_leading (e ∷ es) = if is_leading e.kind then Some (e.span, es) else None
+
+abbrev pub is_comma : EventKind → Bool
+is_comma Comma = true
+is_comma _ = false
+
+-- a closing bracket with what stands before it
+abbrev pub split_close : List Event → Option (Close × List Event)
+split_close (a ∷ b ∷ es) = if is_comma a.kind then behind_comma b es else Some (record { comma = false; inner = a.span; end = b.span.end }, es)
+  where
+    behind_comma : Event → List Event → Option (Close × List Event)
+    behind_comma b [] = None
+    behind_comma b (c ∷ es) = Some (record { comma = true; inner = b.span; end = c.span.end }, es)
+split_close _ = None
+
+-- where there are elements, they stand in the source, from this byte on
+abbrev pub ElementsStand : Text → ℕ → Elements → Type 0
+ElementsStand source start no_elements = Unit {0}
+ElementsStand source start (element a v es) = Stands source start (elements_text (element a v es))
+
+-- ---- results
+
+-- The value has no fault, and the item, put between what stands around it, is the value's.
+pub record IsRead (v : Value) (start level : ℕ) (more : List Event) (n : Node) (rest : List Event) : Type 0 where
+  pub faultless : value_faults v start level ≡ []
+  pub rest_is : rest ≡ shortened level more
+  pub node : (i : ℕ) (before after : Text) → start ≡ i + length before
+      → IsValueNode spanned_form v i before after (with_decor (decor_at spanned_form i before (start + length (value_text v)) after) n)
+
+-- the report is of the text, and names one of these faults
+abbrev pub NamesOne : Text → List Fault → Report → Type 0
+NamesOne source faults r = (r.input ≡ source) × Contains faults (fault_of r)
+
+-- what reading this value, which begins at this byte inside so many brackets, answers, where these events follow
+abbrev pub ReadsValue : Text → Value → ℕ → ℕ → List Event → Result (code.Value × Bor (List Event)) ParseFault → Type 0
+ReadsValue source v start level more (Ok r) = IsRead v start level more (value_view r.0) r.1.now
+ReadsValue source v start level more (Err e) = IfToml e (NamesOne source (value_faults v start level))
+
+-- what reading an element does to the items before it, if the text before it begins at this byte
+pub record AddsElement (a : Around) (v : Value) (start level : ℕ) (more : List Event) (old new : List Item) (rest : List Event) : Type 0 where
+  pub faultless : value_faults v (start + length a.before) level ≡ []
+  pub rest_is : rest ≡ shortened level more
+  pub added : Item
+  pub items : new ≡ old ++ added ∷ []
+  pub node : IsValueNode spanned_form v start a.before a.after (item_view added)
+
+abbrev pub ReadsElement : Text → Around → Value → ℕ → ℕ → List Event → List Item → List Item → Result (Bor (List Event)) ParseFault → Type 0
+ReadsElement source a v start level more old new (Ok r) = AddsElement a v start level more old new r.now
+ReadsElement source a v start level more old new (Err e) = IfToml e (NamesOne source (value_faults v (start + length a.before) level))
+
+pub record AreRead (es : Elements) (start level : ℕ) (more : List Event) (items : List Item) (rest : List Event) : Type 0 where
+  pub faultless : elements_faults es start level ≡ []
+  pub rest_is : rest ≡ shortened level more
+  pub nodes : AreElementNodes spanned_form es start (items_view items)
+
+abbrev pub ReadsElements : Text → Elements → ℕ → ℕ → List Event → List Item → Result (Bor (List Event)) ParseFault → Type 0
+ReadsElements source es start level more items (Ok r) = AreRead es start level more items r.now
+ReadsElements source es start level more items (Err e) = IfToml e (NamesOne source (elements_faults es start level))
+
+-- what ending an element with this item answers
+pub record PutsElement (n : Node) (more : List Event) (old new : List Item) (rest : List Event) : Type 0 where
+  pub rest_is : rest ≡ more
+  pub added : Item
+  pub items : new ≡ old ++ added ∷ []
+  pub node : item_view added ≡ n
+
+abbrev pub EndsElement : Node → List Event → List Item → List Item → Result (Bor (List Event)) ParseFault → Type 0
+EndsElement n more old new (Ok r) = PutsElement n more old new r.now
+EndsElement n more old new (Err e) = IfToml e (λ r. ⊥)
+
+-- an array that opens at this byte, with this end
+abbrev pub array_of : ℕ → Close → Items → ArrayView
+array_of start close xs =
+    record {
+      fields = record { decor = unset; comma = close.comma; trailing = spanned_raw close.inner; extent = Some (start, close.end) };
+      items = xs;
+    }
+
+-- what ending an array that opens at this byte answers
+pub record MakesArray (start : ℕ) (close : Close) (xs : Items) (more : List Event) (n : Node) (rest : List Event) : Type 0 where
+  pub rest_is : rest ≡ more
+  pub node : n ≡ array_node (array_of start close xs)
+
+abbrev pub EndsArray : ℕ → Close → Items → List Event → Result (code.Value × Bor (List Event)) ParseFault → Type 0
+EndsArray start close xs more (Ok r) = MakesArray start close xs more (value_view r.0) r.1.now
+EndsArray start close xs more (Err e) = IfToml e (λ r. ⊥)

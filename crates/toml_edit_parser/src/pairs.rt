@@ -1,0 +1,526 @@
+//! The pairs of inline tables, from their events to slots.
+ghost use Rattle.std.specs.Prelude.{◌≡◌, ◌+◌, ◌≤◌, ◌<◌, ◌++◌, ◌∷◌, ◌-◌, List, ℕ, suc, [], Bool, codes, length, None, Some, OnOk, IfErr, IfOk, IfSome, option_map, position, string_bytes};
+ghost use Rattle.toml_edit_model.specs.Text.{Text};
+ghost use Rattle.toml_edit_model.specs.Spelling.{SpellsKey};
+ghost use Rattle.toml_edit_model.specs.Syntax as syntax;
+ghost use Rattle.toml_edit_model.specs.Syntax.{Frame, Pairs, Segment, ArePairs, IsFrame, IsValue, path_text, frame_text, value_text, most};
+ghost use Rattle.toml_edit_model.specs.Trivia.{IsWholeTrivia};
+ghost use Rattle.toml_edit_model.specs.Paths.{Path, Mention, dotted_role, line_mentions};
+ghost use Rattle.toml_edit_model.specs.Conversions.{with_decor};
+ghost use Rattle.toml_edit_model.specs.Tree.{inline, owned, unset};
+ghost use Rattle.toml_edit_model.specs.TreeOf.{Entry, KeyFits, NodeFits, SlotsFit, spanned_form, decor_at, value_start, cut_out};
+ghost use Rattle.toml_edit_laws.specs.FlatTree.{with_slot};
+ghost use Rattle.toml_edit_laws.specs.InlineTree.{pair_path, path_fields, way_message};
+ghost use Rattle.toml_edit_laws.specs.Standing.{Stands};
+ghost use Rattle.toml_edit_error.specs.Fault.{IfToml};
+ghost use Rattle.toml_edit_slots.specs.Slots.{place};
+ghost use Rattle.toml_edit_syntax.specs.Events.{IsSpanOf};
+ghost use Rattle.toml_edit_syntax.specs.ValueEvents.{event, value_events, pairs_events, close_events, value_at_byte, shortened};
+ghost use Rattle.toml_edit_syntax.specs.declared.event.EventKind.TheVariants.{After, InlineTableClose};
+ghost use Rattle.toml_edit_tree.specs.Containers.{inline_node};
+ghost use Rattle.toml_edit_parser.specs.ScalarRead.{ReadsName};
+ghost use Rattle.toml_edit_parser.specs.PairRead as spec;
+ghost use Rattle.toml_edit_parser.specs.PairRead.{AddsBelow, AddsEntry, AddsInside, AddsLast, EndsInline, EndsPair, IsEndOfPath, IsPassed, IsPathAt, PairsStand, ReadsPair, ReadsPairs, key_with};
+ghost use Rattle.toml_edit_parser.specs.ValueRead.{split_close, split_leading, span_at, spanned_raw, AreIn, ReadsValue};
+ghost use Rattle.toml_edit_tree.specs.View.{inline_view, item_view, slots_view, value_view};
+
+use crate::reader::{
+    Close, cut, raw, read_value, refusal, refusal_of_all, split_close, split_first,
+};
+use std::alloc::Global;
+use std::mem;
+use toml_edit_error::ParseFault;
+use toml_edit_key::Key;
+use toml_edit_repr::{Decor, Mem, RawString};
+use toml_edit_slots::{Slot, Slots};
+use toml_edit_syntax::{Event, EventKind, Span};
+use toml_edit_token::decode_key;
+use toml_edit_tree::{InlineTable, Item, Value};
+
+/// How many events a path of the most segments has: one for each key, and two for each dot.
+const MOST_PATH_EVENTS: usize = 238;
+
+/// Where the parts of a pair up to its value stand, and the events of its path.
+#[derive(Clone, Copy)]
+struct FrameSpans<'a> {
+    leading: Span,
+    path: &'a [Event],
+    before_equals: Span,
+    after_equals: Span,
+}
+
+/// A path, or what is left of one: where the texts around its pair's key stand, where the white space behind the dot before it does, and
+/// its events.
+#[derive(Clone, Copy)]
+struct KeyPath<'a> {
+    prefix: Span,
+    suffix: Span,
+    before: Span,
+    events: &'a [Event],
+}
+
+/// The inline table behind its opening brace, and the events behind the inline table.
+#[cycle(read)]
+pub(crate) fn read_inline<'a>(
+    alloc: Global,
+    source: &str,
+    opening: Span,
+    events: &'a [Event],
+) -> Result<(Value, &'a [Event]), ParseFault>
+    requires { AreIn source.now events.now }
+    ensures value { (ps : Pairs) (comma : Bool) (t : Text) (start level : ℕ) (more : List Event) → ArePairs ps
+        → Stands source.now start (value_text (syntax.inline_table ps comma t)) → level < most → opening.start ≡ start
+        → events.now ≡ shortened (suc level) (pairs_events (start + 1) ps
+        ++ (close_events InlineTableClose (codes "}") (start + length (value_text (syntax.inline_table ps comma t)) - 1) comma t ++ more))
+        → ReadsValue source.now (syntax.inline_table ps comma t) start level more result }
+    ensures input { IfErr result (λ e. IfToml e (λ r. r.input ≡ source.now)) }
+    ensures fits { IfOk result (λ r. NodeFits source.now (value_view r.0)) }
+    ensures rest { IfOk result (λ r. AreIn source.now r.1.now × (length r.1.now < length events.now)) }
+{
+    let mut slots = Slots::new(alloc);
+    let rest = read_pairs(alloc, source, events, &mut slots)?;
+    close_inline(alloc, source, opening, slots, rest)
+}
+
+/// The pairs that come first, and the events behind them.
+#[cycle(read)]
+fn read_pairs<'a>(
+    alloc: Global,
+    source: &str,
+    events: &'a [Event],
+    slots: &mut Slots<Item>,
+) -> Result<&'a [Event], ParseFault>
+    requires spans { AreIn source.now events.now }
+    requires first { slots.old ≡ [] }
+    ensures pairs { (ps : Pairs) (start level : ℕ) (more : List Event) → ArePairs ps → PairsStand source.now start ps
+        → level ≤ most → split_leading (shortened level more) ≡ None
+        → events.now ≡ shortened level (pairs_events start ps ++ more)
+        → ReadsPairs source.now ps start level more (slots_view slots.new) result }
+    ensures input { IfErr result (λ e. IfToml e (λ r. r.input ≡ source.now)) }
+    ensures fits { OnOk result (SlotsFit source.now (slots_view slots.new)) }
+    ensures rest { IfOk result (λ r. AreIn source.now r.now × (length r.now ≤ length events.now)) }
+{
+    let mut rest = events;
+    'pairs: while let Some((leading, tail)) = split_leading(rest) {
+        rest = read_pair(alloc, source, leading, tail, slots)?;
+    }
+    Ok(rest)
+}
+
+/// Adds the pair behind this text, which comes first, and gives the events behind it.
+#[cycle(read)]
+fn read_pair<'a>(
+    alloc: Global,
+    source: &str,
+    leading: Span,
+    events: &'a [Event],
+    slots: &mut Slots<Item>,
+) -> Result<&'a [Event], ParseFault>
+    requires leading { IsSpanOf source.now leading }
+    requires spans { AreIn source.now events.now }
+    ensures pair { (f : Frame) (v : syntax.Value) (start level : ℕ) (more : List Event) → IsFrame IsWholeTrivia f → IsValue v
+        → Stands source.now start (frame_text f (value_text v)) → level ≤ most → leading ≡ span_at start f.leading
+        → events.now ≡ spec.key_events start f ++ shortened level (value_events (value_at_byte start f) v
+        ++ (event After (value_at_byte start f + length (value_text v)) f.trailing ∷ more))
+        → ReadsPair source.now f v start level more (slots_view slots.old) (slots_view slots.new) result }
+    ensures input { IfErr result (λ e. IfToml e (λ r. r.input ≡ source.now)) }
+    ensures fits { SlotsFit source.now (slots_view slots.old) → OnOk result (SlotsFit source.now (slots_view slots.new)) }
+    ensures rest { IfOk result (λ r. AreIn source.now r.now × (length r.now < length events.now)) }
+{
+    let Some((frame, rest)) = split_frame(leading, events) else {
+        return Err(refusal_of_all(alloc, source, "expected a key"));
+    };
+    if MOST_PATH_EVENTS < frame.path.len() {
+        return Err(refusal_of_all(alloc, source, "recursion limit"));
+    }
+    let (value, rest) = read_value(alloc, source, rest)?;
+    let mut item = Item::Value(value);
+    end_pair(alloc, source, frame, &mut item, rest, slots)
+}
+
+/// The text before a pair, if one comes first, and the events behind it.
+fn split_leading(events: &[Event]) -> Option<(Span, &[Event])>
+    ensures { option_map (λ p. (p.0, p.1.now)) result ≡ split_leading events.now }
+{
+    let (first, rest) = split_first(events)?;
+    match first.kind {
+        EventKind::Leading => Some((first.span, rest)),
+        _ => None,
+    }
+}
+
+/// The place of the first event that ends a path.
+fn equals_place(events: &[Event]) -> Option<usize>
+    ensures place { result ≡ position (λ e. spec.is_before_equals e.kind) events.now }
+    ensures within { IfSome result (λ at. at < length events.now) }
+{
+    events.iter().position(|event| ends_path(event.kind))
+}
+
+/// Whether an event of this kind stands behind the last key of a path.
+fn ends_path(kind: EventKind) -> bool
+    ensures { result ≡ spec.is_before_equals kind }
+{
+    matches!(kind, EventKind::BeforeEquals)
+}
+
+/// The parts of a pair behind its leading text, and the events behind them.
+fn split_frame<'a>(leading: Span, events: &'a [Event]) -> Option<(FrameSpans<'a>, &'a [Event])>
+    ensures { option_map (λ p. (spec.parts_of p.0, p.1.now)) result ≡ spec.split_frame leading events.now }
+{
+    let (path, signs) = events.split_at(equals_place(events)?);
+    let (before_equals, behind) = split_first(signs)?;
+    let (after_equals, rest) = split_first(behind)?;
+    let frame = FrameSpans {
+        leading,
+        path,
+        before_equals: before_equals.span,
+        after_equals: after_equals.span,
+    };
+    Some((frame, rest))
+}
+
+/// Adds an item that was read at the end of its key's path, between the text before it and the text after it, which comes first, leaves
+/// a placeholder in its place, and gives the events behind that text.
+fn end_pair<'a>(
+    alloc: Global,
+    source: &str,
+    frame: FrameSpans<'_>,
+    item: &mut Item,
+    events: &'a [Event],
+    slots: &mut Slots<Item>,
+) -> Result<&'a [Event], ParseFault>
+    requires leading { IsSpanOf source.now frame.leading }
+    requires path { AreIn source.now frame.path.now }
+    requires before_equals { IsSpanOf source.now frame.before_equals }
+    requires after_equals { IsSpanOf source.now frame.after_equals }
+    requires spans { AreIn source.now events.now }
+    ensures pair { (f : Frame) (v : syntax.Value) (start end : ℕ) (more : List Event) → IsFrame IsWholeTrivia f
+        → Stands source.now (start + length f.leading) (path_text f.path) → spec.parts_of frame.entry ≡ spec.frame_parts start f
+        → events.now ≡ event After end f.trailing ∷ more
+        → EndsPair source.now (pair_path spanned_form start f v)
+        (with_decor (decor_at spanned_form (start + value_start spanned_form f) f.after_equals end f.trailing) (item_view item.old))
+        more (slots_view slots.old) (slots_view slots.new) result }
+    ensures input { IfErr result (λ e. IfToml e (λ r. r.input ≡ source.now)) }
+    ensures fits { NodeFits source.now (item_view item.old) → SlotsFit source.now (slots_view slots.old)
+        → OnOk result (SlotsFit source.now (slots_view slots.new)) }
+    ensures rest { IfOk result (λ r. AreIn source.now r.now × (length r.now < length events.now)) }
+{
+    let Some((after, rest)) = split_first(events) else {
+        return Err(refusal_of_all(alloc, source, "expected a comma"));
+    };
+    item.decorate(raw(frame.after_equals), raw(after.span));
+    let start = frame.leading.end;
+    let path = KeyPath {
+        prefix: frame.leading,
+        suffix: frame.before_equals,
+        before: Span { start, end: start },
+        events: frame.path,
+    };
+    add_entry(alloc, source, path, item, slots)?;
+    Ok(rest)
+}
+
+/// Adds an item at the end of a path, and leaves a placeholder in its place.
+#[cycle(add)]
+fn add_entry(
+    alloc: Global,
+    source: &str,
+    path: KeyPath<'_>,
+    item: &mut Item,
+    slots: &mut Slots<Item>,
+) -> Result<(), ParseFault>
+    requires prefix { IsSpanOf source.now path.prefix }
+    requires suffix { IsSpanOf source.now path.suffix }
+    requires before { IsSpanOf source.now path.before }
+    requires path { AreIn source.now path.events.now }
+    ensures entry { (e : Entry) (p : List Segment) (start : ℕ) (above : Path) → IsEndOfPath p → Stands source.now start (path_text p)
+        → IsPathAt e start p path.entry
+        → AddsEntry source.now (line_mentions e start above p) (item_view item.old) (slots_view slots.old) (slots_view slots.new) result }
+    ensures fits { NodeFits source.now (item_view item.old) → SlotsFit source.now (slots_view slots.old)
+        → OnOk result (SlotsFit source.now (slots_view slots.new)) }
+    ensures input { IfErr result (λ e. IfToml e (λ r. r.input ≡ source.now)) }
+{
+    let Some((first, rest)) = split_first(path.events) else {
+        return Err(refusal_of_all(alloc, source, "expected a key"));
+    };
+    let name = read_name(alloc, source, first.span)?;
+    match split_dot(path, rest) {
+        None => add_last(
+            alloc,
+            source,
+            last_key(name, first.span, path),
+            first.span,
+            item,
+            slots,
+        ),
+        Some((after, inside)) => {
+            let key = passed_key(name, first.span, path.before, after);
+            match slots.find(key.get()) {
+                Some(at) => add_inside(alloc, source, first.span, inside, item, slots.item_mut(at)),
+                None => add_below(alloc, source, key, first.span, inside, item, slots),
+            }
+        }
+    }
+}
+
+/// Adds an item at the end of what is left of a path, below a new key.
+#[cycle(add)]
+fn add_below(
+    alloc: Global,
+    source: &str,
+    key: Key,
+    span: Span,
+    path: KeyPath<'_>,
+    item: &mut Item,
+    slots: &mut Slots<Item>,
+) -> Result<(), ParseFault>
+    requires new { place key.name slots.old ≡ None }
+    requires prefix { IsSpanOf source.now path.prefix }
+    requires suffix { IsSpanOf source.now path.suffix }
+    requires before { IsSpanOf source.now path.before }
+    requires path { AreIn source.now path.events.now }
+    ensures entry { (e : Entry) (p : List Segment) (start : ℕ) (above : Path) → IsEndOfPath p → Stands source.now start (path_text p)
+        → IsPathAt e start p path.entry
+        → AddsBelow key span (line_mentions e start above p) (item_view item.old) (slots_view slots.old) (slots_view slots.new) result }
+    ensures fits { KeyFits source.now key → NodeFits source.now (item_view item.old) → SlotsFit source.now (slots_view slots.old)
+        → OnOk result (SlotsFit source.now (slots_view slots.new)) }
+    ensures input { IfErr result (λ e. IfToml e (λ r. r.input ≡ source.now)) }
+{
+    let mut inner = Slots::new(alloc);
+    add_entry(alloc, source, path, item, &mut inner)?;
+    push_item(slots, key, path_item(span, inner))?;
+    Ok(())
+}
+
+/// Adds an item at the end of what is left of a path, below a key that is there with this item.
+#[cycle(add)]
+fn add_inside(
+    alloc: Global,
+    source: &str,
+    key: Span,
+    path: KeyPath<'_>,
+    item: &mut Item,
+    holder: &mut Item,
+) -> Result<(), ParseFault>
+    requires key { IsSpanOf source.now key }
+    requires prefix { IsSpanOf source.now path.prefix }
+    requires suffix { IsSpanOf source.now path.suffix }
+    requires before { IsSpanOf source.now path.before }
+    requires path { AreIn source.now path.events.now }
+    ensures entry { (m : Mention Entry) (e : Entry) (p : List Segment) (start : ℕ) (above : Path) → IsPassed key m → IsEndOfPath p
+        → Stands source.now start (path_text p) → IsPathAt e start p path.entry
+        → AddsInside source.now m (line_mentions e start above p) (item_view item.old) (item_view holder.old) (item_view holder.new) result }
+    ensures fits { NodeFits source.now (item_view item.old) → NodeFits source.now (item_view holder.old)
+        → OnOk result (NodeFits source.now (item_view holder.new)) }
+    ensures input { IfErr result (λ e. IfToml e (λ r. r.input ≡ source.now)) }
+{
+    match holder {
+        Item::None => Err(refusal(alloc, source, "duplicate key", key)),
+        Item::Value(value) => add_in_value(alloc, source, key, path, item, value),
+    }
+}
+
+/// The same below a key that is there with this value.
+#[cycle(add)]
+fn add_in_value(
+    alloc: Global,
+    source: &str,
+    key: Span,
+    path: KeyPath<'_>,
+    item: &mut Item,
+    holder: &mut Value,
+) -> Result<(), ParseFault>
+    requires key { IsSpanOf source.now key }
+    requires prefix { IsSpanOf source.now path.prefix }
+    requires suffix { IsSpanOf source.now path.suffix }
+    requires before { IsSpanOf source.now path.before }
+    requires path { AreIn source.now path.events.now }
+    ensures entry { (m : Mention Entry) (e : Entry) (p : List Segment) (start : ℕ) (above : Path) → IsPassed key m → IsEndOfPath p
+        → Stands source.now start (path_text p) → IsPathAt e start p path.entry
+        → AddsInside source.now m (line_mentions e start above p) (item_view item.old) (value_view holder.old) (value_view holder.new) result }
+    ensures fits { NodeFits source.now (item_view item.old) → NodeFits source.now (value_view holder.old)
+        → OnOk result (NodeFits source.now (value_view holder.new)) }
+    ensures input { IfErr result (λ e. IfToml e (λ r. r.input ≡ source.now)) }
+{
+    let message = extend_message(holder);
+    match holder {
+        Value::InlineTable(table) => add_in_table(alloc, source, key, path, item, table),
+        _ => Err(refusal(alloc, source, message, key)),
+    }
+}
+
+/// The same below a key that is there with this inline table.
+#[cycle(add)]
+fn add_in_table(
+    alloc: Global,
+    source: &str,
+    key: Span,
+    path: KeyPath<'_>,
+    item: &mut Item,
+    table: &mut InlineTable,
+) -> Result<(), ParseFault>
+    requires key { IsSpanOf source.now key }
+    requires prefix { IsSpanOf source.now path.prefix }
+    requires suffix { IsSpanOf source.now path.suffix }
+    requires before { IsSpanOf source.now path.before }
+    requires path { AreIn source.now path.events.now }
+    ensures entry { (m : Mention Entry) (e : Entry) (p : List Segment) (start : ℕ) (above : Path) → IsPassed key m → IsEndOfPath p
+        → Stands source.now start (path_text p) → IsPathAt e start p path.entry
+        → AddsInside source.now m (line_mentions e start above p) (item_view item.old) (inline_node (inline_view table.old)) (inline_node (inline_view table.new)) result }
+    ensures fits { NodeFits source.now (item_view item.old) → NodeFits source.now (inline_node (inline_view table.old))
+        → OnOk result (NodeFits source.now (inline_node (inline_view table.new))) }
+    ensures input { IfErr result (λ e. IfToml e (λ r. r.input ≡ source.now)) }
+{
+    if table.is_dotted() {
+        add_entry(alloc, source, path, item, table.slots_mut())
+    } else {
+        Err(refusal(alloc, source, "duplicate key", key))
+    }
+}
+
+/// What to say of a key of a path that goes on, where this value stands, if that is no dotted inline table.
+fn extend_message(value: &Value) -> &'static str
+    ensures { result.now ≡ way_message dotted_role (value_view value.now) }
+{
+    match value {
+        Value::String(_) => "cannot extend value of type string with a dotted key",
+        Value::Integer(_) => "cannot extend value of type integer with a dotted key",
+        Value::Float(_) => "cannot extend value of type float with a dotted key",
+        Value::Boolean(_) => "cannot extend value of type boolean with a dotted key",
+        Value::Datetime(_) => "cannot extend value of type datetime with a dotted key",
+        Value::Array(_) => "cannot extend value of type array with a dotted key",
+        Value::InlineTable(_) => "duplicate key",
+    }
+}
+
+/// Adds a slot, unless its key stands there already, and leaves a placeholder in the place of its item.
+fn add_last(
+    alloc: Global,
+    source: &str,
+    key: Key,
+    span: Span,
+    item: &mut Item,
+    slots: &mut Slots<Item>,
+) -> Result<(), ParseFault>
+    requires span { IsSpanOf source.now span }
+    ensures last { AddsLast source.now span key (item_view item.old) (slots_view slots.old) (slots_view slots.new) result }
+    ensures fits { KeyFits source.now key → NodeFits source.now (item_view item.old) → SlotsFit source.now (slots_view slots.old)
+        → OnOk result (SlotsFit source.now (slots_view slots.new)) }
+    ensures input { IfErr result (λ e. IfToml e (λ r. r.input ≡ source.now)) }
+{
+    if slots.find(key.get()).is_some() {
+        return Err(refusal(alloc, source, "duplicate key", span));
+    }
+    push_item(slots, key, mem::replace(item, Item::None))?;
+    Ok(())
+}
+
+/// Puts a slot last, whose key has to be new.
+fn push_item(slots: &mut Slots<Item>, key: Key, item: Item) -> Mem<()>
+    requires { place key.name slots.old ≡ None }
+    ensures { OnOk result (slots_view slots.new ≡ with_slot (slots_view slots.old) key (item_view item)) }
+{
+    slots.push(Slot { key, item })?;
+    Ok(())
+}
+
+/// The text of the key that is spelled at the span.
+fn read_name(alloc: Global, source: &str, span: Span) -> Result<String, ParseFault>
+    requires { IsSpanOf source.now span }
+    ensures name { (k : Text) → SpellsKey k (cut_out source.now span.start span.end) → ReadsName k result }
+    ensures input { IfErr result (λ e. IfToml e (λ r. r.input ≡ source.now)) }
+{
+    match decode_key(alloc, cut(source, span))? {
+        Some(name) => Ok(name),
+        None => Err(refusal(alloc, source, "expected a key", span)),
+    }
+}
+
+/// The text before a dot, and the path behind it.
+fn split_dot<'a>(path: KeyPath<'a>, events: &'a [Event]) -> Option<(Span, KeyPath<'a>)>
+    ensures { option_map (λ p. (p.0, spec.path_of p.1)) result ≡ spec.split_dot path.entry events.now }
+{
+    let (after, behind) = split_first(events)?;
+    let (before, events) = split_first(behind)?;
+    let inside = KeyPath {
+        before: before.span,
+        events,
+        ..path
+    };
+    Some((after.span, inside))
+}
+
+/// The last key of a path, with this name, which is spelled at the span.
+fn last_key(name: String, span: Span, path: KeyPath<'_>) -> Key
+    ensures key { result ≡ key_with (string_bytes name) span (spec.leaf_of path.entry) (spanned_raw path.entry.before) (owned []) }
+    ensures fits { (t : Text) → IsSpanOf t span → IsSpanOf t path.entry.prefix → IsSpanOf t path.entry.suffix → IsSpanOf t path.entry.before → KeyFits t result }
+{
+    let leaf = Decor::new(raw(path.prefix), raw(path.suffix));
+    let dotted = Decor::new(raw(path.before), RawString::default());
+    Key::spanned(name, span.start, span.end, leaf, dotted)
+}
+
+/// A key that a path passes through, with this name, which is spelled at the span, between these texts.
+fn passed_key(name: String, span: Span, before: Span, after: Span) -> Key
+    ensures key { result ≡ key_with (string_bytes name) span unset (spanned_raw before) (spanned_raw after) }
+    ensures fits { (t : Text) → IsSpanOf t span → IsSpanOf t before → IsSpanOf t after → KeyFits t result }
+{
+    let dotted = Decor::new(raw(before), raw(after));
+    Key::spanned(name, span.start, span.end, Decor::default(), dotted)
+}
+
+/// The item of a key that a path passes through, where these slots stand below it.
+fn path_item(key: Span, slots: Slots<Item>) -> Item
+    ensures { item_view result ≡ inline (path_fields (Some (key.start, key.end))) (slots_view slots) }
+{
+    Item::Value(Value::InlineTable(path_table(key, slots)))
+}
+
+/// The dotted inline table of a key that a path passes through.
+fn path_table(key: Span, slots: Slots<Item>) -> InlineTable
+    ensures { inline_view result ≡ record { fields = path_fields (Some (key.start, key.end)); slots = slots_view slots } }
+{
+    InlineTable::below_key(slots, key.start, key.end)
+}
+
+/// The inline table of these slots, whose end comes first, and the events behind it.
+fn close_inline<'a>(
+    alloc: Global,
+    source: &str,
+    opening: Span,
+    slots: Slots<Item>,
+    events: &'a [Event],
+) -> Result<(Value, &'a [Event]), ParseFault>
+    requires { AreIn source.now events.now }
+    ensures value { (close : Close) (more : List Event) → split_close events.now ≡ Some (close, more)
+        → EndsInline opening.start close (slots_view slots) more result }
+    ensures input { IfErr result (λ e. IfToml e (λ r. r.input ≡ source.now)) }
+    ensures fits { SlotsFit source.now (slots_view slots) → IfOk result (λ r. NodeFits source.now (value_view r.0)) }
+    ensures rest { IfOk result (λ r. AreIn source.now r.1.now × (length r.1.now < length events.now)) }
+{
+    let Some((close, rest)) = split_close(events) else {
+        return Err(refusal_of_all(alloc, source, "expected a brace"));
+    };
+    Ok((inline_value(opening, close, slots), rest))
+}
+
+/// The value of an inline table.
+fn inline_value(opening: Span, close: Close, slots: Slots<Item>) -> Value
+    ensures { value_view result ≡ inline_node (spec.inline_of opening.start close (slots_view slots)) }
+{
+    Value::InlineTable(new_inline(opening, close, slots))
+}
+
+/// The inline table of these slots.
+fn new_inline(opening: Span, close: Close, slots: Slots<Item>) -> InlineTable
+    ensures { inline_view result ≡ spec.inline_of opening.start close (slots_view slots) }
+{
+    InlineTable::spanned(
+        slots,
+        close.comma,
+        raw(close.inner),
+        opening.start,
+        close.end,
+    )
+}

@@ -1,0 +1,400 @@
+//! Values from their events.
+ghost use Rattle.std.specs.Prelude.{◌≡◌, ◌+◌, ◌≤◌, ◌<◌, ◌++◌, ◌∷◌, ◌-◌, List, ℕ, suc, [], Bool, codes, length, None, Some, OnOk, IfErr, IfOk, option_map};
+ghost use Rattle.toml_edit_model.specs.Text.{Text};
+ghost use Rattle.toml_edit_model.specs.Scalars.{Scalar};
+ghost use Rattle.toml_edit_model.specs.Spelling.{Spells};
+ghost use Rattle.toml_edit_model.specs.Syntax as syntax;
+ghost use Rattle.toml_edit_model.specs.Syntax.{Around, Elements, AreElements, IsValue, value_text, most};
+ghost use Rattle.toml_edit_model.specs.Conversions.{with_decor};
+ghost use Rattle.toml_edit_model.specs.TreeOf.{ItemsFit, RawFits, NodeFits, spanned_form, decor_at, span_of, cut_out};
+ghost use Rattle.toml_edit_laws.specs.Standing.{Stands};
+ghost use Rattle.toml_edit_error.specs.Fault.{IfToml};
+ghost use Rattle.toml_edit_error.specs.Report.{SpanIsIn};
+ghost use Rattle.toml_edit_syntax.specs.Events.{IsSpanOf};
+ghost use Rattle.toml_edit_syntax.specs.ValueEvents.{event, value_events, elements_events, close_events, shortened};
+ghost use Rattle.toml_edit_parser.specs.ScalarRead.{ReadsScalar};
+ghost use Rattle.toml_edit_syntax.specs.declared.event.EventKind.TheVariants.{After, ArrayClose};
+ghost use Rattle.toml_edit_tree.specs.Containers.{array_node};
+ghost use Rattle.toml_edit_parser.specs.ValueRead as spec;
+ghost use Rattle.toml_edit_parser.specs.ValueRead.{ElementsStand, span_at, AreIn, ReadsElement, ReadsElements, ReadsValue};
+ghost use Rattle.toml_edit_tree.specs.View.{array_view, items_view, value_view};
+
+use crate::pairs::read_inline;
+use std::alloc::Global;
+use toml_edit_error::{ParseFault, TomlError};
+use toml_edit_repr::{Decor, Formatted, Mem, RawString};
+use toml_edit_syntax::{Event, EventKind, Span};
+use toml_edit_token::{decode_integer, decode_scalar, range_message};
+use toml_edit_tree::{Array, Item, Value};
+
+/// The end of an array or inline table: whether a comma stands there, where the text behind it does, and where the bracket ends.
+#[derive(Clone, Copy)]
+pub(crate) struct Close {
+    pub(crate) comma: bool,
+    pub(crate) inner: Span,
+    pub(crate) end: usize,
+}
+
+/// The bytes of the span.
+pub(crate) fn cut(source: &str, span: Span) -> &str
+    requires { IsSpanOf source.now span }
+    ensures { result.now ≡ cut_out source.now span.start span.end }
+{
+    &source[span.start..span.end]
+}
+
+/// The span, or the empty text where nothing stands there.
+pub(crate) fn raw(span: Span) -> RawString
+    ensures raw { result ≡ spec.spanned_raw span }
+    ensures span { (t : Text) → span.end ≡ span.start + length t → result ≡ span_of span.start t }
+    ensures fits { (t : Text) → IsSpanOf t span → RawFits t result }
+{
+    if span.start == span.end {
+        RawString::default()
+    } else {
+        RawString::from_span(span.start, span.end)
+    }
+}
+
+fn error(alloc: Global, source: &str, message: &str, span: Option<(usize, usize)>) -> Mem<TomlError>
+    requires { SpanIsIn source.now span }
+    ensures { IfOk result (λ e. e ≡ record { message = message.now; span = span; input = source.now }) }
+{
+    let message = String::from_str(alloc, message)?;
+    let input = String::from_str(alloc, source)?;
+    Ok(TomlError::new(message, span, input))
+}
+
+/// The error with this message about the span.
+#[cold]
+#[inline(never)]
+pub(crate) fn refusal(alloc: Global, source: &str, message: &str, span: Span) -> ParseFault
+    requires { IsSpanOf source.now span }
+    ensures { IfToml result (λ r. r ≡ record { message = message.now; span = Some (span.start, span.end); input = source.now }) }
+{
+    match error(alloc, source, message, Some((span.start, span.end))) {
+        Ok(error) => ParseFault::Toml(error),
+        Err(_) => ParseFault::Memory,
+    }
+}
+
+/// The error with this message, about no part of the text.
+#[cold]
+#[inline(never)]
+pub(crate) fn refusal_of_all(alloc: Global, source: &str, message: &str) -> ParseFault
+    ensures { IfToml result (λ r. r ≡ record { message = message.now; span = None; input = source.now }) }
+{
+    match error(alloc, source, message, None) {
+        Ok(error) => ParseFault::Toml(error),
+        Err(_) => ParseFault::Memory,
+    }
+}
+
+/// The first event, and those behind it.
+pub(crate) fn split_first(events: &[Event]) -> Option<(Event, &[Event])>
+    ensures { option_map (λ p. (p.0, p.1.now)) result ≡ spec.split_first events.now }
+{
+    let [first, rest @ ..] = events else {
+        return None;
+    };
+    Some((*first, rest))
+}
+
+/// The text before an element, if one comes first, and the events behind it.
+fn split_before(events: &[Event]) -> Option<(Span, &[Event])>
+    ensures { option_map (λ p. (p.0, p.1.now)) result ≡ spec.split_before events.now }
+{
+    let (first, rest) = split_first(events)?;
+    match first.kind {
+        EventKind::Before => Some((first.span, rest)),
+        _ => None,
+    }
+}
+
+/// The place of a scalar, if one comes first, and the events behind it.
+fn split_scalar(events: &[Event]) -> Option<(Span, &[Event])>
+    ensures { option_map (λ p. (p.0, p.1.now)) result ≡ spec.split_scalar events.now }
+{
+    let (first, rest) = split_first(events)?;
+    match first.kind {
+        EventKind::Scalar => Some((first.span, rest)),
+        _ => None,
+    }
+}
+
+/// The end of an array or inline table, if it comes first, and the events behind it.
+pub(crate) fn split_close(events: &[Event]) -> Option<(Close, &[Event])>
+    ensures { option_map (λ p. (p.0, p.1.now)) result ≡ spec.split_close events.now }
+{
+    let (first, behind) = split_first(events)?;
+    let (second, rest) = split_first(behind)?;
+    match first.kind {
+        EventKind::Comma => {
+            let (third, rest) = split_first(rest)?;
+            let close = Close {
+                comma: true,
+                inner: second.span,
+                end: third.span.end,
+            };
+            Some((close, rest))
+        }
+        _ => {
+            let close = Close {
+                comma: false,
+                inner: first.span,
+                end: second.span.end,
+            };
+            Some((close, rest))
+        }
+    }
+}
+
+/// The scalar that is spelled at the span.
+pub(crate) fn read_scalar(alloc: Global, source: &str, span: Span) -> Result<Value, ParseFault>
+    requires { IsSpanOf source.now span }
+    ensures value { (s : Scalar) (t : Text) → cut_out source.now span.start span.end ≡ t → span.end ≡ span.start + length t
+        → Spells s t → ReadsScalar source.now span.start s t result }
+    ensures input { IfErr result (λ e. IfToml e (λ r. r.input ≡ source.now)) }
+    ensures fits { IfOk result (λ v. NodeFits source.now (value_view v)) }
+{
+    match decode_scalar(alloc, cut(source, span))? {
+        Some(scalar) => Ok(Value::spanned(scalar, span.start, span.end, Decor::default())),
+        None => Err(refusal(alloc, source, range_message(cut(source, span)), span)),
+    }
+}
+
+/// The value that comes first, with its decor unset, and the events behind it.
+#[cycle(read)]
+pub(crate) fn read_value<'a>(
+    alloc: Global,
+    source: &str,
+    events: &'a [Event],
+) -> Result<(Value, &'a [Event]), ParseFault>
+    requires { AreIn source.now events.now }
+    ensures value { (v : syntax.Value) (start level : ℕ) (more : List Event) → IsValue v → Stands source.now start (value_text v)
+        → level ≤ most → events.now ≡ shortened level (value_events start v ++ more) → ReadsValue source.now v start level more result }
+    ensures input { IfErr result (λ e. IfToml e (λ r. r.input ≡ source.now)) }
+    ensures fits { IfOk result (λ r. NodeFits source.now (value_view r.0)) }
+    ensures rest { IfOk result (λ r. AreIn source.now r.1.now × (length r.1.now < length events.now)) }
+{
+    let Some((first, rest)) = split_first(events) else {
+        return Err(refusal_of_all(alloc, source, "expected a value"));
+    };
+    match first.kind {
+        EventKind::Scalar => Ok((read_scalar(alloc, source, first.span)?, rest)),
+        EventKind::ArrayOpen => read_array(alloc, source, first.span, rest),
+        EventKind::InlineTableOpen => read_inline(alloc, source, first.span, rest),
+        _ => Err(refusal(alloc, source, "recursion limit", first.span)),
+    }
+}
+
+/// Whether these are the events of an element that is a scalar.
+fn is_scalar_element(events: &[Event]) -> bool {
+    match events {
+        [_, value, _] => matches!(value.kind, EventKind::Scalar),
+        _ => false,
+    }
+}
+
+/// How many scalars come first as elements, to make room for them.
+fn scalar_count(events: &[Event]) -> usize {
+    events
+        .chunks(3)
+        .take_while(|element| is_scalar_element(*element))
+        .count()
+}
+
+/// The array behind its opening bracket, and the events behind the array.
+#[cycle(read)]
+fn read_array<'a>(
+    alloc: Global,
+    source: &str,
+    opening: Span,
+    events: &'a [Event],
+) -> Result<(Value, &'a [Event]), ParseFault>
+    requires { AreIn source.now events.now }
+    ensures value { (es : Elements) (comma : Bool) (t : Text) (start level : ℕ) (more : List Event) → AreElements es
+        → Stands source.now start (value_text (syntax.array es comma t)) → level < most → opening.start ≡ start
+        → events.now ≡ shortened (suc level) (elements_events (start + 1) es
+        ++ (close_events ArrayClose (codes "]") (start + length (value_text (syntax.array es comma t)) - 1) comma t ++ more))
+        → ReadsValue source.now (syntax.array es comma t) start level more result }
+    ensures input { IfErr result (λ e. IfToml e (λ r. r.input ≡ source.now)) }
+    ensures fits { IfOk result (λ r. NodeFits source.now (value_view r.0)) }
+    ensures rest { IfOk result (λ r. AreIn source.now r.1.now × (length r.1.now < length events.now)) }
+{
+    let mut values = Vec::with_capacity(alloc, scalar_count(events))?;
+    let rest = read_elements(alloc, source, events, &mut values)?;
+    close_array(alloc, source, opening, values, rest)
+}
+
+/// The values that come first, and the events behind them.
+#[cycle(read)]
+fn read_elements<'a>(
+    alloc: Global,
+    source: &str,
+    events: &'a [Event],
+    values: &mut Vec<Item>,
+) -> Result<&'a [Event], ParseFault>
+    requires spans { AreIn source.now events.now }
+    requires first { values.old.items ≡ [] }
+    ensures elements { (es : Elements) (start level : ℕ) (more : List Event) → AreElements es → ElementsStand source.now start es
+        → level ≤ most → spec.split_before (shortened level more) ≡ None
+        → events.now ≡ shortened level (elements_events start es ++ more)
+        → ReadsElements source.now es start level more values.new.items result }
+    ensures input { IfErr result (λ e. IfToml e (λ r. r.input ≡ source.now)) }
+    ensures fits { OnOk result (ItemsFit source.now (items_view values.new.items)) }
+    ensures rest { IfOk result (λ r. AreIn source.now r.now × (length r.now ≤ length events.now)) }
+{
+    let mut rest = events;
+    'elements: while let Some((before, tail)) = split_before(rest) {
+        rest = match split_scalar(tail) {
+            Some((scalar, behind)) => {
+                read_scalar_element(alloc, source, before, scalar, behind, values)?
+            }
+            None => read_element(alloc, source, before, tail, values)?,
+        };
+    }
+    Ok(rest)
+}
+
+/// Adds the scalar that is spelled at the span, between the text before it and the text after it, which comes first, and gives the
+/// events behind that. Most elements are scalars, so it is put there at once, and never moved.
+fn read_scalar_element<'a>(
+    alloc: Global,
+    source: &str,
+    before: Span,
+    span: Span,
+    events: &'a [Event],
+    values: &mut Vec<Item>,
+) -> Result<&'a [Event], ParseFault>
+    requires before { IsSpanOf source.now before }
+    requires span { IsSpanOf source.now span }
+    requires spans { AreIn source.now events.now }
+    ensures element { (a : Around) (s : Scalar) (t : Text) (start level : ℕ) (more : List Event) → Spells s t
+        → Stands source.now (start + length a.before) t → before ≡ span_at start a.before → span ≡ span_at (start + length a.before) t
+        → events.now ≡ shortened level (event After (start + length a.before + length t) a.after ∷ more)
+        → ReadsElement source.now a (syntax.scalar s t) start level more values.old.items values.new.items result }
+    ensures input { IfErr result (λ e. IfToml e (λ r. r.input ≡ source.now)) }
+    ensures fits { ItemsFit source.now (items_view values.old.items) → OnOk result (ItemsFit source.now (items_view values.new.items)) }
+    ensures rest { IfOk result (λ r. AreIn source.now r.now × (length r.now < length events.now)) }
+{
+    let Some((after, rest)) = split_first(events) else {
+        return Err(refusal_of_all(alloc, source, "expected a comma"));
+    };
+    let text = cut(source, span);
+    let decor = Decor::new(raw(before), raw(after.span));
+    if let Some(number) = decode_integer(text) {
+        put_value(
+            values,
+            Value::Integer(Formatted::spanned(number, span.start, span.end, decor)),
+        )?;
+        return Ok(rest);
+    }
+    match decode_scalar(alloc, text)? {
+        Some(scalar) => {
+            put_value(values, Value::spanned(scalar, span.start, span.end, decor))?;
+            Ok(rest)
+        }
+        None => Err(refusal(alloc, source, range_message(text), span)),
+    }
+}
+
+/// Adds the value that comes first, and gives the events behind it.
+#[cycle(read)]
+#[inline(never)]
+fn read_element<'a>(
+    alloc: Global,
+    source: &str,
+    before: Span,
+    events: &'a [Event],
+    values: &mut Vec<Item>,
+) -> Result<&'a [Event], ParseFault>
+    requires before { IsSpanOf source.now before }
+    requires spans { AreIn source.now events.now }
+    ensures element { (a : Around) (v : syntax.Value) (start level : ℕ) (more : List Event) → IsValue v
+        → Stands source.now (start + length a.before) (value_text v) → level ≤ most → before ≡ span_at start a.before
+        → events.now ≡ shortened level (value_events (start + length a.before) v
+        ++ (event After (start + length a.before + length (value_text v)) a.after ∷ more))
+        → ReadsElement source.now a v start level more values.old.items values.new.items result }
+    ensures input { IfErr result (λ e. IfToml e (λ r. r.input ≡ source.now)) }
+    ensures fits { ItemsFit source.now (items_view values.old.items) → OnOk result (ItemsFit source.now (items_view values.new.items)) }
+    ensures rest { IfOk result (λ r. AreIn source.now r.now × (length r.now < length events.now)) }
+{
+    let (value, rest) = read_value(alloc, source, events)?;
+    end_element(alloc, source, before, value, rest, values)
+}
+
+/// Adds a value that was read between the text before it and the text after it, which comes first, and gives the events behind that.
+fn end_element<'a>(
+    alloc: Global,
+    source: &str,
+    before: Span,
+    value: Value,
+    events: &'a [Event],
+    values: &mut Vec<Item>,
+) -> Result<&'a [Event], ParseFault>
+    requires before { IsSpanOf source.now before }
+    requires spans { AreIn source.now events.now }
+    ensures element { (b c : Text) (start end : ℕ) (more : List Event) → before ≡ span_at start b
+        → events.now ≡ event After end c ∷ more
+        → spec.EndsElement (with_decor (decor_at spanned_form start b end c) (value_view value)) more values.old.items values.new.items result }
+    ensures input { IfErr result (λ e. IfToml e (λ r. r.input ≡ source.now)) }
+    ensures fits { NodeFits source.now (value_view value) → ItemsFit source.now (items_view values.old.items)
+        → OnOk result (ItemsFit source.now (items_view values.new.items)) }
+    ensures rest { IfOk result (λ r. AreIn source.now r.now × (length r.now < length events.now)) }
+{
+    let Some((after, rest)) = split_first(events) else {
+        return Err(refusal_of_all(alloc, source, "expected a comma"));
+    };
+    put_value(values, value.decorated(raw(before), raw(after.span)))?;
+    Ok(rest)
+}
+
+/// Puts a value last.
+fn put_value(values: &mut Vec<Item>, value: Value) -> Mem<()>
+    ensures { OnOk result (values.new.items ≡ values.old.items ++ Item.Value value ∷ []) }
+{
+    values.push(Item::Value(value))?;
+    Ok(())
+}
+
+/// The array of these values, whose end comes first, and the events behind it.
+fn close_array<'a>(
+    alloc: Global,
+    source: &str,
+    opening: Span,
+    values: Vec<Item>,
+    events: &'a [Event],
+) -> Result<(Value, &'a [Event]), ParseFault>
+    requires { AreIn source.now events.now }
+    ensures value { (close : Close) (more : List Event) → spec.split_close events.now ≡ Some (close, more)
+        → spec.EndsArray opening.start close (items_view values.items) more result }
+    ensures input { IfErr result (λ e. IfToml e (λ r. r.input ≡ source.now)) }
+    ensures fits { ItemsFit source.now (items_view values.items) → IfOk result (λ r. NodeFits source.now (value_view r.0)) }
+    ensures rest { IfOk result (λ r. AreIn source.now r.1.now × (length r.1.now < length events.now)) }
+{
+    let Some((close, rest)) = split_close(events) else {
+        return Err(refusal_of_all(alloc, source, "expected a bracket"));
+    };
+    Ok((array_value(opening, close, values), rest))
+}
+
+/// The value of an array.
+fn array_value(opening: Span, close: Close, values: Vec<Item>) -> Value
+    ensures { value_view result ≡ array_node (spec.array_of opening.start close (items_view values.items)) }
+{
+    Value::Array(new_array(opening, close, values))
+}
+
+/// The array of these values.
+fn new_array(opening: Span, close: Close, values: Vec<Item>) -> Array
+    ensures { array_view result ≡ spec.array_of opening.start close (items_view values.items) }
+{
+    Array::spanned(
+        values,
+        close.comma,
+        raw(close.inner),
+        opening.start,
+        close.end,
+    )
+}

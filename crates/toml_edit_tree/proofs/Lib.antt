@@ -1,0 +1,10 @@
+pub mod HeldLaws
+pub mod DespanLaws
+pub mod KeyTextLaws
+pub mod ElementTextLaws
+pub mod PairTextLaws
+pub mod TurnLaws
+pub mod ViewLaws
+pub mod ContainerLaws
+pub mod InPlace
+pub mod ValueLines

@@ -1,0 +1,58 @@
+-- What is lent out of arrays, inline tables and values, and what their iterators have left.
+use Rattle.std.specs.Prelude.{List, Option}
+use Rattle.std.specs.Borrow.{Bor, Lends, LendsIf, MutBor, Fml}
+use Rattle.std.specs.Slice.Iter.{iter_rest}
+use Rattle.toml_edit_model.specs.Text.{Text}
+use Rattle.toml_edit_model.specs.Tree.{Decor, Node}
+use Rattle.toml_edit_repr.specs.contracts.repr.Decor.{the_row as decor_row}
+use Rattle.toml_edit_slots.specs.declared.slots.Slot.{Slot}
+use Rattle.toml_edit_slots.specs.contracts.slots.Slots.{the_row as slots_row}
+use Rattle.toml_edit_tree.specs.Containers.{values_in, pairs_in}
+use Rattle.toml_edit_tree.specs.View.{value_view, items_view, slots_view}
+use Rattle.toml_edit_tree.specs.declared.array.Array.{Array}
+use Rattle.toml_edit_tree.specs.declared.array.ArrayIter.{ArrayIter}
+use Rattle.toml_edit_tree.specs.declared.inline_table.InlineTable.{InlineTable}
+use Rattle.toml_edit_tree.specs.declared.inline_table.InlineTableIter.{InlineTableIter}
+use Rattle.toml_edit_tree.specs.declared.item.Item.{Item}
+use Rattle.toml_edit_tree.specs.declared.value.Value.{Value}
+use Rattle.toml_edit_tree.specs.declared.value.Value.TheVariants as values
+use Rattle.toml_edit_tree.specs.contracts.array.Array.{the_row as array_row}
+use Rattle.toml_edit_tree.specs.contracts.inline_table.InlineTable.{the_row as inline_row}
+use Rattle.toml_edit_tree.specs.contracts.item.Item.{the_row as item_row}
+use Rattle.toml_edit_tree.specs.contracts.value.Value.{the_row as value_row}
+
+-- the array, or the inline table, ends with the last decor behind r
+abbrev pub LendsArrayDecor : MutBor Array → MutBor Decor → Fml
+LendsArrayDecor s r = Lends array_row decor_row s r (λ w. record s.now { decor = w })
+
+abbrev pub LendsInlineDecor : MutBor InlineTable → MutBor Decor → Fml
+LendsInlineDecor s r = Lends inline_row decor_row s r (λ w. record s.now { decor = w })
+
+-- the inline table with these slots
+abbrev pub holding : List (Slot Item) → InlineTable → InlineTable
+holding slots t = record t { items = slots }
+
+-- it ends with the last slots behind r
+abbrev pub LendsInlineSlots : MutBor InlineTable → MutBor (List (Slot Item)) → Fml
+LendsInlineSlots s r = Lends inline_row (slots_row item_row) s r (λ w. holding w s.now)
+
+-- the value ends as the last array, or the last inline table, behind r, where it is one
+abbrev pub LendsArray : MutBor Value → Option (MutBor Array) → Fml
+LendsArray s r = LendsIf value_row array_row s r (λ w. values.Array w) s.now
+
+abbrev pub LendsInline : MutBor Value → Option (MutBor InlineTable) → Fml
+LendsInline s r = LendsIf value_row inline_row s r (λ w. values.InlineTable w) s.now
+
+-- what an iterator has left
+abbrev pub values_left : ArrayIter → List Node
+values_left it = values_in (items_view (iter_rest it.items))
+
+abbrev pub pairs_left : InlineTableIter → List (Text × Node)
+pairs_left it = pairs_in (slots_view (iter_rest it.slots))
+
+-- a value, or a pair, that was read
+abbrev pub value_read : Bor Value → Node
+value_read v = value_view v.now
+
+abbrev pub pair_read : Bor Text × Bor Value → Text × Node
+pair_read p = (p.0.now, value_view p.1.now)

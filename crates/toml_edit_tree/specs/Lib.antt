@@ -1,0 +1,6 @@
+pub mod View
+pub mod Held
+pub mod Printing
+pub mod Casts
+pub mod Containers
+pub mod ContainerParts

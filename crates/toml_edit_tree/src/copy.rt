@@ -1,0 +1,94 @@
+//! Equal copies of items, written out for each type that holds others.
+ghost use Rattle.std.specs.Prelude.{◌≡◌, IfOk};
+ghost use Rattle.toml_edit_tree.specs.View.{array_view, inline_view, item_view, items_view, slots_view, value_view};
+
+use crate::array::Array;
+use crate::inline_table::InlineTable;
+use crate::item::Item;
+use crate::value::Value;
+use std::alloc::Global;
+use toml_edit_repr::Mem;
+use toml_edit_slots::{Slot, Slots};
+
+#[cycle(copy)]
+pub(crate) fn copy_item(item: &Item, alloc: Global) -> Mem<Item>
+    ensures { IfOk result (λ copy. item_view copy ≡ item_view item.now) }
+{
+    match item {
+        Item::None => Ok(Item::None),
+        Item::Value(value) => Ok(Item::Value(copy_value(value, alloc)?)),
+    }
+}
+
+#[cycle(copy)]
+pub(crate) fn copy_value(value: &Value, alloc: Global) -> Mem<Value>
+    ensures { IfOk result (λ copy. value_view copy ≡ value_view value.now) }
+{
+    match value {
+        Value::String(scalar) => Ok(Value::String(scalar.clone(alloc)?)),
+        Value::Integer(scalar) => Ok(Value::Integer(scalar.clone(alloc)?)),
+        Value::Float(scalar) => Ok(Value::Float(scalar.clone(alloc)?)),
+        Value::Boolean(scalar) => Ok(Value::Boolean(scalar.clone(alloc)?)),
+        Value::Datetime(scalar) => Ok(Value::Datetime(scalar.clone(alloc)?)),
+        Value::Array(array) => Ok(Value::Array(copy_array(array, alloc)?)),
+        Value::InlineTable(table) => Ok(Value::InlineTable(copy_inline(table, alloc)?)),
+    }
+}
+
+#[cycle(copy)]
+pub(crate) fn copy_array(array: &Array, alloc: Global) -> Mem<Array>
+    ensures { IfOk result (λ copy. array_view copy ≡ array_view array.now) }
+{
+    let values = copy_items(&array.values, alloc)?;
+    let decor = array.decor.clone(alloc)?;
+    let trailing = array.trailing.clone(alloc)?;
+    Ok(Array {
+        values,
+        decor,
+        trailing,
+        trailing_comma: array.trailing_comma,
+        span: array.span,
+    })
+}
+
+#[cycle(copy)]
+pub(crate) fn copy_inline(table: &InlineTable, alloc: Global) -> Mem<InlineTable>
+    ensures { IfOk result (λ copy. inline_view copy ≡ inline_view table.now) }
+{
+    let items = copy_slots(&table.items, alloc)?;
+    let decor = table.decor.clone(alloc)?;
+    let trailing = table.trailing.clone(alloc)?;
+    Ok(InlineTable {
+        items,
+        decor,
+        dotted: table.dotted,
+        trailing,
+        trailing_comma: table.trailing_comma,
+        span: table.span,
+    })
+}
+
+#[cycle(copy)]
+fn copy_items(items: &Vec<Item>, alloc: Global) -> Mem<Vec<Item>>
+    ensures { IfOk result (λ copy. items_view copy.items ≡ items_view items.now.items) }
+{
+    let mut copies = Vec::with_capacity(alloc, items.len())?;
+    for item in items {
+        copies.push(copy_item(item, alloc)?)?;
+    }
+    Ok(copies)
+}
+
+#[cycle(copy)]
+fn copy_slots(slots: &Slots<Item>, alloc: Global) -> Mem<Slots<Item>>
+    ensures { IfOk result (λ copy. slots_view copy ≡ slots_view slots.now) }
+{
+    let mut copies = Slots::new(alloc);
+    let entries = slots.as_slice();
+    for slot in entries {
+        let key = slot.key.clone(alloc)?;
+        let item = copy_item(&slot.item, alloc)?;
+        copies.push(Slot { key, item })?;
+    }
+    Ok(copies)
+}

@@ -1,0 +1,95 @@
+//! Items over their source, put in owned form in place: each span becomes the text that stands there.
+ghost use Rattle.std.specs.Prelude.{◌≡◌, OnOk};
+ghost use Rattle.toml_edit_model.specs.Tree.{IsWellMade, ItemsAreWellMade, SlotsAreWellMade};
+ghost use Rattle.toml_edit_model.specs.TreeOf.{ItemsFit, NodeFits, SlotsFit, owned_items, owned_node, owned_slots};
+ghost use Rattle.toml_edit_tree.specs.Containers.{array_node, inline_node};
+ghost use Rattle.toml_edit_tree.specs.View.{array_view, inline_view, item_view, items_view, slots_view, value_view};
+
+use crate::array::Array;
+use crate::inline_table::InlineTable;
+use crate::item::Item;
+use crate::value::Value;
+use std::alloc::Global;
+use toml_edit_repr::Mem;
+use toml_edit_slots::Slots;
+
+#[cycle(despan)]
+pub(crate) fn despan_item(item: &mut Item, alloc: Global, source: &str) -> Mem<()>
+    requires fits { NodeFits source.now (item_view item.old) }
+    requires spelled { ∥ IsWellMade (owned_node source.now (item_view item.old)) ∥₁ }
+    ensures { OnOk result (item_view item.new ≡ owned_node source.now (item_view item.old)) }
+{
+    match item {
+        Item::None => Ok(()),
+        Item::Value(value) => despan_value(value, alloc, source),
+    }
+}
+
+#[cycle(despan)]
+pub(crate) fn despan_value(value: &mut Value, alloc: Global, source: &str) -> Mem<()>
+    requires fits { NodeFits source.now (value_view value.old) }
+    requires spelled { ∥ IsWellMade (owned_node source.now (value_view value.old)) ∥₁ }
+    ensures { OnOk result (value_view value.new ≡ owned_node source.now (value_view value.old)) }
+{
+    match value {
+        Value::String(scalar) => scalar.despan(alloc, source),
+        Value::Integer(scalar) => scalar.despan(alloc, source),
+        Value::Float(scalar) => scalar.despan(alloc, source),
+        Value::Boolean(scalar) => scalar.despan(alloc, source),
+        Value::Datetime(scalar) => scalar.despan(alloc, source),
+        Value::Array(array) => despan_array(array, alloc, source),
+        Value::InlineTable(table) => despan_inline(table, alloc, source),
+    }
+}
+
+#[cycle(despan)]
+fn despan_array(array: &mut Array, alloc: Global, source: &str) -> Mem<()>
+    requires fits { NodeFits source.now (array_node (array_view array.old)) }
+    requires spelled { ∥ IsWellMade (owned_node source.now (array_node (array_view array.old))) ∥₁ }
+    ensures { OnOk result (array_node (array_view array.new) ≡ owned_node source.now (array_node (array_view array.old))) }
+{
+    despan_items(&mut array.values, alloc, source)?;
+    array.decor.despan(alloc, source)?;
+    array.trailing.despan(alloc, source)?;
+    array.span = None;
+    Ok(())
+}
+
+#[cycle(despan)]
+fn despan_inline(table: &mut InlineTable, alloc: Global, source: &str) -> Mem<()>
+    requires fits { NodeFits source.now (inline_node (inline_view table.old)) }
+    requires spelled { ∥ IsWellMade (owned_node source.now (inline_node (inline_view table.old))) ∥₁ }
+    ensures { OnOk result (inline_node (inline_view table.new) ≡ owned_node source.now (inline_node (inline_view table.old))) }
+{
+    despan_slots(&mut table.items, alloc, source)?;
+    table.decor.despan(alloc, source)?;
+    table.trailing.despan(alloc, source)?;
+    table.span = None;
+    Ok(())
+}
+
+#[cycle(despan)]
+fn despan_items(items: &mut Vec<Item>, alloc: Global, source: &str) -> Mem<()>
+    requires fits { ItemsFit source.now (items_view items.old.items) }
+    requires spelled { ∥ ItemsAreWellMade (owned_items source.now (items_view items.old.items)) ∥₁ }
+    ensures { OnOk result (items_view items.new.items ≡ owned_items source.now (items_view items.old.items)) }
+{
+    for at in 0..items.len() {
+        despan_item(&mut items[at], alloc, source)?;
+    }
+    Ok(())
+}
+
+#[cycle(despan)]
+pub(crate) fn despan_slots(slots: &mut Slots<Item>, alloc: Global, source: &str) -> Mem<()>
+    requires fits { SlotsFit source.now (slots_view slots.old) }
+    requires spelled { ∥ SlotsAreWellMade (owned_slots source.now (slots_view slots.old)) ∥₁ }
+    ensures { OnOk result (slots_view slots.new ≡ owned_slots source.now (slots_view slots.old)) }
+{
+    for at in 0..slots.len() {
+        slots.despan_key(at, alloc, source)?;
+        let item = slots.item_mut(at);
+        despan_item(item, alloc, source)?;
+    }
+    Ok(())
+}

@@ -1,0 +1,398 @@
+//! Trees to text.
+ghost use Rattle.std.specs.Prelude.{◌≡◌, true, [], ◌∷◌, ◌++◌, if◌then◌else◌, IfOk};
+ghost use Rattle.std.specs.Option.{option_copied};
+ghost use Rattle.std.specs.Fmt.{WritesOnOk};
+ghost use Rattle.toml_edit_model.specs.Syntax.{comma_text};
+ghost use Rattle.toml_edit_model.specs.Text.{newline};
+ghost use Rattle.toml_edit_model.specs.Mode.{plain};
+ghost use Rattle.toml_edit_model.specs.Tree.{key_text, node_decor, shown_suffix};
+ghost use Rattle.toml_edit_model.specs.Conversions.{value_display};
+ghost use Rattle.toml_edit_model.specs.Print.{blank, element_default, inside_lines};
+ghost use Rattle.toml_edit_tree.specs.Printing.{WritesWithAnswer, node_text, keys_on, before_key, dotted_keys, key_part, pair_start, comma_before, element_text, last_comma, items_text, lines_of_item, between_pairs, after_pairs, pairs_shown, last_shown, lines_text};
+ghost use Rattle.toml_edit_tree.specs.Containers.{array_node, inline_node};
+ghost use Rattle.toml_edit_tree.specs.View.{array_view, inline_view, value_view, item_view, items_view, slots_view, table_slots, fields_view};
+
+use crate::array::Array;
+use crate::inline_table::InlineTable;
+use crate::item::Item;
+use crate::table::Table;
+use crate::value::Value;
+use std::fmt;
+use std::fmt::{Formatter, Write};
+use toml_edit_key::Key;
+use toml_edit_repr::{Decor, spelling_text, write_raw, write_scalar, write_side};
+use toml_edit_slots::Slots;
+use toml_edit_token::write_key;
+
+/// The keys of the dotted inline tables around a slot, from the outermost in.
+#[derive(Clone, Copy)]
+enum Path<'p, 'k> {
+    /// No keys.
+    Root,
+    /// A key behind others.
+    Under(&'p Path<'p, 'k>, &'k Key),
+}
+
+/// The lines of the root. A dotted table has none of its own.
+#[doc(hidden)]
+pub fn write_root<W: Write>(f: &mut Formatter<W>, root: &Table) -> fmt::Result
+    ensures { WritesOnOk W.write_str_gives f.old result
+        (if (fields_view root.now).is_dotted then [] else lines_text (inside_lines plain (table_slots root.now) [])) f.new }
+{
+    if root.dotted {
+        Ok(())
+    } else {
+        write_lines(f, &root.slots, &Path::Root)
+    }
+}
+
+/// The lines of the slots, in order.
+#[cycle(lines)]
+fn write_lines<'p, 'a, W: Write>(
+    f: &mut Formatter<W>,
+    slots: &'a Slots<Item>,
+    path: &'p Path<'p, 'a>,
+) -> fmt::Result
+    ensures { WritesOnOk W.write_str_gives f.old result (lines_text (inside_lines plain (slots_view slots.now) (keys_on path.now))) f.new }
+{
+    let entries = slots.as_slice();
+    'slots: for slot in entries {
+        write_item_lines(f, &slot.item, &slot.key, path)?;
+    }
+    Ok(())
+}
+
+/// The lines of a slot: none of a placeholder, those in a dotted inline table, and one of any other value.
+#[cycle(lines)]
+fn write_item_lines<'p, 'a, W: Write>(
+    f: &mut Formatter<W>,
+    item: &'a Item,
+    key: &'a Key,
+    path: &'p Path<'p, 'a>,
+) -> fmt::Result
+    ensures { WritesOnOk W.write_str_gives f.old result
+        (lines_text (lines_of_item (item_view item.now) (keys_on path.now ++ (key.now ∷ [])))) f.new }
+{
+    match item {
+        Item::None => Ok(()),
+        Item::Value(value) => write_value_lines(f, value, key, path),
+    }
+}
+
+#[cycle(lines)]
+fn write_value_lines<'p, 'a, W: Write>(
+    f: &mut Formatter<W>,
+    value: &'a Value,
+    key: &'a Key,
+    path: &'p Path<'p, 'a>,
+) -> fmt::Result
+    ensures { WritesOnOk W.write_str_gives f.old result
+        (lines_text (lines_of_item (value_view value.now) (keys_on path.now ++ (key.now ∷ [])))) f.new }
+{
+    match value {
+        Value::InlineTable(table) => {
+            if table.dotted {
+                write_lines(f, &table.items, &Path::Under(path, key))
+            } else {
+                write_line(f, path, key, value)
+            }
+        }
+        _ => write_line(f, path, key, value),
+    }
+}
+
+/// The line of a value.
+fn write_line<W: Write>(
+    f: &mut Formatter<W>,
+    path: &Path<'_, '_>,
+    key: &Key,
+    value: &Value,
+) -> fmt::Result
+    ensures { WritesOnOk W.write_str_gives f.old result
+        (pair_start [] (keys_on path.now) key.now (value_view value.now)
+        ++ (shown_suffix plain [] (node_decor (value_view value.now)) ++ newline)) f.new }
+{
+    let decor = value.decor();
+    write_key_part(f, "", path, key)?;
+    write_side(f, decor.prefix(), " ")?;
+    write_value_text(f, value)?;
+    write_side(f, decor.suffix(), "")?;
+    f.write_str("\n")
+}
+
+/// The key with what stands around it, and the `=`.
+fn write_key_part<W: Write>(
+    f: &mut Formatter<W>,
+    default: &str,
+    path: &Path<'_, '_>,
+    key: &Key,
+) -> fmt::Result
+    ensures { WritesOnOk W.write_str_gives f.old result (key_part default.now (keys_on path.now) key.now) f.new }
+{
+    let decor = key.leaf_decor();
+    write_side(f, decor.prefix(), default)?;
+    write_dotted_keys(f, path)?;
+    write_before_key(f, path, key)?;
+    write_key_text(f, key)?;
+    write_side(f, decor.suffix(), " ")?;
+    f.write_str("=")
+}
+
+/// The keys of a path, each with the dot after it.
+fn write_dotted_keys<W: Write>(f: &mut Formatter<W>, path: &Path<'_, '_>) -> fmt::Result
+    ensures { WritesOnOk W.write_str_gives f.old result (dotted_keys true (keys_on path.now)) f.new }
+{
+    match path {
+        Path::Root => Ok(()),
+        Path::Under(up, key) => {
+            write_dotted_keys(f, up)?;
+            write_before_key(f, up, key)?;
+            write_key_text(f, key)?;
+            write_side(f, key.dotted_decor().suffix(), "")?;
+            f.write_str(".")
+        }
+    }
+}
+
+/// What stands between the dot before the key, if there is one, and the key.
+fn write_before_key<W: Write>(f: &mut Formatter<W>, path: &Path<'_, '_>, key: &Key) -> fmt::Result
+    ensures { WritesOnOk W.write_str_gives f.old result (before_key (keys_on path.now) key.now) f.new }
+{
+    match path {
+        Path::Root => Ok(()),
+        Path::Under(_, _) => write_side(f, key.dotted_decor().prefix(), ""),
+    }
+}
+
+/// The spelling of the key as it stands, or the default one.
+fn write_key_text<W: Write>(f: &mut Formatter<W>, key: &Key) -> fmt::Result
+    ensures { WritesOnOk W.write_str_gives f.old result (key_text key.now) f.new }
+{
+    match spelling_text(key.as_repr()) {
+        Some(text) => f.write_str(text),
+        None => write_key(f, key.get()),
+    }
+}
+
+/// The spelling of the value as it stands, or the default one.
+#[cycle(print)]
+fn write_value_text<W: Write>(f: &mut Formatter<W>, value: &Value) -> fmt::Result
+    ensures { WritesOnOk W.write_str_gives f.old result (node_text (value_view value.now)) f.new }
+{
+    match value {
+        Value::String(scalar) => write_scalar(f, scalar),
+        Value::Integer(scalar) => write_scalar(f, scalar),
+        Value::Float(scalar) => write_scalar(f, scalar),
+        Value::Boolean(scalar) => write_scalar(f, scalar),
+        Value::Datetime(scalar) => write_scalar(f, scalar),
+        Value::Array(array) => write_array_text(f, array),
+        Value::InlineTable(table) => write_inline_text(f, table),
+    }
+}
+
+/// The array, from bracket to bracket.
+#[cycle(print)]
+fn write_array_text<W: Write>(f: &mut Formatter<W>, array: &Array) -> fmt::Result
+    ensures { WritesOnOk W.write_str_gives f.old result (node_text (array_node (array_view array.now))) f.new }
+{
+    f.write_str("[")?;
+    write_items(f, &array.values, array.trailing_comma)?;
+    write_raw(f, &array.trailing)?;
+    f.write_str("]")
+}
+
+/// The values in order, with commas between them, and one after the last if it is to stand there.
+#[cycle(print)]
+fn write_items<W: Write>(f: &mut Formatter<W>, items: &Vec<Item>, comma: bool) -> fmt::Result
+    ensures { WritesOnOk W.write_str_gives f.old result (items_text comma true (items_view items.now.items)) f.new }
+{
+    let mut is_first = true;
+    'items: for item in items {
+        if let Item::Value(value) = item {
+            write_element(f, value, is_first)?;
+            is_first = false;
+        }
+    }
+    write_last_comma(f, comma, is_first)
+}
+
+/// A value in an array, and the comma before it.
+#[cycle(print)]
+fn write_element<W: Write>(f: &mut Formatter<W>, value: &Value, is_first: bool) -> fmt::Result
+    ensures { WritesOnOk W.write_str_gives f.old result (element_text is_first (value_view value.now)) f.new }
+{
+    let decor = value.decor();
+    if !is_first {
+        f.write_str(",")?;
+    }
+    write_side(f, decor.prefix(), default_before(is_first))?;
+    write_value_text(f, value)?;
+    write_side(f, decor.suffix(), "")
+}
+
+/// What stands before an element whose decor says nothing.
+fn default_before(is_first: bool) -> &'static str
+    ensures { result.now ≡ element_default is_first }
+{
+    if is_first { "" } else { " " }
+}
+
+/// The comma after the last element, where there is one.
+fn write_last_comma<W: Write>(f: &mut Formatter<W>, comma: bool, is_first: bool) -> fmt::Result
+    ensures { WritesOnOk W.write_str_gives f.old result (last_comma comma is_first) f.new }
+{
+    if comma && !is_first {
+        f.write_str(",")
+    } else {
+        Ok(())
+    }
+}
+
+/// The inline table, from brace to brace.
+#[cycle(print)]
+fn write_inline_text<W: Write>(f: &mut Formatter<W>, table: &InlineTable) -> fmt::Result
+    ensures { WritesOnOk W.write_str_gives f.old result (node_text (inline_node (inline_view table.now))) f.new }
+{
+    f.write_str("{")?;
+    let last = write_pairs(f, &table.items, &Path::Root, None)?;
+    write_after_pairs(f, table.trailing_comma, last)?;
+    write_raw(f, &table.trailing)?;
+    f.write_str("}")
+}
+
+/// The pairs of the slots up to the end of the last value, behind a pair of this decor. What follows the value of a pair depends on
+/// whether another comes, so it is written later: the answer is the decor of the last pair.
+#[cycle(print)]
+fn write_pairs<'p, 'a, W: Write>(
+    f: &mut Formatter<W>,
+    slots: &'a Slots<Item>,
+    path: &'p Path<'p, 'a>,
+    before: Option<&'a Decor>,
+) -> Result<Option<&'a Decor>, fmt::Error>
+    ensures last { IfOk result (λ last. option_copied last
+        ≡ last_shown (option_copied before.entry) (inside_lines plain (slots_view slots.now) (keys_on path.now))) }
+    ensures writes { WritesWithAnswer W.write_str_gives f.old result
+        (pairs_shown (option_copied before.entry) (inside_lines plain (slots_view slots.now) (keys_on path.now))) f.new }
+{
+    let mut last = before;
+    let entries = slots.as_slice();
+    'slots: for slot in entries {
+        last = write_item_pairs(f, &slot.item, &slot.key, path, last)?;
+    }
+    Ok(last)
+}
+
+/// The pairs of a slot: none of a placeholder, those in a dotted inline table, and one of any other value.
+#[cycle(print)]
+fn write_item_pairs<'p, 'a, W: Write>(
+    f: &mut Formatter<W>,
+    item: &'a Item,
+    key: &'a Key,
+    path: &'p Path<'p, 'a>,
+    before: Option<&'a Decor>,
+) -> Result<Option<&'a Decor>, fmt::Error>
+    ensures last { IfOk result (λ last. option_copied last
+        ≡ last_shown (option_copied before.entry) (lines_of_item (item_view item.now) (keys_on path.now ++ (key.now ∷ [])))) }
+    ensures writes { WritesWithAnswer W.write_str_gives f.old result
+        (pairs_shown (option_copied before.entry) (lines_of_item (item_view item.now) (keys_on path.now ++ (key.now ∷ [])))) f.new }
+{
+    match item {
+        Item::None => Ok(before),
+        Item::Value(value) => write_value_pairs(f, value, key, path, before),
+    }
+}
+
+#[cycle(print)]
+fn write_value_pairs<'p, 'a, W: Write>(
+    f: &mut Formatter<W>,
+    value: &'a Value,
+    key: &'a Key,
+    path: &'p Path<'p, 'a>,
+    before: Option<&'a Decor>,
+) -> Result<Option<&'a Decor>, fmt::Error>
+    ensures last { IfOk result (λ last. option_copied last
+        ≡ last_shown (option_copied before.entry) (lines_of_item (value_view value.now) (keys_on path.now ++ (key.now ∷ [])))) }
+    ensures writes { WritesWithAnswer W.write_str_gives f.old result
+        (pairs_shown (option_copied before.entry) (lines_of_item (value_view value.now) (keys_on path.now ++ (key.now ∷ [])))) f.new }
+{
+    match value {
+        Value::InlineTable(table) => {
+            if table.dotted {
+                write_pairs(f, &table.items, &Path::Under(path, key), before)
+            } else {
+                write_pair(f, value, key, path, before)?;
+                Ok(Some(value.decor()))
+            }
+        }
+        _ => {
+            write_pair(f, value, key, path, before)?;
+            Ok(Some(value.decor()))
+        }
+    }
+}
+
+/// A pair up to the end of its value, behind a pair of this decor.
+#[cycle(print)]
+fn write_pair<W: Write>(
+    f: &mut Formatter<W>,
+    value: &Value,
+    key: &Key,
+    path: &Path<'_, '_>,
+    before: Option<&Decor>,
+) -> fmt::Result
+    ensures { WritesOnOk W.write_str_gives f.old result
+        (between_pairs (option_copied before.entry) ++ pair_start blank (keys_on path.now) key.now (value_view value.now)) f.new }
+{
+    write_between_pairs(f, before)?;
+    write_key_part(f, " ", path, key)?;
+    write_side(f, value.decor().prefix(), " ")?;
+    write_value_text(f, value)
+}
+
+/// What follows the value of a pair that another follows, and the comma.
+fn write_between_pairs<W: Write>(f: &mut Formatter<W>, before: Option<&Decor>) -> fmt::Result
+    ensures { WritesOnOk W.write_str_gives f.old result (between_pairs (option_copied before.entry)) f.new }
+{
+    match before {
+        None => Ok(()),
+        Some(decor) => {
+            write_side(f, decor.suffix(), "")?;
+            f.write_str(",")
+        }
+    }
+}
+
+/// What follows the value of the last pair, and the comma if it is to stand there.
+fn write_after_pairs<W: Write>(
+    f: &mut Formatter<W>,
+    comma: bool,
+    last: Option<&Decor>,
+) -> fmt::Result
+    ensures { WritesOnOk W.write_str_gives f.old result (after_pairs comma (option_copied last.entry)) f.new }
+{
+    match last {
+        None => Ok(()),
+        Some(pair) => {
+            write_side(f, pair.suffix(), " ")?;
+            write_last_comma(f, comma, false)
+        }
+    }
+}
+
+/// The array between the sides of its decor, which are empty where they are unset.
+pub(crate) fn write_array<W: Write>(f: &mut Formatter<W>, array: &Array) -> fmt::Result
+    ensures { WritesOnOk W.write_str_gives f.old result (value_display (array_node (array_view array.now))) f.new }
+{
+    write_side(f, array.decor().prefix(), "")?;
+    write_array_text(f, array)?;
+    write_side(f, array.decor().suffix(), "")
+}
+
+/// The inline table between the sides of its decor, which are empty where they are unset.
+pub(crate) fn write_inline<W: Write>(f: &mut Formatter<W>, table: &InlineTable) -> fmt::Result
+    ensures { WritesOnOk W.write_str_gives f.old result (value_display (inline_node (inline_view table.now))) f.new }
+{
+    write_side(f, table.decor().prefix(), "")?;
+    write_inline_text(f, table)?;
+    write_side(f, table.decor().suffix(), "")
+}

@@ -1,0 +1,19 @@
+//! The items of documents: values, arrays, inline tables and tables, with their copies and their print.
+#![tactic(auto)]
+
+pub mod array;
+mod copy;
+mod despan;
+mod encode;
+pub mod inline_table;
+pub mod item;
+pub mod table;
+pub mod value;
+
+pub use array::{Array, ArrayIter};
+#[doc(hidden)]
+pub use encode::write_root;
+pub use inline_table::{InlineTable, InlineTableIter};
+pub use item::Item;
+pub use table::{Iter, Table};
+pub use value::Value;
