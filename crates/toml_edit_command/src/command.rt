@@ -2,6 +2,7 @@ ghost use Rattle.std.specs.Prelude.{◌≡◌, ◌≤◌, ◌↔◌, ◌⊎◌, 
 ghost use Rattle.toml_edit_command.specs.Run.{IsPrint, IsNotAccepted, Prints, PrintsBeginning, Tells, encoding_line, usage_line, memory_line, read_line, write_line};
 
 use super::steps::print;
+use super::stop::Stop;
 use super::tell::{end, tell};
 use std::alloc::Global;
 use toml_edit_stream::{Input, Output};
@@ -42,10 +43,13 @@ pub fn run<I: Input, O: Output, E: Output>(
         Tells (E.contents errors.old) (E.contents errors.new) (E.has_failed errors.new) encoding_line) }
     ensures usage { result ≡ 2 → Tells (E.contents errors.old) (E.contents errors.new) (E.has_failed errors.new) usage_line }
     ensures memory { result ≡ 3 → Tells (E.contents errors.old) (E.contents errors.new) (E.has_failed errors.new) memory_line }
-    ensures device { result ≡ 4 → Tells (E.contents errors.old) (E.contents errors.new) (E.has_failed errors.new) read_line
-        ⊎ Tells (E.contents errors.old) (E.contents errors.new) (E.has_failed errors.new) write_line }
     ensures failed { (result ≡ 4) ↔ ((I.has_failed input.new ≡ true) ⊎ (O.has_failed output.new ≡ true)) }
-    ensures beginning { result ≡ 4 → (O.contents output.new ≡ O.contents output.old) ⊎ PrintsBeginning (I.remaining input.old) (O.contents output.old) (O.contents output.new) }
+    // The input that failed is told of, and nothing was written.
+    ensures read_fault { I.has_failed input.new ≡ true → Tells (E.contents errors.old) (E.contents errors.new) (E.has_failed errors.new) read_line }
+    ensures unread { I.has_failed input.new ≡ true → (O.contents output.new ≡ O.contents output.old) × (O.has_failed output.new ≡ false) }
+    // The output that failed is told of, and holds a beginning of the print at most.
+    ensures write_fault { O.has_failed output.new ≡ true → Tells (E.contents errors.old) (E.contents errors.new) (E.has_failed errors.new) write_line }
+    ensures beginning { O.has_failed output.new ≡ true → PrintsBeginning (I.remaining input.old) (O.contents output.old) (O.contents output.new) }
     ensures unwritten { (result ≡ 1) ⊎ (result ≡ 2) ⊎ (result ≡ 3) → O.contents output.new ≡ O.contents output.old }
 {
     if !is_print(words) {
@@ -59,6 +63,15 @@ pub fn run<I: Input, O: Output, E: Output>(
         Ok(()) => DONE,
         Err(stop) => end(&stop, errors),
     }
+}
+
+/// Tells `errors` that there is not enough memory, as where the words of a command find no place, and answers the exit status for
+/// that, which is 3. A fault in writing to `errors` is passed over.
+pub fn end_without_memory<E: Output>(errors: &mut E) -> u8
+    ensures status { result ≡ 3 }
+    ensures told { Tells (E.contents errors.old) (E.contents errors.new) (E.has_failed errors.new) memory_line }
+{
+    end(&Stop::Memory, errors)
 }
 
 // The words are the command `print` alone.

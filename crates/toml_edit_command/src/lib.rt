@@ -6,7 +6,4 @@ mod steps;
 mod stop;
 mod tell;
 
-pub use command::run;
-
-#[cfg(test)]
-mod tests;
+pub use command::{end_without_memory, run};

@@ -8,6 +8,3 @@ mod whole;
 pub use streams::{Broken, Input, Output};
 pub use watch::Watched;
 pub use whole::{ReadFault, read_to_end, write_all};
-
-#[cfg(test)]
-mod tests;

@@ -1,16 +1,22 @@
 //! `tomled print`: reads a TOML document from standard input, and prints it to standard output.
 #![tactic(auto)]
 
+use std::io::ErrorKind;
 use std::process::ExitCode;
 use std::{env, io};
-use toml_edit_command::run;
+use toml_edit_command::{end_without_memory, run};
 use toml_edit_stream::Watched;
 
 fn main(rt: HostRuntime) -> ExitCode {
-    // Arguments that cannot be had, or are no text, are no command.
     let words = match words_of(&rt) {
         Ok(words) => words,
-        Err(_) => Vec::new(rt.alloc()),
+        Err(error) => {
+            if error.kind() == ErrorKind::OutOfMemory {
+                return ExitCode::from(end_without_memory(&mut Watched::new(rt.stderr())));
+            }
+            // Arguments that are no text are no command.
+            Vec::new(rt.alloc())
+        }
     };
     let status = run(
         rt.alloc(),
