@@ -1,137 +1,152 @@
 //! Rows on dates and times.
 use crate::row::Row;
-use crate::{refusal, said, steps, value};
+use crate::said::Answer;
+use crate::steps;
 use serde_json::Value as Json;
-use std::alloc::Global;
-use toml_edit::{Date, Datetime, Mem, Offset, Time, Value};
+use toml_edit::{Date, Datetime, Offset, Time, Value};
 
-pub fn answer(alloc: Global, row: Row<'_>, question: &str) -> Mem<String> {
-    match row.kind {
-        "date" => match row.subject().and_then(date) {
-            Some(date) => value::stepped(alloc, Value::from(date), row, question),
-            None => refusal::none(alloc, question),
-        },
-        "time" => match row.subject().and_then(time) {
-            Some(time) => value::stepped(alloc, Value::from(time), row, question),
-            None => refusal::none(alloc, question),
-        },
-        _ => match both(row) {
-            Some(datetime) => value::stepped(alloc, Value::from(datetime), row, question),
-            None => refusal::none(alloc, question),
-        },
-    }
+pub fn answer(row: Row<'_>, out: &mut Answer) {
+    steps::found(made(row), row, out);
 }
 
-/// The date-time of a text or of its parts.
-fn both(row: Row<'_>) -> Option<Datetime> {
-    if row.kind == "date_time" {
-        row.text().parse::<Datetime>().ok()
-    } else {
-        of_parts(row.subject()?)
+fn made(row: Row<'_>) -> Option<Value> {
+    match row.kind {
+        "date" => row.subject().and_then(date).map(Value::from),
+        "time" => row.subject().and_then(time).map(Value::from),
+        "parts" => row.subject().and_then(of_parts).map(Value::from),
+        _ => row.text().parse::<Datetime>().ok().map(Value::from),
     }
 }
 
 fn number(numbers: &Json, at: usize) -> Option<u64> {
-    numbers.get(at)?.as_u64()
+    match numbers.get(at) {
+        Some(number) => number.as_u64(),
+        None => None,
+    }
+}
+
+/// The number, or one that is in no range of a part where it is missing or beyond a byte.
+fn small(number: Option<u64>) -> u8 {
+    match number {
+        Some(number) => u8::try_from(number).unwrap_or(u8::MAX),
+        None => u8::MAX,
+    }
 }
 
 /// The date of three numbers: year, month and day.
 fn date(numbers: &Json) -> Option<Date> {
-    let year = u16::try_from(number(numbers, 0)?).ok()?;
-    let month = u8::try_from(number(numbers, 1)?).ok()?;
-    let day = u8::try_from(number(numbers, 2)?).ok()?;
-    Date::new(year, month, day)
+    Date::new(
+        year(number(numbers, 0)),
+        small(number(numbers, 1)),
+        small(number(numbers, 2)),
+    )
+}
+
+fn year(number: Option<u64>) -> u16 {
+    match number {
+        Some(number) => u16::try_from(number).unwrap_or(u16::MAX),
+        None => u16::MAX,
+    }
 }
 
 /// The time of up to four numbers: hour, minute, second and nanosecond, of which the last two may be missing or `null`.
 fn time(numbers: &Json) -> Option<Time> {
-    let hour = u8::try_from(number(numbers, 0)?).ok()?;
-    let minute = u8::try_from(number(numbers, 1)?).ok()?;
-    let second = match number(numbers, 2) {
-        Some(second) => Some(u8::try_from(second).ok()?),
-        None => None,
-    };
-    let nanosecond = match number(numbers, 3) {
-        Some(nanosecond) => Some(u32::try_from(nanosecond).ok()?),
-        None => None,
-    };
-    Time::new(hour, minute, second, nanosecond)
+    Time::new(
+        small(number(numbers, 0)),
+        small(number(numbers, 1)),
+        second(number(numbers, 2)),
+        nanosecond(number(numbers, 3)),
+    )
 }
 
-/// The offset of a number of minutes, or of `"Z"`.
-fn offset(offset: &Json) -> Option<Offset> {
-    match offset.as_i64() {
-        Some(minutes) => Some(Offset::Custom {
-            minutes: i16::try_from(minutes).ok()?,
-        }),
-        None => Some(Offset::Z),
+fn second(number: Option<u64>) -> Option<u8> {
+    match number {
+        Some(_) => Some(small(number)),
+        None => None,
+    }
+}
+
+fn nanosecond(number: Option<u64>) -> Option<u32> {
+    match number {
+        Some(number) => Some(u32::try_from(number).unwrap_or(u32::MAX)),
+        None => None,
     }
 }
 
 /// The date-time of an object with `date`, `time` and `offset`, each of which may be missing.
 fn of_parts(parts: &Json) -> Option<Datetime> {
-    let date = match parts.get("date") {
-        Some(numbers) => Some(date(numbers)?),
-        None => None,
-    };
-    let time = match parts.get("time") {
-        Some(numbers) => Some(time(numbers)?),
-        None => None,
-    };
-    let offset = match parts.get("offset") {
-        Some(number) => Some(offset(number)?),
-        None => None,
-    };
-    Datetime::new(date, time, offset)
+    Datetime::new(
+        parts.get("date").and_then(date),
+        parts.get("time").and_then(time),
+        parts.get("offset").map(offset),
+    )
+}
+
+/// The offset of a number of minutes, or of `"Z"`.
+fn offset(offset: &Json) -> Offset {
+    match offset.as_i64() {
+        Some(minutes) => Offset::Custom {
+            minutes: i16::try_from(minutes).unwrap_or(i16::MAX),
+        },
+        None => Offset::Z,
+    }
 }
 
 /// Asks of a date-time, if there is one.
-pub fn ask(alloc: Global, found: Option<&Datetime>, words: &[&str]) -> Mem<String> {
+pub fn ask(found: Option<&Datetime>, words: &[Json], out: &mut Answer) {
     match found {
-        Some(datetime) => ask_datetime(alloc, *datetime, words),
-        None => said::text(alloc, "none"),
+        Some(datetime) => ask_datetime(*datetime, steps::word(words, 0), out),
+        None => out.text("none"),
     }
 }
 
-fn ask_datetime(alloc: Global, datetime: Datetime, words: &[&str]) -> Mem<String> {
-    match steps::word(words, 0) {
-        "" => datetime.to_string(alloc),
-        "date" => said::shown_or_none(alloc, datetime.date().as_ref()),
-        "time" => said::shown_or_none(alloc, datetime.time().as_ref()),
-        "offset" => ask_offset(alloc, datetime.offset()),
-        "year" | "month" | "day" => ask_date(alloc, datetime.date(), steps::word(words, 0)),
-        call => ask_time(alloc, datetime.time(), call),
+fn ask_datetime(datetime: Datetime, call: &str, out: &mut Answer) {
+    match call {
+        "" => out.shown(&datetime),
+        "date" => out.shown_or_none(datetime.date().as_ref()),
+        "time" => out.shown_or_none(datetime.time().as_ref()),
+        "offset" => ask_offset(datetime.offset(), out),
+        "year" | "month" | "day" => ask_date(datetime.date(), call, out),
+        _ => ask_time(datetime.time(), call, out),
     }
 }
 
-fn ask_offset(alloc: Global, offset: Option<Offset>) -> Mem<String> {
+fn ask_offset(offset: Option<Offset>, out: &mut Answer) {
     match offset {
-        None => said::text(alloc, "none"),
-        Some(Offset::Z) => said::text(alloc, "Z"),
-        Some(Offset::Custom { minutes }) => minutes.to_string(alloc),
+        None => out.text("none"),
+        Some(Offset::Z) => out.text("Z"),
+        Some(Offset::Custom { minutes }) => out.shown(&minutes),
     }
 }
 
-fn ask_date(alloc: Global, date: Option<Date>, call: &str) -> Mem<String> {
+fn ask_date(date: Option<Date>, call: &str, out: &mut Answer) {
     match date {
-        None => said::text(alloc, "none"),
-        Some(date) => match call {
-            "year" => date.year().to_string(alloc),
-            "month" => date.month().to_string(alloc),
-            _ => date.day().to_string(alloc),
-        },
+        Some(date) => ask_that_date(date, call, out),
+        None => out.text("none"),
     }
 }
 
-fn ask_time(alloc: Global, time: Option<Time>, call: &str) -> Mem<String> {
+fn ask_that_date(date: Date, call: &str, out: &mut Answer) {
+    match call {
+        "year" => out.shown(&date.year()),
+        "month" => out.shown(&date.month()),
+        _ => out.shown(&date.day()),
+    }
+}
+
+fn ask_time(time: Option<Time>, call: &str, out: &mut Answer) {
     match time {
-        None => said::text(alloc, "none"),
-        Some(time) => match call {
-            "hour" => time.hour().to_string(alloc),
-            "minute" => time.minute().to_string(alloc),
-            "second" => said::shown_or_none(alloc, time.second().as_ref()),
-            "nanosecond" => said::shown_or_none(alloc, time.nanosecond().as_ref()),
-            _ => said::no_such(alloc, call),
-        },
+        Some(time) => ask_that_time(time, call, out),
+        None => out.text("none"),
+    }
+}
+
+fn ask_that_time(time: Time, call: &str, out: &mut Answer) {
+    match call {
+        "hour" => out.shown(&time.hour()),
+        "minute" => out.shown(&time.minute()),
+        "second" => out.shown_or_none(time.second().as_ref()),
+        "nanosecond" => out.shown_or_none(time.nanosecond().as_ref()),
+        _ => out.no_such(call),
     }
 }

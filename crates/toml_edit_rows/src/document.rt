@@ -1,123 +1,102 @@
 //! Rows on the text of a document.
 use crate::row::Row;
-use crate::steps::Subject;
-use crate::{events, refusal, run, said, steps, value};
-use std::alloc::Global;
-use toml_edit::{Document, DocumentMut, Item, Mem, Table};
+use crate::said::Answer;
+use crate::steps::{Asked, Subject, behind, copied, word};
+use crate::{events, refusal, run, steps, value};
+use serde_json::Value as Json;
+use toml_edit::{Document, DocumentMut, Item, ParseFault, Table};
 
-pub fn answer(alloc: Global, row: Row<'_>, question: &str) -> Mem<String> {
-    match question {
-        "events" => events::all(alloc, row.text()),
-        "last_event" => events::last(alloc, row.text()),
-        "reads" => read(alloc, row),
-        "every_cut_ends" => run::every_cut_ends(alloc, row.text()),
-        _ => owned(alloc, row, question),
+pub fn answer(row: Row<'_>, out: &mut Answer) {
+    match row.question {
+        "events" => events::all(row.text(), out),
+        "last_event" => events::last(row.text(), out),
+        "every_cut_ends" => run::every_cut_ends(row.text(), out),
+        "reads" => steps::read(Document::parse(out.alloc, row.text()), row, out),
+        _ => owned(Document::parse(out.alloc, row.text()), row, out),
     }
-}
-
-/// What the steps `reads` give of the document as it was read.
-fn read(alloc: Global, row: Row<'_>) -> Mem<String> {
-    match Document::parse(alloc, row.text()) {
-        Ok(document) => read_steps(alloc, document, row),
-        Err(fault) => refusal::answer(alloc, &fault, "reads"),
-    }
-}
-
-fn read_steps(alloc: Global, document: Document<&str>, row: Row<'_>) -> Mem<String> {
-    let mut document = document;
-    steps::answer(alloc, &mut document, row.steps("reads"), "reads")
 }
 
 impl Subject for Document<&str> {
-    fn call(&mut self, alloc: Global, words: &[&str]) -> Mem<String> {
-        ask_read(alloc, self, words)
+    fn call(&mut self, words: &[Json], out: &mut Answer) {
+        match word(words, 0) {
+            "raw" => out.text(self.raw()),
+            "trailing" => out.raw(Some(self.trailing())),
+            "iter" => names(self.iter(), out),
+            _ => ask_table(self.as_table(), words, out),
+        }
     }
 
-    fn answer(&self, alloc: Global, question: &str) -> Mem<String> {
-        refusal::of_accepted(alloc, question)
-    }
-}
-
-fn ask_read(alloc: Global, document: &Document<&str>, words: &[&str]) -> Mem<String> {
-    match steps::word(words, 0) {
-        "raw" => said::text(alloc, document.raw()),
-        "trailing" => said::raw(alloc, Some(document.trailing())),
-        "iter" => names(alloc, document.iter()),
-        _ => ask_table(alloc, document.as_table(), words),
+    fn answer(&self, question: &str, out: &mut Answer) {
+        refusal::of_accepted(question, out);
     }
 }
 
-fn owned(alloc: Global, row: Row<'_>, question: &str) -> Mem<String> {
-    match Document::parse(alloc, row.text()) {
-        Ok(document) => turned(alloc, document, row, question),
-        Err(fault) => refusal::answer(alloc, &fault, question),
+/// Asks of the document after it owns its texts.
+fn owned(read: Result<Document<&str>, ParseFault>, row: Row<'_>, out: &mut Answer) {
+    match read {
+        Ok(document) => steps::made(document.into_mut(out.alloc), row, out),
+        Err(fault) => refusal::answer(&fault, row.question, out),
     }
-}
-
-fn turned(alloc: Global, document: Document<&str>, row: Row<'_>, question: &str) -> Mem<String> {
-    match document.into_mut(alloc) {
-        Ok(document) => stepped(alloc, document, row, question),
-        Err(refused) => Err(refused),
-    }
-}
-
-fn stepped(alloc: Global, document: DocumentMut, row: Row<'_>, question: &str) -> Mem<String> {
-    let mut document = document;
-    steps::answer(alloc, &mut document, row.steps("steps"), question)
 }
 
 impl Subject for DocumentMut {
-    fn call(&mut self, alloc: Global, words: &[&str]) -> Mem<String> {
-        ask_table(alloc, self.as_table(), words)
+    fn call(&mut self, words: &[Json], out: &mut Answer) {
+        ask_table(self.as_table(), words, out);
     }
 
-    fn answer(&self, alloc: Global, question: &str) -> Mem<String> {
+    fn answer(&self, question: &str, out: &mut Answer) {
         match question {
-            "prints" => self.print(alloc),
-            _ => refusal::of_accepted(alloc, question),
+            "prints" => out.made(self.print(out.alloc)),
+            _ => refusal::of_accepted(question, out),
         }
     }
 }
 
-fn ask_table(alloc: Global, table: &Table, words: &[&str]) -> Mem<String> {
-    match steps::word(words, 0) {
-        "iter" => names(alloc, table.iter()),
-        "get" => match table.get(steps::word(words, 1)) {
-            Some(item) => ask_item(alloc, item, steps::behind(words, 2)),
-            None => said::text(alloc, "none"),
-        },
-        call => said::no_such(alloc, call),
+fn ask_table(table: &Table, words: &[Json], out: &mut Answer) {
+    match word(words, 0) {
+        "iter" => names(table.iter(), out),
+        "get" => ask_found(table.get(word(words, 1)), behind(words, 2), out),
+        call => out.no_such(call),
     }
 }
 
 /// The names of what an iterator gives.
-fn names(alloc: Global, items: toml_edit::table::Iter<'_>) -> Mem<String> {
-    let mut names = String::new(alloc);
+fn names(items: toml_edit::table::Iter<'_>, out: &mut Answer) {
     for (name, _item) in items {
-        if !names.is_empty() {
-            names.push_str(", ")?;
+        if !out.as_str().is_empty() {
+            out.text(", ");
         }
-        names.push_str(name)?;
-    }
-    Ok(names)
-}
-
-fn ask_item(alloc: Global, item: &Item, words: &[&str]) -> Mem<String> {
-    match steps::word(words, 0) {
-        "is_none" => said::truth(alloc, item.is_none()),
-        "is_value" => said::truth(alloc, item.is_value()),
-        "clone" => ask_copy(alloc, item, steps::behind(words, 1)),
-        _ => match item.as_value() {
-            Some(found) => value::ask(alloc, found, words),
-            None => said::text(alloc, "no value"),
-        },
+        out.text(name);
     }
 }
 
-fn ask_copy(alloc: Global, item: &Item, words: &[&str]) -> Mem<String> {
-    match item.clone(alloc) {
-        Ok(Item::Value(copy)) => value::ask_moved(alloc, copy, words),
-        Ok(Item::None) => said::text(alloc, "no value"),
-        Err(refused) => Err(refused),
+fn ask_found(item: Option<&Item>, words: &[Json], out: &mut Answer) {
+    match item {
+        Some(item) => ask_item(item, words, out),
+        None => out.text("none"),
+    }
+}
+
+fn ask_item(item: &Item, words: &[Json], out: &mut Answer) {
+    match word(words, 0) {
+        "clone" => copied(item.clone(out.alloc), behind(words, 1), out),
+        _ => item.ask(words, out),
+    }
+}
+
+impl Asked for Item {
+    fn ask(&self, words: &[Json], out: &mut Answer) {
+        match word(words, 0) {
+            "is_none" => out.truth(self.is_none()),
+            "is_value" => out.truth(self.is_value()),
+            _ => ask_value(self.as_value(), words, out),
+        }
+    }
+}
+
+fn ask_value(found: Option<&toml_edit::Value>, words: &[Json], out: &mut Answer) {
+    match found {
+        Some(found) => value::ask(found, words, out),
+        None => out.text("no value"),
     }
 }

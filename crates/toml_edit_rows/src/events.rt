@@ -1,64 +1,68 @@
 //! The events of a text, and of a lone value.
-use crate::said;
-use std::alloc::{AllocError, Global};
-use toml_edit::Mem;
-use toml_edit_syntax::{Event, Span, SyntaxFault, events, lone_events};
+use crate::said::Answer;
+use toml_edit_syntax::{Event, SyntaxFault, events, lone_events};
 
 type Found = Result<Vec<Event>, SyntaxFault>;
 
-pub fn all(alloc: Global, text: &str) -> Mem<String> {
-    shown(alloc, events(alloc, text))
+pub fn all(text: &str, out: &mut Answer) {
+    shown(events(out.alloc, text), out);
 }
 
-pub fn all_lone(alloc: Global, text: &str) -> Mem<String> {
-    shown(alloc, lone_events(alloc, text))
+pub fn all_lone(text: &str, out: &mut Answer) {
+    shown(lone_events(out.alloc, text), out);
 }
 
-pub fn last(alloc: Global, text: &str) -> Mem<String> {
-    last_shown(alloc, events(alloc, text))
+pub fn last(text: &str, out: &mut Answer) {
+    last_shown(events(out.alloc, text), out);
 }
 
-pub fn last_lone(alloc: Global, text: &str) -> Mem<String> {
-    last_shown(alloc, lone_events(alloc, text))
+pub fn last_lone(text: &str, out: &mut Answer) {
+    last_shown(lone_events(out.alloc, text), out);
 }
 
 /// The events: of each its kind and its span.
-fn shown(alloc: Global, found: Found) -> Mem<String> {
+fn shown(found: Found, out: &mut Answer) {
     match found {
-        Ok(events) => list(alloc, events.as_slice()),
-        Err(fault) => refused(alloc, fault),
+        Ok(events) => list(events.as_slice(), out),
+        Err(fault) => refused(fault, out),
     }
 }
 
-fn last_shown(alloc: Global, found: Found) -> Mem<String> {
+fn last_shown(found: Found, out: &mut Answer) {
     match found {
-        Ok(events) => match events.last() {
-            Some(event) => one(alloc, *event),
-            None => said::text(alloc, "none"),
-        },
-        Err(fault) => refused(alloc, fault),
+        Ok(events) => last_of(events.as_slice(), out),
+        Err(fault) => refused(fault, out),
     }
 }
 
-fn list(alloc: Global, events: &[Event]) -> Mem<String> {
-    let mut shown = String::new(alloc);
+fn list(events: &[Event], out: &mut Answer) {
+    let mut between = "";
     for event in events {
-        if !shown.is_empty() {
-            shown.push_str(", ")?;
-        }
-        shown.push_str(one(alloc, *event)?.as_str())?;
+        out.text(between);
+        one(event, out);
+        between = ", ";
     }
-    Ok(shown)
 }
 
-fn one(alloc: Global, event: Event) -> Mem<String> {
-    let Span { start, end } = event.span;
-    format!(in alloc; "{:?} {start}..{end}", event.kind)
+fn last_of(events: &[Event], out: &mut Answer) {
+    match events.last() {
+        Some(event) => one(event, out),
+        None => out.text("none"),
+    }
 }
 
-fn refused(alloc: Global, fault: SyntaxFault) -> Mem<String> {
+fn one(event: &Event, out: &mut Answer) {
+    out.debugged(&event.kind);
+    out.text(" ");
+    out.range(event.span.start, event.span.end);
+}
+
+fn refused(fault: SyntaxFault, out: &mut Answer) {
     match fault {
-        SyntaxFault::Memory => Err(AllocError),
-        SyntaxFault::Text(Span { start, end }) => { format!(in alloc; "refused {start}..{end}") }
+        SyntaxFault::Memory => out.refuse(),
+        SyntaxFault::Text(_, span) => {
+            out.text("refused ");
+            out.range(span.start, span.end);
+        }
     }
 }

@@ -1,21 +1,20 @@
 //! What is asked of arrays and inline tables, and what is changed in them.
-use crate::{key, said, steps, value};
-use std::alloc::Global;
-use toml_edit::{Array, InlineTable, Mem, RawString, Value};
+use crate::said::Answer;
+use crate::steps::{behind, word};
+use crate::{key, value};
+use serde_json::Value as Json;
+use toml_edit::{Array, InlineTable, RawString, Value};
 
 /// The value that the calls `get` at the front of the words go to, and the words behind them.
-pub fn place<'v, 'a, 'b>(
-    value: &'v Value,
-    words: &'a [&'b str],
-) -> Option<(&'v Value, &'a [&'b str])> {
+pub fn place<'v, 'a>(value: &'v Value, words: &'a [Json]) -> Option<(&'v Value, &'a [Json])> {
     let mut value = value;
     let mut words = words;
     for _ in 0..words.len() {
-        let ["get", at, rest @ ..] = words else {
+        if word(words, 0) != "get" {
             break;
-        };
-        value = inner(value, *at)?;
-        words = rest;
+        }
+        value = inner(value, word(words, 1))?;
+        words = behind(words, 2);
     }
     Some((value, words))
 }
@@ -29,123 +28,111 @@ fn inner<'v>(value: &'v Value, at: &str) -> Option<&'v Value> {
 }
 
 /// Asks of an array or an inline table.
-pub fn ask(alloc: Global, value: &Value, words: &[&str]) -> Mem<String> {
+pub fn ask(value: &Value, words: &[Json], out: &mut Answer) {
     match value {
-        Value::Array(array) => ask_array(alloc, array, words),
-        Value::InlineTable(table) => ask_inline(alloc, table, words),
-        _ => said::no_such(alloc, steps::word(words, 0)),
+        Value::Array(array) => ask_array(array, words, out),
+        Value::InlineTable(table) => ask_inline(table, words, out),
+        _ => out.no_such(word(words, 0)),
     }
 }
 
-fn ask_array(alloc: Global, array: &Array, words: &[&str]) -> Mem<String> {
-    match steps::word(words, 0) {
-        "len" => array.len().to_string(alloc),
-        "is_empty" => said::truth(alloc, array.is_empty()),
-        "iter" => values(alloc, array),
-        "trailing" => said::raw(alloc, Some(array.trailing())),
-        "trailing_comma" => said::truth(alloc, array.trailing_comma()),
-        "list_decor" => value::ask_decor(alloc, array.decor(), steps::behind(words, 1)),
-        "list_span" => said::span(alloc, array.span()),
-        "list_to_string" => array.to_string(alloc),
-        "list_clone" => array_copy(alloc, array),
-        call => said::no_such(alloc, call),
+fn ask_array(array: &Array, words: &[Json], out: &mut Answer) {
+    match word(words, 0) {
+        "len" => out.shown(&array.len()),
+        "is_empty" => out.truth(array.is_empty()),
+        "iter" => values(array, out),
+        _ => ask_array_end(array, words, out),
     }
 }
 
-fn array_copy(alloc: Global, array: &Array) -> Mem<String> {
-    match array.clone(alloc) {
-        Ok(copy) => copy.to_string(alloc),
-        Err(refused) => Err(refused),
-    }
-}
-
-fn inline_copy(alloc: Global, table: &InlineTable) -> Mem<String> {
-    match table.clone(alloc) {
-        Ok(copy) => copy.to_string(alloc),
-        Err(refused) => Err(refused),
+fn ask_array_end(array: &Array, words: &[Json], out: &mut Answer) {
+    match word(words, 0) {
+        "trailing" => out.raw(Some(array.trailing())),
+        "trailing_comma" => out.truth(array.trailing_comma()),
+        "list_decor" => value::ask_decor(array.decor(), word(words, 1), out),
+        "list_span" => out.span(array.span()),
+        "list_to_string" => out.shown(array),
+        "list_clone" => out.made(array.clone(out.alloc)),
+        call => out.no_such(call),
     }
 }
 
 /// The values, as they are shown.
-fn values(alloc: Global, array: &Array) -> Mem<String> {
-    let mut shown = String::new(alloc);
+fn values(array: &Array, out: &mut Answer) {
     for value in array.iter() {
-        shown.push_str(format!(in alloc; "<{value}>")?.as_str())?;
-    }
-    Ok(shown)
-}
-
-fn ask_inline(alloc: Global, table: &InlineTable, words: &[&str]) -> Mem<String> {
-    match steps::word(words, 0) {
-        "len" => table.len().to_string(alloc),
-        "is_empty" => said::truth(alloc, table.is_empty()),
-        "iter" => pairs(alloc, table),
-        "contains_key" => said::truth(alloc, table.contains_key(steps::word(words, 1))),
-        "is_dotted" => said::truth(alloc, table.is_dotted()),
-        "key" => match table.key(steps::word(words, 1)) {
-            Some(found) => key::ask(alloc, found, steps::behind(words, 2)),
-            None => said::text(alloc, "none"),
-        },
-        _ => ask_inline_end(alloc, table, words),
+        out.text("<");
+        out.shown(value);
+        out.text(">");
     }
 }
 
-fn ask_inline_end(alloc: Global, table: &InlineTable, words: &[&str]) -> Mem<String> {
-    match steps::word(words, 0) {
-        "trailing" => said::raw(alloc, Some(table.trailing())),
-        "trailing_comma" => said::truth(alloc, table.trailing_comma()),
-        "list_decor" => value::ask_decor(alloc, table.decor(), steps::behind(words, 1)),
-        "list_span" => said::span(alloc, table.span()),
-        "list_to_string" => table.to_string(alloc),
-        "list_clone" => inline_copy(alloc, table),
-        call => said::no_such(alloc, call),
+fn ask_inline(table: &InlineTable, words: &[Json], out: &mut Answer) {
+    match word(words, 0) {
+        "len" => out.shown(&table.len()),
+        "is_empty" => out.truth(table.is_empty()),
+        "iter" => pairs(table, out),
+        "contains_key" => out.truth(table.contains_key(word(words, 1))),
+        "is_dotted" => out.truth(table.is_dotted()),
+        "key" => key::ask_found(table.key(word(words, 1)), behind(words, 2), out),
+        _ => ask_inline_end(table, words, out),
+    }
+}
+
+fn ask_inline_end(table: &InlineTable, words: &[Json], out: &mut Answer) {
+    match word(words, 0) {
+        "trailing" => out.raw(Some(table.trailing())),
+        "trailing_comma" => out.truth(table.trailing_comma()),
+        "list_decor" => value::ask_decor(table.decor(), word(words, 1), out),
+        "list_span" => out.span(table.span()),
+        "list_to_string" => out.shown(table),
+        "list_clone" => out.made(table.clone(out.alloc)),
+        call => out.no_such(call),
     }
 }
 
 /// The pairs: each key's text, and the value as it is shown.
-fn pairs(alloc: Global, table: &InlineTable) -> Mem<String> {
-    let mut shown = String::new(alloc);
+fn pairs(table: &InlineTable, out: &mut Answer) {
     for (name, value) in table.iter() {
-        shown.push_str(format!(in alloc; "<{name}={value}>")?.as_str())?;
+        out.text("<");
+        out.text(name);
+        out.text("=");
+        out.shown(value);
+        out.text(">");
     }
-    Ok(shown)
 }
 
 /// Changes an array or an inline table.
-pub fn change(alloc: Global, value: &mut Value, words: &[&str]) -> Mem<String> {
-    if let Some(array) = value.as_array_mut() {
-        return change_array(alloc, array, words);
-    }
-    match value.as_inline_table_mut() {
-        Some(table) => change_inline(alloc, table, words),
-        None => said::no_such(alloc, steps::word(words, 0)),
+pub fn change(value: &mut Value, words: &[Json], out: &mut Answer) {
+    match value {
+        Value::Array(array) => change_array(array, words, out),
+        Value::InlineTable(table) => change_inline(table, words, out),
+        _ => out.no_such(word(words, 0)),
     }
 }
 
-fn change_array(alloc: Global, array: &mut Array, words: &[&str]) -> Mem<String> {
-    match steps::word(words, 0) {
-        "list_decor_mut" => {
-            return value::change_decor(alloc, array.decor_mut(), steps::behind(words, 1));
-        }
+fn change_array(array: &mut Array, words: &[Json], out: &mut Answer) {
+    match word(words, 0) {
+        "list_decor_mut" => value::change_decor(array.decor_mut(), behind(words, 1), out),
         "set_trailing" => {
-            array.set_trailing(RawString::from_text(alloc, steps::word(words, 1))?);
+            if let Ok(raw) = out.given(RawString::from_text(out.alloc, word(words, 1))) {
+                array.set_trailing(raw);
+            }
         }
-        "set_trailing_comma" => array.set_trailing_comma(steps::word(words, 1) == "true"),
-        call => return said::no_such(alloc, call),
+        "set_trailing_comma" => array.set_trailing_comma(word(words, 1) == "true"),
+        call => out.no_such(call),
     }
-    said::text(alloc, "")
 }
 
-fn change_inline(alloc: Global, table: &mut InlineTable, words: &[&str]) -> Mem<String> {
-    let argument = steps::word(words, 1);
-    match steps::word(words, 0) {
-        "list_decor_mut" => {
-            return value::change_decor(alloc, table.decor_mut(), steps::behind(words, 1));
+fn change_inline(table: &mut InlineTable, words: &[Json], out: &mut Answer) {
+    match word(words, 0) {
+        "list_decor_mut" => value::change_decor(table.decor_mut(), behind(words, 1), out),
+        "set_trailing" => {
+            if let Ok(raw) = out.given(RawString::from_text(out.alloc, word(words, 1))) {
+                table.set_trailing(raw);
+            }
         }
-        "set_trailing" => table.set_trailing(RawString::from_text(alloc, argument)?),
-        "set_trailing_comma" => table.set_trailing_comma(argument == "true"),
-        "set_dotted" => table.set_dotted(argument == "true"),
-        call => return said::no_such(alloc, call),
+        "set_trailing_comma" => table.set_trailing_comma(word(words, 1) == "true"),
+        "set_dotted" => table.set_dotted(word(words, 1) == "true"),
+        call => out.no_such(call),
     }
-    said::text(alloc, "")
 }

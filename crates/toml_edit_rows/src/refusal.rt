@@ -1,44 +1,44 @@
 //! What is asked of a refusal.
-use crate::said;
-use std::alloc::{AllocError, Global};
-use toml_edit::{Mem, ParseFault, TomlError};
+use crate::said::Answer;
+use toml_edit::{ParseFault, TomlError};
 
 /// The answer to a question where the text was refused.
-pub fn answer(alloc: Global, fault: &ParseFault, question: &str) -> Mem<String> {
+pub fn answer(fault: &ParseFault, question: &str, out: &mut Answer) {
     match fault {
-        ParseFault::Memory => Err(AllocError),
-        ParseFault::Toml(error) => error_answer(alloc, error, question),
+        ParseFault::Memory => out.refuse(),
+        ParseFault::Toml(_) if question == "fault" => out.shown(fault),
+        ParseFault::Toml(error) => error_answer(error, question, out),
     }
 }
 
-fn error_answer(alloc: Global, error: &TomlError, question: &str) -> Mem<String> {
+fn error_answer(error: &TomlError, question: &str, out: &mut Answer) {
     match question {
-        "is_refused" => said::truth(alloc, true),
-        "refused" => said::text(alloc, error.message()),
-        "at" => said::span(alloc, error.span()),
-        "error" => error.to_string(alloc),
-        _ => format!(in alloc; "refused: {}", error.message()),
+        "is_refused" => out.truth(true),
+        "refused" => out.text(error.message()),
+        "at" => out.span(error.span()),
+        "error" => out.shown(error),
+        _ => {
+            out.text("refused: ");
+            out.text(error.message());
+        }
     }
 }
 
 /// The answer where what is asked isn't made, for a reason that is no `TomlError`.
-pub fn none(alloc: Global, question: &str) -> Mem<String> {
-    said::text(
-        alloc,
-        if question == "is_refused" {
-            "true"
-        } else {
-            "refused"
-        },
-    )
+pub fn none(question: &str, out: &mut Answer) {
+    if question == "is_refused" {
+        out.truth(true);
+    } else {
+        out.text("refused");
+    }
 }
 
 /// The answer to another question where nothing was refused.
-pub fn of_accepted(alloc: Global, question: &str) -> Mem<String> {
+pub fn of_accepted(question: &str, out: &mut Answer) {
     match question {
-        "is_refused" => said::truth(alloc, false),
-        "refused" | "at" | "error" => said::text(alloc, "not refused"),
-        "steps" | "reads" => said::text(alloc, ""),
-        _ => said::no_such(alloc, question),
+        "is_refused" => out.truth(false),
+        "refused" | "at" | "error" | "fault" => out.text("not refused"),
+        "steps" | "reads" => {}
+        _ => out.no_such(question),
     }
 }

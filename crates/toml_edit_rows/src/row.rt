@@ -1,8 +1,7 @@
 //! A row: what is asked, and what is wanted.
-use crate::{date_time, document, key, run, said, scalar, tokens, value};
+use crate::said::{self, Answer};
+use crate::{date_time, document, key, run, scalar, tokens, value};
 use serde_json::Value as Json;
-use std::alloc::Global;
-use toml_edit::Mem;
 
 /// The kinds of rows. A row is of a kind if it has a member of this name, which says what is asked.
 const KINDS: [&str; 18] = [
@@ -26,117 +25,139 @@ const KINDS: [&str; 18] = [
     "run",
 ];
 
-/// Members that are no questions.
-const GIVEN: [&str; 2] = ["input", "bytes"];
-
-/// A row, and its kind.
+/// A row, its kind, and one of its questions.
 #[derive(Clone, Copy)]
 pub struct Row<'a> {
     pub kind: &'a str,
     pub json: &'a Json,
+    pub question: &'a str,
 }
 
 impl<'a> Row<'a> {
     /// What the row is about.
-    pub fn subject(&self) -> Option<&'a Json> {
+    pub fn subject(self) -> Option<&'a Json> {
         self.json.get(self.kind)
     }
 
     /// What the row is about, where that is a text.
-    pub fn text(&self) -> &'a str {
-        self.json
-            .get(self.kind)
-            .and_then(Json::as_str)
-            .unwrap_or("")
+    pub fn text(self) -> &'a str {
+        text_of(self.json.get(self.kind))
     }
 
-    /// The steps under this name.
-    pub fn steps(&self, name: &str) -> &'a [Json] {
-        match self.json.get(name).and_then(Json::as_array) {
-            Some(steps) => steps.as_slice(),
-            None => &[],
+    /// The steps that come before the question.
+    pub fn steps(self) -> &'a [Json] {
+        if self.question == "reads" {
+            items_of(self.json.get("reads"))
+        } else {
+            items_of(self.json.get("steps"))
         }
     }
 }
 
-/// What came in place of what the row says, if the row doesn't hold.
-pub fn difference(alloc: Global, line: &str) -> Mem<Option<String>> {
-    match Json::from_str(alloc, line) {
-        Ok(json) => json_difference(alloc, &json),
-        Err(_) => some_text(alloc, "this is not JSON"),
+/// The text, or the empty one where there is none.
+pub fn text_of(found: Option<&Json>) -> &str {
+    match found {
+        Some(json) => json.as_str().unwrap_or(""),
+        None => "",
     }
 }
 
-fn some_text(alloc: Global, text: &str) -> Mem<Option<String>> {
-    Ok(Some(said::text(alloc, text)?))
+/// The items of a list, or none.
+pub fn items_of(found: Option<&Json>) -> &[Json] {
+    match found {
+        Some(Json::Array(items)) => items.as_slice(),
+        _ => &[],
+    }
 }
 
-fn json_difference(alloc: Global, json: &Json) -> Mem<Option<String>> {
-    for kind in KINDS {
-        if json.get(kind).is_some() {
-            return row_difference(alloc, Row { kind, json });
+/// Whether the row of the line holds. If not, what came is written.
+pub fn holds(line: &str, came: &mut Answer) -> bool {
+    match Json::from_str(came.alloc, line) {
+        Ok(json) => json_holds(&json, came),
+        Err(error) => {
+            if error.is_memory() {
+                came.refuse();
+            }
+            came.text("this is not JSON");
+            false
         }
     }
-    some_text(alloc, "no kind of row")
 }
 
-fn row_difference(alloc: Global, row: Row<'_>) -> Mem<Option<String>> {
-    let Some(members) = row.json.as_object() else {
-        return some_text(alloc, "no row");
+fn json_holds(json: &Json, came: &mut Answer) -> bool {
+    for kind in &KINDS {
+        if json.get(*kind).is_some() {
+            return row_holds(kind, json, came);
+        }
+    }
+    came.text("no kind of row");
+    false
+}
+
+fn row_holds(kind: &str, json: &Json, came: &mut Answer) -> bool {
+    let Some(members) = json.as_object() else {
+        return false;
     };
     let mut is_asked = false;
-    for (question, wanted) in members {
-        if is_question(row, question.as_str()) {
+    for (member, wanted) in members {
+        let question = member.as_str();
+        if is_question(kind, question) {
             is_asked = true;
-            let differs = question_difference(alloc, row, question.as_str(), wanted)?;
-            if differs.is_some() {
-                return Ok(differs);
+            if !is_answered(
+                Row {
+                    kind,
+                    json,
+                    question,
+                },
+                wanted,
+                came,
+            ) {
+                return false;
             }
         }
     }
-    if is_asked {
-        Ok(None)
-    } else {
-        some_text(alloc, "nothing is asked")
+    is_asked
+}
+
+/// The members that are no questions are the one that names the kind, and the input of a run.
+fn is_question(kind: &str, member: &str) -> bool {
+    member != kind && member != "input" && member != "bytes"
+}
+
+/// Whether the question is answered as it is wanted. The answer is left behind.
+fn is_answered(row: Row<'_>, wanted: &Json, came: &mut Answer) -> bool {
+    came.clear();
+    answer(row, came);
+    if is_wanted(came.as_str(), wanted) {
+        return !came.is_refused();
     }
+    came.text(" (");
+    came.text(row.question);
+    came.text(")");
+    false
 }
 
-fn is_question(row: Row<'_>, member: &str) -> bool {
-    member != row.kind && GIVEN.iter().all(|given| *given != member)
-}
-
-fn question_difference(
-    alloc: Global,
-    row: Row<'_>,
-    question: &str,
-    wanted: &Json,
-) -> Mem<Option<String>> {
-    let came = answer(alloc, row, question)?;
-    let wanted = wanted_text(alloc, wanted)?;
-    if came.as_str() == wanted.as_str() {
-        Ok(None)
-    } else {
-        Ok(Some(format!(in alloc; "{question}: {came}")?))
-    }
-}
-
-/// What is wanted, as a text. Of steps it is that each gives what it says.
-fn wanted_text(alloc: Global, wanted: &Json) -> Mem<String> {
+/// Whether this is what is wanted. Of steps it is that nothing is told of them.
+fn is_wanted(came: &str, wanted: &Json) -> bool {
     match wanted {
-        Json::String(text) => said::text(alloc, text.as_str()),
-        Json::Array(_) => said::text(alloc, ""),
-        other => other.to_string(alloc),
+        Json::String(text) => came == text.as_str(),
+        Json::Bool(holds) => came == said::truth(*holds),
+        Json::Array(_) => came.is_empty(),
+        _ => match (came.parse::<u64>(), wanted.as_u64()) {
+            (Ok(came), Some(wanted)) => came == wanted,
+            _ => false,
+        },
     }
 }
 
-fn answer(alloc: Global, row: Row<'_>, question: &str) -> Mem<String> {
+fn answer(row: Row<'_>, out: &mut Answer) {
     match row.kind {
-        "text" => document::answer(alloc, row, question),
-        "value" => value::answer(alloc, row, question),
-        "key" | "name" | "path" => key::answer(alloc, row, question),
-        "token" => tokens::answer(alloc, row.text(), question),
-        "run" => run::answer(alloc, row, question),
-        "date_time" | "date" | "time" | "parts" => date_time::answer(alloc, row, question),
-        _ => scalar::answer(alloc, row, question),
+        "text" => document::answer(row, out),
+        "value" => value::answer(row, out),
+        "key" | "name" | "path" => key::answer(row, out),
+        "token" => tokens::answer(row, out),
+        "run" => run::answer(row, out),
+        "date_time" | "date" | "time" | "parts" => date_time::answer(row, out),
+        _ => scalar::answer(row, out),
     }
 }

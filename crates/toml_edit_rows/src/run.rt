@@ -1,41 +1,45 @@
 //! Rows on the program: its words and its input, and how it ends.
-use crate::row::Row;
-use crate::said;
+use crate::row::{self, Row};
+use crate::said::Answer;
 use serde_json::Value as Json;
 use std::alloc::Global;
 use toml_edit::{Mem, Watched};
 use toml_edit_command::run;
 
-pub fn answer(alloc: Global, row: Row<'_>, question: &str) -> Mem<String> {
-    let input = input(alloc, row.json)?;
-    let words = words(alloc, row.subject())?;
-    ended(alloc, words.as_slice(), input.as_slice(), question)
+pub fn answer(row: Row<'_>, out: &mut Answer) {
+    let words = words(out.alloc, row::items_of(row.subject()));
+    run_of(words, row, out);
+}
+
+fn run_of(words: Mem<Vec<String>>, row: Row<'_>, out: &mut Answer) {
+    match (words, input(out.alloc, row.json)) {
+        (Ok(words), Ok(input)) => ended(words.as_slice(), input.as_slice(), row.question, out),
+        _ => out.refuse(),
+    }
 }
 
 /// How the run ends: its status, what it has written, or what it has told.
-fn ended(alloc: Global, words: &[String], input: &[u8], question: &str) -> Mem<String> {
-    let (mut output, mut errors) = (Vec::new(alloc), Vec::new(alloc));
+fn ended(words: &[String], input: &[u8], question: &str, out: &mut Answer) {
+    let (mut output, mut errors) = (Vec::new(out.alloc), Vec::new(out.alloc));
     let status = run(
-        alloc,
+        out.alloc,
         words,
         &mut Watched::new(input),
         &mut Watched::new(&mut output),
         &mut Watched::new(&mut errors),
     );
     match question {
-        "status" => status.to_string(alloc),
-        "output" => text(alloc, output.as_slice()),
-        "errors" => text(alloc, errors.as_slice()),
-        _ => said::no_such(alloc, question),
+        "status" => out.shown(&status),
+        "output" => bytes(output.as_slice(), out),
+        "errors" => bytes(errors.as_slice(), out),
+        _ => out.no_such(question),
     }
 }
 
-fn words(alloc: Global, subject: Option<&Json>) -> Mem<Vec<String>> {
+fn words(alloc: Global, items: &[Json]) -> Mem<Vec<String>> {
     let mut words = Vec::new(alloc);
-    if let Some(items) = subject.and_then(Json::as_array) {
-        for item in items {
-            words.push(String::from_str(alloc, item.as_str().unwrap_or(""))?)?;
-        }
+    for item in items {
+        words.push(String::from_str(alloc, row::text_of(Some(item)))?)?;
     }
     Ok(words)
 }
@@ -43,40 +47,53 @@ fn words(alloc: Global, subject: Option<&Json>) -> Mem<Vec<String>> {
 /// The input: the text `input`, and behind it the `bytes`.
 fn input(alloc: Global, json: &Json) -> Mem<Vec<u8>> {
     let mut input = Vec::new(alloc);
-    if let Some(text) = json.get("input").and_then(Json::as_str) {
-        input.extend_from_slice(text.as_bytes())?;
-    }
-    if let Some(bytes) = json.get("bytes").and_then(Json::as_array) {
-        for byte in bytes {
-            let byte = byte.as_u64().and_then(|byte| u8::try_from(byte).ok());
-            input.push(byte.unwrap_or(0))?;
-        }
+    input.extend_from_slice(row::text_of(json.get("input")).as_bytes())?;
+    for byte in row::items_of(json.get("bytes")) {
+        input.push(byte_of(byte))?;
     }
     Ok(input)
 }
 
-fn text(alloc: Global, bytes: &[u8]) -> Mem<String> {
+fn byte_of(number: &Json) -> u8 {
+    match number.as_u64() {
+        Some(number) => u8::try_from(number).unwrap_or(0),
+        None => 0,
+    }
+}
+
+fn bytes(bytes: &[u8], out: &mut Answer) {
     match str::from_utf8(bytes) {
-        Ok(text) => said::text(alloc, text),
-        Err(_) => said::text(alloc, "not UTF-8"),
+        Ok(text) => out.text(text),
+        Err(_) => out.text("not UTF-8"),
     }
 }
 
 /// Whether `print` ends with status 0 or 1 on each beginning of the text, and with 1 where that ends inside a character.
-pub fn every_cut_ends(alloc: Global, text: &str) -> Mem<String> {
-    let mut words = Vec::new(alloc);
-    words.push(said::text(alloc, "print")?)?;
-    for length in 0..text.len() {
-        let status = cut_status(alloc, words.as_slice(), text, length);
-        if status != 1 && (status != 0 || !text.is_char_boundary(length)) {
-            return format!(in alloc; "status {status} at {length}");
-        }
+pub fn every_cut_ends(text: &str, out: &mut Answer) {
+    match print_word(out.alloc) {
+        Ok(words) => out.truth(cuts_end(out.alloc, words.as_slice(), text)),
+        Err(_) => out.refuse(),
     }
-    said::truth(alloc, true)
 }
 
-fn cut_status(alloc: Global, words: &[String], text: &str, length: usize) -> u8 {
-    let cut = text.as_bytes().get(..length).unwrap_or(&[]);
+fn print_word(alloc: Global) -> Mem<Vec<String>> {
+    let mut words = Vec::new(alloc);
+    words.push(String::from_str(alloc, "print")?)?;
+    Ok(words)
+}
+
+fn cuts_end(alloc: Global, words: &[String], text: &str) -> bool {
+    for length in 0..text.len() {
+        let status = cut_status(alloc, words, text.as_bytes(), length);
+        if status != 1 && (status != 0 || !text.is_char_boundary(length)) {
+            return false;
+        }
+    }
+    true
+}
+
+fn cut_status(alloc: Global, words: &[String], text: &[u8], length: usize) -> u8 {
+    let cut = text.get(..length).unwrap_or(&[]);
     let (mut output, mut errors) = (Vec::new(alloc), Vec::new(alloc));
     run(
         alloc,

@@ -1,54 +1,137 @@
 //! Answers as texts.
 use std::alloc::Global;
-use std::borrow::CowStr;
-use std::fmt::Display;
+use std::fmt::{Debug, Display};
 use std::ops::Range;
-use toml_edit::{Mem, RawString};
+use toml_edit::{Mem, RawString, Repr};
 
-pub fn text(alloc: Global, text: &str) -> Mem<String> {
-    String::from_str(alloc, text)
+/// An answer that is being written. It remembers whether memory was refused for it.
+#[derive(Drop)]
+pub struct Answer {
+    pub alloc: Global,
+    text: String,
+    is_refused: bool,
 }
 
-pub fn borrowed(alloc: Global, text: Mem<CowStr<'_>>) -> Mem<String> {
-    match text {
-        Ok(text) => String::from_str(alloc, text.as_str()),
-        Err(refused) => Err(refused),
+impl Answer {
+    /// The empty answer.
+    pub fn new(alloc: Global) -> Answer {
+        Answer {
+            alloc,
+            text: String::new(alloc),
+            is_refused: false,
+        }
+    }
+
+    pub fn as_str(&self) -> &str {
+        self.text.as_str()
+    }
+
+    /// Whether memory was refused, for this answer or for what was asked.
+    pub fn is_refused(&self) -> bool {
+        self.is_refused
+    }
+
+    /// Notes that memory was refused.
+    pub fn refuse(&mut self) {
+        self.is_refused = true;
+    }
+
+    /// Begins again, with the empty answer.
+    pub fn clear(&mut self) {
+        self.text.clear();
+    }
+
+    pub fn text(&mut self, text: &str) {
+        if self.text.push_str(text).is_err() {
+            self.is_refused = true;
+        }
+    }
+
+    pub fn shown<T: Display>(&mut self, shown: &T) {
+        if write!(self.text, "{shown}").is_err() {
+            self.is_refused = true;
+        }
+    }
+
+    pub fn debugged<T: Debug>(&mut self, shown: &T) {
+        if write!(self.text, "{shown:?}").is_err() {
+            self.is_refused = true;
+        }
+    }
+
+    /// Shows what was made, where there was memory for it.
+    pub fn made<T: Display + Drop>(&mut self, made: Mem<T>) {
+        match made {
+            Ok(made) => self.shown(&made),
+            Err(_) => self.refuse(),
+        }
+    }
+
+    pub fn truth(&mut self, holds: bool) {
+        self.text(truth(holds));
+    }
+
+    pub fn text_or_none(&mut self, found: Option<&str>) {
+        self.text(found.unwrap_or("none"));
+    }
+
+    pub fn shown_or_none<T: Display>(&mut self, found: Option<&T>) {
+        match found {
+            Some(shown) => self.shown(shown),
+            None => self.text("none"),
+        }
+    }
+
+    pub fn span(&mut self, found: Option<Range<usize>>) {
+        match found {
+            Some(range) => self.range(range.start, range.end),
+            None => self.text("none"),
+        }
+    }
+
+    pub fn range(&mut self, start: usize, end: usize) {
+        self.shown(&start);
+        self.text("..");
+        self.shown(&end);
+    }
+
+    /// The text, or the span that stands for it.
+    pub fn raw(&mut self, raw: Option<&RawString>) {
+        match raw {
+            Some(raw) => self.raw_text(raw),
+            None => self.text("none"),
+        }
+    }
+
+    fn raw_text(&mut self, raw: &RawString) {
+        match raw.as_str() {
+            Some(text) => self.text(text),
+            None => self.span(raw.span()),
+        }
+    }
+
+    /// What was made, with a note where memory was refused for it.
+    pub fn given<T>(&mut self, made: Mem<T>) -> Mem<T> {
+        if made.is_err() {
+            self.refuse();
+        }
+        made
+    }
+
+    pub fn repr(&mut self, made: Mem<Repr>) {
+        match made {
+            Ok(repr) => self.raw_text(repr.as_raw()),
+            Err(_) => self.refuse(),
+        }
+    }
+
+    pub fn no_such(&mut self, call: &str) {
+        self.text("no such call or question: ");
+        self.text(call);
     }
 }
 
-pub fn truth(alloc: Global, holds: bool) -> Mem<String> {
-    String::from_str(alloc, if holds { "true" } else { "false" })
-}
-
-pub fn text_or_none(alloc: Global, found: Option<&str>) -> Mem<String> {
-    String::from_str(alloc, found.unwrap_or("none"))
-}
-
-pub fn shown_or_none<T: Display>(alloc: Global, found: Option<&T>) -> Mem<String> {
-    match found {
-        Some(shown) => shown.to_string(alloc),
-        None => String::from_str(alloc, "none"),
-    }
-}
-
-pub fn span(alloc: Global, found: Option<Range<usize>>) -> Mem<String> {
-    match found {
-        Some(range) => format!(in alloc; "{}..{}", range.start, range.end),
-        None => String::from_str(alloc, "none"),
-    }
-}
-
-// The text, or the span that stands for it.
-pub fn raw(alloc: Global, raw: Option<&RawString>) -> Mem<String> {
-    match raw {
-        None => String::from_str(alloc, "none"),
-        Some(raw) => match raw.as_str() {
-            Some(text) => String::from_str(alloc, text),
-            None => span(alloc, raw.span()),
-        },
-    }
-}
-
-pub fn no_such(alloc: Global, call: &str) -> Mem<String> {
-    format!(in alloc; "no such call or question: {call}")
+/// How a truth value is written.
+pub fn truth(holds: bool) -> &'static str {
+    if holds { "true" } else { "false" }
 }

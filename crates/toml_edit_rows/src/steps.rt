@@ -1,92 +1,95 @@
 //! Steps: chains of calls, in the library's names, each with its arguments behind it.
-use crate::said;
+use crate::refusal;
+use crate::row::{self, Row};
+use crate::said::Answer;
 use serde_json::Value as Json;
-use std::alloc::Global;
-use toml_edit::Mem;
+use toml_edit::{Mem, ParseFault};
 
 /// What steps are done with, and questions are asked of.
 pub trait Subject {
     /// Makes the calls of a step, and answers what they give: nothing where they only change something.
-    fn call(&mut self, alloc: Global, words: &[&str]) -> Mem<String>;
+    fn call(&mut self, words: &[Json], out: &mut Answer);
 
-    /// The answer to a question.
-    fn answer(&self, alloc: Global, question: &str) -> Mem<String>;
+    /// Answers a question.
+    fn answer(&self, question: &str, out: &mut Answer);
+}
+
+/// What is asked of a copy.
+pub trait Asked {
+    fn ask(&self, words: &[Json], out: &mut Answer);
+}
+
+/// Asks of what was read, or of the refusal. Whatever is read, made or copied is owned and let go here.
+pub fn read<S: Subject + Drop>(read: Result<S, ParseFault>, row: Row<'_>, out: &mut Answer) {
+    match read {
+        Ok(subject) => stepped(subject, row, out),
+        Err(fault) => refusal::answer(&fault, row.question, out),
+    }
+}
+
+/// Asks of what was made, where there was memory for it.
+pub fn made<S: Subject + Drop>(made: Mem<S>, row: Row<'_>, out: &mut Answer) {
+    match made {
+        Ok(subject) => stepped(subject, row, out),
+        Err(_) => out.refuse(),
+    }
+}
+
+/// Asks of what was made, if it was.
+pub fn found<S: Subject + Drop>(made: Option<S>, row: Row<'_>, out: &mut Answer) {
+    match made {
+        Some(subject) => stepped(subject, row, out),
+        None => refusal::none(row.question, out),
+    }
+}
+
+/// Asks of a copy, where there was memory for it.
+pub fn copied<S: Asked + Drop>(copy: Mem<S>, words: &[Json], out: &mut Answer) {
+    match copy {
+        Ok(copy) => copy.ask(words, out),
+        Err(_) => out.refuse(),
+    }
 }
 
 /// Does the steps, and answers the question, or tells of the first step that doesn't give what it says.
-pub fn answer<S: Subject>(
-    alloc: Global,
-    subject: &mut S,
-    steps: &[Json],
-    question: &str,
-) -> Mem<String> {
-    match first_difference(alloc, subject, steps)? {
-        Some(came) => Ok(came),
-        None => subject.answer(alloc, question),
-    }
-}
-
-fn first_difference<S: Subject>(
-    alloc: Global,
-    subject: &mut S,
-    steps: &[Json],
-) -> Mem<Option<String>> {
-    for step in steps {
-        let words = words(alloc, step)?;
-        let differs = step_difference(alloc, subject, words.as_slice())?;
-        if differs.is_some() {
-            return Ok(differs);
+pub fn stepped<S: Subject + Drop>(subject: S, row: Row<'_>, out: &mut Answer) {
+    let mut subject = subject;
+    for step in row.steps() {
+        if !gives(&mut subject, row::items_of(Some(step)), out) {
+            return;
         }
     }
-    Ok(None)
+    subject.answer(row.question, out);
 }
 
-/// What the step gave in place of what it says, if these differ.
-fn step_difference<S: Subject>(
-    alloc: Global,
-    subject: &mut S,
-    words: &[&str],
-) -> Mem<Option<String>> {
-    let gave = subject.call(alloc, calls(words))?;
-    difference(alloc, words, gave.as_str())
-}
-
-/// The words of a step.
-fn words(alloc: Global, step: &Json) -> Mem<Vec<&str>> {
-    let mut words = Vec::new(alloc);
-    if let Some(items) = step.as_array() {
-        for item in items {
-            words.push(item.as_str().unwrap_or("no text"))?;
-        }
+/// Whether the step gives what it says. If not, what it gave is told.
+fn gives<S: Subject>(subject: &mut S, step: &[Json], out: &mut Answer) -> bool {
+    let calls = calls(step);
+    subject.call(calls, out);
+    let wanted = word(step, calls.len().saturating_add(1));
+    if out.as_str() == wanted {
+        out.clear();
+        return true;
     }
-    Ok(words)
+    out.text(" for ");
+    out.text(wanted);
+    false
 }
 
 /// The calls of a step, without what they are to give.
-fn calls<'a, 'b>(words: &'a [&'b str]) -> &'a [&'b str] {
-    match words {
-        [calls @ .., "gives", _wanted] => calls,
-        _ => words,
-    }
-}
-
-/// What was given, if the step says that it gives another.
-fn difference(alloc: Global, words: &[&str], gave: &str) -> Mem<Option<String>> {
-    match words {
-        [_calls @ .., "gives", wanted] if *wanted == gave => Ok(None),
-        [_calls @ .., "gives", wanted] => Ok(Some(format!(in alloc; "{gave} for {wanted}")?)),
-        // A step without an answer gives none.
-        _ if gave.is_empty() => Ok(None),
-        _ => Ok(Some(said::text(alloc, gave)?)),
+fn calls(step: &[Json]) -> &[Json] {
+    match step {
+        [calls @ .., gives, _wanted] if gives.as_str() == Some("gives") => calls,
+        _ => step,
     }
 }
 
 /// A word of a chain, or the empty text.
-pub fn word<'a>(words: &[&'a str], at: usize) -> &'a str {
-    words.get(at).copied().unwrap_or("")
+pub fn word(words: &[Json], at: usize) -> &str {
+    row::text_of(words.get(at))
 }
 
 /// The words behind so many, or none.
-pub fn behind<'a, 'b>(words: &'a [&'b str], count: usize) -> &'a [&'b str] {
+pub fn behind(words: &[Json], count: usize) -> &[Json] {
     &words[count.min(words.len())..]
 }

@@ -1,44 +1,51 @@
 //! Rows on tokens: keys and scalars as they are spelled.
-use crate::said;
-use std::alloc::Global;
+use crate::row::Row;
+use crate::said::Answer;
+use std::fmt::Display;
 use toml_edit::Mem;
 use toml_edit_datetime::{is_datetime, is_float};
 use toml_edit_token::{Scalar, after_key, after_scalar, decode_key, decode_scalar};
 
-pub fn answer(alloc: Global, text: &str, question: &str) -> Mem<String> {
-    match question {
-        "scalar" => scalar(alloc, text),
-        "key_text" => key_text(alloc, text),
-        "after_key" => said::text_or_none(alloc, after_key(text)),
-        "after_scalar" => said::text_or_none(alloc, after_scalar(text)),
-        "is_float" => said::truth(alloc, is_float(text)),
-        "is_datetime" => said::truth(alloc, is_datetime(text)),
-        _ => said::no_such(alloc, question),
+pub fn answer(row: Row<'_>, out: &mut Answer) {
+    let text = row.text();
+    match row.question {
+        "scalar" => scalar(decode_scalar(out.alloc, text), out),
+        "key_text" => key_text(decode_key(out.alloc, text), out),
+        "after_key" => out.text_or_none(after_key(text)),
+        "after_scalar" => out.text_or_none(after_scalar(text)),
+        "is_float" => out.truth(is_float(text)),
+        "is_datetime" => out.truth(is_datetime(text)),
+        _ => out.no_such(row.question),
     }
 }
 
-fn key_text(alloc: Global, text: &str) -> Mem<String> {
-    match decode_key(alloc, text)? {
-        Some(key) => Ok(key),
-        None => said::text(alloc, "none"),
+fn key_text(decoded: Mem<Option<String>>, out: &mut Answer) {
+    match decoded {
+        Ok(key) => out.text_or_none(key.as_ref().map(String::as_str)),
+        Err(_) => out.refuse(),
     }
 }
 
 /// What the token says: its kind and its value.
-fn scalar(alloc: Global, text: &str) -> Mem<String> {
-    match decode_scalar(alloc, text) {
-        Ok(Some(scalar)) => scalar_text(alloc, &scalar),
-        Ok(None) => said::text(alloc, "none"),
-        Err(refused) => Err(refused),
+fn scalar(decoded: Mem<Option<Scalar>>, out: &mut Answer) {
+    match decoded {
+        Ok(Some(scalar)) => scalar_text(&scalar, out),
+        Ok(None) => out.text("none"),
+        Err(_) => out.refuse(),
     }
 }
 
-fn scalar_text(alloc: Global, scalar: &Scalar) -> Mem<String> {
+fn scalar_text(scalar: &Scalar, out: &mut Answer) {
     match scalar {
-        Scalar::String(string) => format!(in alloc; "string {string}"),
-        Scalar::Integer(number) => format!(in alloc; "integer {number}"),
-        Scalar::Float(float) => format!(in alloc; "float {float}"),
-        Scalar::Boolean(truth) => format!(in alloc; "boolean {truth}"),
-        Scalar::Datetime(datetime) => format!(in alloc; "datetime {datetime}"),
+        Scalar::String(string) => kind("string ", string, out),
+        Scalar::Integer(number) => kind("integer ", number, out),
+        Scalar::Float(float) => kind("float ", float, out),
+        Scalar::Boolean(truth) => kind("boolean ", truth, out),
+        Scalar::Datetime(datetime) => kind("datetime ", datetime, out),
     }
+}
+
+fn kind<T: Display>(kind: &str, scalar: &T, out: &mut Answer) {
+    out.text(kind);
+    out.shown(scalar);
 }

@@ -1,117 +1,112 @@
 //! Rows on lone values, and what is asked of any value.
 use crate::row::Row;
-use crate::steps::Subject;
-use crate::{date_time, events, list, refusal, said, scalar, steps};
-use std::alloc::Global;
-use toml_edit::{Decor, Mem, RawString, Value};
+use crate::said::Answer;
+use crate::steps::{Asked, Subject, behind, copied, word};
+use crate::{date_time, events, list, refusal, scalar, steps};
+use serde_json::Value as Json;
+use toml_edit::{Decor, FromStr, RawString, Value};
 
-pub fn answer(alloc: Global, row: Row<'_>, question: &str) -> Mem<String> {
-    match question {
-        "events" => events::all_lone(alloc, row.text()),
-        "last_event" => events::last_lone(alloc, row.text()),
-        _ => read(alloc, row, question),
+pub fn answer(row: Row<'_>, out: &mut Answer) {
+    match row.question {
+        "events" => events::all_lone(row.text(), out),
+        "last_event" => events::last_lone(row.text(), out),
+        _ => steps::read(Value::from_str(out.alloc, row.text()), row, out),
     }
-}
-
-fn read(alloc: Global, row: Row<'_>, question: &str) -> Mem<String> {
-    match Value::from_str(alloc, row.text()) {
-        Ok(value) => stepped(alloc, value, row, question),
-        Err(fault) => refusal::answer(alloc, &fault, question),
-    }
-}
-
-/// The answer to a question about the value, after the row's steps.
-pub fn stepped(alloc: Global, value: Value, row: Row<'_>, question: &str) -> Mem<String> {
-    let mut value = value;
-    steps::answer(alloc, &mut value, row.steps("steps"), question)
 }
 
 impl Subject for Value {
-    fn call(&mut self, alloc: Global, words: &[&str]) -> Mem<String> {
-        call(alloc, self, words)
+    fn call(&mut self, words: &[Json], out: &mut Answer) {
+        call(self, words, out);
     }
 
-    fn answer(&self, alloc: Global, question: &str) -> Mem<String> {
+    fn answer(&self, question: &str, out: &mut Answer) {
         match question {
-            "shown" => self.to_string(alloc),
-            _ => refusal::of_accepted(alloc, question),
+            "shown" => out.shown(self),
+            _ => refusal::of_accepted(question, out),
         }
     }
 }
 
 /// Does a step with the value. Of a call that changes it the answer is empty.
-fn call(alloc: Global, value: &mut Value, words: &[&str]) -> Mem<String> {
-    match steps::word(words, 0) {
-        "decor_mut" => change_decor(alloc, value.decor_mut(), steps::behind(words, 1)),
-        "fmt" => scalar::forget_spelling(alloc, value),
+fn call(value: &mut Value, words: &[Json], out: &mut Answer) {
+    match word(words, 0) {
+        "decor_mut" => change_decor(value.decor_mut(), behind(words, 1), out),
+        "fmt" => scalar::forget_spelling(value, out),
         "set_trailing" | "set_trailing_comma" | "set_dotted" | "list_decor_mut" => {
-            list::change(alloc, value, words)
+            list::change(value, words, out);
         }
-        _ => ask(alloc, value, words),
+        _ => ask(value, words, out),
     }
 }
 
 /// Changes a decor.
-pub fn change_decor(alloc: Global, decor: &mut Decor, words: &[&str]) -> Mem<String> {
-    let text = RawString::from_text(alloc, steps::word(words, 1))?;
-    match steps::word(words, 0) {
-        "set_prefix" => decor.set_prefix(text),
-        "set_suffix" => decor.set_suffix(text),
+pub fn change_decor(decor: &mut Decor, words: &[Json], out: &mut Answer) {
+    let text = word(words, 1);
+    match word(words, 0) {
+        "set_prefix" => {
+            if let Ok(raw) = out.given(RawString::from_text(out.alloc, text)) {
+                decor.set_prefix(raw);
+            }
+        }
+        "set_suffix" => {
+            if let Ok(raw) = out.given(RawString::from_text(out.alloc, text)) {
+                decor.set_suffix(raw);
+            }
+        }
         "clear" => decor.clear(),
-        call => return said::no_such(alloc, call),
+        call => out.no_such(call),
     }
-    said::text(alloc, "")
 }
 
 /// Asks of a decor.
-pub fn ask_decor(alloc: Global, decor: &Decor, words: &[&str]) -> Mem<String> {
-    match steps::word(words, 0) {
-        "prefix" => said::raw(alloc, decor.prefix()),
-        "suffix" => said::raw(alloc, decor.suffix()),
-        call => said::no_such(alloc, call),
+pub fn ask_decor(decor: &Decor, side: &str, out: &mut Answer) {
+    match side {
+        "prefix" => out.raw(decor.prefix()),
+        "suffix" => out.raw(decor.suffix()),
+        _ => out.no_such(side),
     }
 }
 
 /// Asks of a value, or of one inside it: `get` goes to a value of an array or of an inline table.
-pub fn ask(alloc: Global, value: &Value, words: &[&str]) -> Mem<String> {
+pub fn ask(value: &Value, words: &[Json], out: &mut Answer) {
     match list::place(value, words) {
-        Some((value, words)) => ask_here(alloc, value, words),
-        None => said::text(alloc, "none"),
+        Some((value, words)) => ask_here(value, words, out),
+        None => out.text("none"),
     }
 }
 
-fn ask_here(alloc: Global, value: &Value, words: &[&str]) -> Mem<String> {
-    match steps::word(words, 0) {
-        "clone" => ask_copy(alloc, value, steps::behind(words, 1)),
-        _ => ask_plain(alloc, value, words),
+fn ask_here(value: &Value, words: &[Json], out: &mut Answer) {
+    match word(words, 0) {
+        "clone" => copied(value.clone(out.alloc), behind(words, 1), out),
+        _ => ask_plain(value, words, out),
     }
 }
 
-fn ask_plain(alloc: Global, value: &Value, words: &[&str]) -> Mem<String> {
-    match steps::word(words, 0) {
-        "decor" => ask_decor(alloc, value.decor(), steps::behind(words, 1)),
-        "span" => said::span(alloc, value.span()),
-        "to_string" => value.to_string(alloc),
-        "type_name" => said::text(alloc, value.type_name()),
-        "as_datetime" => date_time::ask(alloc, value.as_datetime(), steps::behind(words, 1)),
-        "as_repr" | "default_repr" | "display_repr" | "repr_span" => scalar::ask(
-            alloc, value, words,
-        ),
-        _ => match scalar::cast(alloc, value, steps::word(words, 0))? {
-            Some(cast) => Ok(cast),
-            None => list::ask(alloc, value, words),
-        },
+impl Asked for Value {
+    fn ask(&self, words: &[Json], out: &mut Answer) {
+        ask_plain(self, words, out);
     }
 }
 
-fn ask_copy(alloc: Global, value: &Value, words: &[&str]) -> Mem<String> {
-    match value.clone(alloc) {
-        Ok(copy) => ask_moved(alloc, copy, words),
-        Err(refused) => Err(refused),
+fn ask_plain(value: &Value, words: &[Json], out: &mut Answer) {
+    match word(words, 0) {
+        "decor" => ask_decor(value.decor(), word(words, 1), out),
+        "span" => out.span(value.span()),
+        "to_string" => out.shown(value),
+        "type_name" => out.text(value.type_name()),
+        "as_datetime" => date_time::ask(value.as_datetime(), behind(words, 1), out),
+        _ => ask_more(value, words, out),
     }
 }
 
-/// Asks of a value, and lets it go.
-pub fn ask_moved(alloc: Global, value: Value, words: &[&str]) -> Mem<String> {
-    ask_plain(alloc, &value, words)
+fn ask_more(value: &Value, words: &[Json], out: &mut Answer) {
+    let call = word(words, 0);
+    match call {
+        "as_repr" | "default_repr" | "display_repr" | "repr_span" => scalar::ask(value, call, out),
+        _ => {
+            if !scalar::cast(value, call, out) {
+                list::ask(value, words, out);
+            }
+        }
+    }
 }

@@ -1,164 +1,170 @@
 //! Equality, order and hash, each at a concrete type. A copy equals what it copies, by its hash too.
-use crate::{are_alike, hash_of};
+use crate::hash_of;
 use std::alloc::Global;
 use std::cmp::Ordering;
 use std::hash::Hash;
-use std::test::Fail;
 use toml_edit::{Datetime, Decor, FloatText, Formatted, Key, Mem, RawString, Repr, ValueRepr};
 
-fn raw(alloc: Global, text: &str) -> Mem<RawString> {
-    RawString::from_text(alloc, text)
+fn are_alike<T: Hash + Eq>(one: &T, other: &T) -> bool {
+    one == other && hash_of(one) == hash_of(other)
 }
 
-fn texts_are_alike(alloc: Global, one: &str, other: &str) -> Mem<bool> {
-    Ok(are_alike(&raw(alloc, one)?, &raw(alloc, other)?))
+/// Whether the two are equal and have one hash, where both were made.
+fn alike<T: Hash + Eq + Drop>(one: Option<T>, other: Option<T>) -> Option<bool> {
+    match (one, other) {
+        (Some(one), Some(other)) => Some(are_alike(&one, &other)),
+        _ => None,
+    }
+}
+
+fn is_copy<T: Hash + Eq + Drop>(one: &T, copy: Mem<T>) -> bool {
+    match copy {
+        Ok(copy) => are_alike(one, &copy),
+        Err(_) => false,
+    }
+}
+
+/// Whether a copy of it is alike.
+fn copies<T: Hash + Eq + Drop, F: Fn(&T, Global) -> Mem<T>>(
+    alloc: Global,
+    made: Option<T>,
+    copy: F,
+) -> bool
+    requires { F.IsAlwaysCallable copy }
+{
+    match made {
+        Some(one) => is_copy(&one, copy(&one, alloc)),
+        None => false,
+    }
+}
+
+fn texts_are_alike(alloc: Global, one: &str, other: &str) -> Option<bool> {
+    alike(
+        RawString::from_text(alloc, one).ok(),
+        RawString::from_text(alloc, other).ok(),
+    )
 }
 
 #[test]
-fn compares_texts(rt: HostRuntime) -> Result<(), Fail> {
-    let alloc = rt.alloc();
-    for (one, other, is_alike) in [
-        ("", "", true),
-        (" ", " ", true),
-        ("a", "b", false),
-        ("", " ", false),
-    ] {
-        assert_eq!(rt; texts_are_alike(alloc, one, other)?, is_alike, "{one}");
-    }
-    Ok(())
+fn compares_texts(rt: HostRuntime) {
+    assert!(rt; texts_are_alike(rt.alloc(), "", "") == Some(true));
+    assert!(rt; texts_are_alike(rt.alloc(), " ", " ") == Some(true));
+    assert!(rt; texts_are_alike(rt.alloc(), "a", "b") == Some(false));
+    assert!(rt; texts_are_alike(rt.alloc(), "", " ") == Some(false));
+}
+
+fn span(start: usize) -> Option<RawString> {
+    Some(RawString::from_span(start.min(1), 1))
 }
 
 #[test]
 fn compares_spans(rt: HostRuntime) {
-    let span = RawString::from_span(0, 1);
-    assert!(rt; span != RawString::default());
-    assert!(rt; are_alike(&span, &RawString::from_span(0, 1)));
-    assert!(rt; span != RawString::from_span(1, 1));
-}
-
-fn copy_is_alike(alloc: Global, raw: &RawString) -> Mem<bool> {
-    Ok(are_alike(&raw.clone(alloc)?, raw))
+    assert!(rt; alike(span(0), span(0)) == Some(true));
+    assert!(rt; alike(span(0), span(1)) == Some(false));
+    assert!(rt; alike(span(1), Some(RawString::default())) == Some(false));
 }
 
 #[test]
-fn copies_texts_and_spans(rt: HostRuntime) -> Result<(), Fail> {
-    assert!(rt; copy_is_alike(rt.alloc(), &RawString::from_span(3, 5))?);
-    assert!(rt; copy_is_alike(rt.alloc(), &raw(rt.alloc(), "# a\n")?)?);
-    Ok(())
+fn copies_texts_and_spans(rt: HostRuntime) {
+    let text = RawString::from_text(rt.alloc(), "# a\n").ok();
+    assert!(rt; copies(rt.alloc(), text, RawString::clone));
+    assert!(rt; copies(rt.alloc(), span(0), RawString::clone));
+}
+
+fn empty() -> Option<Decor> {
+    Some(Decor::new(RawString::default(), RawString::default()))
 }
 
 #[test]
 fn compares_decors(rt: HostRuntime) {
-    let unset = Decor::default();
-    let empty = Decor::new(RawString::default(), RawString::default());
-    assert!(rt; unset != empty);
-    assert!(rt; are_alike(&unset, &Decor::default()));
+    assert!(rt; alike(empty(), empty()) == Some(true));
+    assert!(rt; alike(empty(), Some(Decor::default())) == Some(false));
+    assert!(rt; copies(rt.alloc(), empty(), Decor::clone));
 }
 
-fn decor_copy_is_alike(alloc: Global, decor: &Decor) -> Mem<bool> {
-    Ok(are_alike(&decor.clone(alloc)?, decor))
+fn number(number: i64) -> Option<Formatted<i64>> {
+    Some(Formatted::new(number))
 }
 
-#[test]
-fn copies_decors(rt: HostRuntime) -> Result<(), Fail> {
-    let decor = Decor::new(raw(rt.alloc(), " ")?, RawString::from_span(1, 2));
-    assert!(rt; decor_copy_is_alike(rt.alloc(), &decor)?);
-    Ok(())
+fn spelled() -> Option<Formatted<i64>> {
+    Some(Formatted::spanned(7, 0, 1, Decor::default()))
 }
 
 #[test]
 fn compares_scalars(rt: HostRuntime) {
-    let plain = Formatted::new(7i64);
-    assert!(rt; are_alike(&plain, &Formatted::new(7i64)));
-    assert!(rt; plain != Formatted::new(8i64));
-    assert!(rt; plain != Formatted::spanned(7i64, 0, 1, Decor::default()));
-    assert!(rt; Formatted::new(true) != Formatted::new(false));
+    assert!(rt; alike(number(7), number(7)) == Some(true));
+    assert!(rt; alike(number(7), number(8)) == Some(false));
+    assert!(rt; alike(number(7), spelled()) == Some(false));
 }
 
-fn scalar_copy_is_alike<T: ValueRepr + Eq + Hash + Drop>(
-    alloc: Global,
-    scalar: &Formatted<T>,
-) -> Mem<bool> {
-    Ok(are_alike(&scalar.clone(alloc)?, scalar))
+fn string(alloc: Global) -> Mem<Formatted<String>> {
+    Ok(Formatted::new(String::from_str(alloc, "é")?))
+}
+
+fn float(text: Mem<String>) -> Option<Formatted<FloatText>> {
+    match FloatText::new(text.ok()?) {
+        Ok(float) => Some(Formatted::new(float)),
+        Err(_) => None,
+    }
+}
+
+fn date(text: &str) -> Option<Formatted<Datetime>> {
+    match text.parse::<Datetime>() {
+        Ok(date) => Some(Formatted::new(date)),
+        Err(_) => None,
+    }
 }
 
 #[test]
-fn copies_numbers_and_truth(rt: HostRuntime) -> Result<(), Fail> {
+fn copies_scalars(rt: HostRuntime) {
     let alloc = rt.alloc();
-    assert!(rt; scalar_copy_is_alike(alloc, &Formatted::new(-1i64))?);
-    assert!(rt; scalar_copy_is_alike(alloc, &Formatted::spanned(true, 4, 8, Decor::default()))?);
-    Ok(())
+    let text = String::from_str(alloc, "6.626e-34");
+    assert!(rt; copies(alloc, spelled(), Formatted::<i64>::clone));
+    assert!(rt; copies(alloc, Some(Formatted::new(true)), Formatted::<bool>::clone));
+    assert!(rt; copies(alloc, string(alloc).ok(), Formatted::<String>::clone));
+    assert!(rt; copies(alloc, float(text), Formatted::<FloatText>::clone));
+    assert!(rt; copies(alloc, date("07:32"), Formatted::<Datetime>::clone));
 }
 
 #[test]
-fn copies_strings(rt: HostRuntime) -> Result<(), Fail> {
-    let text = String::from_str(rt.alloc(), "é")?;
-    assert!(rt; scalar_copy_is_alike(rt.alloc(), &Formatted::new(text))?);
-    Ok(())
+fn compares_dates(rt: HostRuntime) {
+    assert!(rt; alike(date("2024-02-29t07:32Z"), date("2024-02-29 07:32z")) == Some(true));
+    assert!(rt; alike(date("07:32"), date("07:32:00")) == Some(false));
 }
 
-fn float_copy_is_alike(alloc: Global, text: String) -> Mem<bool> {
-    match FloatText::new(text) {
-        Ok(float) => scalar_copy_is_alike(alloc, &Formatted::new(float)),
-        Err(_) => Ok(false),
+#[test]
+fn copies_spellings(rt: HostRuntime) {
+    assert!(rt; copies(rt.alloc(), 42i64.to_repr(rt.alloc()).ok(), Repr::clone));
+}
+
+/// How the two stand to each other, where equality and hash agree with that.
+fn order<T: Ord + Hash>(one: &T, other: &T) -> Option<Ordering> {
+    let order = one.cmp(other);
+    let is_equal = order == Ordering::Equal;
+    let agrees = (one == other) == is_equal
+        && (hash_of(one) == hash_of(other)) == is_equal
+        && (one < other) == (order == Ordering::Less);
+    if agrees { Some(order) } else { None }
+}
+
+fn order_of<T: Ord + Hash + Drop>(one: Option<T>, other: Option<T>) -> Option<Ordering> {
+    match (one, other) {
+        (Some(one), Some(other)) => order(&one, &other),
+        _ => None,
     }
 }
 
-#[test]
-fn copies_floats(rt: HostRuntime) -> Result<(), Fail> {
-    let text = String::from_str(rt.alloc(), "6.626e-34")?;
-    assert!(rt; float_copy_is_alike(rt.alloc(), text)?);
-    Ok(())
-}
-
-fn are_same_dates(alloc: Global, one: &str, other: &str) -> Mem<bool> {
-    match (one.parse::<Datetime>(), other.parse::<Datetime>()) {
-        (Ok(one), Ok(other)) => Ok(
-            are_alike(&one, &other) && scalar_copy_is_alike(alloc, &Formatted::new(one))?,
-        ),
-        _ => Ok(false),
-    }
-}
-
-#[test]
-fn compares_dates(rt: HostRuntime) -> Result<(), Fail> {
-    let alloc = rt.alloc();
-    assert!(rt; are_same_dates(alloc, "2024-02-29t07:32Z", "2024-02-29 07:32z")?);
-    assert!(rt; !are_same_dates(alloc, "07:32", "07:32:00")?);
-    Ok(())
-}
-
-fn repr_copy_is_alike(alloc: Global, repr: &Repr) -> Mem<bool> {
-    Ok(are_alike(&repr.clone(alloc)?, repr))
-}
-
-#[test]
-fn copies_spellings(rt: HostRuntime) -> Result<(), Fail> {
-    let spelling = 42i64.to_repr(rt.alloc())?;
-    assert!(rt; repr_copy_is_alike(rt.alloc(), &spelling)?);
-    Ok(())
-}
-
-fn are_same_keys(one: &Key, other: &Key) -> bool {
-    are_alike(one, other) && one.cmp(other) == Ordering::Equal
-}
-
-fn comes_before(one: &Key, other: &Key) -> bool {
-    one < other && one != other && hash_of(one) != hash_of(other)
-}
-
-/// Whether this holds of the key of this name and the key of this spelling.
-fn keys_hold<F: Fn(&Key, &Key) -> bool>(alloc: Global, name: &str, spelling: &str, holds: F) -> bool
-    requires { F.IsAlwaysCallable holds }
-{
-    match (Key::from_text(alloc, name), Key::from_str(alloc, spelling)) {
-        (Ok(one), Ok(other)) => holds(&one, &other),
-        _ => false,
-    }
+/// How the key of this name stands to the key that is spelled so.
+fn key_order(alloc: Global, name: &str, spelling: &str) -> Option<Ordering> {
+    order_of(
+        Key::from_text(alloc, name).ok(),
+        Key::from_str(alloc, spelling).ok(),
+    )
 }
 
 #[test]
 fn compares_keys(rt: HostRuntime) {
-    assert!(rt; keys_hold(rt.alloc(), "a", "'a'", are_same_keys));
-    assert!(rt; keys_hold(rt.alloc(), "ab", "b", comes_before));
+    assert!(rt; key_order(rt.alloc(), "a", "'a'") == Some(Ordering::Equal));
+    assert!(rt; key_order(rt.alloc(), "ab", "b") == Some(Ordering::Less));
+    assert!(rt; key_order(rt.alloc(), "b", "ab") == Some(Ordering::Greater));
 }

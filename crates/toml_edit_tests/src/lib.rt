@@ -1,9 +1,11 @@
 //! Tests of what no row of `toml_edit_rows` can say: equality, order and hash, streams that fail, and calls that leave something behind
-//! when memory is refused.
+//! when memory is refused. Functions that are generic in a type own what is made, and are proved once: a test hands it to them.
 #![tactic(auto)]
 
 #[cfg(test)]
 mod comparisons;
+#[cfg(test)]
+mod holding;
 #[cfg(test)]
 mod makers;
 #[cfg(test)]
@@ -22,9 +24,4 @@ pub fn hash_of<T: Hash>(value: &T) -> u64 {
     let mut state = DefaultHasher::new();
     value.hash(&mut state);
     state.finish()
-}
-
-/// Whether the two are equal, and their hashes are.
-pub fn are_alike<T: Hash + Eq>(one: &T, other: &T) -> bool {
-    one == other && hash_of(one) == hash_of(other)
 }

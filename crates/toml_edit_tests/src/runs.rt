@@ -1,58 +1,10 @@
-//! Runs over streams that fail, or that give and take little at a time. These tests hold whichever allocation fails in the run.
+//! Runs over streams that fail, or that give and take little at a time. Where memory is refused in a run, what it has written is right.
+use crate::holding::holds_moved;
+use crate::streams::{Drip, Short};
 use std::alloc::Global;
-use std::io;
-use std::io::{ErrorKind, Read, Write};
-use std::test::Fail;
+use std::io::{Read, Write};
 use toml_edit::{Mem, Watched};
 use toml_edit_command::run;
-
-// Gives one byte at a time, and fails at one of its calls.
-#[derive(Drop)]
-struct Drip<'a> {
-    rest: &'a [u8],
-    calls_until_fault: usize,
-}
-
-impl Read for Drip<'_> {
-    fn read(&mut self, buf: &mut [u8]) -> io::Result<usize> {
-        if self.calls_until_fault == 0 {
-            return Err(io::Error::from(ErrorKind::Other));
-        }
-        self.calls_until_fault -= 1;
-        let Some((first, rest)) = self.rest.split_first() else {
-            return Ok(0);
-        };
-        if buf.is_empty() {
-            return Ok(0);
-        }
-        buf[0] = *first;
-        self.rest = rest;
-        Ok(1)
-    }
-}
-
-// Takes so many bytes, and then fails.
-#[derive(Drop)]
-struct Short<'a> {
-    held: &'a mut Vec<u8>,
-    room: usize,
-}
-
-impl Write for Short<'_> {
-    fn write(&mut self, buf: &[u8]) -> io::Result<usize> {
-        let count = self.room.min(buf.len());
-        if count == 0 {
-            return Err(io::Error::from(ErrorKind::Other));
-        }
-        self.held.extend_from_slice(&buf[..count])?;
-        self.room -= count;
-        Ok(count)
-    }
-
-    fn flush(&mut self) -> io::Result<()> {
-        Ok(())
-    }
-}
 
 const TEXT: &str = "# a\nk = [1]  # b\n";
 
@@ -62,107 +14,117 @@ fn print_word(alloc: Global) -> Mem<Vec<String>> {
     Ok(words)
 }
 
-/// Whether the run of `print` over this reader ends with the status, and has then written the output and told the line.
+/// The status of a run over these streams.
+fn status<R: Read + Drop, W: Write + Drop, E: Write + Drop>(
+    alloc: Global,
+    words: &[String],
+    reader: R,
+    output: W,
+    told: E,
+) -> u8 {
+    run(
+        alloc,
+        words,
+        &mut Watched::new(reader),
+        &mut Watched::new(output),
+        &mut Watched::new(told),
+    )
+}
+
+/// Whether the run over this reader ends with the status, and has then written the output and told the line.
 fn ends<R: Read + Drop>(
     alloc: Global,
+    words: &[String],
     reader: R,
-    status: u8,
-    output: &str,
-    line: &str,
-) -> Mem<bool> {
-    let words = print_word(alloc)?;
-    let (mut written, mut told) = (Vec::new(alloc), Vec::new(alloc));
-    let found = run(
+    wanted: (u8, &str, &str),
+) -> bool {
+    let (mut output, mut told) = (Vec::new(alloc), Vec::new(alloc));
+    let status = status(alloc, words, reader, &mut output, &mut told);
+    status == wanted.0
+        && output.as_slice() == wanted.1.as_bytes()
+        && told.as_slice() == wanted.2.as_bytes()
+}
+
+fn prints(alloc: Global, words: Vec<String>) -> bool {
+    let drip = Drip::of(TEXT.as_bytes(), 100);
+    ends(alloc, words.as_slice(), drip, (0, TEXT, ""))
+}
+
+#[test]
+fn prints_what_comes_byte_by_byte(rt: HostRuntime) {
+    assert!(rt; holds_moved(rt.alloc(), print_word(rt.alloc()).ok(), prints));
+}
+
+fn fails_to_read(alloc: Global, words: Vec<String>) -> bool {
+    let mut is_told = true;
+    for calls in 0..7 {
+        let drip = Drip::of(b"a = 1\n", calls);
+        is_told = is_told
+            && ends(
+                alloc,
+                words.as_slice(),
+                drip,
+                (4, "", "tomled: read failed\n"),
+            );
+    }
+    is_told
+}
+
+#[test]
+fn tells_of_a_failed_read(rt: HostRuntime) {
+    assert!(rt; holds_moved(rt.alloc(), print_word(rt.alloc()).ok(), fails_to_read));
+}
+
+fn refuses_cut(alloc: Global, words: Vec<String>) -> bool {
+    let drip = Drip::of(b"a = '\xE2\x82'", 100);
+    ends(
         alloc,
         words.as_slice(),
-        &mut Watched::new(reader),
-        &mut Watched::new(&mut written),
-        &mut Watched::new(&mut told),
-    );
-    Ok(
-        found == status
-            && written.as_slice() == output.as_bytes()
-            && told.as_slice() == line.as_bytes(),
+        drip,
+        (1, "", "tomled: input is not UTF-8\n"),
     )
 }
 
 #[test]
-fn prints_what_comes_byte_by_byte(rt: HostRuntime) -> Result<(), Fail> {
-    let drip = Drip {
-        rest: TEXT.as_bytes(),
-        calls_until_fault: 100,
-    };
-    assert!(rt; ends(rt.alloc(), drip, 0, TEXT, "")?);
-    Ok(())
-}
-
-#[test]
-fn tells_of_a_failed_read(rt: HostRuntime) -> Result<(), Fail> {
-    for calls_until_fault in 0..7 {
-        let drip = Drip {
-            rest: b"a = 1\n",
-            calls_until_fault,
-        };
-        assert!(rt; ends(rt.alloc(), drip, 4, "", "tomled: read failed\n")?);
-    }
-    Ok(())
-}
-
-#[test]
-fn refuses_bytes_that_are_cut_short(rt: HostRuntime) -> Result<(), Fail> {
-    let drip = Drip {
-        rest: b"a = '\xE2\x82'",
-        calls_until_fault: 100,
-    };
-    assert!(rt; ends(rt.alloc(), drip, 1, "", "tomled: input is not UTF-8\n")?);
-    Ok(())
+fn refuses_bytes_that_are_cut_short(rt: HostRuntime) {
+    assert!(rt; holds_moved(rt.alloc(), print_word(rt.alloc()).ok(), refuses_cut));
 }
 
 /// Whether a run whose output has so much room ends with status 4, the room filled.
-fn leaves_a_beginning(alloc: Global, room: usize) -> Mem<bool> {
-    let words = print_word(alloc)?;
+fn leaves_a_beginning(alloc: Global, words: &[String], room: usize) -> bool {
     let (mut held, mut told) = (Vec::new(alloc), Vec::new(alloc));
-    let short = Short {
-        held: &mut held,
-        room,
-    };
-    let status = run(
-        alloc,
-        words.as_slice(),
-        &mut Watched::new(TEXT.as_bytes()),
-        &mut Watched::new(short),
-        &mut Watched::new(&mut told),
-    );
-    Ok(
-        status == 4
-            && told.as_slice() == b"tomled: write failed\n".as_slice()
-            && Some(held.as_slice()) == TEXT.as_bytes().get(..room),
-    )
+    let short = Short::of(&mut held, room);
+    let status = status(alloc, words, TEXT.as_bytes(), short, &mut told);
+    status == 4
+        && told.as_slice() == b"tomled: write failed\n".as_slice()
+        && Some(held.as_slice()) == TEXT.as_bytes().get(..room)
+}
+
+fn leaves_each_beginning(alloc: Global, words: Vec<String>) -> bool {
+    let mut is_left = true;
+    for room in 0..TEXT.len() {
+        is_left = is_left && leaves_a_beginning(alloc, words.as_slice(), room);
+    }
+    is_left
 }
 
 #[test]
-fn leaves_a_beginning_where_a_write_fails(rt: HostRuntime) -> Result<(), Fail> {
-    for room in 0..TEXT.len() {
-        assert!(rt; leaves_a_beginning(rt.alloc(), room)?, "{room}");
-    }
-    Ok(())
+fn leaves_a_beginning_where_a_write_fails(rt: HostRuntime) {
+    assert!(rt;
+        holds_moved(
+            rt.alloc(),
+            print_word(rt.alloc()).ok(),
+            leaves_each_beginning
+        )
+    );
 }
 
-/// Whether a run of no command, which can't tell so, ends with status 2 and has read nothing.
+/// Whether a run of no command, which can't tell so, ends with status 2 and has written nothing.
 fn passes_over(alloc: Global, rest: &mut &[u8]) -> bool {
     let (mut output, mut held) = (Vec::new(alloc), Vec::new(alloc));
-    let full = Short {
-        held: &mut held,
-        room: 0,
-    };
     let words: [String; 0] = [];
-    let status = run(
-        alloc,
-        &words,
-        &mut Watched::new(rest),
-        &mut Watched::new(&mut output),
-        &mut Watched::new(full),
-    );
+    let full = Short::of(&mut held, 0);
+    let status = status(alloc, &words, rest, &mut output, full);
     status == 2 && output.is_empty()
 }
 
@@ -170,18 +132,18 @@ fn passes_over(alloc: Global, rest: &mut &[u8]) -> bool {
 fn passes_over_a_fault_in_telling(rt: HostRuntime) {
     let mut rest = b"a = 1\n".as_slice();
     assert!(rt; passes_over(rt.alloc(), &mut rest));
-    assert_eq!(rt; rest.len(), 6);
+    assert!(rt; rest.len() == 6);
 }
 
-/// A run where memory may be refused: each status says so, and nothing wrong was written.
-fn ends_in_want(alloc: Global, words: &[String]) -> bool {
-    let (mut output, mut errors) = (Vec::new(alloc), Vec::new(alloc));
-    let status = run(
+/// A run where memory may be refused: its status says so, and nothing wrong was written.
+fn ends_in_want(alloc: Global, words: Vec<String>) -> bool {
+    let (mut output, mut told) = (Vec::new(alloc), Vec::new(alloc));
+    let status = status(
         alloc,
-        words,
-        &mut Watched::new(TEXT.as_bytes()),
-        &mut Watched::new(&mut output),
-        &mut Watched::new(&mut errors),
+        words.as_slice(),
+        TEXT.as_bytes(),
+        &mut output,
+        &mut told,
     );
     match status {
         0 => output.as_slice() == TEXT.as_bytes(),
@@ -195,6 +157,6 @@ fn ends_in_want(alloc: Global, words: &[String]) -> bool {
 #[test]
 fn runs_in_want_of_memory(rt: HostRuntime) {
     if let Ok(words) = print_word(rt.alloc()) {
-        assert!(rt; ends_in_want(rt.alloc(), words.as_slice()));
+        assert!(rt; ends_in_want(rt.alloc(), words));
     }
 }

@@ -1,6 +1,7 @@
 //! The container of keyed slots at a concrete type: each call once. Those that take memory hold whichever allocation fails.
+use crate::holding::{holds_changed, holds_moved};
 use crate::spans::is_yes;
-use std::alloc::{AllocError, Global};
+use std::alloc::Global;
 use toml_edit::{Decor, Key, Mem};
 use toml_edit_slots::{Slot, Slots};
 
@@ -17,15 +18,20 @@ fn inserts(alloc: Global, slots: &mut Slots<u8>, name: &str, item: u8) -> bool {
     }
 }
 
-#[test]
-fn inserts_slots(rt: HostRuntime) {
-    let mut slots: Slots<u8> = Slots::new(rt.alloc());
-    assert!(rt; slots.is_empty());
-    for name in ["a", "b", "c", "d", "e"] {
-        assert!(rt; inserts(rt.alloc(), &mut slots, name, 7), "{name}");
+fn inserts_all(alloc: Global, slots: &mut Slots<u8>) -> bool {
+    let mut is_right = slots.is_empty();
+    for name in ["a", "b", "c", "d", "e"].iter() {
+        is_right = is_right && inserts(alloc, slots, name, 7);
     }
+    is_right
 }
 
+#[test]
+fn inserts_slots(rt: HostRuntime) {
+    assert!(rt; holds_changed(rt.alloc(), Slots::new(rt.alloc()), inserts_all));
+}
+
+/// Whether the key is put in behind the others, or given back. A key that no memory was left for isn't pushed.
 fn pushes(alloc: Global, slots: &mut Slots<u8>, name: &str) -> Mem<bool> {
     let key = Key::from_text(alloc, name)?;
     let before = slots.len();
@@ -38,14 +44,17 @@ fn pushes(alloc: Global, slots: &mut Slots<u8>, name: &str) -> Mem<bool> {
     }
 }
 
+fn pushes_all(alloc: Global, slots: &mut Slots<u8>) -> bool {
+    let mut is_right = slots.is_empty();
+    for name in ["a", "b", "c", "d", "e"].iter() {
+        is_right = is_right && is_yes(pushes(alloc, slots, name));
+    }
+    is_right
+}
+
 #[test]
 fn pushes_slots(rt: HostRuntime) {
-    let mut slots: Slots<u8> = Slots::new(rt.alloc());
-    for name in ["a", "b", "c", "d", "e"] {
-        // A key that no memory was left for isn't pushed.
-        let pushed = pushes(rt.alloc(), &mut slots, name);
-        assert!(rt; pushed == Ok(true) || pushed == Err(AllocError), "{name}");
-    }
+    assert!(rt; holds_changed(rt.alloc(), Slots::new(rt.alloc()), pushes_all));
 }
 
 /// Whether the items of `a` and `b` are found, replaced and lent.
@@ -69,28 +78,30 @@ fn lends_first(slots: &mut Slots<u8>) -> bool {
     slots.get("a") == Some(&9)
 }
 
-fn removes(slots: &mut Slots<u8>) -> bool {
-    match slots.remove("a") {
-        Some(slot) => slot.key.get() == "a" && slot.into_item() == 9 && slots.find("b") == Some(0),
-        None => false,
+fn is_first(_alloc: Global, slot: Slot<u8>) -> bool {
+    slot.key.get() == "a" && slot.into_item() == 9
+}
+
+fn removes(alloc: Global, slots: &mut Slots<u8>) -> bool {
+    holds_moved(alloc, slots.remove("a"), is_first) && slots.find("b") == Some(0)
+}
+
+fn changes_all(alloc: Global, slots: &mut Slots<u8>) -> bool {
+    let is_filled = inserts(alloc, slots, "a", 1) && inserts(alloc, slots, "b", 2);
+    // Where no memory was left there may be nothing to change.
+    if is_filled && slots.len() == 2 {
+        return changes(alloc, slots) && lends_first(slots) && removes(alloc, slots);
     }
+    is_filled
 }
 
 #[test]
 fn changes_slots(rt: HostRuntime) {
-    let alloc = rt.alloc();
-    let mut slots: Slots<u8> = Slots::new(alloc);
-    let is_filled = inserts(alloc, &mut slots, "a", 1) && inserts(alloc, &mut slots, "b", 2);
-    // Where no memory was left there may be nothing to change.
-    if is_filled && slots.len() == 2 {
-        assert!(rt; changes(alloc, &mut slots));
-        assert!(rt; lends_first(&mut slots));
-        assert!(rt; removes(&mut slots));
-    }
+    assert!(rt; holds_changed(rt.alloc(), Slots::new(rt.alloc()), changes_all));
 }
 
-fn spelled(key: &Key) -> Option<&str> {
-    key.as_repr()?.as_raw().as_str()
+fn spelled(slots: &Slots<u8>) -> Option<&str> {
+    slots.as_slice().first()?.key.as_repr()?.as_raw().as_str()
 }
 
 fn cuts_key(alloc: Global) -> Mem<bool> {
@@ -99,8 +110,8 @@ fn cuts_key(alloc: Global) -> Mem<bool> {
     let mut slots: Slots<u8> = Slots::new(alloc);
     slots.push(Slot { key, item: 7 })?;
     match slots.despan_key(0, alloc, "k = 1") {
-        Ok(()) => Ok(slots.as_slice().first().and_then(|slot| spelled(&slot.key)) == Some("k")),
-        Err(AllocError) => Ok(slots.get("k") == Some(&7)),
+        Ok(()) => Ok(spelled(&slots) == Some("k")),
+        Err(_) => Ok(slots.get("k") == Some(&7)),
     }
 }
 

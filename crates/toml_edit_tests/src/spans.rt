@@ -1,5 +1,5 @@
 //! Spans that are turned into the texts that they cut. These tests hold whichever allocation fails.
-use std::alloc::{AllocError, Global};
+use std::alloc::Global;
 use toml_edit::{Decor, Formatted, Key, Mem, RawString};
 
 /// Whether the answer was yes, where one was given.
@@ -11,28 +11,39 @@ pub fn is_yes(answer: Mem<bool>) -> bool {
 }
 
 fn is_decor(decor: &Decor, before: &str, after: &str) -> bool {
-    decor.prefix().and_then(|raw| raw.as_str()) == Some(before)
-        && decor.suffix().and_then(|raw| raw.as_str()) == Some(after)
+    decor.prefix().and_then(RawString::as_str) == Some(before)
+        && decor.suffix().and_then(RawString::as_str) == Some(after)
 }
 
 fn cuts_text(alloc: Global) -> bool {
     let mut raw = RawString::from_span(4, 8);
     match raw.despan(alloc, "k = text") {
         Ok(()) => raw.as_str() == Some("text"),
-        Err(AllocError) => raw.span() == Some(4..8),
+        Err(_) => raw.span() == Some(4..8),
     }
+}
+
+#[test]
+fn cuts_texts(rt: HostRuntime) {
+    assert!(rt; cuts_text(rt.alloc()));
 }
 
 fn cuts_decor(alloc: Global) -> bool {
     let mut decor = Decor::new(RawString::from_span(3, 5), RawString::from_span(6, 10));
     match decor.despan(alloc, "k =  1 # a") {
         Ok(()) => is_decor(&decor, "  ", " # a"),
-        Err(AllocError) => true,
+        Err(_) => true,
     }
 }
 
-fn spelled(key: &Key) -> Option<&str> {
-    key.as_repr()?.as_raw().as_str()
+#[test]
+fn cuts_decors(rt: HostRuntime) {
+    assert!(rt; cuts_decor(rt.alloc()));
+}
+
+fn is_cut_key(key: &Key) -> bool {
+    key.as_repr().and_then(|repr| repr.as_raw().as_str()) == Some("k")
+        && is_decor(key.leaf_decor(), "  ", "\t\t")
 }
 
 fn cuts_key(alloc: Global) -> Mem<bool> {
@@ -40,9 +51,14 @@ fn cuts_key(alloc: Global) -> Mem<bool> {
     let leaf = Decor::new(RawString::from_span(0, 2), RawString::from_span(3, 5));
     let mut key = Key::spanned(name, 2, 3, leaf, Decor::default());
     match key.despan(alloc, "  k\t\t= 1") {
-        Ok(()) => Ok(spelled(&key) == Some("k") && is_decor(key.leaf_decor(), "  ", "\t\t")),
-        Err(AllocError) => Ok(key.get() == "k"),
+        Ok(()) => Ok(is_cut_key(&key)),
+        Err(_) => Ok(key.get() == "k"),
     }
+}
+
+#[test]
+fn cuts_keys(rt: HostRuntime) {
+    assert!(rt; is_yes(cuts_key(rt.alloc())));
 }
 
 fn cuts_scalar(alloc: Global) -> bool {
@@ -50,14 +66,11 @@ fn cuts_scalar(alloc: Global) -> bool {
     let mut scalar = Formatted::spanned(true, 5, 9, decor);
     match scalar.despan(alloc, "k =  true # a") {
         Ok(()) => scalar.span().is_none() && is_decor(scalar.decor(), "  ", " # a"),
-        Err(AllocError) => true,
+        Err(_) => true,
     }
 }
 
 #[test]
-fn cuts_spans(rt: HostRuntime) {
-    assert!(rt; cuts_text(rt.alloc()));
-    assert!(rt; cuts_decor(rt.alloc()));
-    assert!(rt; is_yes(cuts_key(rt.alloc())));
+fn cuts_scalars(rt: HostRuntime) {
     assert!(rt; cuts_scalar(rt.alloc()));
 }

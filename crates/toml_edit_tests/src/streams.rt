@@ -1,63 +1,64 @@
 //! Readers and writers that fail.
+use std::alloc::Global;
 use std::io;
 use std::io::{ErrorKind, Read, Write};
-use std::test::Fail;
 use toml_edit_stream::{Broken, Input, Output, ReadFault, Watched, read_to_end, write_all};
 
-// Gives one byte at a time, and fails at one of its calls.
+// Gives one byte at a time, and fails at one of its calls, but not at the next.
 #[derive(Drop)]
-struct Drip<'a> {
+pub struct Drip<'a> {
     rest: &'a [u8],
     calls_until_fault: usize,
+    fault: ErrorKind,
+}
+
+impl<'a> Drip<'a> {
+    pub fn of(rest: &'a [u8], calls_until_fault: usize) -> Drip<'a> {
+        Drip {
+            rest,
+            calls_until_fault,
+            fault: ErrorKind::Other,
+        }
+    }
 }
 
 impl Read for Drip<'_> {
     fn read(&mut self, buf: &mut [u8]) -> io::Result<usize> {
         if self.calls_until_fault == 0 {
-            return Err(io::Error::from(ErrorKind::Other));
+            self.calls_until_fault = usize::MAX;
+            return Err(io::Error::from(self.fault));
         }
         self.calls_until_fault -= 1;
-        let Some((first, rest)) = self.rest.split_first() else {
-            return Ok(0);
-        };
-        if buf.is_empty() {
-            return Ok(0);
-        }
-        buf[0] = *first;
-        self.rest = rest;
-        Ok(1)
-    }
-}
-
-// Is interrupted at its first call, and then gives nothing.
-#[derive(Drop)]
-struct Interrupted {
-    is_first: bool,
-}
-
-impl Read for Interrupted {
-    fn read(&mut self, _buf: &mut [u8]) -> io::Result<usize> {
-        if self.is_first {
-            self.is_first = false;
-            return Err(io::Error::from(ErrorKind::Interrupted));
-        }
-        Ok(0)
+        let count = buf.len().min(1);
+        self.rest.read(&mut buf[..count])
     }
 }
 
 // Takes so many bytes, and then fails, or takes nothing.
 #[derive(Drop)]
-struct Short {
+pub struct Short<'a> {
+    held: &'a mut Vec<u8>,
     room: usize,
     answers_zero: bool,
 }
 
-impl Write for Short {
+impl<'a> Short<'a> {
+    pub fn of(held: &'a mut Vec<u8>, room: usize) -> Short<'a> {
+        Short {
+            held,
+            room,
+            answers_zero: false,
+        }
+    }
+}
+
+impl Write for Short<'_> {
     fn write(&mut self, buf: &[u8]) -> io::Result<usize> {
         if self.room == 0 && !self.answers_zero {
             return Err(io::Error::from(ErrorKind::Other));
         }
         let count = self.room.min(buf.len());
+        self.held.extend_from_slice(&buf[..count])?;
         self.room -= count;
         Ok(count)
     }
@@ -67,84 +68,90 @@ impl Write for Short {
     }
 }
 
-#[test]
-fn reads_a_slice(rt: HostRuntime) -> Result<(), Fail> {
-    let text = b"a slice";
-    let mut input = Watched::new(text.as_slice());
-    let bytes = read_to_end(rt.alloc(), &mut input)?;
-    assert_eq!(rt; bytes.as_slice(), text.as_slice());
-    assert!(rt; !Input::failed(&input));
-    Ok(())
+fn reads<R: Read + Drop>(alloc: Global, reader: R, bytes: &[u8]) -> bool {
+    match read_to_end(alloc, &mut Watched::new(reader)) {
+        Ok(found) => found.as_slice() == bytes,
+        Err(_) => false,
+    }
 }
 
 #[test]
-fn reads_more_than_a_chunk(rt: HostRuntime) -> Result<(), Fail> {
-    let text = vec![in rt.alloc(); 7u8; 10000]?;
-    let bytes = read_to_end(rt.alloc(), &mut Watched::new(text.as_slice()))?;
-    assert_eq!(rt; bytes.as_slice(), text.as_slice());
-    Ok(())
+fn reads_a_slice(rt: HostRuntime) {
+    let text = b"a slice".as_slice();
+    assert!(rt; reads(rt.alloc(), text, text));
 }
 
 #[test]
-fn reads_byte_by_byte(rt: HostRuntime) -> Result<(), Fail> {
-    let mut input = Watched::new(Drip {
-        rest: b"drop by drop",
-        calls_until_fault: 100,
-    });
-    let bytes = read_to_end(rt.alloc(), &mut input)?;
-    assert_eq!(rt; bytes.as_slice(), b"drop by drop".as_slice());
-    Ok(())
+fn reads_more_than_a_chunk(rt: HostRuntime) {
+    let text = [7u8; 10000];
+    assert!(rt; reads(rt.alloc(), text.as_slice(), text.as_slice()));
 }
 
 #[test]
-fn remembers_a_failed_read(rt: HostRuntime) -> Result<(), Fail> {
+fn reads_byte_by_byte(rt: HostRuntime) {
+    let text = b"drop by drop".as_slice();
+    assert!(rt; reads(rt.alloc(), Drip::of(text, 100), text));
+}
+
+#[test]
+fn tries_again_after_a_signal(rt: HostRuntime) {
+    let interrupted = Drip {
+        rest: b"signal",
+        calls_until_fault: 3,
+        fault: ErrorKind::Interrupted,
+    };
+    assert!(rt; reads(rt.alloc(), interrupted, b"signal".as_slice()));
+}
+
+/// Whether the reader fails, and fails ever after.
+fn stays_broken<R: Read + Drop>(alloc: Global, reader: R) -> bool {
+    let mut input = Watched::new(reader);
+    let is_broken = matches!(read_to_end(alloc, &mut input), Err(ReadFault::Broken));
+    is_broken && Input::failed(&input) && input.read(&mut [0u8; 1]) == Err(Broken)
+}
+
+#[test]
+fn remembers_a_failed_read(rt: HostRuntime) {
     for calls in 0..5 {
-        let mut input = Watched::new(Drip {
-            rest: b"four",
-            calls_until_fault: calls,
-        });
-        assert!(rt; !Input::failed(&input));
-        let fault = read_to_end(rt.alloc(), &mut input).err();
-        assert_eq!(rt; fault, Some(ReadFault::Broken));
-        assert!(rt; Input::failed(&input));
-        let mut buffer = [0u8; 1];
-        assert_eq!(rt; input.read(&mut buffer), Err(Broken));
+        assert!(rt; stays_broken(rt.alloc(), Drip::of(b"four", calls)));
     }
-    Ok(())
+}
+
+fn writes_twice<W: Write + Drop>(writer: W) -> bool {
+    let mut output = Watched::new(writer);
+    write_all(&mut output, b"one ") == Ok(())
+        && write_all(&mut output, b"two") == Ok(())
+        && !Output::failed(&output)
 }
 
 #[test]
-fn tries_again_after_a_signal(rt: HostRuntime) -> Result<(), Fail> {
-    let mut input = Watched::new(Interrupted { is_first: true });
-    let bytes = read_to_end(rt.alloc(), &mut input)?;
-    assert!(rt; bytes.is_empty());
-    Ok(())
-}
-
-#[test]
-fn writes_to_a_vec(rt: HostRuntime) -> Result<(), Fail> {
+fn writes_to_a_vec(rt: HostRuntime) {
     let mut held = Vec::new(rt.alloc());
-    let mut output = Watched::new(&mut held);
-    write_all(&mut output, b"one ")?;
-    write_all(&mut output, b"two")?;
-    assert!(rt; !Output::failed(&output));
-    let _ = output;
-    assert_eq!(rt; held.as_slice(), b"one two".as_slice());
-    Ok(())
+    assert!(rt; writes_twice(&mut held));
+    assert!(rt; held.as_slice() == b"one two".as_slice());
+}
+
+/// Whether the writer, which has room for three bytes, fails at a fourth, and fails ever after.
+fn stays_full<W: Write + Drop>(writer: W) -> bool {
+    let mut output = Watched::new(writer);
+    output.write(b"") == Ok(0)
+        && write_all(&mut output, b"four") == Err(Broken)
+        && Output::failed(&output)
+        && output.write(b"more") == Err(Broken)
+        && output.write(b"") == Err(Broken)
+}
+
+fn remembers(alloc: Global, answers_zero: bool) -> bool {
+    let mut held = Vec::new(alloc);
+    stays_full(Short {
+        held: &mut held,
+        room: 3,
+        answers_zero,
+    })
 }
 
 #[test]
-fn remembers_a_failed_write(rt: HostRuntime) -> Result<(), Fail> {
-    for answers_zero in [false, true] {
-        let mut output = Watched::new(Short {
-            room: 3,
-            answers_zero,
-        });
-        assert_eq!(rt; output.write(b""), Ok(0));
-        assert_eq!(rt; write_all(&mut output, b"four"), Err(Broken));
-        assert!(rt; Output::failed(&output));
-        assert_eq!(rt; output.write(b"more"), Err(Broken));
-        assert_eq!(rt; output.write(b""), Err(Broken));
-    }
-    Ok(())
+fn remembers_a_failed_write(rt: HostRuntime) {
+    assert!(rt; remembers(rt.alloc(), false));
+    assert!(rt; remembers(rt.alloc(), true));
 }
