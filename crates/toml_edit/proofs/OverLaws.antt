@@ -5,7 +5,7 @@ use Rattle.toml_edit_model.specs.Text.{Text}
 use Rattle.toml_edit_model.specs.Syntax.{Document}
 use Rattle.toml_edit_model.specs.Flat.{flat_document, FlatAs}
 use Rattle.toml_edit_model.specs.Tree.{Raw, Slots, Tree}
-use Rattle.toml_edit_model.specs.TreeOf.{spanned_form, owned_form, root_fields, owned_tree, IsTreeOf, IsOver}
+use Rattle.toml_edit_model.specs.TreeOf.{spanned_form, owned_form, root_fields, IsTreeOf}
 use Rattle.toml_edit_laws.specs.FlatTree.{flat_tree}
 use Rattle.toml_edit_laws.proofs.flat.AcceptedLaws.{accepted}
 use Rattle.toml_edit_laws.proofs.flat.TreeLaws.{tree}
@@ -16,6 +16,7 @@ use Rattle.toml_edit_tree.specs.declared.table.Table.{Table}
 use Rattle.toml_edit.specs.Documents.{IsReading}
 use Rattle.toml_edit_parser.specs.Parsed.{IsParsed}
 use Rattle.toml_edit_tree.specs.View.{slots_view, fields_view, tree_view}
+use Rattle.toml_edit_model.specs.OwnedForm.{owned_tree, IsOver}
 
 -- the tree of these slots and this trailing text
 abbrev pub read_tree : Slots → Raw → Tree

@@ -8,10 +8,11 @@ use Rattle.toml_edit_model.specs.Flat.{FlatAs}
 use Rattle.toml_edit_model.specs.Normal.{normal_text}
 use Rattle.toml_edit_model.specs.Print.{print}
 use Rattle.toml_edit_model.specs.Tree.{Tree, SlotsAreWellMade}
-use Rattle.toml_edit_model.specs.TreeOf.{spanned_form, owned_form, IsTreeOf, IsOver, DecorFits, SlotsFit, RawFits, owned_raw, owned_fields, owned_slots, owned_tree}
+use Rattle.toml_edit_model.specs.TreeOf.{spanned_form, owned_form, IsTreeOf}
 use Rattle.toml_edit_laws.proofs.read_trees.ReadLaws.{owned_trees}
 use Rattle.toml_edit_laws.proofs.print_of_read.PrintOfRead.{plain_print_normal}
 use Rattle.toml_edit.proofs.SpanProps.{DecorFits-prop, SlotsFit-prop, RawFits-prop}
+use Rattle.toml_edit_model.specs.OwnedForm.{IsOver, DecorFits, SlotsFit, RawFits, owned_raw, owned_fields, owned_slots, owned_tree}
 
 -- ---- what is known of a tree over its text
 

@@ -6,7 +6,8 @@ use Rattle.toml_edit_model.specs.Flat.{IsFlatCut, FlatAs}
 use Rattle.toml_edit_model.specs.Meaning.{SameFacts, meaning}
 use Rattle.toml_edit_model.specs.Shown.{shown_meaning}
 use Rattle.toml_edit_model.specs.Tree.{Tree}
-use Rattle.toml_edit_model.specs.TreeOf.{spanned_form, owned_form, owned_tree, IsTreeOf}
+use Rattle.toml_edit_model.specs.TreeOf.{spanned_form, owned_form, IsTreeOf}
+use Rattle.toml_edit_model.specs.OwnedForm.{owned_tree}
 
 -- The text has one flat cut, which is accepted, and this is its tree over the text: cut from the text, its spans are the spellings
 -- and the trivia themselves. It means what the text means.

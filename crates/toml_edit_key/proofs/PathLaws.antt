@@ -8,7 +8,7 @@ use Rattle.std.proofs.lemmas.List.{length-append}
 use Rattle.toml_edit_model.specs.Text.{Text, is_empty}
 use Rattle.toml_edit_model.specs.Trivia.{is_blank, IsWhiteSpace}
 use Rattle.toml_edit_model.specs.Spelling.{is_bare_byte, SpellsKey}
-use Rattle.toml_edit_model.specs.Syntax.{Segment, segment_text, path_text, IsPath, IsSpacedSegment, IsSpelledSegment, ends_bare}
+use Rattle.toml_edit_model.specs.Syntax.{Segment, segment_text, path_text, IsPath, IsSpacedSegment, IsSpelledSegment, ends_unspaced}
 use Rattle.toml_edit_model.specs.Tree.{Key, unset}
 use Rattle.toml_edit_model.specs.Lone.{path_key, lone_keys}
 use Rattle.toml_edit_laws.specs.reading.Runs.{first, split_while}
@@ -66,7 +66,7 @@ pub record PathOf (before gap t : Text) (ks : List Key) : Type 0 where
   pub after : Text
   pub begins : head.before ≡ gap
   pub parts : t ≡ tail_text head more after
-  pub ends : ends_bare (head ∷ more) ≡ true
+  pub ends : ends_unspaced (head ∷ more) ≡ true
   pub spelled : AllByRecursion IsSpelledSegment (head ∷ more)
   pub spaced : AllByRecursion IsSpacedSegment (head ∷ more)
   pub white : IsWhiteSpace after
@@ -213,7 +213,7 @@ next_again n before s spells white gap t ks blank stop read =
     ∙ ap (option_map (λ ks. path_key unset s ∷ ks)) read
 
 pub keys_again : (n : ℕ) (before after : Text) (s : Segment) (more : List Segment) → length (tail_text s more after) < n
-    → AllByRecursion IsSpelledSegment (s ∷ more) → AllByRecursion IsSpacedSegment (s ∷ more) → ends_bare (s ∷ more) ≡ true → IsWhiteSpace after
+    → AllByRecursion IsSpelledSegment (s ∷ more) → AllByRecursion IsSpacedSegment (s ∷ more) → ends_unspaced (s ∷ more) ≡ true → IsWhiteSpace after
     → keys_at n before s.before (tail_text s more after) ≡ Some (lone_keys before (s ∷ more) after)
 keys_again zero before after s more room spelled spaced ends white = absurd (omega (arith, room))
 keys_again (suc n) before after s [] room spelled spaced ends white = last_again n before after s spelled.0 ends white

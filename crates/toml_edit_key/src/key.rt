@@ -40,11 +40,11 @@ impl Model for Key {
 impl Key {
     ghost use Rattle.std.specs.Borrow.{sem};
     ghost use Rattle.toml_edit_model.specs.Tree.{span, HasTrueSpelling};
-    ghost use Rattle.toml_edit_model.specs.TreeOf.{KeyFits, owned_raw, owned_key};
     ghost use Rattle.toml_edit_model.specs.SlotLists.{new_key, reset_key};
     ghost use Rattle.toml_edit_model.specs.Spelling.{SpellsKey};
     ghost use Rattle.toml_edit_key.specs.LendingParts.{LendsLeaf, LendsDotted};
     ghost use Rattle.toml_edit_repr.specs.Views.{range_of};
+    ghost use Rattle.toml_edit_model.specs.OwnedForm.{KeyFits, owned_raw, owned_key};
 
     /// A key of this name, with the default spelling and no decor.
     pub fn new(text: String) -> Key

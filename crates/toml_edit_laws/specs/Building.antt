@@ -8,11 +8,12 @@ use Rattle.toml_edit_model.specs.Paths.{at_key, at_element, Path, Mention, Sourc
 use Rattle.toml_edit_model.specs.Accepted.{is_accepted, IsFirstFaulty}
 use Rattle.toml_edit_model.specs.Faults.{Fault, own_faults, faults_in, IsFirstFault}
 use Rattle.toml_edit_model.specs.Tree.{Node, table, tables, Items, no_items, item, Slots, no_slots, Tree}
-use Rattle.toml_edit_model.specs.TreeOf.{spanned_in, kept, root_fields, value_start, IsValueNode, AreSlotsOf, IsTreeOf}
+use Rattle.toml_edit_model.specs.TreeOf.{spanned_in, root_fields, value_start, IsValueNode, AreSlotsOf, IsTreeOf}
 use Rattle.toml_edit_laws.specs.OneByOne.{all_right_after}
 use Rattle.toml_edit_laws.specs.InlineTree.{node_at}
 use Rattle.toml_edit_laws.specs.TableTree.{change_last, change_under, add_line, add_header}
 use Rattle.toml_edit_laws.specs.TableClash.{line_clash, header_clash, table_way_fault, table_way_faults}
+use Rattle.toml_edit_model.specs.TableMentions.{kept}
 
 -- ---- the table of a block, by the keys of its header
 

@@ -6,7 +6,7 @@ use Rattle.std.specs.List.{list_any}
 use Rattle.toml_edit_model.specs.Mode.{with_return}
 use Rattle.toml_edit_model.specs.Text.{Text, same_text, one, joined}
 use Rattle.toml_edit_model.specs.Spelling.{SpellsKey}
-use Rattle.toml_edit_model.specs.Syntax.{Value, value_text, statement_text, mark_text, document_text, IsValue, depth, most, has_short_keys, keeps_ranges}
+use Rattle.toml_edit_model.specs.Syntax.{Value, value_text, statement_text, mark_text, document_text, IsValue, depth, nesting_limit, has_short_keys, keeps_ranges}
 use Rattle.toml_edit_model.specs.Accepted.{has_agreeing_pairs}
 use Rattle.toml_edit_model.specs.Faults.{Fault, fault, duplicate_key, value_faults}
 use Rattle.toml_edit_model.specs.Tree.{Key, Node, Slots, no_slots, slot, Tree}
@@ -21,7 +21,7 @@ is_among k keys = list_any (same_text k) keys
 
 -- the value is not too deep, its keys are short, its scalars in range, and its pairs agree
 abbrev pub is_right_value : Value → Bool
-is_right_value v = ((nat_le (depth v) most && has_short_keys v) && keeps_ranges v) && has_agreeing_pairs v
+is_right_value v = ((nat_le (depth v) nesting_limit && has_short_keys v) && keeps_ranges v) && has_agreeing_pairs v
 
 -- each value is right, and no line has an earlier key
 abbrev pub are_right : List Text → List Line → Bool

@@ -4,8 +4,8 @@ use Rattle.std.specs.List.{AllByRecursion}
 use Rattle.toml_edit_model.specs.Syntax.{Document}
 use Rattle.toml_edit_model.specs.Paths.{Path, Mention, Source, all_mentions}
 use Rattle.toml_edit_model.specs.Accepted.{is_accepted}
-use Rattle.toml_edit_model.specs.Normal.{kept_mention}
-use Rattle.toml_edit_model.specs.TreeOf.{under, kept}
+use Rattle.toml_edit_model.specs.Kept.{kept_mention}
+use Rattle.toml_edit_model.specs.TableMentions.{under, kept}
 
 -- what is mentioned below a path, from there on
 abbrev pub under_path : {S : Type 0} → Path → List (Mention S) → List (Mention S)

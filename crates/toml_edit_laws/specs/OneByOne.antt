@@ -3,9 +3,10 @@ use Rattle.std.specs.Prelude.{◌≡◌, ◌↔◌, Bool, true, false, ◌&&◌,
 use Rattle.std.specs.List.{list_all}
 use Rattle.toml_edit_model.specs.Syntax.{Document}
 use Rattle.toml_edit_model.specs.Version.{Version, v1_1, is_of_version}
-use Rattle.toml_edit_model.specs.Paths.{may_meet, Placed, placed}
+use Rattle.toml_edit_model.specs.Paths.{Placed, placed}
 use Rattle.toml_edit_model.specs.Accepted.{agree, is_sound, is_accepted_in, IsFirstFaultyIn, IsFirstFaulty}
 use Rattle.toml_edit_model.specs.Faults.{Fault, faults_of, IsFirstFaultIn}
+use Rattle.toml_edit_model.specs.Roles.{may_meet}
 
 -- the statement is sound and agrees with each earlier one
 abbrev pub is_right_after : List Placed → Placed → Bool

@@ -5,7 +5,7 @@ use Rattle.toml_edit_model.specs.Mode.{Mode}
 use Rattle.toml_edit_model.specs.Text.{Text, newline, is_empty, has_byte, line_feed}
 use Rattle.toml_edit_model.specs.Syntax.{comma_text, opening_brackets, closing_brackets, path_text}
 use Rattle.toml_edit_model.specs.Tree.{Decor, Key, TableFields, Node, nothing, leaf, list, inline, table, tables, Items, no_items, item, Slots, no_slots, slot, Tree, shown_prefix, shown_suffix, shown_raw, scalar_text, key_text, node_decor, is_value_node}
-use Rattle.toml_edit_model.specs.Print.{blank, dot_prefix, dot_suffix, last_leaf, segments, element_default, header_default, is_line_node, root_prefix, root_suffix, print_in}
+use Rattle.toml_edit_model.specs.Print.{one_space, dot_prefix, dot_suffix, last_leaf, segments, element_default, header_default, is_line_node, root_prefix, root_suffix, print_in}
 use Rattle.toml_edit_model.specs.Order.{sorted_by}
 
 -- ---- commas, and whether there are lines
@@ -154,11 +154,11 @@ module _ (mode : Mode) where
   -- the key of a line or a pair, behind these keys, with its decor and the `=`
   abbrev pub key_part : Text → List Key → Key → Text
   key_part default ks k =
-      shown_prefix mode default k.leaf ++ (dotted_keys true ks ++ (before_key ks k ++ (key_text k ++ (shown_suffix mode blank k.leaf ++ codes "="))))
+      shown_prefix mode default k.leaf ++ (dotted_keys true ks ++ (before_key ks k ++ (key_text k ++ (shown_suffix mode one_space k.leaf ++ codes "="))))
 
   -- a line or a pair up to the end of its value, which has this text
   abbrev pub pair_start : Text → List Key → Key → Node → Text → Text
-  pair_start default ks k n value = key_part default ks k ++ (shown_prefix mode blank (node_decor n) ++ value)
+  pair_start default ks k n value = key_part default ks k ++ (shown_prefix mode one_space (node_decor n) ++ value)
 
   -- a line
   abbrev pub line_text : List Key → Key → Node → Text → Text
@@ -181,7 +181,7 @@ module _ (mode : Mode) where
   -- what stands between the last pair, whose value has this decor, if there is one, and the text before the brace
   abbrev pub after_pairs : Bool → Option Decor → Text
   after_pairs comma None = []
-  after_pairs comma (Some d) = shown_suffix mode blank d ++ comma_text comma
+  after_pairs comma (Some d) = shown_suffix mode one_space d ++ comma_text comma
 
   -- A value from its first byte to its last; the elements of an array, and the comma that ends them; the pairs of an inline table,
   -- behind one whose value has this decor, each up to the end of its value.
@@ -207,7 +207,7 @@ module _ (mode : Mode) where
     written_pairs no_slots ks before = []
     written_pairs (slot k n ss) ks before =
         elim (is_line_node n) [
-          | true ↦ between_pairs before ++ pair_start blank ks k n (written_value n)
+          | true ↦ between_pairs before ++ pair_start one_space ks k n (written_value n)
           | false ↦ written_pairs_in n (ks ++ (k ∷ [])) before
         ]
         ++ written_pairs ss ks (elim (is_line_node n) [ true ↦ Some (node_decor n) | false ↦ last_pair_in n before ])

@@ -6,7 +6,7 @@ use Rattle.std.proofs.lemmas.Bool.{false≢true}
 use Rattle.std.proofs.lemmas.List.{length-append}
 use Rattle.toml_edit_model.specs.Text.{Text, same_text, is_empty, joined}
 use Rattle.toml_edit_model.specs.Trivia.{is_blank, IsWhiteSpace, IsWholeTrivia, IsLineEnd, IsFinalTrivia, lf, crlf, IsNewline}
-use Rattle.toml_edit_model.specs.Syntax.{Segment, Frame, Value, scalar, array, inline_table, Elements, no_elements, element, Pairs, no_pairs, pair, Statement, key_line, header, Document, begins_bare, opening_brackets, closing_brackets, brackets_text, segment_text, path_text, frame_text, comma_text, value_text, elements_text, pairs_text, statement_text, mark_text, IsSpacedSegment, IsSpelledSegment, IsPath, IsFrame, IsClose, has_elements, has_pairs, IsValue, AreElements, ArePairs, IsStatement, AreStatements, IsCut}
+use Rattle.toml_edit_model.specs.Syntax.{Segment, Frame, Value, scalar, array, inline_table, Elements, no_elements, element, Pairs, no_pairs, pair, Statement, key_line, header, Document, begins_unspaced, opening_brackets, closing_brackets, brackets_text, segment_text, path_text, frame_text, comma_text, value_text, elements_text, pairs_text, statement_text, mark_text, IsSpacedSegment, IsSpelledSegment, IsPath, IsFrame, IsClose, has_elements, has_pairs, IsValue, AreElements, ArePairs, IsStatement, AreStatements, IsCut}
 use Rattle.toml_edit_model.specs.Lone.{IsLoneValue, IsLonePath}
 use Rattle.toml_edit_model.proofs.Machines.{after, between, trivia_next, whole_leaves, is_between, may_end, final_leaves, line_next, line_end_leaves}
 use Rattle.toml_edit_model.proofs.TokenTests.{is_key, key_passes, is_scalar, scalar_passes}
@@ -167,7 +167,7 @@ inner (suc n) behind_bracket rest t =
 inner (suc n) behind_brace rest t =
     either (λ r. whole (byte 0x7D r)) (λ r. frame whole n (inner n a_value) (close 0x7D (inner n behind_brace) r)) rest t
 
-some_segments : (p : List Segment) → begins_bare p ≡ true → is_empty p ≡ false
+some_segments : (p : List Segment) → begins_unspaced p ≡ true → is_empty p ≡ false
 some_segments [] e = absurd cc
 some_segments (s ∷ p) e = refl
 

@@ -5,7 +5,7 @@ use Rattle.std.specs.Borrow.{Bor}
 use Rattle.std.proofs.lemmas.Bool.{ne_eqb}
 use Rattle.std.proofs.lemmas.Bool.Decides.{nat_tests}
 use Rattle.toml_edit_model.specs.Text.{Text}
-use Rattle.toml_edit_model.specs.Syntax.{array, Elements, no_elements, element, value_text, elements_text, comma_text, most}
+use Rattle.toml_edit_model.specs.Syntax.{array, Elements, no_elements, element, value_text, elements_text, comma_text, nesting_limit}
 use Rattle.toml_edit_model.specs.Faults.{Fault, deep_bracket, value_faults, elements_faults}
 use Rattle.toml_edit_model.specs.Tree.{Raw, Decor, Extent, ArrayFields, Node, Items}
 use Rattle.toml_edit_model.specs.TreeOf.{spanned_form, decor_at, span_of, IsValueNode, AreElementNodes}
@@ -56,12 +56,12 @@ elements_stand source (element a v es) comma t start h =
     let inner : Text = elements_text (element a v es) in
     stands-left source (start + 1) inner later (stands-right source start (codes "[") (inner ++ later) h)
 
-pub not_deep : (level start : ℕ) → level < most → deep_bracket level start ≡ []
+pub not_deep : (level start : ℕ) → level < nesting_limit → deep_bracket level start ≡ []
 not_deep level start below =
-    let e : (level == most) ≡ false = ne_eqb level most (λ same. omega (arith, same)) in
+    let e : (level == nesting_limit) ≡ false = ne_eqb level nesting_limit (λ same. omega (arith, same)) in
     rw e refl
 
-pub array_fault : (es : Elements) (comma : Bool) (t : Text) (start level : ℕ) → level < most → value_faults (array es comma t) start level ≡ elements_faults es (start + 1) (suc level)
+pub array_fault : (es : Elements) (comma : Bool) (t : Text) (start level : ℕ) → level < nesting_limit → value_faults (array es comma t) start level ≡ elements_faults es (start + 1) (suc level)
 array_fault es comma t start level below = ap (λ (x : List Fault). x ++ elements_faults es (start + 1) (suc level)) (not_deep level start below)
 
 -- a text in brackets has a byte
@@ -72,7 +72,7 @@ abbrev fields_of : Decor → Bool → Raw → Extent → ArrayFields
 fields_of d comma r extent = record { decor = d; comma = comma; trailing = r; extent = extent }
 
 pub array_read : (es : Elements) (comma : Bool) (t : Text) (start level : ℕ) (more : List Event) (items : List Item) (inner : List Event) (n : Node) (rest : List Event)
-    → level < most
+    → level < nesting_limit
     → AreRead es (start + 1) (suc level) (close_events ArrayClose (codes "]") (start + length (value_text (array es comma t)) - 1) comma t ++ more) items inner
     → MakesArray start (end_at (start + length (value_text (array es comma t)) - 1) comma t) (items_view items) (shortened level more) n rest
     → IsRead (array es comma t) start level more n rest
@@ -105,7 +105,7 @@ made_array start own close xs behind more n same is =
 
 -- an array whose elements were read is what its end makes of them
 pub array_closed : (source : Text) (es : Elements) (comma : Bool) (t : Text) (start level : ℕ) (more : List Event) (items : List Item) (inner : List Event)
-    (r : Result (code.Value × Bor (List Event)) ParseFault) → level < most
+    (r : Result (code.Value × Bor (List Event)) ParseFault) → level < nesting_limit
     → AreRead es (start + 1) (suc level) (close_events ArrayClose (codes "]") (start + length (value_text (array es comma t)) - 1) comma t ++ more) items inner
     → EndsArray start (end_at (start + length (value_text (array es comma t)) - 1) comma t) (items_view items) (shortened level more) r
     → ReadsValue source (array es comma t) start level more r
@@ -114,6 +114,6 @@ array_closed source es comma t start level more items inner (Ok r) below h made 
 array_closed source es comma t start level more items inner (Err e) below h made = mapped e _ _ (λ r none. absurd none) made
 
 -- a fault of its elements is one of the array
-pub array_refused : (source : Text) (es : Elements) (comma : Bool) (t : Text) (start level : ℕ) (e : ParseFault) → level < most
+pub array_refused : (source : Text) (es : Elements) (comma : Bool) (t : Text) (start level : ℕ) (e : ParseFault) → level < nesting_limit
     → IfToml e (NamesOne source (elements_faults es (start + 1) (suc level))) → IfToml e (NamesOne source (value_faults (array es comma t) start level))
 array_refused source es comma t start level e below h = subst (λ fs. IfToml e (NamesOne source fs)) (sym (array_fault es comma t start level below)) h

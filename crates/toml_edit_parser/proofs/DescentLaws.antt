@@ -8,7 +8,7 @@ use Rattle.toml_edit_model.specs.Syntax.{Segment, path_text}
 use Rattle.toml_edit_model.specs.Paths.{Path, Mention, line_mentions}
 use Rattle.toml_edit_model.specs.Tree.{Raw, Decor, Key, Extent, Node, Slots, leaf, inline}
 use Rattle.toml_edit_model.specs.Scalars.{Scalar}
-use Rattle.toml_edit_model.specs.TreeOf.{Entry, KeyFits, NodeFits, SlotsFit, cut_out}
+use Rattle.toml_edit_model.specs.TreeOf.{Entry}
 use Rattle.toml_edit_laws.specs.FlatTree.{with_slot}
 use Rattle.toml_edit_laws.specs.InlineTree.{entry_clash, path_fields}
 use Rattle.toml_edit_laws.specs.Standing.{Stands}
@@ -35,6 +35,7 @@ use Rattle.toml_edit_parser.proofs.EntryLaws.{Stops, first_of, key-spelled, new-
 use Rattle.toml_edit_parser.proofs.ReadLaws.{mapped}
 use Rattle.toml_edit_parser.proofs.SlotLaws.{fits-with_slot}
 use Rattle.toml_edit_parser.proofs.ViewLaws.{rolled, view-Array, view-Boolean, view-Datetime, view-Float, view-Integer, view-String}
+use Rattle.toml_edit_model.specs.OwnedForm.{KeyFits, NodeFits, SlotsFit, cut_out}
 
 -- ---- refusals
 

@@ -4,7 +4,7 @@ use Rattle.std.specs.Prelude.{Contains, Result, Ok, Err}
 use Rattle.std.specs.Borrow.{Bor}
 use Rattle.std.proofs.lemmas.List.Elements.{Contains-append_left, Contains-append_right}
 use Rattle.toml_edit_model.specs.Text.{Text}
-use Rattle.toml_edit_model.specs.Syntax.{Around, Value, Elements, no_elements, element, IsValue, AreElements, value_text, elements_text, most}
+use Rattle.toml_edit_model.specs.Syntax.{Around, Value, Elements, no_elements, element, IsValue, AreElements, value_text, elements_text, nesting_limit}
 use Rattle.toml_edit_model.specs.Faults.{Fault, value_faults, elements_faults}
 use Rattle.toml_edit_model.specs.Tree.{Node}
 use Rattle.toml_edit_model.specs.TreeOf.{spanned_form, decor_at, IsValueNode, AreElementNodes}
@@ -26,7 +26,7 @@ use Rattle.toml_edit_parser.proofs.ReadLaws.{mapped, same_spans}
 pub record AreBefore (source : Text) (es : Elements) (start level : ℕ) (more events : List Event) : Type 0 where
   pub grammar : AreElements es
   pub stand : ElementsStand source start es
-  pub below : level ≤ most
+  pub below : level ≤ nesting_limit
   pub ends : split_before (shortened level more) ≡ None
   pub events_are : events ≡ shortened level (elements_events start es ++ more)
 
@@ -67,7 +67,7 @@ pub record Next (source : Text) (es : Elements) (start level : ℕ) (more : List
   pub others_grammar : AreElements others
   pub stands : Stands source (place + length around.before) (value_text value)
   pub others_stand : ElementsStand source (next_element place around value) others
-  pub below : level ≤ most
+  pub below : level ≤ nesting_limit
   pub ends : split_before (shortened level more) ≡ None
   pub before_is : before ≡ span_at place around.before
   pub tail_is : tail ≡ shortened level (value_events (place + length around.before) value

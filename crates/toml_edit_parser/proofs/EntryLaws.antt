@@ -5,10 +5,10 @@ use Rattle.std.proofs.lemmas.Option.{same_Some}
 use Rattle.toml_edit_model.specs.Text.{Text, is_empty}
 use Rattle.toml_edit_model.specs.Spelling.{SpellsKey}
 use Rattle.toml_edit_model.specs.Syntax.{Segment, segment_text, path_text}
-use Rattle.toml_edit_model.specs.Paths.{Path, Role, dotted_role, value_role, Mention, mention_of, line_mentions, next_start, to_key}
+use Rattle.toml_edit_model.specs.Paths.{Path, Mention, mention_of, line_mentions, next_start, to_key}
 use Rattle.toml_edit_model.specs.Faults.{duplicate_key}
 use Rattle.toml_edit_model.specs.Tree.{Raw, owned, Decor, unset, Key, InlineFields, Node, nothing, leaf, list, inline, table, tables, Slots, no_slots, slot}
-use Rattle.toml_edit_model.specs.TreeOf.{Entry, spanned_form, span_of, cut_out, key_of, key_extent, ends_path}
+use Rattle.toml_edit_model.specs.TreeOf.{Entry, spanned_form, span_of, key_of, key_extent}
 use Rattle.toml_edit_laws.specs.FlatTree.{with_slot}
 use Rattle.toml_edit_laws.specs.InlineTree.{node_at, with_node, path_fields, change_below, add_last, add_entry, clash_below, entry_clash, way_message, way_fault}
 use Rattle.toml_edit_laws.specs.Standing.{Stands}
@@ -32,6 +32,8 @@ use Rattle.toml_edit_tree.specs.View.{item_view, slots_view}
 use Rattle.toml_edit_parser.proofs.ArrayLaws.{spanned_raw-is}
 use Rattle.toml_edit_parser.proofs.ReadLaws.{mapped, same_parts}
 use Rattle.toml_edit_parser.proofs.SpellingLaws.{spelled-some, span_of-some}
+use Rattle.toml_edit_model.specs.Roles.{Role, dotted_role, value_role, ends_path}
+use Rattle.toml_edit_model.specs.OwnedForm.{cut_out}
 
 -- ---- slots at a place
 

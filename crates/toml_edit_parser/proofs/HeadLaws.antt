@@ -4,10 +4,10 @@ use Rattle.std.specs.Prelude.{Contains}
 use Rattle.toml_edit_model.specs.Text.{Text}
 use Rattle.toml_edit_model.specs.Scalars as scalars
 use Rattle.toml_edit_model.specs.Spelling.{Spells, is_in_range}
-use Rattle.toml_edit_model.specs.Syntax.{Value, scalar, array, inline_table, Elements, Pairs, IsValue, AreElements, ArePairs, value_text, most}
+use Rattle.toml_edit_model.specs.Syntax.{Value, scalar, array, inline_table, Elements, Pairs, IsValue, AreElements, ArePairs, value_text, nesting_limit}
 use Rattle.toml_edit_model.specs.Faults.{fault, range_message, out_of_range, value_faults}
 use Rattle.toml_edit_model.specs.Tree.{span, unset, Node, leaf}
-use Rattle.toml_edit_model.specs.TreeOf.{spanned_form, decor_at, cut_out, IsValueNode}
+use Rattle.toml_edit_model.specs.TreeOf.{spanned_form, decor_at, IsValueNode}
 use Rattle.toml_edit_model.specs.Conversions.{with_decor}
 use Rattle.toml_edit_laws.specs.Standing.{Stands}
 use Rattle.toml_edit_laws.proofs.common.StandingLaws.{cut_out-is}
@@ -20,6 +20,7 @@ use Rattle.toml_edit_syntax.specs.ValueEvents.{event, elements_events, pairs_eve
 use Rattle.toml_edit_parser.specs.ValueRead.{NamesOne, IsRead}
 use Rattle.toml_edit_parser.proofs.ReadLaws.{HeadOf, mapped, here}
 use Rattle.toml_edit_parser.proofs.SpellingLaws.{scalar-some, span_of-some}
+use Rattle.toml_edit_model.specs.OwnedForm.{cut_out}
 
 -- ---- scalars
 
@@ -85,7 +86,7 @@ scalar_refused source (inline_table ps comma t) start level more first rest e ki
 -- A value that begins with the bracket of an array is one.
 pub array_opened : (source : Text) (v : Value) (start level : ℕ) (more : List Event) (first : Event) (rest : List Event) (R : Value → Type 0) → first.kind ≡ ArrayOpen
     → HeadOf v start level more first rest → IsValue v → Stands source start (value_text v)
-    → ((es : Elements) (comma : Bool) (t : Text) → AreElements es → Stands source start (value_text (array es comma t)) → level < most → first.span.start ≡ start
+    → ((es : Elements) (comma : Bool) (t : Text) → AreElements es → Stands source start (value_text (array es comma t)) → level < nesting_limit → first.span.start ≡ start
     → rest ≡ shortened (suc level) (elements_events (start + 1) es
     ++ (close_events ArrayClose (codes "]") (start + length (value_text (array es comma t)) - 1) comma t ++ more))
     → R (array es comma t))
@@ -102,7 +103,7 @@ array_opened source (inline_table ps comma t) start level more first rest R kind
 -- A value that begins with the brace of an inline table is one.
 pub inline_opened : (source : Text) (v : Value) (start level : ℕ) (more : List Event) (first : Event) (rest : List Event) (R : Value → Type 0) → first.kind ≡ InlineTableOpen
     → HeadOf v start level more first rest → IsValue v → Stands source start (value_text v)
-    → ((ps : Pairs) (comma : Bool) (t : Text) → ArePairs ps → Stands source start (value_text (inline_table ps comma t)) → level < most → first.span.start ≡ start
+    → ((ps : Pairs) (comma : Bool) (t : Text) → ArePairs ps → Stands source start (value_text (inline_table ps comma t)) → level < nesting_limit → first.span.start ≡ start
     → rest ≡ shortened (suc level) (pairs_events (start + 1) ps
     ++ (close_events InlineTableClose (codes "}") (start + length (value_text (inline_table ps comma t)) - 1) comma t ++ more))
     → R (inline_table ps comma t))

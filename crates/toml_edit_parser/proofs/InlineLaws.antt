@@ -3,11 +3,11 @@ use Rattle.std.proofs.Common.{◌≡◌, ℕ, suc, ◌+◌, ◌-◌, ◌<◌, Bo
 use Rattle.std.specs.Prelude.{Result, Ok, Err}
 use Rattle.std.specs.Borrow.{Bor}
 use Rattle.toml_edit_model.specs.Text.{Text}
-use Rattle.toml_edit_model.specs.Syntax.{inline_table, Pairs, no_pairs, pair, value_text, pairs_text, comma_text, most}
+use Rattle.toml_edit_model.specs.Syntax.{inline_table, Pairs, no_pairs, pair, value_text, pairs_text, comma_text, nesting_limit}
 use Rattle.toml_edit_model.specs.Paths.{pair_mentions}
 use Rattle.toml_edit_model.specs.Faults.{Fault, value_faults, pair_clashes, pairs_faults}
 use Rattle.toml_edit_model.specs.Tree.{Raw, Decor, Extent, InlineFields, Node, Slots}
-use Rattle.toml_edit_model.specs.TreeOf.{spanned_form, decor_at, span_of, entries, kept, IsValueNode, AreEntrySlots, SlotsFit, NodeFits}
+use Rattle.toml_edit_model.specs.TreeOf.{spanned_form, decor_at, span_of, entries, IsValueNode, AreEntrySlots}
 use Rattle.toml_edit_model.specs.Conversions.{with_decor}
 use Rattle.toml_edit_laws.specs.Standing.{Stands}
 use Rattle.toml_edit_laws.proofs.common.StandingLaws.{stands-left, stands-right}
@@ -26,6 +26,8 @@ use Rattle.toml_edit_parser.specs.ValueRead.{IsRead, NamesOne, ReadsValue, split
 use Rattle.toml_edit_parser.proofs.ArrayLaws.{end_at, less, not_deep, size_is, spanned_raw-is}
 use Rattle.toml_edit_parser.proofs.ReadFits.{fits-spanned_raw}
 use Rattle.toml_edit_parser.proofs.ReadLaws.{mapped}
+use Rattle.toml_edit_model.specs.TableMentions.{kept}
+use Rattle.toml_edit_model.specs.OwnedForm.{SlotsFit, NodeFits}
 
 inline_end_split : (level at : ℕ) (comma : Bool) (t : Text) (more : List Event)
     → split_close (shortened (suc level) (close_events InlineTableClose (codes "}") at comma t ++ more)) ≡ Some (end_at at comma t, shortened level more)
@@ -44,13 +46,13 @@ pairs_stand source (pair f v ps) comma t start h =
     let inner : Text = pairs_text (pair f v ps) in
     stands-left source (start + 1) inner later (stands-right source start (codes "{") (inner ++ later) h)
 
-inline_fault : (ps : Pairs) (comma : Bool) (t : Text) (start level : ℕ) → level < most
+inline_fault : (ps : Pairs) (comma : Bool) (t : Text) (start level : ℕ) → level < nesting_limit
     → value_faults (inline_table ps comma t) start level ≡ pair_clashes [] (pair_mentions (start + 1) ps) ++ pairs_faults ps (start + 1) (suc level)
 inline_fault ps comma t start level below =
     ap (λ (x : List Fault). x ++ (pair_clashes [] (pair_mentions (start + 1) ps) ++ pairs_faults ps (start + 1) (suc level))) (not_deep level start below)
 
 -- what is refused of the pairs is a fault of the inline table
-pub inline-refused : (source : Text) (ps : Pairs) (comma : Bool) (t : Text) (start level : ℕ) (e : ParseFault) → level < most
+pub inline-refused : (source : Text) (ps : Pairs) (comma : Bool) (t : Text) (start level : ℕ) (e : ParseFault) → level < nesting_limit
     → IfToml e (NamesOne source (pair_clashes [] (pair_mentions (start + 1) ps) ++ pairs_faults ps (start + 1) (suc level)))
     → IfToml e (NamesOne source (value_faults (inline_table ps comma t) start level))
 inline-refused source ps comma t start level e below h =
@@ -60,7 +62,7 @@ abbrev fields_of : Decor → Bool → Raw → Extent → InlineFields
 fields_of d comma r extent = record { decor = d; is_dotted = false; comma = comma; trailing = r; extent = extent }
 
 inline_read : (ps : Pairs) (comma : Bool) (t : Text) (start level : ℕ) (more : List Event) (ss : Slots) (inner : List Event) (n : Node) (rest : List Event)
-    → level < most
+    → level < nesting_limit
     → ArePairsRead ps (start + 1) (suc level) (close_events InlineTableClose (codes "}") (start + length (value_text (inline_table ps comma t)) - 1) comma t ++ more) ss inner
     → MakesInline start (end_at (start + length (value_text (inline_table ps comma t)) - 1) comma t) ss (shortened level more) n rest
     → IsRead (inline_table ps comma t) start level more n rest
@@ -85,7 +87,7 @@ inline_read ps comma t start level more ss inner n rest below h made =
 
 -- an inline table whose pairs were read is closed
 pub inline-closed : (source : Text) (ps : Pairs) (comma : Bool) (t : Text) (start level : ℕ) (more : List Event) (ss : Slots) (inner : List Event) (opening : ℕ)
-    (result : Result (code.Value × Bor (List Event)) ParseFault) → level < most → opening ≡ start
+    (result : Result (code.Value × Bor (List Event)) ParseFault) → level < nesting_limit → opening ≡ start
     → ArePairsRead ps (start + 1) (suc level) (close_events InlineTableClose (codes "}") (start + length (value_text (inline_table ps comma t)) - 1) comma t ++ more) ss inner
     → ((close : Close) (behind : List Event) → split_close inner ≡ Some (close, behind) → EndsInline opening close ss behind result)
     → ReadsValue source (inline_table ps comma t) start level more result

@@ -8,7 +8,7 @@ use Rattle.toml_edit_model.specs.Conversions.{with_decor}
 use Rattle.toml_edit_model.specs.Faults.{Fault, duplicate_key, value_faults}
 use Rattle.toml_edit_model.specs.Flat.{Line}
 use Rattle.toml_edit_model.specs.Tree.{Raw, Node, Slots, has_key}
-use Rattle.toml_edit_model.specs.TreeOf.{cut_out, decor_at, span_of, spanned_form}
+use Rattle.toml_edit_model.specs.TreeOf.{decor_at, span_of, spanned_form}
 use Rattle.toml_edit_laws.specs.FlatTree.{line_text, key_start, after_equals_start, value_at, value_end, is_right_value, IsSpelledLine}
 use Rattle.toml_edit_laws.specs.Standing.{Stands}
 use Rattle.toml_edit_laws.proofs.flat.LineLaws.{line-stands}
@@ -31,6 +31,7 @@ use Rattle.toml_edit_tree.specs.View.{slots_view}
 use Rattle.toml_edit_parser.proofs.ReadLaws.{mapped}
 use Rattle.toml_edit_parser.proofs.ArrayLaws.{spanned_raw-is}
 use Rattle.toml_edit_parser.proofs.SlotLaws.{has_key-place}
+use Rattle.toml_edit_model.specs.OwnedForm.{cut_out}
 
 -- the fault of a key that stands already, by the spans of its line
 abbrev twice_at : LineSpans → Fault

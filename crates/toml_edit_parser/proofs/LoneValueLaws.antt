@@ -9,7 +9,7 @@ use Rattle.toml_edit_model.specs.Conversions.{with_decor}
 use Rattle.toml_edit_model.specs.Faults.{value_faults}
 use Rattle.toml_edit_model.specs.Lone.{IsLoneValue, IsLoneItem, is_accepted_value}
 use Rattle.toml_edit_model.specs.Tree.{Decor, unset, Node, nothing, leaf, list, inline, table, tables, IsWellMade}
-use Rattle.toml_edit_model.specs.TreeOf.{spanned_form, owned_form, decor_at, IsValueNode, owned_node}
+use Rattle.toml_edit_model.specs.TreeOf.{spanned_form, owned_form, decor_at, IsValueNode}
 use Rattle.toml_edit_laws.specs.Standing.{Stands}
 use Rattle.toml_edit_laws.proofs.values.OwnedBytes.{owned_byte}
 use Rattle.toml_edit_laws.proofs.values.ValueFaults.{value_faults_right, is_right_value-faults, wrong_by-fault}
@@ -24,6 +24,7 @@ use Rattle.toml_edit_syntax.specs.ValueEvents.{value_events, are_deep, shortened
 use Rattle.toml_edit_parser.proofs.ReadLaws.{within_depth}
 use Rattle.toml_edit_parser.specs.LoneValue.{IsLoneReading, IsLoneRefusal}
 use Rattle.toml_edit_parser.specs.ValueRead.{IsRead, NamesOne}
+use Rattle.toml_edit_model.specs.OwnedForm.{owned_node}
 
 -- ---- with its decor unset
 

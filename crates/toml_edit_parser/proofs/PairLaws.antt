@@ -8,7 +8,7 @@ use Rattle.std.proofs.lemmas.Bool.Decides.{nat_tests}
 use Rattle.std.proofs.lemmas.List.Elements.{Contains-append_right}
 use Rattle.std.proofs.Math.Seq.{drop-append_seam, take-append_seam}
 use Rattle.toml_edit_model.specs.Text.{Text, is_empty}
-use Rattle.toml_edit_model.specs.Syntax.{Segment, Frame, Value, IsFrame, begins_bare, is_short, segment_text, path_text, frame_text, value_text}
+use Rattle.toml_edit_model.specs.Syntax.{Segment, Frame, Value, IsFrame, begins_unspaced, is_short, segment_text, path_text, frame_text, value_text}
 use Rattle.toml_edit_model.specs.Trivia.{IsWholeTrivia}
 use Rattle.toml_edit_model.specs.Faults.{Fault, recursion_limit, long_path, value_faults}
 use Rattle.toml_edit_model.specs.Tree.{Raw, Node, Slots}
@@ -196,7 +196,7 @@ long (s ∷ p) start some h =
     let many : 80 < length (s ∷ p) = omega (arith, n, h) in
     long_of (s ∷ p) (grind (arith, nat_tests, many))
 
-path_some : (p : List Segment) → begins_bare p ≡ true → is_empty p ≡ false
+path_some : (p : List Segment) → begins_unspaced p ≡ true → is_empty p ≡ false
 path_some [] e = absurd cc
 path_some (s ∷ p) e = refl
 
@@ -281,11 +281,11 @@ key-decor start f prefix suffix left right =
     ap (λ r. both_sides r suffix) (left ∙ spanned_raw-is start f.leading)
     ∙ ap (both_sides (span_of start f.leading)) (right ∙ spanned_raw-is (start + length f.leading + length (path_text f.path)) f.before_equals)
 
-begins : (p : List Segment) → begins_bare p ≡ true → first_before p ≡ []
+begins : (p : List Segment) → begins_unspaced p ≡ true → first_before p ≡ []
 begins [] e = refl
 begins (s ∷ p) e = is_empty-nil s.before e
 
-nothing_at : (i : ℕ) (p : List Segment) → begins_bare p ≡ true → record { start = i; end = i } ≡ span_at i (first_before p)
+nothing_at : (i : ℕ) (p : List Segment) → begins_unspaced p ≡ true → record { start = i; end = i } ≡ span_at i (first_before p)
 nothing_at i p e =
     let none : i ≡ i + 0 = omega arith in
     ap (λ j. let s : Span = record { start = i; end = j } in s) none ∙ ap (span_at i) (sym (begins p e))

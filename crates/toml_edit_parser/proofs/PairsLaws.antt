@@ -4,7 +4,7 @@ use Rattle.std.specs.Prelude.{Contains}
 use Rattle.std.proofs.lemmas.List.{length-append}
 use Rattle.std.proofs.lemmas.List.Elements.{Contains-append_left, Contains-append_right}
 use Rattle.toml_edit_model.specs.Text.{Text}
-use Rattle.toml_edit_model.specs.Syntax.{Segment, Frame, Value, Pairs, no_pairs, pair, IsValue, IsFrame, ArePairs, value_text, segment_text, path_text, frame_text, pairs_text, most}
+use Rattle.toml_edit_model.specs.Syntax.{Segment, Frame, Value, Pairs, no_pairs, pair, IsValue, IsFrame, ArePairs, value_text, segment_text, path_text, frame_text, pairs_text, nesting_limit}
 use Rattle.toml_edit_model.specs.Trivia.{IsWholeTrivia}
 use Rattle.toml_edit_model.specs.Paths.{pair_mentions}
 use Rattle.toml_edit_model.specs.Faults.{Fault, long_path, value_faults, pairs_faults, pair_clashes}
@@ -29,7 +29,7 @@ use Rattle.toml_edit_parser.proofs.ReadLaws.{here, mapped, same_spans}
 pub record AreBefore (source : Text) (ps : Pairs) (start level : ℕ) (more events : List Event) : Type 0 where
   pub grammar : ArePairs ps
   pub stand : PairsStand source start ps
-  pub below : level ≤ most
+  pub below : level ≤ nesting_limit
   pub ends : split_leading (shortened level more) ≡ None
   pub events_are : events ≡ shortened level (pairs_events start ps ++ more)
 
@@ -84,7 +84,7 @@ pub record Next (source : Text) (ps : Pairs) (start level : ℕ) (more : List Ev
   pub others_grammar : ArePairs others
   pub stands : Stands source place (frame_text frame (value_text value))
   pub others_stand : PairsStand source (next_pair place frame value) others
-  pub below : level ≤ most
+  pub below : level ≤ nesting_limit
   pub ends : split_leading (shortened level more) ≡ None
   pub leading_is : leading ≡ span_at place frame.leading
   pub tail_is : tail ≡ key_events place frame ++ shortened level (value_events (value_at_byte place frame) value

@@ -3,7 +3,6 @@ use Rattle.std.proofs.Common.{◌≡◌, ℕ, ◌<◌, true, false, ◌==◌, Op
 use Rattle.std.proofs.lemmas.Bool.{cases_Bool}
 use Rattle.toml_edit_model.specs.Text.{Text}
 use Rattle.toml_edit_model.specs.Tree.{Decor, Node, nothing, leaf, list, inline, table, tables, Items}
-use Rattle.toml_edit_model.specs.TreeOf.{RawFits, DecorFits, NodeFits, ItemsFit}
 use Rattle.toml_edit_model.specs.Conversions.{with_decor}
 use Rattle.toml_edit_tree.specs.declared.item.Item.{Item}
 use Rattle.toml_edit_syntax.specs.declared.event.Event.{Event}
@@ -14,6 +13,7 @@ use Rattle.toml_edit_tree.specs.Containers.{array_node}
 use Rattle.toml_edit_syntax.specs.declared.event.Span.{Span}
 use Rattle.toml_edit_tree.specs.View.{item_view, items_view}
 use Rattle.toml_edit_parser.proofs.ReadLaws.{same_closes}
+use Rattle.toml_edit_model.specs.OwnedForm.{RawFits, DecorFits, NodeFits, ItemsFit}
 
 -- with another decor
 pub fits-with_decor : (t : Text) (n : Node) (d : Decor) → NodeFits t n → DecorFits t d → NodeFits t (with_decor d n)

@@ -3,7 +3,7 @@ use Rattle.std.proofs.Common.{◌≡◌, ℕ, suc, ◌+◌, ◌-◌, ◌<◌, �
 use Rattle.std.specs.Prelude.{Contains}
 use Rattle.std.proofs.lemmas.Bool.Decides.{eqb_tells, nat_tests}
 use Rattle.toml_edit_model.specs.Text.{Text}
-use Rattle.toml_edit_model.specs.Syntax.{Value, scalar, array, inline_table, Elements, Pairs, value_text, depth, most}
+use Rattle.toml_edit_model.specs.Syntax.{Value, scalar, array, inline_table, Elements, Pairs, value_text, depth, nesting_limit}
 use Rattle.toml_edit_model.specs.Faults.{Fault, fault, recursion_limit, deep_bracket, value_faults, elements_faults}
 use Rattle.toml_edit_error.specs.Report.{Report, fault_of}
 use Rattle.toml_edit_error.specs.Fault.{IfToml}
@@ -44,15 +44,15 @@ same_closes a b x y e =
 
 -- ---- the depth of a value
 
-pub within_depth : (v : Value) → depth v ≤ most → exceeds_depth v ≡ false
+pub within_depth : (v : Value) → depth v ≤ nesting_limit → exceeds_depth v ≡ false
 within_depth v h = grind (arith, nat_tests)
 
 -- ---- the first event of a value
 
 abbrev Opens : kinds.EventKind → ℕ → ℕ → Text → List Event → Event → List Event → Type 0
 Opens kind start level bracket inner first rest =
-    ((level ≡ most) × (first ≡ record (event kind start bracket) { kind = TooDeep }))
-    ⊎ ((level < most) × (first ≡ event kind start bracket) × (rest ≡ shortened (suc level) inner))
+    ((level ≡ nesting_limit) × (first ≡ record (event kind start bracket) { kind = TooDeep }))
+    ⊎ ((level < nesting_limit) × (first ≡ event kind start bracket) × (rest ≡ shortened (suc level) inner))
 
 abbrev array_end : ℕ → Elements → Bool → Text → List Event
 array_end start es comma t = close_events ArrayClose (codes "]") (start + length (value_text (array es comma t)) - 1) comma t
@@ -67,15 +67,15 @@ HeadOf (array es comma t) start level more first rest =
 HeadOf (inline_table ps comma t) start level more first rest =
     Opens InlineTableOpen start level (codes "{") (pairs_events (start + 1) ps ++ (inline_end start ps comma t ++ more)) first rest
 
-room : (level : ℕ) → level ≤ most → (level ≡ most → ⊥) → level < most
+room : (level : ℕ) → level ≤ nesting_limit → (level ≡ nesting_limit → ⊥) → level < nesting_limit
 room level below apart = omega arith
 
-opens_array : (start level : ℕ) (inner ends more events : List Event) (first : Event) (rest : List Event) → level ≤ most
+opens_array : (start level : ℕ) (inner ends more events : List Event) (first : Event) (rest : List Event) → level ≤ nesting_limit
     → events ≡ shortened level (event ArrayOpen start (codes "[") ∷ ((inner ++ ends) ++ more)) → Some (first, rest) ≡ split_first events
     → Opens ArrayOpen start level (codes "[") (inner ++ (ends ++ more)) first rest
 opens_array start level inner ends more events first rest below e f =
     let g = f ∙ ap split_first e in
-    elim (eqb_tells level most) [
+    elim (eqb_tells level nesting_limit) [
       | inl (full, same) ↦
           let h : ◌≡◌ {A = Option (Event × List Event)} (Some (first, rest)) (Some (record (event ArrayOpen start (codes "[")) { kind = TooDeep }, [])) = rw full at g in
           inl (same, (same_parts _ _ _ _ h).0)
@@ -85,12 +85,12 @@ opens_array start level inner ends more events first rest below e f =
           inr (room level below apart, p.0, p.1 ∙ ap (shortened (suc level)) (append_assoc inner ends more))
     ]
 
-opens_inline : (start level : ℕ) (inner ends more events : List Event) (first : Event) (rest : List Event) → level ≤ most
+opens_inline : (start level : ℕ) (inner ends more events : List Event) (first : Event) (rest : List Event) → level ≤ nesting_limit
     → events ≡ shortened level (event InlineTableOpen start (codes "{") ∷ ((inner ++ ends) ++ more)) → Some (first, rest) ≡ split_first events
     → Opens InlineTableOpen start level (codes "{") (inner ++ (ends ++ more)) first rest
 opens_inline start level inner ends more events first rest below e f =
     let g = f ∙ ap split_first e in
-    elim (eqb_tells level most) [
+    elim (eqb_tells level nesting_limit) [
       | inl (full, same) ↦
           let h : ◌≡◌ {A = Option (Event × List Event)} (Some (first, rest)) (Some (record (event InlineTableOpen start (codes "{")) { kind = TooDeep }, [])) = rw full at g in
           inl (same, (same_parts _ _ _ _ h).0)
@@ -100,7 +100,7 @@ opens_inline start level inner ends more events first rest below e f =
           inr (room level below apart, p.0, p.1 ∙ ap (shortened (suc level)) (append_assoc inner ends more))
     ]
 
-pub head_of : (v : Value) (start level : ℕ) (more events : List Event) (first : Event) (rest : List Event) → level ≤ most
+pub head_of : (v : Value) (start level : ℕ) (more events : List Event) (first : Event) (rest : List Event) → level ≤ nesting_limit
     → events ≡ shortened level (value_events start v ++ more) → Some (first, rest) ≡ split_first events → HeadOf v start level more first rest
 head_of (scalar s t) start level more events first rest below e f = same_parts first (event Scalar start t) rest (shortened level more) (f ∙ ap split_first e)
 head_of (array es comma t) start level more events first rest below e f =
@@ -108,17 +108,17 @@ head_of (array es comma t) start level more events first rest below e f =
 head_of (inline_table ps comma t) start level more events first rest below e f =
     opens_inline start level (pairs_events (start + 1) ps) (inline_end start ps comma t) more events first rest below e f
 
-pub some_event : (v : Value) (start level : ℕ) (more events : List Event) → level ≤ most → events ≡ shortened level (value_events start v ++ more) → None ≡ split_first events → ⊥
+pub some_event : (v : Value) (start level : ℕ) (more events : List Event) → level ≤ nesting_limit → events ≡ shortened level (value_events start v ++ more) → None ≡ split_first events → ⊥
 some_event (scalar s t) start level more events below e f = let g = f ∙ ap split_first e in absurd cc
 some_event (array es comma t) start level more events below e f =
     let g = f ∙ ap split_first e in
-    elim (eqb_tells level most) [ inl (full, same) ↦ let h = rw full at g in absurd cc | inr (below, apart) ↦ let h = rw below at g in absurd cc ]
+    elim (eqb_tells level nesting_limit) [ inl (full, same) ↦ let h = rw full at g in absurd cc | inr (below, apart) ↦ let h = rw below at g in absurd cc ]
 some_event (inline_table ps comma t) start level more events below e f =
     let g = f ∙ ap split_first e in
-    elim (eqb_tells level most) [ inl (full, same) ↦ let h = rw full at g in absurd cc | inr (below, apart) ↦ let h = rw below at g in absurd cc ]
+    elim (eqb_tells level nesting_limit) [ inl (full, same) ↦ let h = rw full at g in absurd cc | inr (below, apart) ↦ let h = rw below at g in absurd cc ]
 
 -- a value has an event
-pub no_event : (v : Value) (start level : ℕ) (more events : List Event) (P : Type 0) → level ≤ most → events ≡ shortened level (value_events start v ++ more)
+pub no_event : (v : Value) (start level : ℕ) (more events : List Event) (P : Type 0) → level ≤ nesting_limit → events ≡ shortened level (value_events start v ++ more)
     → None ≡ split_first events → P
 no_event v start level more events P below e f = absurd (some_event v start level more events below e f)
 
@@ -127,13 +127,13 @@ no_event v start level more events P below e f = absurd (some_event v start leve
 pub here : (f : Fault) (gs : List Fault) → Contains (f ∷ gs) f
 here f gs = (0, omega arith, refl)
 
-deep : (level start : ℕ) (gs : List Fault) → level ≡ most → Contains (deep_bracket level start ++ gs) (fault recursion_limit start 1)
+deep : (level start : ℕ) (gs : List Fault) → level ≡ nesting_limit → Contains (deep_bracket level start ++ gs) (fault recursion_limit start 1)
 deep level start gs same = subst (λ n. Contains (deep_bracket n start ++ gs) (fault recursion_limit start 1)) (sym same) (here (fault recursion_limit start 1) gs)
 
 abbrev limit_at : ℕ → ℕ → Fault
 limit_at i j = record { message = recursion_limit; span = Some (i, j) }
 
-deep_report : (source : Text) (start level : ℕ) (gs : List Fault) (first : Event) (bracket : Text) (kind : kinds.EventKind) (r : Report) → length bracket ≡ 1 → level ≡ most
+deep_report : (source : Text) (start level : ℕ) (gs : List Fault) (first : Event) (bracket : Text) (kind : kinds.EventKind) (r : Report) → length bracket ≡ 1 → level ≡ nesting_limit
     → first ≡ record (event kind start bracket) { kind = TooDeep }
     → r ≡ record { message = codes "recursion limit"; span = Some (first.span.start, first.span.end); input = source }
     → NamesOne source (deep_bracket level start ++ gs) r

@@ -5,10 +5,10 @@ use Rattle.std.proofs.lemmas.Bool.Decides.{eqb_tells}
 use Rattle.toml_edit_model.specs.Text.{Text}
 use Rattle.toml_edit_model.specs.Scalars as scalars
 use Rattle.toml_edit_model.specs.Spelling.{Spells, is_in_range}
-use Rattle.toml_edit_model.specs.Syntax.{Around, Value, scalar, array, inline_table, IsValue, value_text, most}
+use Rattle.toml_edit_model.specs.Syntax.{Around, Value, scalar, array, inline_table, IsValue, value_text, nesting_limit}
 use Rattle.toml_edit_model.specs.Faults.{Fault, fault, range_message, out_of_range}
 use Rattle.toml_edit_model.specs.Tree.{Raw, Decor, Node, span, unset, leaf}
-use Rattle.toml_edit_model.specs.TreeOf.{spanned_form, cut_out, RawFits, NodeFits, ItemsFit, IsValueNode}
+use Rattle.toml_edit_model.specs.TreeOf.{spanned_form, IsValueNode}
 use Rattle.toml_edit_laws.specs.Standing.{Stands}
 use Rattle.toml_edit_laws.proofs.common.StandingLaws.{cut_out-is}
 use Rattle.toml_edit_error.specs.Report.{Report, fault_of}
@@ -29,6 +29,7 @@ use Rattle.toml_edit_parser.proofs.ReadFits.{fits-item}
 use Rattle.toml_edit_parser.proofs.ReadLaws.{same_parts, same_spans, mapped}
 use Rattle.toml_edit_parser.proofs.SpellingLaws.{scalar-some}
 use Rattle.toml_edit_parser.proofs.ViewLaws.{view-Value}
+use Rattle.toml_edit_model.specs.OwnedForm.{cut_out, RawFits, NodeFits, ItemsFit}
 
 -- the events of an element behind the text before it
 abbrev pub element_tail : ℕ → ℕ → Value → Text → List Event → List Event
@@ -45,10 +46,10 @@ scalar_element source (scalar s t) at level after more tail place behind R e is 
     f s t spells stands p.0 p.1
 scalar_element source (array es comma t) at level after more tail place behind R e is spells stands f =
     let g = e ∙ ap split_scalar is in
-    elim (eqb_tells level most) [ inl (full, same) ↦ let h = rw full at g in absurd cc | inr (below, apart) ↦ let h = rw below at g in absurd cc ]
+    elim (eqb_tells level nesting_limit) [ inl (full, same) ↦ let h = rw full at g in absurd cc | inr (below, apart) ↦ let h = rw below at g in absurd cc ]
 scalar_element source (inline_table ps comma t) at level after more tail place behind R e is spells stands f =
     let g = e ∙ ap split_scalar is in
-    elim (eqb_tells level most) [ inl (full, same) ↦ let h = rw full at g in absurd cc | inr (below, apart) ↦ let h = rw below at g in absurd cc ]
+    elim (eqb_tells level nesting_limit) [ inl (full, same) ↦ let h = rw full at g in absurd cc | inr (below, apart) ↦ let h = rw below at g in absurd cc ]
 
 -- ---- what its place says
 

@@ -2,12 +2,12 @@
 use Rattle.std.proofs.Common.{◌≡◌, ℕ, suc, Bool, true, false, ◌||◌, List, [], ◌∷◌, ◌++◌, Option, Some, None, is_some, cond, option_map, refl, sym, ap, ◌∙◌}
 use Rattle.toml_edit_model.specs.Text.{Text, same_text}
 use Rattle.toml_edit_model.specs.Tree.{Key, Node, Slots, no_slots, slot, has_key}
-use Rattle.toml_edit_model.specs.TreeOf.{KeyFits, NodeFits, SlotsFit}
 use Rattle.toml_edit_slots.specs.declared.slots.Slot as repr
 use Rattle.toml_edit_slots.specs.Slots.{is_at, place}
 use Rattle.toml_edit_tree.specs.declared.item.Item.{Item}
 use Rattle.toml_edit_laws.specs.FlatTree.{with_slot}
 use Rattle.toml_edit_tree.specs.View.{item_view, slots_view}
+use Rattle.toml_edit_model.specs.OwnedForm.{KeyFits, NodeFits, SlotsFit}
 
 pub slots_view-append : (es : List (repr.Slot Item)) (s : repr.Slot Item) → slots_view (es ++ s ∷ []) ≡ with_slot (slots_view es) s.key (item_view s.item)
 slots_view-append [] s = refl

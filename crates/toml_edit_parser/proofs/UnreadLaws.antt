@@ -5,7 +5,7 @@ use Rattle.std.proofs.lemmas.List.{drop_all, length-append}
 use Rattle.std.proofs.lemmas.Option.{same_Some}
 use Rattle.std.proofs.lemmas.Bool.{cases_Bool, false≢true}
 use Rattle.toml_edit_model.specs.Text.{Text, is_empty}
-use Rattle.toml_edit_model.specs.Syntax.{Segment, Frame, Value, scalar, array, inline_table, Elements, no_elements, element, Pairs, no_pairs, pair, Header, segment_text, path_text, frame_text, value_text, opening_brackets, closing_brackets, brackets_text, statement_text, mark_text, most, Statement, key_line, header, Document, document_text, IsPath, AreStatements, IsCut}
+use Rattle.toml_edit_model.specs.Syntax.{Segment, Frame, Value, scalar, array, inline_table, Elements, no_elements, element, Pairs, no_pairs, pair, Header, segment_text, path_text, frame_text, value_text, opening_brackets, closing_brackets, brackets_text, statement_text, mark_text, nesting_limit, Statement, key_line, header, Document, document_text, IsPath, AreStatements, IsCut}
 use Rattle.toml_edit_model.specs.Flat.{Line, line_frame, line_statement, IsFlat, IsFlatCut}
 use Rattle.toml_edit_syntax.specs.declared.event.EventKind.TheVariants.{Leading, BeforeDot, BeforeEquals, AfterEquals, ArrayClose, InlineTableClose, After, LineEnd, Final}
 use Rattle.toml_edit_syntax.specs.declared.event.EventKind.{EventKind}
@@ -199,7 +199,7 @@ shortened_has_none level in_value (e ∷ es) none =
           let next = goes_on_in_value in_value e.kind in
           let later : unread next es ≡ None = rw read at none in
           elim (cases_Bool (opens e.kind)) [
-            | inl opening ↦ elim (cases_Bool (level == most)) [
+            | inl opening ↦ elim (cases_Bool (level == nesting_limit)) [
               | inl full ↦ rw (opening, full) refl
               | inr room ↦ rw (opening, room, read) (shortened_has_none (suc level) next es later)
             ]
@@ -219,7 +219,7 @@ not_shortened level (e ∷ es) whole =
     let after : (n : ℕ) → (is_too_deep e.kind || are_deep (shortened n es)) ≡ false → (e ∷ shortened n es) ≡ (e ∷ es) =
     λ n h. ap (λ (x : List Event). e ∷ x) (not_shortened n es (or_right (is_too_deep e.kind) (are_deep (shortened n es)) h)) in
     elim (cases_Bool (opens e.kind)) [
-      | inl opening ↦ elim (cases_Bool (level == most)) [
+      | inl opening ↦ elim (cases_Bool (level == nesting_limit)) [
         | inl full ↦ let bad : true ≡ false = rw (opening, full) at whole in absurd cc
         | inr room ↦ rw (opening, room) (after (suc level) (rw (opening, room) at whole))
       ]

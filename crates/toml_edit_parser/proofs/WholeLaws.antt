@@ -2,7 +2,7 @@
 use Rattle.std.proofs.Common.{◌≡◌, ℕ, ◌⊎◌, Result, Ok, Err, IsOk, IsErrOf, inl, inr, map, Bool, true, false, List, [], ◌∷◌, ◌++◌, Option, refl, sym, ap, ◌∙◌, subst, arith, length, codes, Some, None, IfSome}
 use Rattle.std.proofs.lemmas.Bool.{false≢true, leb-true, cases_Bool}
 use Rattle.toml_edit_model.specs.Text.{Text, one}
-use Rattle.toml_edit_model.specs.Syntax.{Document, mark_text, document_text, IsCut, depth, most, has_short_keys, keeps_ranges}
+use Rattle.toml_edit_model.specs.Syntax.{Document, mark_text, document_text, IsCut, depth, nesting_limit, has_short_keys, keeps_ranges}
 use Rattle.toml_edit_model.specs.Accepted.{is_accepted, has_agreeing_pairs}
 use Rattle.std.specs.Prelude.{◌&&◌, nat_le}
 use Rattle.std.specs.List.{list_any}
@@ -25,17 +25,17 @@ use Rattle.toml_edit_syntax.specs.Events.{IsSpanOf, AreEventsOf, events_of, exce
 use Rattle.toml_edit_syntax.specs.ValueEvents.{are_deep, shortened}
 use Rattle.toml_edit_parser.proofs.ReadLaws.{within_depth}
 use Rattle.toml_edit_error.specs.Report.{Report}
-use Rattle.toml_edit_parser.specs.Parsed.{AreEventsIn, SlotsParsed, IsParsed, IsSyntaxFault, IsRefusal, Refuses}
+use Rattle.toml_edit_parser.specs.Parsed.{AreEventsIn, SlotsParsed, IsParsed, MarksMistake, IsRefusal, Refuses}
 use Rattle.toml_edit_parser.specs.Unread.{unread, first_unread, IsInside, IsNotYet}
 use Rattle.toml_edit_parser.proofs.UnreadLaws.{flat_of, not_flat, stands_unread, all_read}
 
 -- a right value is not too deep
 right_depth : (l : Line) → is_right_value l.value ≡ true → exceeds_depth l.value ≡ false
 right_depth l h =
-    within_depth l.value (leb-true (depth l.value) most
-    (and_left (nat_le (depth l.value) most) (has_short_keys l.value)
-    (and_left (nat_le (depth l.value) most && has_short_keys l.value) (keeps_ranges l.value)
-    (and_left ((nat_le (depth l.value) most && has_short_keys l.value) && keeps_ranges l.value) (has_agreeing_pairs l.value) h))))
+    within_depth l.value (leb-true (depth l.value) nesting_limit
+    (and_left (nat_le (depth l.value) nesting_limit) (has_short_keys l.value)
+    (and_left (nat_le (depth l.value) nesting_limit && has_short_keys l.value) (keeps_ranges l.value)
+    (and_left ((nat_le (depth l.value) nesting_limit && has_short_keys l.value) && keeps_ranges l.value) (has_agreeing_pairs l.value) h))))
 
 -- and no right line is
 right_fit : (keys : List Text) (lines : List Line) → are_right keys lines ≡ true → list_any has_deep_value (map line_statement lines) ≡ false

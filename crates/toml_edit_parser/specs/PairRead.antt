@@ -3,12 +3,12 @@ use Rattle.std.specs.Prelude.{◌≡◌, ◌⊎◌, ℕ, ◌+◌, Bool, true, fa
 use Rattle.std.specs.List.{AllByRecursion}
 use Rattle.std.specs.Borrow.{Bor}
 use Rattle.toml_edit_model.specs.Text.{Text, is_empty}
-use Rattle.toml_edit_model.specs.Syntax.{Segment, Frame, Value, Pairs, no_pairs, pair, IsSpelledSegment, ends_bare, path_text, pairs_text}
-use Rattle.toml_edit_model.specs.Paths.{dotted_role, Mention, may_meet_inline, pair_mentions}
+use Rattle.toml_edit_model.specs.Syntax.{Segment, Frame, Value, Pairs, no_pairs, pair, IsSpelledSegment, ends_unspaced, path_text, pairs_text}
+use Rattle.toml_edit_model.specs.Paths.{Mention, pair_mentions}
 use Rattle.toml_edit_model.specs.Accepted.{all_agree}
 use Rattle.toml_edit_model.specs.Faults.{duplicate_key, long_path, value_faults, pair_clashes, pairs_faults}
 use Rattle.toml_edit_model.specs.Tree.{Raw, span, Decor, Key, Node, inline, Slots, no_slots, unset}
-use Rattle.toml_edit_model.specs.TreeOf.{Entry, spanned_form, entries, kept, AreEntrySlots}
+use Rattle.toml_edit_model.specs.TreeOf.{Entry, spanned_form, entries, AreEntrySlots}
 use Rattle.toml_edit_laws.specs.Standing.{Stands}
 use Rattle.toml_edit_laws.specs.FlatTree.{with_slot}
 use Rattle.toml_edit_laws.specs.InlineTree.{node_at, path_fields, add_last, add_entry, clash_below, entry_clash, way_fault, pair_path, IsPairNode}
@@ -27,6 +27,8 @@ use Rattle.toml_edit_tree.specs.declared.value.Value as code
 use Rattle.toml_edit_tree.specs.Containers.{InlineView, inline_node}
 use Rattle.toml_edit_parser.specs.ValueRead.{span_at, spanned_raw, NamesOne}
 use Rattle.toml_edit_tree.specs.View.{value_view}
+use Rattle.toml_edit_model.specs.Roles.{dotted_role, may_meet_inline}
+use Rattle.toml_edit_model.specs.TableMentions.{kept}
 
 -- ---- the parts of a pair up to its value
 
@@ -115,7 +117,7 @@ key_with name at own before after =
 -- the keys of a path, from one of them on, are spelled, and nothing stands behind the last
 pub record IsEndOfPath (p : List Segment) : Type 0 where
   pub some : is_empty p ≡ false
-  pub ends : ends_bare p ≡ true
+  pub ends : ends_unspaced p ≡ true
   pub spelled : AllByRecursion IsSpelledSegment p
 
 -- ---- one pair

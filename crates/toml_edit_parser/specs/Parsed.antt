@@ -7,7 +7,7 @@ use Rattle.toml_edit_model.specs.Faults.{IsFirstFault}
 use Rattle.toml_edit_model.specs.Flat.{Line, flat_document, IsFlatCut}
 use Rattle.toml_edit_model.specs.Syntax.{Document, mark_text, document_text, IsCut}
 use Rattle.toml_edit_model.specs.Tree.{Raw, Slots}
-use Rattle.toml_edit_model.specs.TreeOf.{spanned_form, SlotsFit, RawFits}
+use Rattle.toml_edit_model.specs.TreeOf.{spanned_form}
 use Rattle.toml_edit_laws.specs.FlatTree.{are_right, AreLineSlots, IsSpelledLine}
 use Rattle.toml_edit_syntax.specs.declared.event.Event.{Event}
 use Rattle.toml_edit_syntax.specs.declared.event.Span.{Span}
@@ -19,6 +19,7 @@ use Rattle.toml_edit_error.specs.Report.{Report, fault_of}
 use Rattle.toml_edit_error.specs.Fault.{IfToml}
 use Rattle.toml_edit_error.specs.declared.toml_error.ParseFault.{ParseFault}
 use Rattle.toml_edit_parser.specs.Unread.{first_unread, IsNotYet}
+use Rattle.toml_edit_model.specs.OwnedForm.{SlotsFit, RawFits}
 
 -- the slots and the trailing text of the flat document with these lines
 pub record SlotsParsed (source : Text) (has_mark : Bool) (lines : List Line) (final : Text) (slots : Slots) (trailing : Raw) : Type 0 where
@@ -56,7 +57,7 @@ pub record IsParsed (t : Text) (slots : Slots) (trailing : Raw) : Type 0 where
   pub parsed : SlotsParsed t has_mark lines final slots trailing
 
 -- the report says what is wrong with the syntax of the text, and marks a place in it
-pub record IsSyntaxFault (t : Text) (r : Report) : Type 0 where
+pub record MarksMistake (t : Text) (r : Report) : Type 0 where
   pub mistake : Mistake
   pub message : r.message ≡ syntax_message mistake
   pub span : Span
@@ -68,7 +69,7 @@ pub record IsSyntaxFault (t : Text) (r : Report) : Type 0 where
 -- it marks a place in the first statement that is not read so far.
 pub record IsRefusal (t : Text) (r : Report) : Type 0 where
   pub input : r.input ≡ t
-  pub syntax : ((d : Document) → IsCut d t → ⊥) → IsSyntaxFault t r ⊎ OpensTooMany t
+  pub syntax : ((d : Document) → IsCut d t → ⊥) → MarksMistake t r ⊎ OpensTooMany t
   pub names : (d : Document) → IsFlatCut d t → Refuses t d r
   pub unread : (d : Document) → IsCut d t → list_any has_deep_value d.statements ≡ false
       → IfSome (first_unread (length (mark_text d.has_mark)) d.statements) (λ statement. IsNotYet t statement r)

@@ -2,12 +2,12 @@
 ghost use Rattle.std.specs.Prelude.{◌≡◌, ◌⊎◌, List, [], true, length, IfOk, IfErr, IsOk, IsErrOf, OnOk};
 ghost use Rattle.toml_edit_model.specs.Syntax as syntax;
 ghost use Rattle.toml_edit_model.specs.Lone.{IsLoneValue, is_accepted_value};
-ghost use Rattle.toml_edit_model.specs.TreeOf.{NodeFits};
 ghost use Rattle.toml_edit_error.specs.Fault.{IfToml};
 ghost use Rattle.toml_edit_syntax.specs.LoneEvents.{AreLoneEvents};
 ghost use Rattle.toml_edit_parser.specs.LoneValue.{IsLoneReading, IsLoneRefusal, ReadsLone};
 ghost use Rattle.toml_edit_parser.specs.ValueRead.{AreIn, IsRead};
 ghost use Rattle.toml_edit_tree.specs.View.{value_view};
+ghost use Rattle.toml_edit_model.specs.OwnedForm.{NodeFits};
 
 use crate::parser::are_cut_short;
 use crate::reader::{read_value, refusal, refusal_of_all};

@@ -3,12 +3,12 @@ ghost use Rattle.std.specs.Prelude.{◌≡◌, ◌+◌, ◌≤◌, ◌<◌, ◌+
 ghost use Rattle.toml_edit_model.specs.Text.{Text};
 ghost use Rattle.toml_edit_model.specs.Spelling.{SpellsKey};
 ghost use Rattle.toml_edit_model.specs.Syntax as syntax;
-ghost use Rattle.toml_edit_model.specs.Syntax.{Frame, Pairs, Segment, ArePairs, IsFrame, IsValue, path_text, frame_text, value_text, most};
+ghost use Rattle.toml_edit_model.specs.Syntax.{Frame, Pairs, Segment, ArePairs, IsFrame, IsValue, path_text, frame_text, value_text, nesting_limit};
 ghost use Rattle.toml_edit_model.specs.Trivia.{IsWholeTrivia};
-ghost use Rattle.toml_edit_model.specs.Paths.{Path, Mention, dotted_role, line_mentions};
+ghost use Rattle.toml_edit_model.specs.Paths.{Path, Mention, line_mentions};
 ghost use Rattle.toml_edit_model.specs.Conversions.{with_decor};
 ghost use Rattle.toml_edit_model.specs.Tree.{inline, owned, unset};
-ghost use Rattle.toml_edit_model.specs.TreeOf.{Entry, KeyFits, NodeFits, SlotsFit, spanned_form, decor_at, value_start, cut_out};
+ghost use Rattle.toml_edit_model.specs.TreeOf.{Entry, spanned_form, decor_at, value_start};
 ghost use Rattle.toml_edit_laws.specs.FlatTree.{with_slot};
 ghost use Rattle.toml_edit_laws.specs.InlineTree.{pair_path, path_fields, way_message};
 ghost use Rattle.toml_edit_laws.specs.Standing.{Stands};
@@ -23,6 +23,8 @@ ghost use Rattle.toml_edit_parser.specs.PairRead as spec;
 ghost use Rattle.toml_edit_parser.specs.PairRead.{AddsBelow, AddsEntry, AddsInside, AddsLast, EndsInline, EndsPair, IsEndOfPath, IsPassed, IsPathAt, PairsStand, ReadsPair, ReadsPairs, key_with};
 ghost use Rattle.toml_edit_parser.specs.ValueRead.{split_close, split_leading, span_at, spanned_raw, AreIn, ReadsValue};
 ghost use Rattle.toml_edit_tree.specs.View.{inline_view, item_view, slots_view, value_view};
+ghost use Rattle.toml_edit_model.specs.Roles.{dotted_role};
+ghost use Rattle.toml_edit_model.specs.OwnedForm.{KeyFits, NodeFits, SlotsFit, cut_out};
 
 use crate::reader::{
     Close, cut, raw, read_value, refusal, refusal_of_all, split_close, split_first,
@@ -69,7 +71,7 @@ pub(crate) fn read_inline<'a>(
 ) -> Result<(Value, &'a [Event]), ParseFault>
     requires { AreIn source.now events.now }
     ensures value { (ps : Pairs) (comma : Bool) (t : Text) (start level : ℕ) (more : List Event) → ArePairs ps
-        → Stands source.now start (value_text (syntax.inline_table ps comma t)) → level < most → opening.start ≡ start
+        → Stands source.now start (value_text (syntax.inline_table ps comma t)) → level < nesting_limit → opening.start ≡ start
         → events.now ≡ shortened (suc level) (pairs_events (start + 1) ps
         ++ (close_events InlineTableClose (codes "}") (start + length (value_text (syntax.inline_table ps comma t)) - 1) comma t ++ more))
         → ReadsValue source.now (syntax.inline_table ps comma t) start level more result }
@@ -93,7 +95,7 @@ fn read_pairs<'a>(
     requires spans { AreIn source.now events.now }
     requires first { slots.old ≡ [] }
     ensures pairs { (ps : Pairs) (start level : ℕ) (more : List Event) → ArePairs ps → PairsStand source.now start ps
-        → level ≤ most → split_leading (shortened level more) ≡ None
+        → level ≤ nesting_limit → split_leading (shortened level more) ≡ None
         → events.now ≡ shortened level (pairs_events start ps ++ more)
         → ReadsPairs source.now ps start level more (slots_view slots.new) result }
     ensures input { IfErr result (λ e. IfToml e (λ r. r.input ≡ source.now)) }
@@ -119,7 +121,7 @@ fn read_pair<'a>(
     requires leading { IsSpanOf source.now leading }
     requires spans { AreIn source.now events.now }
     ensures pair { (f : Frame) (v : syntax.Value) (start level : ℕ) (more : List Event) → IsFrame IsWholeTrivia f → IsValue v
-        → Stands source.now start (frame_text f (value_text v)) → level ≤ most → leading ≡ span_at start f.leading
+        → Stands source.now start (frame_text f (value_text v)) → level ≤ nesting_limit → leading ≡ span_at start f.leading
         → events.now ≡ spec.key_events start f ++ shortened level (value_events (value_at_byte start f) v
         ++ (event After (value_at_byte start f + length (value_text v)) f.trailing ∷ more))
         → ReadsPair source.now f v start level more (slots_view slots.old) (slots_view slots.new) result }

@@ -4,7 +4,7 @@ ghost use Rattle.toml_edit_model.specs.Text.{Text};
 ghost use Rattle.toml_edit_model.specs.Spelling.{SpellsKey};
 ghost use Rattle.toml_edit_model.specs.Syntax.{Document};
 ghost use Rattle.toml_edit_model.specs.Flat.{Line, FlatAs};
-ghost use Rattle.toml_edit_model.specs.TreeOf.{KeyFits, NodeFits, SlotsFit, spanned_form, cut_out};
+ghost use Rattle.toml_edit_model.specs.TreeOf.{spanned_form};
 ghost use Rattle.toml_edit_laws.specs.FlatTree.{line_text, line_key, value_end, IsSpelledLine, with_slot};
 ghost use Rattle.toml_edit_laws.specs.Standing.{Stands};
 ghost use Rattle.toml_edit_error.specs.Fault.{IfToml};
@@ -19,6 +19,7 @@ ghost use Rattle.toml_edit_parser.specs.Split as spec;
 ghost use Rattle.toml_edit_parser.specs.Unread.{unread};
 ghost use Rattle.toml_edit_parser.specs.ValueRead.{AreIn};
 ghost use Rattle.toml_edit_tree.specs.View.{item_view, slots_view};
+ghost use Rattle.toml_edit_model.specs.OwnedForm.{KeyFits, NodeFits, SlotsFit, cut_out};
 
 use crate::flat::{Sight, look};
 use crate::reader::{cut, raw, read_value, refusal, refusal_of_all, split_first};

@@ -4,12 +4,11 @@ ghost use Rattle.toml_edit_model.specs.Text.{Text};
 ghost use Rattle.toml_edit_model.specs.Scalars.{Scalar};
 ghost use Rattle.toml_edit_model.specs.Spelling.{Spells};
 ghost use Rattle.toml_edit_model.specs.Syntax as syntax;
-ghost use Rattle.toml_edit_model.specs.Syntax.{Around, Elements, AreElements, IsValue, value_text, most};
+ghost use Rattle.toml_edit_model.specs.Syntax.{Around, Elements, AreElements, IsValue, value_text, nesting_limit};
 ghost use Rattle.toml_edit_model.specs.Conversions.{with_decor};
-ghost use Rattle.toml_edit_model.specs.TreeOf.{ItemsFit, RawFits, NodeFits, spanned_form, decor_at, span_of, cut_out};
+ghost use Rattle.toml_edit_model.specs.TreeOf.{spanned_form, decor_at, span_of};
 ghost use Rattle.toml_edit_laws.specs.Standing.{Stands};
 ghost use Rattle.toml_edit_error.specs.Fault.{IfToml};
-ghost use Rattle.toml_edit_error.specs.Report.{SpanIsIn};
 ghost use Rattle.toml_edit_syntax.specs.Events.{IsSpanOf};
 ghost use Rattle.toml_edit_syntax.specs.ValueEvents.{event, value_events, elements_events, close_events, shortened};
 ghost use Rattle.toml_edit_parser.specs.ScalarRead.{ReadsScalar};
@@ -18,10 +17,11 @@ ghost use Rattle.toml_edit_tree.specs.Containers.{array_node};
 ghost use Rattle.toml_edit_parser.specs.ValueRead as spec;
 ghost use Rattle.toml_edit_parser.specs.ValueRead.{ElementsStand, span_at, AreIn, ReadsElement, ReadsElements, ReadsValue};
 ghost use Rattle.toml_edit_tree.specs.View.{array_view, items_view, value_view};
+ghost use Rattle.toml_edit_model.specs.OwnedForm.{ItemsFit, RawFits, NodeFits, cut_out};
 
 use crate::pairs::read_inline;
 use std::alloc::Global;
-use toml_edit_error::{ParseFault, TomlError};
+use toml_edit_error::ParseFault;
 use toml_edit_repr::{Decor, Formatted, Mem, RawString};
 use toml_edit_syntax::{Event, EventKind, Span};
 use toml_edit_token::{decode_integer, decode_scalar, range_message};
@@ -56,15 +56,6 @@ pub(crate) fn raw(span: Span) -> RawString
     }
 }
 
-fn error(alloc: Global, source: &str, message: &str, span: Option<(usize, usize)>) -> Mem<TomlError>
-    requires { SpanIsIn source.now span }
-    ensures { IfOk result (λ e. e ≡ record { message = message.now; span = span; input = source.now }) }
-{
-    let message = String::from_str(alloc, message)?;
-    let input = String::from_str(alloc, source)?;
-    Ok(TomlError::new(message, span, input))
-}
-
 /// The error with this message about the span.
 #[cold]
 #[inline(never)]
@@ -72,10 +63,7 @@ pub(crate) fn refusal(alloc: Global, source: &str, message: &str, span: Span) ->
     requires { IsSpanOf source.now span }
     ensures { IfToml result (λ r. r ≡ record { message = message.now; span = Some (span.start, span.end); input = source.now }) }
 {
-    match error(alloc, source, message, Some((span.start, span.end))) {
-        Ok(error) => ParseFault::Toml(error),
-        Err(_) => ParseFault::Memory,
-    }
+    toml_edit_error::refusal(alloc, source, message, Some((span.start, span.end)))
 }
 
 /// The error with this message, about no part of the text.
@@ -84,10 +72,7 @@ pub(crate) fn refusal(alloc: Global, source: &str, message: &str, span: Span) ->
 pub(crate) fn refusal_of_all(alloc: Global, source: &str, message: &str) -> ParseFault
     ensures { IfToml result (λ r. r ≡ record { message = message.now; span = None; input = source.now }) }
 {
-    match error(alloc, source, message, None) {
-        Ok(error) => ParseFault::Toml(error),
-        Err(_) => ParseFault::Memory,
-    }
+    toml_edit_error::refusal(alloc, source, message, None)
 }
 
 /// The first event, and those behind it.
@@ -172,7 +157,7 @@ pub(crate) fn read_value<'a>(
 ) -> Result<(Value, &'a [Event]), ParseFault>
     requires { AreIn source.now events.now }
     ensures value { (v : syntax.Value) (start level : ℕ) (more : List Event) → IsValue v → Stands source.now start (value_text v)
-        → level ≤ most → events.now ≡ shortened level (value_events start v ++ more) → ReadsValue source.now v start level more result }
+        → level ≤ nesting_limit → events.now ≡ shortened level (value_events start v ++ more) → ReadsValue source.now v start level more result }
     ensures input { IfErr result (λ e. IfToml e (λ r. r.input ≡ source.now)) }
     ensures fits { IfOk result (λ r. NodeFits source.now (value_view r.0)) }
     ensures rest { IfOk result (λ r. AreIn source.now r.1.now × (length r.1.now < length events.now)) }
@@ -214,7 +199,7 @@ fn read_array<'a>(
 ) -> Result<(Value, &'a [Event]), ParseFault>
     requires { AreIn source.now events.now }
     ensures value { (es : Elements) (comma : Bool) (t : Text) (start level : ℕ) (more : List Event) → AreElements es
-        → Stands source.now start (value_text (syntax.array es comma t)) → level < most → opening.start ≡ start
+        → Stands source.now start (value_text (syntax.array es comma t)) → level < nesting_limit → opening.start ≡ start
         → events.now ≡ shortened (suc level) (elements_events (start + 1) es
         ++ (close_events ArrayClose (codes "]") (start + length (value_text (syntax.array es comma t)) - 1) comma t ++ more))
         → ReadsValue source.now (syntax.array es comma t) start level more result }
@@ -238,7 +223,7 @@ fn read_elements<'a>(
     requires spans { AreIn source.now events.now }
     requires first { values.old.items ≡ [] }
     ensures elements { (es : Elements) (start level : ℕ) (more : List Event) → AreElements es → ElementsStand source.now start es
-        → level ≤ most → spec.split_before (shortened level more) ≡ None
+        → level ≤ nesting_limit → spec.split_before (shortened level more) ≡ None
         → events.now ≡ shortened level (elements_events start es ++ more)
         → ReadsElements source.now es start level more values.new.items result }
     ensures input { IfErr result (λ e. IfToml e (λ r. r.input ≡ source.now)) }
@@ -312,7 +297,7 @@ fn read_element<'a>(
     requires before { IsSpanOf source.now before }
     requires spans { AreIn source.now events.now }
     ensures element { (a : Around) (v : syntax.Value) (start level : ℕ) (more : List Event) → IsValue v
-        → Stands source.now (start + length a.before) (value_text v) → level ≤ most → before ≡ span_at start a.before
+        → Stands source.now (start + length a.before) (value_text v) → level ≤ nesting_limit → before ≡ span_at start a.before
         → events.now ≡ shortened level (value_events (start + length a.before) v
         ++ (event After (start + length a.before + length (value_text v)) a.after ∷ more))
         → ReadsElement source.now a v start level more values.old.items values.new.items result }

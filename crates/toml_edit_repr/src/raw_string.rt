@@ -2,7 +2,7 @@
 ghost use Rattle.std.specs.Prelude.{◌≡◌, ◌↔◌, [], IsOk, IsTrue, IfOk, OnOk, OnErr, string_bytes};
 ghost use Rattle.std.specs.Option.{option_copied};
 ghost use Rattle.toml_edit_model.specs.Tree.{owned, span};
-ghost use Rattle.toml_edit_model.specs.TreeOf.{RawFits, owned_raw};
+ghost use Rattle.toml_edit_model.specs.OwnedForm.{RawFits, owned_raw};
 
 use arrayvec::ArrayString;
 use std::alloc::{AllocError, Global};

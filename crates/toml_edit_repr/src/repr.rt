@@ -7,7 +7,7 @@ ghost use Rattle.toml_edit_model.specs.DefaultSpelling.{default_spelling};
 ghost use Rattle.toml_edit_model.specs.Scalars.{integer};
 ghost use Rattle.toml_edit_model.specs.Spelling.{SpellsInRange};
 ghost use Rattle.toml_edit_model.specs.Tree.{owned, span, unset, HasTrueSpelling, scalar_text};
-ghost use Rattle.toml_edit_model.specs.TreeOf.{RawFits, OptionFits, DecorFits, owned_raw, owned_decor};
+ghost use Rattle.toml_edit_model.specs.OwnedForm.{RawFits, OptionFits, DecorFits, owned_raw, owned_decor};
 
 use crate::raw_string::{Mem, RawString};
 use crate::write::{spelling_text, write_scalar, write_side};

@@ -63,10 +63,10 @@ impl<T> Model for Slots<T> {
 impl<T> Slots<T> {
     ghost use Rattle.std.specs.Borrow.{sem};
     ghost use Rattle.toml_edit_model.specs.Tree.{HasTrueSpelling};
-    ghost use Rattle.toml_edit_model.specs.TreeOf.{KeyFits, owned_raw, owned_key};
     ghost use Rattle.toml_edit_model.specs.Spelling.{SpellsKey};
     ghost use Rattle.toml_edit_slots.specs.Lending.{LendsItem, LendsFound};
     ghost use Rattle.toml_edit_slots.specs.Slots.{AreApart, is_at, place, lookup, lookup_slot, put, without, items_of, on_key, names};
+    ghost use Rattle.toml_edit_model.specs.OwnedForm.{KeyFits, owned_raw, owned_key};
 
     /// No slots, which take no memory yet.
     pub fn new(alloc: Global) -> Slots<T>

@@ -6,7 +6,7 @@ use Rattle.std.proofs.lemmas.Bool.{cases_Bool}
 use Rattle.std.proofs.lemmas.Bool.Decides.{nat_tests}
 use Rattle.std.proofs.lemmas.List.Folds.{list_any-append}
 use Rattle.toml_edit_model.specs.Text.{Text}
-use Rattle.toml_edit_model.specs.Syntax.{Segment, Frame, Value, scalar, array, inline_table, Elements, no_elements, element, Pairs, no_pairs, pair, Header, segment_text, path_text, value_text, opening_brackets, closing_brackets, statement_text, depth, elements_depth, pairs_depth, most, Statement, key_line, header, Document, document_text, mark_text}
+use Rattle.toml_edit_model.specs.Syntax.{Segment, Frame, Value, scalar, array, inline_table, Elements, no_elements, element, Pairs, no_pairs, pair, Header, segment_text, path_text, value_text, opening_brackets, closing_brackets, statement_text, depth, elements_depth, pairs_depth, nesting_limit, Statement, key_line, header, Document, document_text, mark_text}
 use Rattle.toml_edit_syntax.specs.declared.event.EventKind.TheVariants.{BeforeEquals, AfterEquals, ArrayOpen, ArrayClose, InlineTableOpen, InlineTableClose, Before, After, BeforeKey, AfterKey, HeaderClose, LineEnd, Final}
 use Rattle.toml_edit_syntax.specs.declared.event.Event.{Event}
 use Rattle.toml_edit_syntax.specs.ValueEvents.{event, opens, path_events, frame_events, value_at_byte, close_events, value_events, elements_events, pairs_events, shortened, is_too_deep, are_deep}
@@ -104,13 +104,13 @@ deep_then a b h = list_any-append (λ (e : Event). is_too_deep e.kind) a b ∙ a
     or_true true = refl
     or_true false = refl
 
-below_most : (level : ℕ) → level ≤ most → (level == most) ≡ false → suc level ≤ most
+below_most : (level : ℕ) → level ≤ nesting_limit → (level == nesting_limit) ≡ false → suc level ≤ nesting_limit
 below_most level h room = grind (arith, nat_tests)
 
 -- the events of a list, cut at such a bracket
-open_deep : (level : ℕ) (o : Event) (inner ends : List Event) → opens o.kind ≡ true → ((level == most) ≡ false → are_deep (shortened (suc level) (inner ++ ends)) ≡ true) → are_deep (shortened level (o ∷ (inner ++ ends))) ≡ true
+open_deep : (level : ℕ) (o : Event) (inner ends : List Event) → opens o.kind ≡ true → ((level == nesting_limit) ≡ false → are_deep (shortened (suc level) (inner ++ ends)) ≡ true) → are_deep (shortened level (o ∷ (inner ++ ends))) ≡ true
 open_deep level o inner ends opening later =
-    elim (cases_Bool (level == most)) [
+    elim (cases_Bool (level == nesting_limit)) [
       | inl full ↦ rw (opening, full) refl
       | inr room ↦ rw (opening, room) (deep_then (o ∷ []) (shortened (suc level) (inner ++ ends)) (later room))
     ]
@@ -136,12 +136,12 @@ mutual
       let end = start + length (value_text (array es comma t)) - 1 in
       let ends = close_events ArrayClose (codes "]") end comma t in
       open_deep level (event ArrayOpen start (codes "[")) (elements_events (start + 1) es) ends refl
-      (λ room. let below : suc level ≤ most = below_most level big.0 room in ap are_deep (elements_stop es (suc level) (start + 1) below (omega (arith, big.1)) ends) ∙ deep_elements es (suc level) (start + 1) (below, omega (arith, big.1)))
+      (λ room. let below : suc level ≤ nesting_limit = below_most level big.0 room in ap are_deep (elements_stop es (suc level) (start + 1) below (omega (arith, big.1)) ends) ∙ deep_elements es (suc level) (start + 1) (below, omega (arith, big.1)))
   deep_value (inline_table ps comma t) level start big =
       let end = start + length (value_text (inline_table ps comma t)) - 1 in
       let ends = close_events InlineTableClose (codes "}") end comma t in
       open_deep level (event InlineTableOpen start (codes "{")) (pairs_events (start + 1) ps) ends refl
-      (λ room. let below : suc level ≤ most = below_most level big.0 room in ap are_deep (pairs_stop ps (suc level) (start + 1) below (omega (arith, big.1)) ends) ∙ deep_pairs ps (suc level) (start + 1) (below, omega (arith, big.1)))
+      (λ room. let below : suc level ≤ nesting_limit = below_most level big.0 room in ap are_deep (pairs_stop ps (suc level) (start + 1) below (omega (arith, big.1)) ends) ∙ deep_pairs ps (suc level) (start + 1) (below, omega (arith, big.1)))
 
   deep_elements : (es : Elements) (level start : ℕ) → Exceeds level (elements_depth es) → are_deep (shortened level (elements_events start es)) ≡ true
   deep_elements no_elements level start big = absurd (omega (arith, big.0, big.1))
@@ -165,7 +165,7 @@ exceeding : (v : Value) → Exceeds 0 (depth v) → exceeds_depth v ≡ true
 exceeding v (below, big) = grind (arith, nat_tests)
 
 fitting : (v : Value) → Fits 0 (depth v) → exceeds_depth v ≡ false
-fitting v h = let fits : depth v ≤ most = omega (arith, h (omega arith)) in grind (arith, nat_tests)
+fitting v h = let fits : depth v ≤ nesting_limit = omega (arith, h (omega arith)) in grind (arith, nat_tests)
 
 -- a value alone
 pub value_is_deep : (v : Value) (start : ℕ) → are_deep (shortened 0 (value_events start v)) ≡ exceeds_depth v

@@ -8,7 +8,7 @@ use Rattle.toml_edit_syntax.specs.Events.{IsSpanOf}
 use Rattle.toml_edit_model.specs.Text.{Text}
 use Rattle.toml_edit_model.specs.Trivia.{IsWholeTrivia}
 use Rattle.toml_edit_model.specs.Scalars.{Scalar}
-use Rattle.toml_edit_model.specs.Syntax.{Frame, path_text, Value, Elements, no_elements, element, Pairs, no_pairs, pair, array, inline_table, IsValue, value_text, most}
+use Rattle.toml_edit_model.specs.Syntax.{Frame, path_text, Value, Elements, no_elements, element, Pairs, no_pairs, pair, array, inline_table, IsValue, value_text, nesting_limit}
 use Rattle.toml_edit_syntax.specs.declared.event.EventKind.{EventKind}
 use Rattle.toml_edit_syntax.specs.declared.event.EventKind.TheVariants.{ArrayOpen, InlineTableOpen, Before, After, TooDeep}
 use Rattle.toml_edit_syntax.specs.declared.event.Event.{Event}
@@ -85,13 +85,13 @@ deep_later t before es spans (is, more) =
     (list_any-append (λ (e : Event). is_too_deep e.kind) before es ∙ any_later (are_deep before) (are_deep es) is, both_spans t before es spans more)
 
 abbrev ValueDeep : ℕ → Type 0
-ValueDeep n = (whole t : Text) (level at : ℕ) → IsUtf8 whole → level ≤ most → Cut whole at t → (es : List Event) → value_at n level at t ≡ deep es → StartsAscii t × DeepIn whole es
+ValueDeep n = (whole t : Text) (level at : ℕ) → IsUtf8 whole → level ≤ nesting_limit → Cut whole at t → (es : List Event) → value_at n level at t ≡ deep es → StartsAscii t × DeepIn whole es
 
 abbrev ElementsDeep : ℕ → Type 0
-ElementsDeep n = (whole t : Text) (level at : ℕ) (comma : Bool) → IsUtf8 whole → level ≤ most → Cut whole at t → (es : List Event) → elements_at n level at comma t ≡ deep es → DeepIn whole es
+ElementsDeep n = (whole t : Text) (level at : ℕ) (comma : Bool) → IsUtf8 whole → level ≤ nesting_limit → Cut whole at t → (es : List Event) → elements_at n level at comma t ≡ deep es → DeepIn whole es
 
 abbrev PairsDeep : ℕ → Type 0
-PairsDeep n = (whole t : Text) (level at : ℕ) (comma : Bool) → IsUtf8 whole → level ≤ most → Cut whole at t → (es : List Event) → pairs_at n level at comma t ≡ deep es → DeepIn whole es
+PairsDeep n = (whole t : Text) (level at : ℕ) (comma : Bool) → IsUtf8 whole → level ≤ nesting_limit → Cut whole at t → (es : List Event) → pairs_at n level at comma t ≡ deep es → DeepIn whole es
 
 -- ---- values
 
@@ -104,13 +104,13 @@ byte_span whole rest at c kind utf8 low cut =
 
 -- a bracket, and what stands behind it
 open_deep : {A : Type 0} (kind : EventKind) (bracket : ℕ) (whole t : Text) (level at : ℕ) (r : Reading A) → IsUtf8 whole → (first t == bracket) ≡ true → 0 < bracket → bracket < 128 → Cut whole at t
-    → ((level == most) ≡ false → Cut whole (at + 1) (drop 1 t) → (es : List Event) → r ≡ deep es → DeepIn whole es)
+    → ((level == nesting_limit) ≡ false → Cut whole (at + 1) (drop 1 t) → (es : List Event) → r ≡ deep es → DeepIn whole es)
     → (es : List Event) → inside kind (bracket ∷ []) level at r ≡ deep es → StartsAscii t × DeepIn whole es
 open_deep kind bracket whole t level at r utf8 here some low c inner es e =
     let starts_with = starts t bracket here some in
     let ascii : StartsAscii t = subst StartsAscii (sym starts_with) low in
     let c0 = cut_as whole t (bracket ∷ drop 1 t) at at starts_with refl c in
-    elim (chosen (level == most) (deep (event TooDeep at (bracket ∷ []) ∷ [])) (behind (event kind at (bracket ∷ []) ∷ []) r) (deep es) e) [
+    elim (chosen (level == nesting_limit) (deep (event TooDeep at (bracket ∷ []) ∷ [])) (behind (event kind at (bracket ∷ []) ∷ []) r) (deep es) e) [
       | inl (full, h) ↦ (ascii, subst (DeepIn whole) (same_deep (event TooDeep at (bracket ∷ []) ∷ []) es h) (refl, (byte_span whole (drop 1 t) at bracket TooDeep utf8 low c0, tt)))
       | inr (room, h) ↦
           let (more, read, parts) = behind_deep (event kind at (bracket ∷ []) ∷ []) r es h in
@@ -195,7 +195,7 @@ module _ (whole : Text) (start : ℕ) (v : Value) (after_value after more : Text
         further whole (44 ∷ []) (drop 1 more) (start + length (value_text v) + length after) last,
       )
 
-elements_value : (n level at : ℕ) (whole t before u : Text) → IsUtf8 whole → level ≤ most → ValueDeep n → ElementsDeep n → IsWholeTrivia before → t ≡ before ++ u → Cut whole at t → (es : List Event)
+elements_value : (n level at : ℕ) (whole t before u : Text) → IsUtf8 whole → level ≤ nesting_limit → ValueDeep n → ElementsDeep n → IsWholeTrivia before → t ≡ before ++ u → Cut whole at t → (es : List Event)
     → behind (event Before at before ∷ []) (follow (value_at n level (at + length before) u) (λ v after_value. follow (trivia_at after_value) (element_then n level (at + length before) before v))) ≡ deep es
     → DeepIn whole es
 elements_value n level at whole t before u utf8 room value elements trivia parts c es e =
@@ -225,7 +225,7 @@ elements_step n value elements whole t level at comma utf8 room c es e =
           ]
     ]
 
-pairs_value : (n level at start : ℕ) (whole t leading key u : Text) (f : Frame) → IsUtf8 whole → level ≤ most → ValueDeep n → PairsDeep n → t ≡ leading ++ key → FrameTook leading key f u → start ≡ value_at_byte at f → Cut whole at t → (es : List Event)
+pairs_value : (n level at start : ℕ) (whole t leading key u : Text) (f : Frame) → IsUtf8 whole → level ≤ nesting_limit → ValueDeep n → PairsDeep n → t ≡ leading ++ key → FrameTook leading key f u → start ≡ value_at_byte at f → Cut whole at t → (es : List Event)
     → behind (frame_events at f) (follow (value_at n level start u) (λ v after_value. follow (trivia_at after_value) (pair_then n level start f v))) ≡ deep es
     → DeepIn whole es
 pairs_value n level at start whole t leading key u f utf8 room value pairs parts frame place c es e =

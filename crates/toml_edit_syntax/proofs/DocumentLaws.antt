@@ -3,7 +3,7 @@ use Rattle.std.proofs.Common.{◌≡◌, ℕ, suc, ◌-◌, ◌<◌, Bool, true,
 use Rattle.std.proofs.lemmas.Bool.{cases_Bool, and_parts, ne_eqb}
 use Rattle.toml_edit_model.specs.Text.{Text}
 use Rattle.toml_edit_model.specs.Trivia.{IsFinalTrivia}
-use Rattle.toml_edit_model.specs.Syntax.{Statement, Document, mark_text, document_text, AreStatements, IsCut, most}
+use Rattle.toml_edit_model.specs.Syntax.{Statement, Document, mark_text, document_text, AreStatements, IsCut, nesting_limit}
 use Rattle.toml_edit_syntax.specs.declared.event.EventKind.TheVariants.{Final}
 use Rattle.toml_edit_laws.specs.reading.Runs.{first}
 use Rattle.toml_edit_syntax.specs.ValueEvents.{event, shortened}
@@ -86,6 +86,6 @@ text_reads t d is =
 -- A text has one cut at most: inside more brackets than may be open reading never stops at one that is too many.
 pub one_cut : (t : Text) (a b : Document) → IsCut a t → IsCut b t → b ≡ a
 one_cut t a b is other =
-    let read : (d : Document) → IsCut d t → cut_of (suc most) t ≡ got d [] = λ d cut.
-    cut_again (suc most) t d cut ∙ ap (λ (fits : Bool). outcome fits d [] (shortened (suc most) (events_from (length (mark_text d.has_mark)) d.statements))) (all_fit d.statements) in
+    let read : (d : Document) → IsCut d t → cut_of (suc nesting_limit) t ≡ got d [] = λ d cut.
+    cut_again (suc nesting_limit) t d cut ∙ ap (λ (fits : Bool). outcome fits d [] (shortened (suc nesting_limit) (events_from (length (mark_text d.has_mark)) d.statements))) (all_fit d.statements) in
     (same_got b a [] [] (sym (read b other) ∙ read a is)).0

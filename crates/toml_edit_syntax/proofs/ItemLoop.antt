@@ -4,7 +4,7 @@ use Rattle.std.specs.Prelude.{Result, Ok, Err, IsErrAnd}
 use Rattle.std.specs.Borrow.{Bor}
 use Rattle.std.proofs.lemmas.Bool.{ne_eqb, eq-eqb}
 use Rattle.toml_edit_model.specs.Text.{Text}
-use Rattle.toml_edit_model.specs.Syntax.{most}
+use Rattle.toml_edit_model.specs.Syntax.{nesting_limit}
 use Rattle.toml_edit_syntax.specs.declared.event.EventKind.TheVariants.{ArrayClose, InlineTableClose, After}
 use Rattle.toml_edit_syntax.specs.declared.event.Event.{Event}
 use Rattle.toml_edit_syntax.specs.declared.lexer.Stop.{Stop}
@@ -56,7 +56,7 @@ items_close brackets.Array m level whole comma t before start fits found here =
 items_close brackets.InlineTable m level whole comma t before start fits found here =
     rw (found, eq-eqb (first start) 0x7D here) (ap (λ (n : ℕ). got (close_events InlineTableClose (codes "}") n comma before) (drop 1 start)) (bracket_at whole start 0x7D here (omega arith) fits))
 
-items_turn : (b : Brackets) (m level whole : ℕ) (comma : Bool) (t before start : Text) → level ≤ most → length t ≤ whole → trivia_at t ≡ got before start → first start ≢ closing_byte b
+items_turn : (b : Brackets) (m level whole : ℕ) (comma : Bool) (t before start : Text) → level ≤ nesting_limit → length t ≤ whole → trivia_at t ≡ got before start → first start ≢ closing_byte b
     → items_read b (suc m) level whole comma t ≡ followed (head_read b whole before start) (λ value. followed (value_read m level whole value) (tail_read b m level whole))
 items_turn brackets.Array m level whole comma t before start room fits found other = element_turn m level whole comma t before start room fits found other
 items_turn brackets.InlineTable m level whole comma t before start room fits found other = pair_turn m level whole comma t before start room fits found other
@@ -77,7 +77,7 @@ end_more b m level whole next comma = rw (eq-eqb (first next) 0x2C comma) refl
 
 -- ---- in the loop
 
-module _ (b : Brackets) (k level whole : ℕ) (comma : Bool) (rest : Text) (found : List Event) (room : level ≤ most) (fits : length rest ≤ whole) (fuel : 2 * length rest + 3 ≤ k) where
+module _ (b : Brackets) (k level whole : ℕ) (comma : Bool) (rest : Text) (found : List Event) (room : level ≤ nesting_limit) (fits : length rest ≤ whole) (fuel : 2 * length rest + 3 ≤ k) where
   pub trivia_fails : trivia_at rest ≡ wrong → preceded found (items_read b k level whole comma rest) ≡ wrong
   trivia_fails bad =
       let (m, is) = one_less k (omega arith) in

@@ -3,7 +3,7 @@ use Rattle.std.proofs.Common.{◌≡◌, ◌≢◌, ℕ, suc, ◌+◌, ◌-◌, 
 use Rattle.std.proofs.lemmas.Bool.{cases_Bool, ne_eqb}
 use Rattle.std.proofs.lemmas.List.{length-append}
 use Rattle.toml_edit_model.specs.Text.{Text}
-use Rattle.toml_edit_model.specs.Syntax.{Frame, Value, Elements, no_elements, element, Pairs, no_pairs, pair, value_text, path_text, most}
+use Rattle.toml_edit_model.specs.Syntax.{Frame, Value, Elements, no_elements, element, Pairs, no_pairs, pair, value_text, path_text, nesting_limit}
 use Rattle.toml_edit_syntax.specs.declared.event.EventKind.TheVariants.{ArrayClose, InlineTableClose, Before, After}
 use Rattle.toml_edit_syntax.specs.declared.event.Event.{Event}
 use Rattle.toml_edit_syntax.specs.declared.value.Brackets.{Brackets}
@@ -21,7 +21,7 @@ use Rattle.toml_edit_syntax.proofs.EventSteps.{between, event_is, preceded-twice
 pub trivia_length : (t w rest : Text) → trivia_at t ≡ got w rest → length w + length rest ≡ length t
 trivia_length t w rest e = omega (arith, ap length (trivia_takes t w rest e).1, length-append w rest)
 
-pub value_length : (n level at : ℕ) (t rest : Text) (v : Value) → level ≤ most → value_at n level at t ≡ got v rest → length (value_text v) + length rest ≡ length t
+pub value_length : (n level at : ℕ) (t rest : Text) (v : Value) → level ≤ nesting_limit → value_at n level at t ≡ got v rest → length (value_text v) + length rest ≡ length t
 value_length n level at t rest v room e = omega (arith, ap length (value_takes n level at t v rest room e).parts, length-append (value_text v) rest)
 
 -- the byte at the front, which is not 0
@@ -51,7 +51,7 @@ module _ {P : Type 0} (k level whole c : ℕ) (value : Text) (lead : List Event)
   abbrev pub seen_tail : Text → Reading (List Event)
   seen_tail rest = follow (trivia_at rest) (λ after more. preceded (event After (whole - length rest) after ∷ []) (seen_end more))
 
-  module _ (room : level ≤ most) (fits : length value ≤ whole)
+  module _ (room : level ≤ nesting_limit) (fits : length value ≤ whole)
       (step : (v : Value) (after : Text) (p : P) (q : Bool × Text) (rest : Text)
       → E (add v after p, q) rest ≡ lead ++ (value_events (whole - length value) v ++ (event After (whole - length value + length (value_text v)) after ∷ F (whole - length value + length (value_text v) + length after + 1) (p, q) rest)))
       (ended : (at : ℕ) (q : Bool × Text) (rest : Text) → F at (none, q) rest ≡ shut q rest) where
@@ -117,7 +117,7 @@ end_read b k level whole more =
 abbrev pub tail_read : Brackets → ℕ → ℕ → ℕ → Text → Reading (List Event)
 tail_read b k level whole rest = follow (trivia_at rest) (λ after more. preceded (event After (whole - length rest) after ∷ []) (end_read b k level whole more))
 
-module _ (k level whole : ℕ) (comma : Bool) (t before more : Text) (room : level ≤ most) (fits : length t ≤ whole) (found : trivia_at t ≡ got before more) where
+module _ (k level whole : ℕ) (comma : Bool) (t before more : Text) (room : level ≤ nesting_limit) (fits : length t ≤ whole) (found : trivia_at t ≡ got before more) where
   abbrev at : ℕ
   at = whole - length t
 

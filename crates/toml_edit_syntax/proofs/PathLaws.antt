@@ -7,7 +7,7 @@ use Rattle.std.proofs.lemmas.List.{length-append}
 use Rattle.toml_edit_model.specs.Text.{Text, is_empty}
 use Rattle.toml_edit_model.specs.Trivia.{is_blank, IsWhiteSpace, IsWholeTrivia}
 use Rattle.toml_edit_model.specs.Spelling.{SpellsKey}
-use Rattle.toml_edit_model.specs.Syntax.{Segment, Frame, segment_text, path_text, IsSpacedSegment, IsSpelledSegment, begins_bare, ends_bare, IsPath, IsFrame}
+use Rattle.toml_edit_model.specs.Syntax.{Segment, Frame, segment_text, path_text, IsSpacedSegment, IsSpelledSegment, begins_unspaced, ends_unspaced, IsPath, IsFrame}
 use Rattle.toml_edit_laws.specs.reading.Runs.{first, split_while}
 use Rattle.toml_edit_laws.specs.reading.Tokens.{key_at, ends_key}
 use Rattle.toml_edit_syntax.specs.Scanning.{front, equals_at}
@@ -25,8 +25,8 @@ use Rattle.toml_edit_syntax.proofs.ReadingSteps.{follow_got, changed_got, readin
 -- segments of which the first has this before it, and the text after them
 record Took (before text : Text) (p : List Segment) (rest : Text) : Type 0 where
   parts : before ++ text ≡ path_text p ++ rest
-  begins : begins_bare p ≡ is_empty before
-  ends : ends_bare p ≡ true
+  begins : begins_unspaced p ≡ is_empty before
+  ends : ends_unspaced p ≡ true
   spelled : AllByRecursion IsSpelledSegment p
   spaced : AllByRecursion IsSpacedSegment p
 
@@ -48,11 +48,11 @@ took_last before text k white found =
     last_parts a b c = simp append_assoc
 
 -- one segment more in front
-path_more : (s : Segment) (p : List Segment) → ends_bare p ≡ true → path_text (s ∷ p) ≡ segment_text s ++ (46 ∷ path_text p)
+path_more : (s : Segment) (p : List Segment) → ends_unspaced p ≡ true → path_text (s ∷ p) ≡ segment_text s ++ (46 ∷ path_text p)
 path_more s [] ends = absurd (false≢true ends)
 path_more s (r ∷ p) ends = refl
 
-ends_more : (s : Segment) (p : List Segment) → ends_bare p ≡ true → ends_bare (s ∷ p) ≡ true
+ends_more : (s : Segment) (p : List Segment) → ends_unspaced p ≡ true → ends_unspaced (s ∷ p) ≡ true
 ends_more s [] ends = absurd (false≢true ends)
 ends_more s (r ∷ p) ends = ends
 
@@ -150,7 +150,7 @@ tail_text s (r ∷ p) rest = s.spelled ++ (s.after ++ (46 ∷ (r.before ++ tail_
 regroup_last : (a b rest : Text) → (a ++ (b ++ [])) ++ rest ≡ a ++ (b ++ rest)
 regroup_last a b rest = simp append_assoc
 
-pub path_tail : (s : Segment) (p : List Segment) (rest : Text) → ends_bare (s ∷ p) ≡ true → path_text (s ∷ p) ++ rest ≡ s.before ++ tail_text s p rest
+pub path_tail : (s : Segment) (p : List Segment) (rest : Text) → ends_unspaced (s ∷ p) ≡ true → path_text (s ∷ p) ++ rest ≡ s.before ++ tail_text s p rest
 path_tail s [] rest ends = ap (λ (x : Text). (s.before ++ (s.spelled ++ x)) ++ rest) (empty_nil s.after ends) ∙ regroup_last s.before s.spelled rest
 path_tail s (r ∷ p) rest ends =
     sym (regroup s.before s.spelled s.after (path_text (r ∷ p)) rest) ∙ ap (λ (x : Text). s.before ++ (s.spelled ++ (s.after ++ (46 ∷ x)))) (path_tail r p rest ends)
@@ -164,7 +164,7 @@ pub record EndsPath (rest : Text) : Type 0 where
   pub stops : ends_key rest ≡ true
   pub undotted : (first (split_while is_blank rest).1 == 46) ≡ false
 
-segments_again : (p : List Segment) (s : Segment) (n : ℕ) (rest : Text) → ends_bare (s ∷ p) ≡ true → AllByRecursion IsSpelledSegment (s ∷ p) → AllByRecursion IsSpacedSegment (s ∷ p) → EndsPath rest
+segments_again : (p : List Segment) (s : Segment) (n : ℕ) (rest : Text) → ends_unspaced (s ∷ p) ≡ true → AllByRecursion IsSpelledSegment (s ∷ p) → AllByRecursion IsSpacedSegment (s ∷ p) → EndsPath rest
     → length p < n → segments_at n s.before (tail_text s p rest) ≡ Some (s ∷ p, rest)
 unfolding segments_at
 segments_again p s zero rest ends spelled spaced stop room = absurd (omega arith)
@@ -211,7 +211,7 @@ path_begins (s ∷ p) is =
     let (c, cs, e, opening) = key_begins s.key s.spelled is.spelled.0 in
     begins_tail s p before (c, cs, e, opening) is.ends
   where
-    begins_tail : (s : Segment) (p : List Segment) → s.before ≡ [] → Begins s.spelled → ends_bare (s ∷ p) ≡ true → Begins (path_text (s ∷ p))
+    begins_tail : (s : Segment) (p : List Segment) → s.before ≡ [] → Begins s.spelled → ends_unspaced (s ∷ p) ≡ true → Begins (path_text (s ∷ p))
     begins_tail s [] before (c, cs, e, opening) ends = (c, cs ++ s.after, ap (λ (x : Text). x ++ (s.spelled ++ s.after)) before ∙ ap (λ (x : Text). x ++ s.after) e, opening)
     begins_tail s (r ∷ p) before (c, cs, e, opening) ends =
         (c, (cs ++ s.after) ++ (46 ∷ path_text (r ∷ p)), ap (λ (x : Text). (x ++ (s.spelled ++ s.after)) ++ (46 ∷ path_text (r ∷ p))) before ∙ ap (λ (x : Text). (x ++ s.after) ++ (46 ∷ path_text (r ∷ p))) e, opening)

@@ -5,7 +5,7 @@ use Rattle.std.proofs.lemmas.Bool.Decides.{nat_tests}
 use Rattle.std.proofs.lemmas.List.{take-append-drop}
 use Rattle.toml_edit_model.specs.Text.{Text}
 use Rattle.toml_edit_model.specs.Trivia.{is_blank, lf, crlf, Piece, blank, break, remark, piece_text, IsPiece, IsWholeTrivia}
-use Rattle.toml_edit_model.specs.Syntax.{most}
+use Rattle.toml_edit_model.specs.Syntax.{nesting_limit}
 use Rattle.toml_edit_syntax.specs.declared.event.EventKind.{EventKind}
 use Rattle.toml_edit_syntax.specs.declared.event.Event.{Event}
 use Rattle.toml_edit_laws.specs.reading.Runs.{first, Read}
@@ -47,9 +47,9 @@ reading_got (Some (x, more)) y rest e =
     cc
 
 pub inside_got : {A : Type 0} (kind : EventKind) (bracket : Text) (level at : ℕ) (r : Reading A) (y : A) (rest : Text)
-    → inside kind bracket level at r ≡ got y rest → ((level == most) ≡ false) × (r ≡ got y rest)
+    → inside kind bracket level at r ≡ got y rest → ((level == nesting_limit) ≡ false) × (r ≡ got y rest)
 inside_got kind bracket level at r y rest e =
-    elim (chosen (level == most) _ _ (got y rest) e) [
+    elim (chosen (level == nesting_limit) _ _ (got y rest) e) [
       | inl (full, h) ↦ absurd cc
       | inr (room, h) ↦ (room, behind_got (event kind at bracket ∷ []) r y rest h)
     ]

@@ -3,7 +3,7 @@ use Rattle.std.proofs.Common.{◌≡◌, ℕ, suc, ◌+◌, ◌-◌, ◌<◌, �
 use Rattle.std.proofs.lemmas.Bool.{cases_lt, ne_eqb}
 use Rattle.std.proofs.lemmas.Bool.Decides.{eqb_tells}
 use Rattle.toml_edit_model.specs.Text.{Text}
-use Rattle.toml_edit_model.specs.Syntax.{Segment, Frame, Value, scalar, array, inline_table, Elements, no_elements, element, Pairs, no_pairs, pair, segment_text, path_text, value_text, depth, elements_depth, pairs_depth, most}
+use Rattle.toml_edit_model.specs.Syntax.{Segment, Frame, Value, scalar, array, inline_table, Elements, no_elements, element, Pairs, no_pairs, pair, segment_text, path_text, value_text, depth, elements_depth, pairs_depth, nesting_limit}
 use Rattle.toml_edit_syntax.specs.declared.event.EventKind.TheVariants.{Leading, Key, BeforeDot, AfterDot, BeforeEquals, AfterEquals, ArrayOpen, ArrayClose, InlineTableOpen, InlineTableClose, Before, After}
 use Rattle.toml_edit_syntax.specs.declared.event.Event.{Event}
 use Rattle.toml_edit_syntax.specs.ValueEvents.{event, path_events, frame_events, value_at_byte, close_events, value_events, elements_events, pairs_events, opens, shortened}
@@ -50,15 +50,15 @@ stays_frame level start f more =
 abbrev Closes : ℕ → List Event → Type 0
 Closes level es = (more : List Event) → shortened (suc level) (es ++ more) ≡ es ++ shortened level more
 
-list_stays : (level : ℕ) (o : Event) (inner ends : List Event) → opens o.kind ≡ true → (level == most) ≡ false → Stays (suc level) inner → Closes level ends → Stays level (o ∷ (inner ++ ends))
+list_stays : (level : ℕ) (o : Event) (inner ends : List Event) → opens o.kind ≡ true → (level == nesting_limit) ≡ false → Stays (suc level) inner → Closes level ends → Stays level (o ∷ (inner ++ ends))
 list_stays level o inner ends opening room h closing more =
     rw (opening, room) (ap (λ (x : List Event). o ∷ x) (ap (shortened (suc level)) (append_assoc inner ends more) ∙ h (ends ++ more) ∙ ap (λ (x : List Event). inner ++ x) (closing more) ∙ sym (append_assoc inner ends (shortened level more))))
 
-list_stops : (level : ℕ) (o : Event) (inner ends : List Event) → opens o.kind ≡ true → (level == most) ≡ false → Stops (suc level) inner → Stops level (o ∷ (inner ++ ends))
+list_stops : (level : ℕ) (o : Event) (inner ends : List Event) → opens o.kind ≡ true → (level == nesting_limit) ≡ false → Stops (suc level) inner → Stops level (o ∷ (inner ++ ends))
 list_stops level o inner ends opening room h more =
     rw (opening, room) (ap (λ (x : List Event). o ∷ x) (stops_first (suc level) inner ends h more))
 
-pub list_full : (level : ℕ) (o : Event) (es : List Event) → opens o.kind ≡ true → (level == most) ≡ true → Stops level (o ∷ es)
+pub list_full : (level : ℕ) (o : Event) (es : List Event) → opens o.kind ≡ true → (level == nesting_limit) ≡ true → Stops level (o ∷ es)
 list_full level o es opening full more = rw (opening, full) refl
 
 less : (level : ℕ) → suc level - 1 ≡ level
@@ -76,21 +76,21 @@ inline_table_closes level at false t more = rw (less level) refl
 
 -- A part so deep fits inside so many brackets. (Inside more than the most that may be open, nothing is one too many.)
 abbrev pub Fits : ℕ → ℕ → Type 0
-Fits level depth = level ≤ most → level + depth ≤ most
+Fits level depth = level ≤ nesting_limit → level + depth ≤ nesting_limit
 
 -- and this one does not
 abbrev pub Exceeds : ℕ → ℕ → Type 0
-Exceeds level depth = (level ≤ most) × (most < level + depth)
+Exceeds level depth = (level ≤ nesting_limit) × (nesting_limit < level + depth)
 
 pub cases_fits : (level depth : ℕ) → Exceeds level depth ⊎ Fits level depth
 cases_fits level depth =
-    elim (cases_lt most level) [
+    elim (cases_lt nesting_limit level) [
       | inl above ↦ inr (λ h. absurd (omega arith))
-      | inr below ↦ elim (cases_lt most (level + depth)) [ inl big ↦ inl (below, big) | inr fits ↦ inr (λ _. fits) ]
+      | inr below ↦ elim (cases_lt nesting_limit (level + depth)) [ inl big ↦ inl (below, big) | inr fits ↦ inr (λ _. fits) ]
     ]
 
-fits_below : (level d : ℕ) → Fits level (suc d) → (level == most) ≡ false
-fits_below level d h = ne_eqb level most (λ same. omega (arith, same, h (omega arith)))
+fits_below : (level d : ℕ) → Fits level (suc d) → (level == nesting_limit) ≡ false
+fits_below level d h = ne_eqb level nesting_limit (λ same. omega (arith, same, h (omega arith)))
 
 -- an item between two others in a list
 item_stays : (level : ℕ) (head value more_items : List Event) (after : ℕ) (t : Text) → Stays level head → Stays level value → Stays level more_items
@@ -137,13 +137,13 @@ mutual
       (value_stays v level value (λ below. omega (arith, room (omega arith)))) (pairs_stay ps level (after + length f.trailing + 1) (λ below. omega (arith, room (omega arith))))
 
 mutual
-  pub value_stops : (v : Value) (level start : ℕ) → level ≤ most → most < level + depth v → Stops level (value_events start v)
+  pub value_stops : (v : Value) (level start : ℕ) → level ≤ nesting_limit → nesting_limit < level + depth v → Stops level (value_events start v)
   value_stops (scalar s t) level start room deep = absurd (omega arith)
   value_stops (array es comma t) level start room deep =
       let end = start + length (value_text (array es comma t)) - 1 in
       let o = event ArrayOpen start (codes "[") in
       let ends = close_events ArrayClose (codes "]") end comma t in
-      elim (eqb_tells level most) [
+      elim (eqb_tells level nesting_limit) [
         | inl (full, same) ↦ list_full level o (elements_events (start + 1) es ++ ends) refl full
         | inr (below, apart) ↦ list_stops level o (elements_events (start + 1) es) ends refl below (elements_stop es (suc level) (start + 1) (omega arith) (omega arith))
       ]
@@ -151,30 +151,30 @@ mutual
       let end = start + length (value_text (inline_table ps comma t)) - 1 in
       let o = event InlineTableOpen start (codes "{") in
       let ends = close_events InlineTableClose (codes "}") end comma t in
-      elim (eqb_tells level most) [
+      elim (eqb_tells level nesting_limit) [
         | inl (full, same) ↦ list_full level o (pairs_events (start + 1) ps ++ ends) refl full
         | inr (below, apart) ↦ list_stops level o (pairs_events (start + 1) ps) ends refl below (pairs_stop ps (suc level) (start + 1) (omega arith) (omega arith))
       ]
 
-  pub elements_stop : (es : Elements) (level start : ℕ) → level ≤ most → most < level + elements_depth es → Stops level (elements_events start es)
+  pub elements_stop : (es : Elements) (level start : ℕ) → level ≤ nesting_limit → nesting_limit < level + elements_depth es → Stops level (elements_events start es)
   elements_stop no_elements level start room deep = absurd (omega arith)
   elements_stop (element a v es) level start room deep =
       let value = start + length a.before in
       let after = value + length (value_text v) in
       let head = event Before start a.before ∷ [] in
       let later = elements_events (after + length a.after + 1) es in
-      elim (cases_lt most (level + depth v)) [
+      elim (cases_lt nesting_limit (level + depth v)) [
         | inl here ↦ item_stops level head (value_events value v) (event After after a.after ∷ later) (λ more. refl) (value_stops v level value room here)
         | inr fits ↦ later_stops level head (value_events value v) later after a.after (λ more. refl) (value_stays v level value (λ _. fits)) (elements_stop es level (after + length a.after + 1) room (omega arith))
       ]
 
-  pub pairs_stop : (ps : Pairs) (level start : ℕ) → level ≤ most → most < level + pairs_depth ps → Stops level (pairs_events start ps)
+  pub pairs_stop : (ps : Pairs) (level start : ℕ) → level ≤ nesting_limit → nesting_limit < level + pairs_depth ps → Stops level (pairs_events start ps)
   pairs_stop no_pairs level start room deep = absurd (omega arith)
   pairs_stop (pair f v ps) level start room deep =
       let value = value_at_byte start f in
       let after = value + length (value_text v) in
       let later = pairs_events (after + length f.trailing + 1) ps in
-      elim (cases_lt most (level + depth v)) [
+      elim (cases_lt nesting_limit (level + depth v)) [
         | inl here ↦ item_stops level (frame_events start f) (value_events value v) (event After after f.trailing ∷ later) (stays_frame level start f) (value_stops v level value room here)
         | inr fits ↦ later_stops level (frame_events start f) (value_events value v) later after f.trailing (stays_frame level start f) (value_stays v level value (λ _. fits)) (pairs_stop ps level (after + length f.trailing + 1) room (omega arith))
       ]

@@ -7,7 +7,7 @@ use Rattle.std.proofs.lemmas.List.Folds.{list_all-append}
 use Rattle.std.specs.List.{list_any}
 use Rattle.toml_edit_model.specs.Text.{Text}
 use Rattle.toml_edit_model.specs.Trivia.{Each, IsWholeTrivia, IsNewline, IsLineEnd}
-use Rattle.toml_edit_model.specs.Syntax.{Frame, Value, array, inline_table, Elements, no_elements, element, Pairs, no_pairs, pair, Statement, key_line, Around, path_text, frame_text, value_text, elements_text, pairs_text, statement_text, mark_text, IsFrame, has_elements, has_pairs, IsValue, AreElements, ArePairs, AreStatements, depth, elements_depth, pairs_depth, most}
+use Rattle.toml_edit_model.specs.Syntax.{Frame, Value, array, inline_table, Elements, no_elements, element, Pairs, no_pairs, pair, Statement, key_line, Around, path_text, frame_text, value_text, elements_text, pairs_text, statement_text, mark_text, IsFrame, has_elements, has_pairs, IsValue, AreElements, ArePairs, AreStatements, depth, elements_depth, pairs_depth, nesting_limit}
 use Rattle.toml_edit_syntax.specs.declared.event.EventKind.{EventKind}
 use Rattle.toml_edit_syntax.specs.declared.event.EventKind.TheVariants.{ArrayOpen, InlineTableOpen, Before, After, TooDeep}
 use Rattle.toml_edit_syntax.specs.declared.event.Event.{Event}
@@ -42,7 +42,7 @@ pub record ValueOpens (level : ℕ) (t : Text) : Type 0 where
   pub closes : Each is_closing_bracket closing
   pub text : front ++ closing ≡ value_text value
   pub is : IsValue value
-  pub deep : most < level + depth value
+  pub deep : nesting_limit < level + depth value
 
 -- elements up to a closing bracket
 pub record ElementsOpen (level : ℕ) (t : Text) : Type 0 where
@@ -55,7 +55,7 @@ pub record ElementsOpen (level : ℕ) (t : Text) : Type 0 where
   pub text : front ++ closing ≡ elements_text elements
   pub are : AreElements elements
   pub some : has_elements elements ≡ true
-  pub deep : most < level + elements_depth elements
+  pub deep : nesting_limit < level + elements_depth elements
 
 -- and pairs
 pub record PairsOpen (level : ℕ) (t : Text) : Type 0 where
@@ -68,16 +68,16 @@ pub record PairsOpen (level : ℕ) (t : Text) : Type 0 where
   pub text : front ++ closing ≡ pairs_text pairs
   pub are : ArePairs pairs
   pub some : has_pairs pairs ≡ true
-  pub deep : most < level + pairs_depth pairs
+  pub deep : nesting_limit < level + pairs_depth pairs
 
 abbrev OpensValue : ℕ → Type 0
-OpensValue n = (level at : ℕ) (t : Text) → level ≤ most → (es : List Event) → value_at n level at t ≡ deep es → ValueOpens level t
+OpensValue n = (level at : ℕ) (t : Text) → level ≤ nesting_limit → (es : List Event) → value_at n level at t ≡ deep es → ValueOpens level t
 
 abbrev OpensElements : ℕ → Type 0
-OpensElements n = (level at : ℕ) (comma : Bool) (t : Text) → level ≤ most → (es : List Event) → elements_at n level at comma t ≡ deep es → ElementsOpen level t
+OpensElements n = (level at : ℕ) (comma : Bool) (t : Text) → level ≤ nesting_limit → (es : List Event) → elements_at n level at comma t ≡ deep es → ElementsOpen level t
 
 abbrev OpensPairs : ℕ → Type 0
-OpensPairs n = (level at : ℕ) (comma : Bool) (t : Text) → level ≤ most → (es : List Event) → pairs_at n level at comma t ≡ deep es → PairsOpen level t
+OpensPairs n = (level at : ℕ) (comma : Bool) (t : Text) → level ≤ nesting_limit → (es : List Event) → pairs_at n level at comma t ≡ deep es → PairsOpen level t
 
 -- ---- values
 
@@ -119,7 +119,7 @@ inline_table_opens level t bracket o =
     }
 
 -- the bracket that is one too many
-array_full : (level : ℕ) (t : Text) → t ≡ 91 ∷ drop 1 t → level ≡ most → ValueOpens level t
+array_full : (level : ℕ) (t : Text) → t ≡ 91 ∷ drop 1 t → level ≡ nesting_limit → ValueOpens level t
 array_full level t bracket full =
     record {
       front = 91 ∷ [];
@@ -133,7 +133,7 @@ array_full level t bracket full =
       deep = omega (arith, full);
     }
 
-inline_table_full : (level : ℕ) (t : Text) → t ≡ 123 ∷ drop 1 t → level ≡ most → ValueOpens level t
+inline_table_full : (level : ℕ) (t : Text) → t ≡ 123 ∷ drop 1 t → level ≡ nesting_limit → ValueOpens level t
 inline_table_full level t bracket full =
     record {
       front = 123 ∷ [];
@@ -148,10 +148,10 @@ inline_table_full level t bracket full =
     }
 
 cases_open : {A : Type 0} (kind : EventKind) (bracket : Text) (level at : ℕ) (r : Reading A) (es : List Event) → inside kind bracket level at r ≡ deep es
-    → (level ≡ most) ⊎ (((level == most) ≡ false) × (ms : List Event) × (r ≡ deep ms))
+    → (level ≡ nesting_limit) ⊎ (((level == nesting_limit) ≡ false) × (ms : List Event) × (r ≡ deep ms))
 cases_open kind bracket level at r es e =
-    elim (chosen (level == most) (deep (event TooDeep at bracket ∷ [])) (behind (event kind at bracket ∷ []) r) (deep es) e) [
-      | inl (full, h) ↦ inl (eqb-true level most full)
+    elim (chosen (level == nesting_limit) (deep (event TooDeep at bracket ∷ [])) (behind (event kind at bracket ∷ []) r) (deep es) e) [
+      | inl (full, h) ↦ inl (eqb-true level nesting_limit full)
       | inr (room, h) ↦ let (ms, read, parts) = behind_deep (event kind at bracket ∷ []) r es h in inr (room, ms, read)
     ]
 
@@ -239,7 +239,7 @@ later_element level t before u v after_value after more leads trails is parts va
       deep = omega (arith, o.deep);
     }
 
-elements_value : (n level at : ℕ) (t before u : Text) → level ≤ most → OpensValue n → OpensElements n → IsWholeTrivia before → t ≡ before ++ u → (es : List Event)
+elements_value : (n level at : ℕ) (t before u : Text) → level ≤ nesting_limit → OpensValue n → OpensElements n → IsWholeTrivia before → t ≡ before ++ u → (es : List Event)
     → behind (event Before at before ∷ []) (follow (value_at n level (at + length before) u) (λ v after_value. follow (trivia_at after_value) (element_then n level (at + length before) before v))) ≡ deep es
     → ElementsOpen level t
 elements_value n level at t before u room value elements trivia parts es e =
@@ -313,7 +313,7 @@ later_pair level t leading key u f v after_value after more parts frame trails i
       deep = omega (arith, o.deep);
     }
 
-pairs_value : (n level at start : ℕ) (t leading key u : Text) (f : Frame) → level ≤ most → OpensValue n → OpensPairs n → t ≡ leading ++ key → FrameTook leading key f u → (es : List Event)
+pairs_value : (n level at start : ℕ) (t leading key u : Text) (f : Frame) → level ≤ nesting_limit → OpensValue n → OpensPairs n → t ≡ leading ++ key → FrameTook leading key f u → (es : List Event)
     → behind (frame_events at f) (follow (value_at n level start u) (λ v after_value. follow (trivia_at after_value) (pair_then n level start f v))) ≡ deep es
     → PairsOpen level t
 pairs_value n level at start t leading key u f room value pairs parts frame es e =
@@ -374,8 +374,8 @@ record StatementsOpen (t : Text) : Type 0 where
   some : 0 < length front
   deep : list_any has_deep_value (here ∷ others) ≡ true
 
-exceeding : (v : Value) → most < 0 + depth v → exceeds_depth v ≡ true
-exceeding v big = let more : most < depth v = omega (arith, big) in grind (arith, nat_tests)
+exceeding : (v : Value) → nesting_limit < 0 + depth v → exceeds_depth v ≡ true
+exceeding v big = let more : nesting_limit < depth v = omega (arith, big) in grind (arith, nat_tests)
 
 some_head : (f : Frame) (front : Text) → 0 < length (head_text f ++ front)
 some_head f front =

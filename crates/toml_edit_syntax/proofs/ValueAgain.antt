@@ -8,7 +8,7 @@ use Rattle.toml_edit_model.specs.Text.{Text}
 use Rattle.toml_edit_model.specs.Trivia.{is_blank, IsWholeTrivia}
 use Rattle.toml_edit_model.specs.Scalars.{Scalar}
 use Rattle.toml_edit_model.specs.Spelling.{Spells}
-use Rattle.toml_edit_model.specs.Syntax.{Around, Frame, Value, scalar, array, inline_table, Elements, no_elements, element, Pairs, no_pairs, pair, path_text, frame_text, comma_text, value_text, elements_text, pairs_text, IsFrame, IsClose, has_elements, has_pairs, IsValue, AreElements, ArePairs, depth, elements_depth, pairs_depth, most}
+use Rattle.toml_edit_model.specs.Syntax.{Around, Frame, Value, scalar, array, inline_table, Elements, no_elements, element, Pairs, no_pairs, pair, path_text, frame_text, comma_text, value_text, elements_text, pairs_text, IsFrame, IsClose, has_elements, has_pairs, IsValue, AreElements, ArePairs, depth, elements_depth, pairs_depth, nesting_limit}
 use Rattle.toml_edit_syntax.specs.declared.event.EventKind.TheVariants.{ArrayOpen, ArrayClose, InlineTableOpen, InlineTableClose, Before, After}
 use Rattle.toml_edit_syntax.specs.declared.event.Event.{Event}
 use Rattle.toml_edit_laws.specs.reading.Runs.{first}
@@ -65,11 +65,11 @@ behind_outcome before false a rest es = refl
 
 -- so deep a part fits inside so many brackets
 abbrev pub has_room : ℕ → ℕ → Bool
-has_room level depth = nat_lt most level || nat_le (level + depth) most
+has_room level depth = nat_lt nesting_limit level || nat_le (level + depth) nesting_limit
 
 pub has_room_true : (level d : ℕ) → Fits level d → has_room level d ≡ true
 has_room_true level d h =
-    elim (cases_lt most level) [
+    elim (cases_lt nesting_limit level) [
       | inl above ↦ grind (arith, nat_tests)
       | inr below ↦ let fits = h below in grind (arith, nat_tests)
     ]
@@ -133,20 +133,20 @@ none_of : (has ends : Bool) (w : Text) → IsClose has ends w → has ≡ false 
 none_of has true w (whole, is) e = absurd (false≢true (sym e ∙ is))
 none_of has false w close e = refl
 
-array_full : (n level at : ℕ) (t : Text) → (level == most) ≡ true → value_at (suc n) level at (91 ∷ t) ≡ deep (shortened level (event ArrayOpen at (codes "[") ∷ []))
+array_full : (n level at : ℕ) (t : Text) → (level == nesting_limit) ≡ true → value_at (suc n) level at (91 ∷ t) ≡ deep (shortened level (event ArrayOpen at (codes "[") ∷ []))
 unfolding value_at
 array_full n level at t full = rw full refl
 
-array_open : (n level at : ℕ) (t : Text) → (level == most) ≡ false
+array_open : (n level at : ℕ) (t : Text) → (level == nesting_limit) ≡ false
     → value_at (suc n) level at (91 ∷ t) ≡ behind (event ArrayOpen at (codes "[") ∷ []) (changed (λ (p : Elements × (Bool × Text)). array p.0 p.1.0 p.1.1) (elements_at n (suc level) (at + 1) false t))
 unfolding value_at
 array_open n level at t room = rw room refl
 
-inline_table_full : (n level at : ℕ) (t : Text) → (level == most) ≡ true → value_at (suc n) level at (123 ∷ t) ≡ deep (shortened level (event InlineTableOpen at (codes "{") ∷ []))
+inline_table_full : (n level at : ℕ) (t : Text) → (level == nesting_limit) ≡ true → value_at (suc n) level at (123 ∷ t) ≡ deep (shortened level (event InlineTableOpen at (codes "{") ∷ []))
 unfolding value_at
 inline_table_full n level at t full = rw full refl
 
-inline_table_open : (n level at : ℕ) (t : Text) → (level == most) ≡ false
+inline_table_open : (n level at : ℕ) (t : Text) → (level == nesting_limit) ≡ false
     → value_at (suc n) level at (123 ∷ t) ≡ behind (event InlineTableOpen at (codes "{") ∷ []) (changed (λ (p : Pairs × (Bool × Text)). inline_table p.0 p.1.0 p.1.1) (pairs_at n (suc level) (at + 1) false t))
 unfolding value_at
 inline_table_open n level at t room = rw room refl
@@ -155,7 +155,7 @@ pub outcome_same : {A : Type 0} (fits : Bool) (a : A) (rest : Text) (es more : L
 outcome_same true a rest es more h = refl
 outcome_same false a rest es more h = ap deep (h refl)
 
-deeper : (level d : ℕ) → (level ≡ most → ⊥) → has_room (suc level) d ≡ has_room level (suc d)
+deeper : (level d : ℕ) → (level ≡ nesting_limit → ⊥) → has_room (suc level) d ≡ has_room level (suc d)
 deeper level d apart =
     elim (cases_fits level (suc d)) [
       | inl big ↦ has_room_false (suc level) d (omega (arith, big.0, apart), omega (arith, big.1)) ∙ sym (has_room_false level (suc d) big)
@@ -163,7 +163,7 @@ deeper level d apart =
     ]
 
 -- the events of a list, up to a bracket that is one too many
-cut_inside : (level : ℕ) (o : Event) (inner ends : List Event) (d : ℕ) → opens o.kind ≡ true → (level == most) ≡ false → (Exceeds (suc level) d → Stops (suc level) inner)
+cut_inside : (level : ℕ) (o : Event) (inner ends : List Event) (d : ℕ) → opens o.kind ≡ true → (level == nesting_limit) ≡ false → (Exceeds (suc level) d → Stops (suc level) inner)
     → has_room (suc level) d ≡ false → o ∷ shortened (suc level) inner ≡ shortened level (o ∷ (inner ++ ends))
 cut_inside level o inner ends d opening room stops none =
     rw (opening, room) (ap (λ (x : List Event). o ∷ x) (sym (stops (no_room (suc level) d none) ends)))
@@ -179,7 +179,7 @@ array_reads n elements es ends w level at rest (close, are) bound =
     let last = close_events ArrayClose (codes "]") (at + length (value_text (array es ends w)) - 1) ends w in
     let same : value_text (array es ends w) ++ rest ≡ 91 ∷ t =
     ap (λ (x : Text). 91 ∷ x) (sym (closed_parts (elements_text es) (comma_text ends) w 93 rest) ∙ ap (λ (b : Bool). elements_text es ++ (comma_text b ++ (w ++ (93 ∷ rest)))) (sym (has_and has ends w close))) in
-    ap (value_at (suc n) level at) same ∙ elim (eqb_tells level most) [
+    ap (value_at (suc n) level at) same ∙ elim (eqb_tells level nesting_limit) [
       | inl (full, is) ↦
           array_full n level at t full ∙ ap deep (sym (list_full level o [] refl full (inner ++ last)))
           ∙ ap (λ (b : Bool). outcome b (array es ends w) rest (shortened level (o ∷ (inner ++ last)))) (sym (has_room_false level (suc d) (omega arith, omega arith)))
@@ -206,7 +206,7 @@ inline_table_reads n pairs ps ends w level at rest (close, are) bound =
     let last = close_events InlineTableClose (codes "}") (at + length (value_text (inline_table ps ends w)) - 1) ends w in
     let same : value_text (inline_table ps ends w) ++ rest ≡ 123 ∷ t =
     ap (λ (x : Text). 123 ∷ x) (sym (closed_parts (pairs_text ps) (comma_text ends) w 125 rest) ∙ ap (λ (b : Bool). pairs_text ps ++ (comma_text b ++ (w ++ (125 ∷ rest)))) (sym (has_and has ends w close))) in
-    ap (value_at (suc n) level at) same ∙ elim (eqb_tells level most) [
+    ap (value_at (suc n) level at) same ∙ elim (eqb_tells level nesting_limit) [
       | inl (full, is) ↦
           inline_table_full n level at t full ∙ ap deep (sym (list_full level o [] refl full (inner ++ last)))
           ∙ ap (λ (b : Bool). outcome b (inline_table ps ends w) rest (shortened level (o ∷ (inner ++ last)))) (sym (has_room_false level (suc d) (omega arith, omega arith)))

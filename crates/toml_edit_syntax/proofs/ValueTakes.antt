@@ -6,7 +6,7 @@ use Rattle.toml_edit_model.specs.Text.{Text}
 use Rattle.toml_edit_model.specs.Trivia.{IsWholeTrivia}
 use Rattle.toml_edit_model.specs.Scalars.{Scalar}
 use Rattle.toml_edit_model.specs.Spelling.{Spells}
-use Rattle.toml_edit_model.specs.Syntax.{Around, Frame, Value, scalar, array, inline_table, Elements, no_elements, element, Pairs, no_pairs, pair, path_text, frame_text, comma_text, value_text, elements_text, pairs_text, IsFrame, IsClose, has_elements, has_pairs, IsValue, AreElements, ArePairs, depth, elements_depth, pairs_depth, most}
+use Rattle.toml_edit_model.specs.Syntax.{Around, Frame, Value, scalar, array, inline_table, Elements, no_elements, element, Pairs, no_pairs, pair, path_text, frame_text, comma_text, value_text, elements_text, pairs_text, IsFrame, IsClose, has_elements, has_pairs, IsValue, AreElements, ArePairs, depth, elements_depth, pairs_depth, nesting_limit}
 use Rattle.toml_edit_syntax.specs.declared.event.EventKind.TheVariants.{ArrayOpen, InlineTableOpen, Before, After}
 use Rattle.toml_edit_syntax.specs.declared.event.Event.{Event}
 use Rattle.toml_edit_laws.specs.reading.Runs.{first, Read}
@@ -25,14 +25,14 @@ use Rattle.toml_edit_syntax.proofs.PathLaws.{head_text, FrameTook, frame_takes}
 pub record ValueTook (level : ℕ) (t : Text) (v : Value) (rest : Text) : Type 0 where
   pub is : IsValue v
   pub parts : t ≡ value_text v ++ rest
-  pub fits : level + depth v ≤ most
+  pub fits : level + depth v ≤ nesting_limit
 
 -- elements up to the closing bracket, where a comma stands before them or not
 pub record ElementsTook (level : ℕ) (comma : Bool) (t : Text) (es : Elements) (ends : Bool) (w rest : Text) : Type 0 where
   pub are : AreElements es
   pub close : IsClose (has_elements es || comma) ends w
   pub parts : t ≡ elements_text es ++ (comma_text (has_elements es && ends) ++ (w ++ (93 ∷ rest)))
-  pub fits : level + elements_depth es ≤ most
+  pub fits : level + elements_depth es ≤ nesting_limit
   pub none : has_elements es ≡ false → ends ≡ comma
 
 -- and pairs
@@ -40,18 +40,18 @@ pub record PairsTook (level : ℕ) (comma : Bool) (t : Text) (ps : Pairs) (ends 
   pub are : ArePairs ps
   pub close : IsClose (has_pairs ps || comma) ends w
   pub parts : t ≡ pairs_text ps ++ (comma_text (has_pairs ps && ends) ++ (w ++ (125 ∷ rest)))
-  pub fits : level + pairs_depth ps ≤ most
+  pub fits : level + pairs_depth ps ≤ nesting_limit
   pub none : has_pairs ps ≡ false → ends ≡ comma
 
 abbrev TakesValue : ℕ → Type 0
-TakesValue n = (level at : ℕ) (t : Text) (v : Value) (rest : Text) → level ≤ most → value_at n level at t ≡ got v rest → ValueTook level t v rest
+TakesValue n = (level at : ℕ) (t : Text) (v : Value) (rest : Text) → level ≤ nesting_limit → value_at n level at t ≡ got v rest → ValueTook level t v rest
 
 abbrev TakesElements : ℕ → Type 0
-TakesElements n = (level at : ℕ) (comma : Bool) (t : Text) (es : Elements) (ends : Bool) (w rest : Text) → level ≤ most
+TakesElements n = (level at : ℕ) (comma : Bool) (t : Text) (es : Elements) (ends : Bool) (w rest : Text) → level ≤ nesting_limit
     → elements_at n level at comma t ≡ got (es, (ends, w)) rest → ElementsTook level comma t es ends w rest
 
 abbrev TakesPairs : ℕ → Type 0
-TakesPairs n = (level at : ℕ) (comma : Bool) (t : Text) (ps : Pairs) (ends : Bool) (w rest : Text) → level ≤ most
+TakesPairs n = (level at : ℕ) (comma : Bool) (t : Text) (ps : Pairs) (ends : Bool) (w rest : Text) → level ≤ nesting_limit
     → pairs_at n level at comma t ≡ got (ps, (ends, w)) rest → PairsTook level comma t ps ends w rest
 
 -- ---- lists and their ends
@@ -175,7 +175,7 @@ inline_table_made level t ps ends w rest bracket took =
       fits = omega (arith, took.fits);
     }
 
-lone_made : (level : ℕ) (t rest : Text) (v : Value) (o : Read Scalar) → level ≤ most → scalar_at t ≡ o → lone_scalar t o ≡ got v rest → ValueTook level t v rest
+lone_made : (level : ℕ) (t rest : Text) (v : Value) (o : Read Scalar) → level ≤ nesting_limit → scalar_at t ≡ o → lone_scalar t o ≡ got v rest → ValueTook level t v rest
 lone_made level t rest v None room found e = absurd cc
 lone_made level t rest v (Some (s, more)) room found e =
     let (spelled, spells, parts) = scalar_takes t more s found in
@@ -195,7 +195,7 @@ value_step n elements pairs level at t v rest room e =
           let made = λ (p : Elements × (Bool × Text)). array p.0 p.1.0 p.1.1 in
           let (below, g) = inside_got ArrayOpen (codes "[") level at (changed made inner) v rest h in
           let (p, read, same) = changed_got made inner v rest g in
-          let next : suc level ≤ most = grind (arith, nat_tests) in
+          let next : suc level ≤ nesting_limit = grind (arith, nat_tests) in
           subst (λ (y : Value). ValueTook level t y rest) same (array_made level t p.0 p.1.0 p.1.1 rest (starts t 0x5B bracket (omega arith)) (elements (suc level) (at + 1) false (drop 1 t) p.0 p.1.0 p.1.1 rest next (read ∙ refl)))
       | inr (other, h) ↦ elim (chosen (first t == 0x7B) _ _ (got v rest) h) [
         | inl (bracket, g) ↦
@@ -203,7 +203,7 @@ value_step n elements pairs level at t v rest room e =
             let made = λ (p : Pairs × (Bool × Text)). inline_table p.0 p.1.0 p.1.1 in
             let (below, f) = inside_got InlineTableOpen (codes "{") level at (changed made inner) v rest g in
             let (p, read, same) = changed_got made inner v rest f in
-            let next : suc level ≤ most = grind (arith, nat_tests) in
+            let next : suc level ≤ nesting_limit = grind (arith, nat_tests) in
             subst (λ (y : Value). ValueTook level t y rest) same (inline_table_made level t p.0 p.1.0 p.1.1 rest (starts t 0x7B bracket (omega arith)) (pairs (suc level) (at + 1) false (drop 1 t) p.0 p.1.0 p.1.1 rest next (read ∙ refl)))
         | inr (neither, g) ↦ lone_made level t rest v (scalar_at t) room refl g
       ]
@@ -211,7 +211,7 @@ value_step n elements pairs level at t v rest room e =
 
 -- ---- elements
 
-elements_none : (level : ℕ) (comma : Bool) (t w value : Text) → level ≤ most → IsWholeTrivia w → t ≡ w ++ value → value ≡ 93 ∷ drop 1 value → ElementsTook level comma t no_elements comma w (drop 1 value)
+elements_none : (level : ℕ) (comma : Bool) (t w value : Text) → level ≤ nesting_limit → IsWholeTrivia w → t ≡ w ++ value → value ≡ 93 ∷ drop 1 value → ElementsTook level comma t no_elements comma w (drop 1 value)
 elements_none level comma t w value room whole parts bracket =
     record {
       are = tt;
@@ -227,7 +227,7 @@ record ElementTook (level : ℕ) (t before : Text) (v : Value) (after rest : Tex
   after_is : IsWholeTrivia after
   is : IsValue v
   parts : t ≡ before ++ (value_text v ++ (after ++ rest))
-  fits : level + depth v ≤ most
+  fits : level + depth v ≤ nesting_limit
 
 element_made : (level : ℕ) (t before value_front : Text) (v : Value) (after_value after more : Text) → IsWholeTrivia before → t ≡ before ++ value_front → ValueTook level value_front v after_value
     → IsWholeTrivia after → after_value ≡ after ++ more → ElementTook level t before v after more
@@ -262,7 +262,7 @@ elements_more level comma t before v after more es ends w rest took sign later =
       none = λ e. absurd (false≢true (sym e));
     }
 
-elements_value : (n level at : ℕ) (comma : Bool) (t before value_front : Text) (es : Elements) (ends : Bool) (w rest : Text) → level ≤ most → TakesValue n → TakesElements n → IsWholeTrivia before → t ≡ before ++ value_front
+elements_value : (n level at : ℕ) (comma : Bool) (t before value_front : Text) (es : Elements) (ends : Bool) (w rest : Text) → level ≤ nesting_limit → TakesValue n → TakesElements n → IsWholeTrivia before → t ≡ before ++ value_front
     → behind (event Before at before ∷ []) (follow (value_at n level (at + length before) value_front) (λ v after_value. follow (trivia_at after_value) (element_then n level (at + length before) before v))) ≡ got (es, (ends, w)) rest
     → ElementsTook level comma t es ends w rest
 elements_value n level at comma t before value_front es ends w rest room value elements whole_before before_parts e =
@@ -291,7 +291,7 @@ elements_step n value elements level at comma t es ends w rest room e =
 
 -- ---- pairs
 
-pairs_none : (level : ℕ) (comma : Bool) (t w key : Text) → level ≤ most → IsWholeTrivia w → t ≡ w ++ key → key ≡ 125 ∷ drop 1 key → PairsTook level comma t no_pairs comma w (drop 1 key)
+pairs_none : (level : ℕ) (comma : Bool) (t w key : Text) → level ≤ nesting_limit → IsWholeTrivia w → t ≡ w ++ key → key ≡ 125 ∷ drop 1 key → PairsTook level comma t no_pairs comma w (drop 1 key)
 pairs_none level comma t w key room whole parts bracket =
     record {
       are = tt;
@@ -306,7 +306,7 @@ record PairTook (level : ℕ) (t : Text) (f : Frame) (v : Value) (after rest : T
   frame_is : IsFrame IsWholeTrivia (followed_by f after)
   is : IsValue v
   parts : t ≡ frame_text (followed_by f after) (value_text v) ++ rest
-  fits : level + depth v ≤ most
+  fits : level + depth v ≤ nesting_limit
 
 pub pair_parts : (f : Frame) (v after rest : Text) → head_text f ++ (v ++ (after ++ rest)) ≡ frame_text (followed_by f after) v ++ rest
 pair_parts f v after rest = spread f.leading (path_text f.path) f.before_equals f.after_equals v after rest
@@ -357,7 +357,7 @@ pairs_more level comma t f v after more ps ends w rest took sign later =
       none = λ e. absurd (false≢true (sym e));
     }
 
-pairs_value : (n level at start : ℕ) (comma : Bool) (t leading key value_front : Text) (f : Frame) (ps : Pairs) (ends : Bool) (w rest : Text) → level ≤ most → TakesValue n → TakesPairs n
+pairs_value : (n level at start : ℕ) (comma : Bool) (t leading key value_front : Text) (f : Frame) (ps : Pairs) (ends : Bool) (w rest : Text) → level ≤ nesting_limit → TakesValue n → TakesPairs n
     → t ≡ leading ++ key → FrameTook leading key f value_front
     → behind (frame_events at f) (follow (value_at n level start value_front) (λ v after_value. follow (trivia_at after_value) (pair_then n level start f v))) ≡ got (ps, (ends, w)) rest
     → PairsTook level comma t ps ends w rest
@@ -371,7 +371,7 @@ pairs_value n level at start comma t leading key value_front f ps ends w rest ro
     (λ sign p read. pairs_more level comma t f v after more p.0 p.1.0 p.1.1 rest took sign (pairs level next true (drop 1 more) p.0 p.1.0 p.1.1 rest room (read ∙ refl)))
     g
 
-pairs_frame : (n level at : ℕ) (comma : Bool) (t leading key : Text) (ps : Pairs) (ends : Bool) (w rest : Text) → level ≤ most → TakesValue n → TakesPairs n → IsWholeTrivia leading → t ≡ leading ++ key
+pairs_frame : (n level at : ℕ) (comma : Bool) (t leading key : Text) (ps : Pairs) (ends : Bool) (w rest : Text) → level ≤ nesting_limit → TakesValue n → TakesPairs n → IsWholeTrivia leading → t ≡ leading ++ key
     → follow (frame_at leading key) (frame_then n level at leading key) ≡ got (ps, (ends, w)) rest
     → PairsTook level comma t ps ends w rest
 pairs_frame n level at comma t leading key ps ends w rest room value pairs whole parts e =

@@ -2,7 +2,7 @@
 use Rattle.std.proofs.Common.{◌≡◌, ◌≢◌, ℕ, suc, ◌+◌, ◌-◌, ◌≤◌, Bool, false, [], ◌∷◌, ◌++◌, length, drop, codes, refl, ap, ◌∙◌, arith}
 use Rattle.std.proofs.lemmas.Bool.{ne_eqb, eq-eqb}
 use Rattle.toml_edit_model.specs.Text.{Text}
-use Rattle.toml_edit_model.specs.Syntax.{array, inline_table, Elements, Pairs, value_text, most}
+use Rattle.toml_edit_model.specs.Syntax.{array, inline_table, Elements, Pairs, value_text, nesting_limit}
 use Rattle.toml_edit_syntax.specs.declared.event.EventKind.{EventKind}
 use Rattle.toml_edit_syntax.specs.declared.event.EventKind.TheVariants.{ArrayOpen, ArrayClose, InlineTableOpen, InlineTableClose, TooDeep}
 use Rattle.toml_edit_syntax.specs.declared.event.Event.{Event}
@@ -23,19 +23,19 @@ module _ (n level whole : ℕ) (t : Text) (fits : length t ≤ whole) where
   bracket_is : (kind : EventKind) (c : ℕ) → first t ≡ c → 1 ≤ c → event kind (whole - length t) (c ∷ []) ≡ between kind (whole - length t) (whole - length (drop 1 t))
   bracket_is kind c here some = event_is kind _ _ _ (c ∷ []) refl (omega (arith, less_one t c (eq-eqb (first t) c here) some))
 
-  pub value_sinks : (b : Brackets) → first t ≡ opening_byte b → level ≡ most → value_read (suc n) level whole t ≡ deep (between TooDeep (whole - length t) (whole - length (drop 1 t)) ∷ [])
+  pub value_sinks : (b : Brackets) → first t ≡ opening_byte b → level ≡ nesting_limit → value_read (suc n) level whole t ≡ deep (between TooDeep (whole - length t) (whole - length (drop 1 t)) ∷ [])
   unfolding value_at
-  value_sinks brackets.Array here full = rw (eq-eqb (first t) 0x5B here, eq-eqb level most full) (ap (λ (e : Event). deep (e ∷ [])) (bracket_is TooDeep 0x5B here (omega arith)))
-  value_sinks brackets.InlineTable here full = rw (ne_eqb (first t) 0x5B (λ e. omega arith), eq-eqb (first t) 0x7B here, eq-eqb level most full) (ap (λ (e : Event). deep (e ∷ [])) (bracket_is TooDeep 0x7B here (omega arith)))
+  value_sinks brackets.Array here full = rw (eq-eqb (first t) 0x5B here, eq-eqb level nesting_limit full) (ap (λ (e : Event). deep (e ∷ [])) (bracket_is TooDeep 0x5B here (omega arith)))
+  value_sinks brackets.InlineTable here full = rw (ne_eqb (first t) 0x5B (λ e. omega arith), eq-eqb (first t) 0x7B here, eq-eqb level nesting_limit full) (ap (λ (e : Event). deep (e ∷ [])) (bracket_is TooDeep 0x7B here (omega arith)))
 
-  module _ (room : level ≤ most) (some : level ≢ most) where
+  module _ (room : level ≤ nesting_limit) (some : level ≢ nesting_limit) where
     array_is : first t ≡ 0x5B → value_at (suc n) level (whole - length t) t ≡ behind (event ArrayOpen (whole - length t) (codes "[") ∷ []) (changed (λ p. array p.0 p.1.0 p.1.1) (elements_at n (suc level) (whole - length t + 1) false (drop 1 t)))
     unfolding value_at
-    array_is here = rw (eq-eqb (first t) 0x5B here, ne_eqb level most some) refl
+    array_is here = rw (eq-eqb (first t) 0x5B here, ne_eqb level nesting_limit some) refl
 
     table_is : first t ≡ 0x7B → value_at (suc n) level (whole - length t) t ≡ behind (event InlineTableOpen (whole - length t) (codes "{") ∷ []) (changed (λ p. inline_table p.0 p.1.0 p.1.1) (pairs_at n (suc level) (whole - length t + 1) false (drop 1 t)))
     unfolding value_at
-    table_is here = rw (ne_eqb (first t) 0x5B (λ e. omega arith), eq-eqb (first t) 0x7B here, ne_eqb level most some) refl
+    table_is here = rw (ne_eqb (first t) 0x5B (λ e. omega arith), eq-eqb (first t) 0x7B here, ne_eqb level nesting_limit some) refl
 
     pub value_opens : (b : Brackets) → first t ≡ opening_byte b
         → value_read (suc n) level whole t ≡ preceded (between (opening b) (whole - length t) (whole - length (drop 1 t)) ∷ []) (items_read b n (suc level) whole false (drop 1 t))

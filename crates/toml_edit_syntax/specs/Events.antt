@@ -4,7 +4,7 @@ use Rattle.std.specs.List.{list_any}
 use Rattle.std.specs.Str.{IsCharBoundary}
 use Rattle.toml_edit_model.specs.Text.{Text}
 use Rattle.toml_edit_model.specs.Trivia.{Each}
-use Rattle.toml_edit_model.specs.Syntax.{Frame, Value, Header, Statement, key_line, header, Document, path_text, value_text, opening_brackets, closing_brackets, statement_text, mark_text, document_text, IsCut, depth, most}
+use Rattle.toml_edit_model.specs.Syntax.{Frame, Value, Header, Statement, key_line, header, Document, path_text, value_text, opening_brackets, closing_brackets, statement_text, mark_text, document_text, IsCut, depth, nesting_limit}
 use Rattle.toml_edit_syntax.specs.declared.event.EventKind.{EventKind}
 use Rattle.toml_edit_syntax.specs.declared.event.EventKind.TheVariants.{Leading, HeaderOpen, ArrayHeaderOpen, BeforeKey, AfterKey, HeaderClose, LineEnd, Final}
 use Rattle.toml_edit_syntax.specs.declared.event.Event.{Event}
@@ -60,7 +60,7 @@ pub record IsSpanOf (t : Text) (s : Span) : Type 0 where
 
 -- more arrays and inline tables stand in one another in the value than may
 abbrev pub exceeds_depth : Value → Bool
-exceeds_depth v = nat_lt most (depth v)
+exceeds_depth v = nat_lt nesting_limit (depth v)
 
 abbrev pub has_deep_value : Statement → Bool
 has_deep_value (key_line f v end) = exceeds_depth v

@@ -2,7 +2,7 @@
 use Rattle.std.specs.Prelude.{ℕ, suc, ◌+◌, ◌-◌, Bool, true, false, ◌==◌, if◌then◌else◌, List, [], ◌∷◌, ◌++◌, length, codes}
 use Rattle.std.specs.List.{list_any}
 use Rattle.toml_edit_model.specs.Text.{Text}
-use Rattle.toml_edit_model.specs.Syntax.{Segment, Frame, Value, scalar, array, inline_table, Elements, no_elements, element, Pairs, no_pairs, pair, segment_text, path_text, value_text, most}
+use Rattle.toml_edit_model.specs.Syntax.{Segment, Frame, Value, scalar, array, inline_table, Elements, no_elements, element, Pairs, no_pairs, pair, segment_text, path_text, value_text, nesting_limit}
 use Rattle.toml_edit_syntax.specs.declared.event.EventKind.{EventKind}
 use Rattle.toml_edit_syntax.specs.declared.event.EventKind.TheVariants.{Leading, Key, BeforeDot, AfterDot, BeforeEquals, AfterEquals, Scalar, ArrayOpen, ArrayClose, InlineTableOpen, InlineTableClose, Before, After, Comma, Inner, TooDeep}
 use Rattle.toml_edit_syntax.specs.declared.event.Event.{Event}
@@ -93,7 +93,7 @@ abbrev pub shortened : ℕ → List Event → List Event
 shortened level [] = []
 shortened level (e ∷ es) =
     if opens e.kind then
-    if level == most then record e { kind = TooDeep } ∷ [] else e ∷ shortened (suc level) es
+    if level == nesting_limit then record e { kind = TooDeep } ∷ [] else e ∷ shortened (suc level) es
     else if closes e.kind then e ∷ shortened (level - 1) es
     else e ∷ shortened level es
 

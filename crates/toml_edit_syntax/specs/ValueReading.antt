@@ -3,7 +3,7 @@ use Rattle.std.specs.Prelude.{ℕ, zero, suc, ◌+◌, ◌-◌, Bool, true, fals
 use Rattle.toml_edit_model.specs.Text.{Text}
 use Rattle.toml_edit_model.specs.Trivia.{is_blank}
 use Rattle.toml_edit_model.specs.Scalars.{Scalar}
-use Rattle.toml_edit_model.specs.Syntax.{Segment, Around, Frame, Value, scalar, array, inline_table, Elements, no_elements, element, Pairs, no_pairs, pair, value_text, most}
+use Rattle.toml_edit_model.specs.Syntax.{Segment, Around, Frame, Value, scalar, array, inline_table, Elements, no_elements, element, Pairs, no_pairs, pair, value_text, nesting_limit}
 use Rattle.toml_edit_syntax.specs.declared.event.EventKind.{EventKind}
 use Rattle.toml_edit_syntax.specs.declared.event.EventKind.TheVariants.{Before, After, ArrayOpen, InlineTableOpen, TooDeep}
 use Rattle.toml_edit_syntax.specs.declared.event.Event.{Event}
@@ -80,7 +80,7 @@ frame_at leading t =
 -- what stands behind an opening bracket inside so many, unless that bracket is one too many
 abbrev pub inside : {A : Type 0} → EventKind → Text → ℕ → ℕ → Reading A → Reading A
 inside kind bracket level at r =
-    if level == most then deep (event TooDeep at bracket ∷ []) else behind (event kind at bracket ∷ []) r
+    if level == nesting_limit then deep (event TooDeep at bracket ∷ []) else behind (event kind at bracket ∷ []) r
 
 abbrev pub around : Text → Text → Around
 around before after = record { before = before; after = after }

@@ -1,5 +1,6 @@
 //! What is wrong with a text that is outside the grammar.
-ghost use Rattle.std.specs.Prelude.{◌≡◌};
+ghost use Rattle.std.specs.Prelude.{◌≡◌, Contains};
+ghost use Rattle.toml_edit_model.specs.Messages.{syntax_messages};
 ghost use Rattle.toml_edit_syntax.specs.Faults.{syntax_message};
 
 use toml_edit_token::run::first;
@@ -36,7 +37,9 @@ pub enum Mistake {
 impl Mistake {
     /// What an error says of it.
     pub fn message(self) -> &'static str
-        ensures { result.now ≡ syntax_message self }
+        ensures message { result.now ≡ syntax_message self }
+        // It is one of those that there are.
+        ensures listed { Contains syntax_messages result.now }
     {
         match self {
             Mistake::UnexpectedCharacter => "unexpected character",

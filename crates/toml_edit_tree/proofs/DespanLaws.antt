@@ -7,12 +7,12 @@ use Rattle.toml_edit_model.specs.SlotLists.{new_key}
 use Rattle.toml_edit_model.specs.Spelling.{SpellsKey}
 use Rattle.toml_edit_model.specs.Text.{Text}
 use Rattle.toml_edit_model.specs.Tree.{Key, Node, HasTrueSpelling, IsWellMade, ItemsAreWellMade, SlotsAreWellMade, item, slot}
-use Rattle.toml_edit_model.specs.TreeOf.{ItemsFit, KeyFits, NodeFits, SlotsFit, owned_items, owned_key, owned_node, owned_raw, owned_slots}
 use Rattle.toml_edit_slots.specs.declared.slots.Slot.{Slot}
 use Rattle.toml_edit_slots.specs.Slots.{items_of, on_key, with_item}
 use Rattle.toml_edit_tree.specs.Containers.{items_from, slots_from}
 use Rattle.toml_edit_tree.specs.declared.item.Item.{Item, size-Item, None as placeholder}
 use Rattle.toml_edit_tree.specs.View.{item_view, items_view, slots_view}
+use Rattle.toml_edit_model.specs.OwnedForm.{ItemsFit, KeyFits, NodeFits, SlotsFit, owned_items, owned_key, owned_node, owned_raw, owned_slots}
 
 -- ---- items
 

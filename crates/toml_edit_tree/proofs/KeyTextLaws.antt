@@ -5,7 +5,7 @@ use Rattle.toml_edit_model.specs.Text.{Text, is_empty}
 use Rattle.toml_edit_model.specs.Syntax.{path_text}
 use Rattle.toml_edit_model.specs.Mode.{plain}
 use Rattle.toml_edit_model.specs.Tree.{Decor, Key, Node, key_text, node_decor, shown_prefix, shown_suffix}
-use Rattle.toml_edit_model.specs.Print.{blank, dot_prefix, dot_suffix, last_leaf, segments, segments_after, value_of}
+use Rattle.toml_edit_model.specs.Print.{one_space, dot_prefix, dot_suffix, last_leaf, segments, segments_after, value_of}
 use Rattle.toml_edit_laws.proofs.common.Tests.{append-nil}
 use Rattle.toml_edit_tree.specs.Printing.{before_key, dotted_keys, line_start, node_text, pair_start}
 
@@ -93,6 +93,6 @@ in_order a d b t s e v n = simp append_assoc
 pub line_start-is : (default : Text) (ks : List Key) (k : Key) (n : Node)
     → line_start default (record { keys = ks ++ (k ∷ []); item = n; value = value_of plain n }) ≡ pair_start default ks k n
 line_start-is default ks k n =
-    ap (λ (d : Decor). shown_prefix plain default d ++ (path_text (segments plain (ks ++ (k ∷ []))) ++ (shown_suffix plain blank d ++ (codes "=" ++ (shown_prefix plain blank (node_decor n) ++ node_text n))))) (last_leaf-end ks k)
-    ∙ ap (λ (t : Text). shown_prefix plain default k.leaf ++ (t ++ (shown_suffix plain blank k.leaf ++ (codes "=" ++ (shown_prefix plain blank (node_decor n) ++ node_text n))))) (path-is ks k)
-    ∙ in_order (shown_prefix plain default k.leaf) (dotted_keys true ks) (before_key ks k) (key_text k) (shown_suffix plain blank k.leaf) (codes "=") (shown_prefix plain blank (node_decor n)) (node_text n)
+    ap (λ (d : Decor). shown_prefix plain default d ++ (path_text (segments plain (ks ++ (k ∷ []))) ++ (shown_suffix plain one_space d ++ (codes "=" ++ (shown_prefix plain one_space (node_decor n) ++ node_text n))))) (last_leaf-end ks k)
+    ∙ ap (λ (t : Text). shown_prefix plain default k.leaf ++ (t ++ (shown_suffix plain one_space k.leaf ++ (codes "=" ++ (shown_prefix plain one_space (node_decor n) ++ node_text n))))) (path-is ks k)
+    ∙ in_order (shown_prefix plain default k.leaf) (dotted_keys true ks) (before_key ks k) (key_text k) (shown_suffix plain one_space k.leaf) (codes "=") (shown_prefix plain one_space (node_decor n)) (node_text n)

@@ -5,7 +5,7 @@ use Rattle.toml_edit_model.specs.Text.{Text, newline}
 use Rattle.toml_edit_model.specs.Syntax.{Frame, Value, Pairs, no_pairs, pair, comma_text, frame_text, pairs_text, path_text, statement_text, value_text}
 use Rattle.toml_edit_model.specs.Mode.{plain}
 use Rattle.toml_edit_model.specs.Tree.{Decor, InlineFields, Key, Node, inline, Slots, node_decor, shown_prefix, shown_raw, shown_suffix}
-use Rattle.toml_edit_model.specs.Print.{Line, add_after_pairs, blank, close_inline, frame_of, inside_lines, is_line_node, last_leaf, line_of, line_statement, lines_inside, pairs_of_lines, segments, value_of}
+use Rattle.toml_edit_model.specs.Print.{Line, add_after_pairs, one_space, close_inline, frame_of, inside_lines, is_line_node, last_leaf, line_of, line_statement, lines_inside, pairs_of_lines, segments, value_of}
 use Rattle.toml_edit_laws.proofs.common.Tests.{append-nil}
 use Rattle.toml_edit_tree.specs.Printing.{after_pairs, between_pairs, last_shown, line_start, lines_of_item, lines_text, node_text, pair_start, pairs_shown}
 use Rattle.toml_edit_tree.proofs.KeyTextLaws.{line_start-is}
@@ -16,8 +16,8 @@ pub pairs_shown-append : (before : Option Decor) (xs ys : List Line)
     → pairs_shown before (xs ++ ys) ≡ pairs_shown before xs ++ pairs_shown (last_shown before xs) ys
 pairs_shown-append before [] ys = refl
 pairs_shown-append before (l ∷ xs) ys =
-    ap (λ t. between_pairs before ++ (line_start blank l ++ t)) (pairs_shown-append (Some (node_decor l.item)) xs ys)
-    ∙ sym (three (between_pairs before) (line_start blank l) (pairs_shown (Some (node_decor l.item)) xs) (pairs_shown (last_shown (Some (node_decor l.item)) xs) ys))
+    ap (λ t. between_pairs before ++ (line_start one_space l ++ t)) (pairs_shown-append (Some (node_decor l.item)) xs ys)
+    ∙ sym (three (between_pairs before) (line_start one_space l) (pairs_shown (Some (node_decor l.item)) xs) (pairs_shown (last_shown (Some (node_decor l.item)) xs) ys))
   where
     three : (a b c d : Text) → (a ++ (b ++ c)) ++ d ≡ a ++ (b ++ (c ++ d))
     three a b c d = simp append_assoc
@@ -40,8 +40,8 @@ frame-order a p s e v x t = simp append_assoc
 frame-text : (default suffix : Text) (l : Line)
     → frame_text (frame_of plain default suffix l) (value_text l.value) ≡ line_start default l ++ shown_suffix plain suffix (node_decor l.item)
 frame-text default suffix l =
-    frame-order (shown_prefix plain default (last_leaf l.keys)) (path_text (segments plain l.keys)) (shown_suffix plain blank (last_leaf l.keys)) (codes "=")
-    (shown_prefix plain blank (node_decor l.item)) (value_text l.value) (shown_suffix plain suffix (node_decor l.item))
+    frame-order (shown_prefix plain default (last_leaf l.keys)) (path_text (segments plain l.keys)) (shown_suffix plain one_space (last_leaf l.keys)) (codes "=")
+    (shown_prefix plain one_space (node_decor l.item)) (value_text l.value) (shown_suffix plain suffix (node_decor l.item))
 
 line-text : (l : Line) → statement_text (line_statement plain l) ≡ line_start [] l ++ (shown_suffix plain [] (node_decor l.item) ++ newline)
 line-text l =
@@ -67,11 +67,11 @@ module _ (ks : List Key) (k : Key) (n : Node) (h : is_line_node n ≡ true) wher
       ∙ ap (λ t. t ++ (shown_suffix plain [] (node_decor n) ++ newline)) (line_start-is [] ks k n)
 
   pub pair-shown : (before : Option Decor)
-      → pairs_shown before (lines_of_item n (ks ++ (k ∷ []))) ≡ between_pairs before ++ pair_start blank ks k n
+      → pairs_shown before (lines_of_item n (ks ++ (k ∷ []))) ≡ between_pairs before ++ pair_start one_space ks k n
   pair-shown before =
       ap (pairs_shown before) (one-line n (ks ++ (k ∷ [])) h)
-      ∙ ap (λ t. between_pairs before ++ t) (append-nil (line_start blank (record { keys = ks ++ (k ∷ []); item = n; value = value_of plain n })))
-      ∙ ap (λ t. between_pairs before ++ t) (line_start-is blank ks k n)
+      ∙ ap (λ t. between_pairs before ++ t) (append-nil (line_start one_space (record { keys = ks ++ (k ∷ []); item = n; value = value_of plain n })))
+      ∙ ap (λ t. between_pairs before ++ t) (line_start-is one_space ks k n)
 
   pub pair-last : (before : Option Decor) → last_shown before (lines_of_item n (ks ++ (k ∷ []))) ≡ Some (node_decor n)
   pair-last before = ap (last_shown before) (one-line n (ks ++ (k ∷ [])) h)
@@ -97,16 +97,16 @@ pairs-order a s c b r z = simp append_assoc
 
 pairs-are : (l : Line) (ls : List Line)
     → pairs_text (pairs_of_lines plain (l ∷ ls))
-    ≡ (line_start blank l ++ pairs_shown (Some (node_decor l.item)) ls) ++ shown_suffix plain blank (last_decor (node_decor l.item) ls)
+    ≡ (line_start one_space l ++ pairs_shown (Some (node_decor l.item)) ls) ++ shown_suffix plain one_space (last_decor (node_decor l.item) ls)
 pairs-are l [] =
-    frame-text blank blank l
-    ∙ ap (λ t. t ++ shown_suffix plain blank (node_decor l.item)) (sym (append-nil (line_start blank l)))
+    frame-text one_space one_space l
+    ∙ ap (λ t. t ++ shown_suffix plain one_space (node_decor l.item)) (sym (append-nil (line_start one_space l)))
 pairs-are l (m ∷ rest) =
-    pairs-step (frame_of plain blank [] l) l.value m rest
-    ∙ ap (λ t. t ++ (codes "," ++ pairs_text (pairs_of_lines plain (m ∷ rest)))) (frame-text blank [] l)
-    ∙ ap (λ t. (line_start blank l ++ shown_suffix plain [] (node_decor l.item)) ++ (codes "," ++ t)) (pairs-are m rest)
-    ∙ pairs-order (line_start blank l) (shown_suffix plain [] (node_decor l.item)) (codes ",") (line_start blank m)
-    (pairs_shown (Some (node_decor m.item)) rest) (shown_suffix plain blank (last_decor (node_decor m.item) rest))
+    pairs-step (frame_of plain one_space [] l) l.value m rest
+    ∙ ap (λ t. t ++ (codes "," ++ pairs_text (pairs_of_lines plain (m ∷ rest)))) (frame-text one_space [] l)
+    ∙ ap (λ t. (line_start one_space l ++ shown_suffix plain [] (node_decor l.item)) ++ (codes "," ++ t)) (pairs-are m rest)
+    ∙ pairs-order (line_start one_space l) (shown_suffix plain [] (node_decor l.item)) (codes ",") (line_start one_space m)
+    (pairs_shown (Some (node_decor m.item)) rest) (shown_suffix plain one_space (last_decor (node_decor m.item) rest))
 
 -- ---- the end
 
@@ -140,8 +140,8 @@ inline-closed false t f v ps =
 
 lines-closed : (comma : Bool) (t : Text) (l : Line) (ls : List Line)
     → value_text (close_inline comma t (pairs_of_lines plain (l ∷ ls))) ≡ codes "{" ++ (pairs_text (pairs_of_lines plain (l ∷ ls)) ++ (comma_text comma ++ (t ++ codes "}")))
-lines-closed comma t l [] = inline-closed comma t (frame_of plain blank blank l) l.value no_pairs
-lines-closed comma t l (m ∷ rest) = inline-closed comma t (frame_of plain blank [] l) l.value (pairs_of_lines plain (m ∷ rest))
+lines-closed comma t l [] = inline-closed comma t (frame_of plain one_space one_space l) l.value no_pairs
+lines-closed comma t l (m ∷ rest) = inline-closed comma t (frame_of plain one_space [] l) l.value (pairs_of_lines plain (m ∷ rest))
 
 end-order : (p z c w : Text) → (p ++ z) ++ (c ++ w) ≡ p ++ ((z ++ c) ++ w)
 end-order p z c w = simp append_assoc
@@ -154,8 +154,8 @@ pairs-closed false t [] = refl
 pairs-closed comma t (l ∷ ls) =
     lines-closed comma t l ls
     ∙ ap (λ x. codes "{" ++ (x ++ (comma_text comma ++ (t ++ codes "}")))) (pairs-are l ls)
-    ∙ ap (λ x. codes "{" ++ x) (end-order (line_start blank l ++ pairs_shown (Some (node_decor l.item)) ls) (shown_suffix plain blank (last_decor (node_decor l.item) ls)) (comma_text comma) (t ++ codes "}"))
-    ∙ ap (λ (d : Option Decor). codes "{" ++ ((line_start blank l ++ pairs_shown (Some (node_decor l.item)) ls) ++ (after_pairs comma d ++ (t ++ codes "}")))) (sym (last-decor (node_decor l.item) ls))
+    ∙ ap (λ x. codes "{" ++ x) (end-order (line_start one_space l ++ pairs_shown (Some (node_decor l.item)) ls) (shown_suffix plain one_space (last_decor (node_decor l.item) ls)) (comma_text comma) (t ++ codes "}"))
+    ∙ ap (λ (d : Option Decor). codes "{" ++ ((line_start one_space l ++ pairs_shown (Some (node_decor l.item)) ls) ++ (after_pairs comma d ++ (t ++ codes "}")))) (sym (last-decor (node_decor l.item) ls))
 
 -- the inline table in the parts that are written
 pub inline-text : (f : InlineFields) (ss : Slots)

@@ -7,7 +7,7 @@ use Rattle.toml_edit_model.specs.Text.{Text, is_empty, joined}
 use Rattle.toml_edit_model.specs.Syntax.{comma_text, path_text, statement_text, value_text}
 use Rattle.toml_edit_model.specs.Mode.{plain}
 use Rattle.toml_edit_model.specs.Tree.{Decor, Key, Node, Items, no_items, item, shown_prefix, shown_suffix, key_text, node_decor, is_value_node}
-use Rattle.toml_edit_model.specs.Print.{Line, blank, dot_prefix, dot_suffix, element_default, is_line_node, last_leaf, line_of, line_statement, lines_inside, segments, value_of}
+use Rattle.toml_edit_model.specs.Print.{Line, one_space, dot_prefix, dot_suffix, element_default, is_line_node, last_leaf, line_of, line_statement, lines_inside, segments, value_of}
 use Rattle.toml_edit_tree.specs.declared.encode.Path as paths
 
 -- the text of a value, without its decor
@@ -38,11 +38,11 @@ dotted_keys is_first (k ∷ ks) =
 -- the key of a line or a pair, behind these keys, with its decor and the `=`
 abbrev pub key_part : Text → List Key → Key → Text
 key_part default ks k =
-    shown_prefix plain default k.leaf ++ (dotted_keys true ks ++ (before_key ks k ++ (key_text k ++ (shown_suffix plain blank k.leaf ++ codes "="))))
+    shown_prefix plain default k.leaf ++ (dotted_keys true ks ++ (before_key ks k ++ (key_text k ++ (shown_suffix plain one_space k.leaf ++ codes "="))))
 
 -- a line or a pair up to the end of its value
 abbrev pub pair_start : Text → List Key → Key → Node → Text
-pair_start default ks k n = key_part default ks k ++ (shown_prefix plain blank (node_decor n) ++ node_text n)
+pair_start default ks k n = key_part default ks k ++ (shown_prefix plain one_space (node_decor n) ++ node_text n)
 
 -- ---- arrays
 
@@ -73,8 +73,8 @@ lines_of_item n ks = elim (is_line_node n) [ true ↦ line_of ks n (value_of pla
 -- a line or a pair up to the end of its value
 abbrev pub line_start : Text → Line → Text
 line_start default l =
-    shown_prefix plain default (last_leaf l.keys) ++ (path_text (segments plain l.keys) ++ (shown_suffix plain blank (last_leaf l.keys) ++ (codes "=" ++
-    (shown_prefix plain blank (node_decor l.item) ++ value_text l.value))))
+    shown_prefix plain default (last_leaf l.keys) ++ (path_text (segments plain l.keys) ++ (shown_suffix plain one_space (last_leaf l.keys) ++ (codes "=" ++
+    (shown_prefix plain one_space (node_decor l.item) ++ value_text l.value))))
 
 -- what stands between a pair of this decor, if there is one, and the next
 abbrev pub between_pairs : Option Decor → Text
@@ -84,12 +84,12 @@ between_pairs (Some d) = shown_suffix plain [] d ++ codes ","
 -- what stands between the last pair, of this decor, if there is one, and the text before the brace
 abbrev pub after_pairs : Bool → Option Decor → Text
 after_pairs comma None = []
-after_pairs comma (Some d) = shown_suffix plain blank d ++ comma_text comma
+after_pairs comma (Some d) = shown_suffix plain one_space d ++ comma_text comma
 
 -- the pairs behind one of this decor, up to the end of the last value
 abbrev pub pairs_shown : Option Decor → List Line → Text
 pairs_shown before [] = []
-pairs_shown before (l ∷ ls) = between_pairs before ++ (line_start blank l ++ pairs_shown (Some (node_decor l.item)) ls)
+pairs_shown before (l ∷ ls) = between_pairs before ++ (line_start one_space l ++ pairs_shown (Some (node_decor l.item)) ls)
 
 -- the decor of the last of them
 abbrev pub last_shown : Option Decor → List Line → Option Decor

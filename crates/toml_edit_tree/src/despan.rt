@@ -1,9 +1,9 @@
 //! Items over their source, put in owned form in place: each span becomes the text that stands there.
 ghost use Rattle.std.specs.Prelude.{◌≡◌, OnOk};
 ghost use Rattle.toml_edit_model.specs.Tree.{IsWellMade, ItemsAreWellMade, SlotsAreWellMade};
-ghost use Rattle.toml_edit_model.specs.TreeOf.{ItemsFit, NodeFits, SlotsFit, owned_items, owned_node, owned_slots};
 ghost use Rattle.toml_edit_tree.specs.Containers.{array_node, inline_node};
 ghost use Rattle.toml_edit_tree.specs.View.{array_view, inline_view, item_view, items_view, slots_view, value_view};
+ghost use Rattle.toml_edit_model.specs.OwnedForm.{ItemsFit, NodeFits, SlotsFit, owned_items, owned_node, owned_slots};
 
 use crate::array::Array;
 use crate::inline_table::InlineTable;

@@ -7,7 +7,7 @@ ghost use Rattle.toml_edit_model.specs.Text.{newline};
 ghost use Rattle.toml_edit_model.specs.Mode.{plain};
 ghost use Rattle.toml_edit_model.specs.Tree.{key_text, node_decor, shown_suffix};
 ghost use Rattle.toml_edit_model.specs.Conversions.{value_display};
-ghost use Rattle.toml_edit_model.specs.Print.{blank, element_default, inside_lines};
+ghost use Rattle.toml_edit_model.specs.Print.{one_space, element_default, inside_lines};
 ghost use Rattle.toml_edit_tree.specs.Printing.{WritesWithAnswer, node_text, keys_on, before_key, dotted_keys, key_part, pair_start, comma_before, element_text, last_comma, items_text, lines_of_item, between_pairs, after_pairs, pairs_shown, last_shown, lines_text};
 ghost use Rattle.toml_edit_tree.specs.Containers.{array_node, inline_node};
 ghost use Rattle.toml_edit_tree.specs.View.{array_view, inline_view, value_view, item_view, items_view, slots_view, table_slots, fields_view};
@@ -341,7 +341,7 @@ fn write_pair<W: Write>(
     before: Option<&Decor>,
 ) -> fmt::Result
     ensures { WritesOnOk W.write_str_gives f.old result
-        (between_pairs (option_copied before.entry) ++ pair_start blank (keys_on path.now) key.now (value_view value.now)) f.new }
+        (between_pairs (option_copied before.entry) ++ pair_start one_space (keys_on path.now) key.now (value_view value.now)) f.new }
 {
     write_between_pairs(f, before)?;
     write_key_part(f, " ", path, key)?;

@@ -2,9 +2,10 @@
 ghost use Rattle.std.specs.Prelude.{◌≡◌, ◌<◌, OnOk, option_map};
 ghost use Rattle.std.specs.Iterator.{YieldsFirstBy, item_count};
 ghost use Rattle.toml_edit_model.specs.Tree.{SlotsAreWellMade};
-ghost use Rattle.toml_edit_model.specs.TreeOf.{root_fields, spanned_form, DecorFits, SlotsFit, owned_slots, owned_fields};
+ghost use Rattle.toml_edit_model.specs.TreeOf.{root_fields, spanned_form};
 ghost use Rattle.toml_edit_tree.specs.Held.{held, held_left, held_at, pair_read};
 ghost use Rattle.toml_edit_tree.specs.View.{item_view, slots_view, table_slots, fields_view};
+ghost use Rattle.toml_edit_model.specs.OwnedForm.{DecorFits, SlotsFit, owned_slots, owned_fields};
 
 use crate::despan::despan_slots;
 use crate::item::Item;

@@ -10,9 +10,9 @@ ghost use Rattle.toml_edit_model.specs.Conversions.{with_decor};
 ghost use Rattle.toml_edit_tree.specs.Casts.{type_of, text_in, integer_in, float_in, truth_in, datetime_in, of_date, of_time, array_in, inline_in, span_in, both_sides, LendsDecor};
 ghost use Rattle.toml_edit_tree.specs.ContainerParts.{LendsArray, LendsInline};
 ghost use Rattle.toml_edit_tree.specs.Containers.{array_node, inline_node};
-ghost use Rattle.toml_edit_model.specs.TreeOf.{NodeFits, owned_node};
 ghost use Rattle.toml_edit_token.specs.Decoded.{scalar_view};
 ghost use Rattle.toml_edit_tree.specs.View.{array_view, inline_view, value_view};
+ghost use Rattle.toml_edit_model.specs.OwnedForm.{NodeFits, owned_node};
 
 use crate::array::Array;
 use crate::copy::copy_value;

@@ -5,7 +5,7 @@ use Rattle.std.specs.List.{AllByRecursion}
 use Rattle.std.proofs.lemmas.Bool.{cases_lt, lt-ltb}
 use Rattle.std.proofs.lemmas.List.Elements.{filter-append}
 use Rattle.toml_edit_model.specs.Mode.{Mode}
-use Rattle.toml_edit_model.specs.Paths.{Step, at_key, at_element, Path, same_path, to_key, to_element, implied_role}
+use Rattle.toml_edit_model.specs.Paths.{Step, at_key, at_element, Path, same_path, to_key, to_element}
 use Rattle.toml_edit_model.specs.Meaning.{parent}
 use Rattle.toml_edit_model.specs.Tree.{Tree}
 use Rattle.toml_edit_model.specs.HeaderOrder.{Visit, walk}
@@ -23,6 +23,7 @@ use Rattle.toml_edit_laws.proofs.accepted_prints.HeaderNumbers.{after-below, cou
 use Rattle.toml_edit_laws.proofs.common.Visits.{below-more}
 use Rattle.toml_edit_laws.proofs.common.Pairs.{AllPairs, pairs-across, pairs-right}
 use Rattle.toml_edit_laws.proofs.common.Each.{all-front, all-map, filter-passes}
+use Rattle.toml_edit_model.specs.Roles.{implied_role}
 
 -- how many of these tables are elements of the array at this path
 abbrev pub elements_in : Path → List Visit → ℕ

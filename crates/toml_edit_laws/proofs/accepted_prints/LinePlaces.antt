@@ -4,7 +4,7 @@ use Rattle.std.specs.Prelude.{◌||◌, not, if◌then◌else◌}
 use Rattle.std.specs.List.{AllByRecursion}
 use Rattle.toml_edit_model.specs.Mode.{Mode}
 use Rattle.toml_edit_model.specs.Text.{Text, same_text}
-use Rattle.toml_edit_model.specs.Paths.{at_key, Path, to_key, dotted_role, value_role}
+use Rattle.toml_edit_model.specs.Paths.{at_key, Path, to_key}
 use Rattle.toml_edit_model.specs.Tree.{Key, TableFields, Node, nothing, leaf, list, inline, table, tables, Slots, no_slots, slot, has_key, IsWellMade, SlotsAreWellMade}
 use Rattle.toml_edit_model.specs.Print.{Line, line_of, is_line_node, value_of, inside_lines, lines_inside, table_lines, dotted_lines, below}
 use Rattle.toml_edit_laws.proofs.common.Tests.{same_text-refl, or-true, true-false, not-true}
@@ -14,6 +14,7 @@ use Rattle.toml_edit_laws.proofs.accepted_prints.NamedPaths.{names, names-snoc, 
 use Rattle.toml_edit_laws.proofs.common.Cores.{line_cores}
 use Rattle.toml_edit_laws.proofs.common.Pairs.{AllPairs, all-across, pairs-append}
 use Rattle.toml_edit_laws.proofs.common.Each.{all-append, all-map}
+use Rattle.toml_edit_model.specs.Roles.{dotted_role, value_role}
 
 pub record Parted (xs ys : List Text) : Type 0 where
   pub common : List Text

@@ -5,7 +5,7 @@ use Rattle.std.specs.List.{AllByRecursion}
 use Rattle.toml_edit_model.specs.Mode.{Mode}
 use Rattle.toml_edit_model.specs.Text.{Text}
 use Rattle.toml_edit_model.specs.Syntax.{Segment}
-use Rattle.toml_edit_model.specs.Paths.{at_key, Path, to_key, Role, dotted_role, value_role, line_mentions, next_start, elements_at, in_last, passing_role, header_mentions, header_path}
+use Rattle.toml_edit_model.specs.Paths.{at_key, Path, to_key, line_mentions, next_start, elements_at, in_last, passing_role, header_mentions, header_path}
 use Rattle.toml_edit_model.specs.Tree.{Key}
 use Rattle.toml_edit_model.specs.HeaderOrder.{Visit}
 use Rattle.toml_edit_model.specs.Print.{segments_after, segments, below}
@@ -15,6 +15,7 @@ use Rattle.toml_edit_laws.proofs.accepted_prints.WalkPlaces.{Trail, start, to_ta
 use Rattle.toml_edit_laws.proofs.accepted_prints.HeaderReach.{RightBy}
 use Rattle.toml_edit_laws.proofs.common.Cores.{Core, core, keys_of_segments, line_cores}
 use Rattle.toml_edit_laws.proofs.common.Each.{all-append}
+use Rattle.toml_edit_model.specs.Roles.{Role, dotted_role, value_role}
 
 abbrev pub names : List Key → List Text
 names ks = map (λ k. k.name) ks

@@ -7,7 +7,7 @@ use Rattle.toml_edit_model.specs.Mode.{Mode, plain, exact, is_exact}
 use Rattle.toml_edit_model.specs.Trivia.{IsNewline}
 use Rattle.toml_edit_model.specs.Syntax.{Segment, Statement, key_line, header, AreStatements, IsStatement, statement_text, newline_after, without_newline, open_statements, frame_text, value_text, brackets_text}
 use Rattle.toml_edit_model.specs.Version.{v1_1}
-use Rattle.toml_edit_model.specs.Paths.{Path, same_path, Role, dotted_role, passing_role, may_meet, Mention, Source, Placed, Context, start_context, context_after, source_of, mentions_of, placed_from, line_mentions, header_mentions, next_start, to_key, elements_at, in_last, header_role_of, path_start}
+use Rattle.toml_edit_model.specs.Paths.{Path, same_path, passing_role, Mention, Source, Placed, Context, start_context, context_after, source_of, mentions_of, placed_from, line_mentions, header_mentions, next_start, to_key, elements_at, in_last, header_role_of, path_start}
 use Rattle.toml_edit_model.specs.Accepted.{agree, is_sound}
 use Rattle.toml_edit_model.specs.Meaning.{statement_facts, facts_from, meaning, fact, a_table}
 use Rattle.toml_edit_model.specs.Tree.{Tree, shown_raw}
@@ -17,6 +17,7 @@ use Rattle.toml_edit_laws.specs.OneByOne.{is_right_after, all_right_in}
 use Rattle.toml_edit_laws.proofs.one_by_one.Together.{accepted-is}
 use Rattle.toml_edit_laws.proofs.common.Tests.{append-nil, and_right}
 use Rattle.toml_edit_laws.proofs.accepted_prints.PrintedCut.{open-statements, none-left}
+use Rattle.toml_edit_model.specs.Roles.{Role, dotted_role, may_meet}
 
 -- ---- the cut
 

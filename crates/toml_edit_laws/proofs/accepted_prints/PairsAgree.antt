@@ -5,7 +5,7 @@ use Rattle.std.specs.List.{list_all, AllByRecursion}
 use Rattle.toml_edit_model.specs.Mode.{Mode}
 use Rattle.toml_edit_model.specs.Text.{Text}
 use Rattle.toml_edit_model.specs.Syntax.{Pairs, no_pairs, pair, value_text, frame_text}
-use Rattle.toml_edit_model.specs.Paths.{at_key, Path, same_path, to_key, Role, dotted_role, implied_role, header_role, array_role, value_role, through_role, may_meet_inline, Mention, line_mentions, pair_mentions}
+use Rattle.toml_edit_model.specs.Paths.{at_key, Path, same_path, to_key, Mention, line_mentions, pair_mentions}
 use Rattle.toml_edit_model.specs.Accepted.{agree, all_agree, has_agreeing_pairs, elements_have_agreeing_pairs, pairs_have_agreeing_pairs}
 use Rattle.toml_edit_model.specs.Tree.{Node, IsWellMade, shown_raw}
 use Rattle.toml_edit_model.specs.Print.{Line, value_of, inside_lines, pairs_of_lines, add_after_pairs, close_inline}
@@ -16,6 +16,7 @@ use Rattle.toml_edit_laws.proofs.accepted_prints.LinePlaces.{Parted, inside-part
 use Rattle.toml_edit_laws.proofs.common.Cores.{Core, core, keys_of_segments, line_cores}
 use Rattle.toml_edit_laws.proofs.common.Pairs.{AllPairs, pairs-image}
 use Rattle.toml_edit_laws.proofs.accepted_prints.EachPrintedValue.{LooksAtEach, after-pairs, value-passes}
+use Rattle.toml_edit_model.specs.Roles.{Role, dotted_role, implied_role, header_role, array_role, value_role, continued_role, may_meet_inline}
 
 -- ---- two pairs
 
@@ -26,7 +27,7 @@ OnWay whole (q, dotted_role) = (rest : Path) × (whole ≡ q ++ rest)
 OnWay whole (q, implied_role) = ⊥
 OnWay whole (q, header_role) = ⊥
 OnWay whole (q, array_role) = ⊥
-OnWay whole (q, through_role) = ⊥
+OnWay whole (q, continued_role) = ⊥
 
 told-way : (p : Path) (ns : List Text) → AllByRecursion (OnWay (p ++ map at_key ns)) (line_cores p ns)
 told-way p [] = tt
@@ -66,15 +67,15 @@ way-meet xs ys q value_role value_role h f g = absurd (parted-front xs ys [] h (
 way-meet xs ys q implied_role s h f g = absurd f
 way-meet xs ys q header_role s h f g = absurd f
 way-meet xs ys q array_role s h f g = absurd f
-way-meet xs ys q through_role s h f g = absurd f
+way-meet xs ys q continued_role s h f g = absurd f
 way-meet xs ys q dotted_role implied_role h f g = absurd g
 way-meet xs ys q dotted_role header_role h f g = absurd g
 way-meet xs ys q dotted_role array_role h f g = absurd g
-way-meet xs ys q dotted_role through_role h f g = absurd g
+way-meet xs ys q dotted_role continued_role h f g = absurd g
 way-meet xs ys q value_role implied_role h f g = absurd g
 way-meet xs ys q value_role header_role h f g = absurd g
 way-meet xs ys q value_role array_role h f g = absurd g
-way-meet xs ys q value_role through_role h f g = absurd g
+way-meet xs ys q value_role continued_role h f g = absurd g
 
 -- Mentions agree where what they say may meet at one path.
 pub agree-by : {S : Type 0} (may : Role → Role → Bool) (P Q : Core → Type 0)

@@ -8,7 +8,7 @@ use Rattle.toml_edit_model.specs.Trivia.{IsWholeTrivia, IsFinalTrivia, Piece, bl
 use Rattle.toml_edit_model.specs.Scalars.{Scalar}
 use Rattle.toml_edit_model.specs.Spelling.{SpellsKey, SpellsInRange}
 use Rattle.toml_edit_model.specs.DefaultSpelling.{key_spelling}
-use Rattle.toml_edit_model.specs.Syntax.{Value, Elements, no_elements, element, Pairs, no_pairs, pair, IsSpelledSegment, ends_bare, IsPath, IsFrame, IsValue, AreElements, ArePairs, keeps_ranges, elements_keep_ranges, pairs_keep_ranges}
+use Rattle.toml_edit_model.specs.Syntax.{Value, Elements, no_elements, element, Pairs, no_pairs, pair, IsSpelledSegment, ends_unspaced, IsPath, IsFrame, IsValue, AreElements, ArePairs, keeps_ranges, elements_keep_ranges, pairs_keep_ranges}
 use Rattle.toml_edit_model.specs.Tree.{Raw, owned, span, Decor, Key, Node, nothing, leaf, list, inline, table, tables, Items, no_items, item, Slots, no_slots, slot, shown_side, shown_prefix, shown_suffix, shown_raw, shown_spelling, scalar_text, key_text, node_decor, is_value_node, HasTrueSpelling, IsRealScalar, IsWellMade, ItemsAreWellMade, SlotsAreWellMade}
 use Rattle.toml_edit_model.specs.Print.{segments, segments_after, last_leaf, Line, frame_of, add_after, close_array, add_after_pairs, close_inline, element_default, around_of, pairs_of_lines, line_of, is_line_node, value_of, elements_of, inside_lines, lines_inside}
 use Rattle.toml_edit_model.specs.Print as print
@@ -33,7 +33,7 @@ pub final-append : (t u : Text) → IsWholeTrivia t → IsFinalTrivia u → IsFi
 final-append t u h (whole, rest, g, opens, e) =
     (t ++ whole, rest, whole-append t whole h g, opens, ap (λ x. t ++ x) e ∙ sym (append_assoc t whole rest))
 
-pub blank-whole : IsWholeTrivia print.blank
+pub blank-whole : IsWholeTrivia print.one_space
 blank-whole = (blank 32 ∷ [], (refl, tt), refl)
 
 -- ---- closing a list
@@ -128,7 +128,7 @@ module _ (mode : Mode) where
   after-spelled (k ∷ []) h = (key_text-spells k h.0, tt)
   after-spelled (k ∷ l ∷ ks) h = (key_text-spells k h.0, after-spelled (l ∷ ks) h.1)
 
-  after-ends : (k : Key) (ks : List Key) → ends_bare (segments_after mode (k ∷ ks)) ≡ true
+  after-ends : (k : Key) (ks : List Key) → ends_unspaced (segments_after mode (k ∷ ks)) ≡ true
   after-ends k [] = refl
   after-ends k (l ∷ []) = refl
   after-ends k (l ∷ m ∷ ks) = after-ends l (m ∷ ks)
@@ -138,7 +138,7 @@ module _ (mode : Mode) where
   segments-path k (l ∷ ks) h =
       record { begins = refl; ends = ends l ks; spelled = (key_text-spells k h.0, after-spelled (l ∷ ks) h.1) }
     where
-      ends : (l : Key) (ks : List Key) → ends_bare (segments mode (k ∷ l ∷ ks)) ≡ true
+      ends : (l : Key) (ks : List Key) → ends_unspaced (segments mode (k ∷ l ∷ ks)) ≡ true
       ends l [] = refl
       ends l (m ∷ ks) = after-ends l (m ∷ ks)
 
@@ -155,8 +155,8 @@ module _ (mode : Mode) where
 
   pairs_of_lines-are : (ls : List Line) → AllByRecursion IsPair ls → ArePairs (pairs_of_lines mode ls)
   pairs_of_lines-are [] h = tt
-  pairs_of_lines-are (l ∷ []) h = (h.0.0 print.blank print.blank blank-whole blank-whole, h.0.1, tt)
-  pairs_of_lines-are (l ∷ m ∷ ls) h = (h.0.0 print.blank [] blank-whole empty-trivia, h.0.1, pairs_of_lines-are (m ∷ ls) h.1)
+  pairs_of_lines-are (l ∷ []) h = (h.0.0 print.one_space print.one_space blank-whole blank-whole, h.0.1, tt)
+  pairs_of_lines-are (l ∷ m ∷ ls) h = (h.0.0 print.one_space [] blank-whole empty-trivia, h.0.1, pairs_of_lines-are (m ∷ ls) h.1)
 
   line-is : (ks : List Key) (k : Key) (n : Node) (v : Value) → KeysAreTrue (ks ++ (k ∷ [])) → LineSuits mode IsWholeTrivia (ks ++ (k ∷ [])) n
       → IsValue v → IsPair (record { keys = ks ++ (k ∷ []); item = n; value = v })

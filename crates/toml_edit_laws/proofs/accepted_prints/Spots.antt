@@ -3,10 +3,11 @@ use Rattle.std.proofs.Common.{◌≡◌, refl, sym, ◌∙◌, ap, subst, ℕ, z
 use Rattle.std.specs.Prelude.{◌&&◌, ◌||◌, not, if◌then◌else◌}
 use Rattle.std.specs.List.{list_all}
 use Rattle.toml_edit_model.specs.Text.{Text, same_text}
-use Rattle.toml_edit_model.specs.Paths.{at_key, at_element, Path, to_key, Role, dotted_role, implied_role, header_role, array_role, value_role, through_role, may_meet}
+use Rattle.toml_edit_model.specs.Paths.{at_key, at_element, Path, to_key}
 use Rattle.toml_edit_model.specs.Tree.{Key, Node, leaf, list, inline, table, tables, Items, no_items, item, Slots, no_slots, slot, has_key}
 use Rattle.toml_edit_laws.proofs.common.Members.{Among, passes-among}
 use Rattle.toml_edit_laws.proofs.common.Tests.{and_left, and_right, and_both, append-nil, same_text-refl, same_text-is, false-by, true-false, if-true, if-false, or-true}
+use Rattle.toml_edit_model.specs.Roles.{Role, dotted_role, implied_role, header_role, array_role, value_role, continued_role, may_meet}
 
 -- a line's value, so many keys below the table that it is a line of; a table that lines go through; a table with a header; an array
 -- of tables
@@ -62,7 +63,7 @@ tree_spot ss (at_element n ∷ q) = absent
 -- ---- which roles may stand there
 
 abbrev pub suits : Role → Spot → Bool
-suits through_role _ = true
+suits continued_role _ = true
 suits dotted_role dotted = true
 suits implied_role dotted = true
 suits implied_role headed = true
@@ -87,7 +88,7 @@ abbrev meets : Role → Role → Bool
 meets r q = may_meet r q || ((is_header r && is_header q) || (is_value r && is_value q))
 
 abbrev roles : List Role
-roles = dotted_role ∷ implied_role ∷ header_role ∷ array_role ∷ value_role ∷ through_role ∷ []
+roles = dotted_role ∷ implied_role ∷ header_role ∷ array_role ∷ value_role ∷ continued_role ∷ []
 
 each-role : (r : Role) → Among r roles
 each-role dotted_role = inl refl
@@ -95,7 +96,7 @@ each-role implied_role = inr (inl refl)
 each-role header_role = inr (inr (inl refl))
 each-role array_role = inr (inr (inr (inl refl)))
 each-role value_role = inr (inr (inr (inr (inl refl))))
-each-role through_role = inr (inr (inr (inr (inr (inl refl)))))
+each-role continued_role = inr (inr (inr (inr (inr (inl refl)))))
 
 -- every two roles, at each spot
 all-meet : (s : Spot) → list_all (λ r. list_all (λ q. not (suits r s && suits q s) || meets r q) roles) roles ≡ true
@@ -111,7 +112,7 @@ is-header implied_role h = absurd cc
 is-header header_role h = refl
 is-header array_role h = absurd cc
 is-header value_role h = absurd cc
-is-header through_role h = absurd cc
+is-header continued_role h = absurd cc
 
 is-value : (r : Role) → is_value r ≡ true → r ≡ value_role
 is-value dotted_role h = absurd cc
@@ -119,7 +120,7 @@ is-value implied_role h = absurd cc
 is-value header_role h = absurd cc
 is-value array_role h = absurd cc
 is-value value_role h = refl
-is-value through_role h = absurd cc
+is-value continued_role h = absurd cc
 
 pub suiting-meet : (s : Spot) (r q : Role) → suits r s ≡ true → suits q s ≡ true → Meet r q
 suiting-meet s r q h g =

@@ -5,7 +5,7 @@ use Rattle.std.specs.List.{list_all, AllByRecursion}
 use Rattle.toml_edit_model.specs.Mode.{Mode}
 use Rattle.toml_edit_model.specs.Text.{Text, is_empty}
 use Rattle.toml_edit_model.specs.Syntax.{Statement, key_line, header, keeps_limits, is_ranged, without_newline}
-use Rattle.toml_edit_model.specs.Paths.{at_key, Step, Path, Role, header_role, array_role, value_role, implied_role, through_role, dotted_role, may_meet, Mention, Source, Context, start_context, source_of, mentions_of, context_after, placed_from, line_mentions, header_mentions, header_role_of, path_start}
+use Rattle.toml_edit_model.specs.Paths.{at_key, Step, Path, Mention, Source, Context, start_context, source_of, mentions_of, context_after, placed_from, line_mentions, header_mentions, header_role_of, path_start}
 use Rattle.toml_edit_model.specs.Paths as paths
 use Rattle.toml_edit_model.specs.Accepted.{agree, has_agreeing_pairs, has_agreeing_tables, is_sound}
 use Rattle.toml_edit_laws.specs.OneByOne.{is_right_after, all_right_after}
@@ -29,6 +29,7 @@ use Rattle.toml_edit_laws.proofs.common.Cores.{core}
 use Rattle.toml_edit_laws.proofs.common.PathLaws.{same-after}
 use Rattle.toml_edit_laws.proofs.common.Pairs.{AllPairs, pairs-append, pairs-image, pairs-map}
 use Rattle.toml_edit_laws.proofs.common.Each.{all-both, all-append, all-map, all-image}
+use Rattle.toml_edit_model.specs.Roles.{Role, header_role, value_role, may_meet}
 
 -- ---- paths
 

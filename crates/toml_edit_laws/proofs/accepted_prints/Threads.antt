@@ -7,7 +7,7 @@ use Rattle.std.proofs.lemmas.List.Elements.{filter-append}
 use Rattle.toml_edit_model.specs.Mode.{Mode}
 use Rattle.toml_edit_model.specs.Text.{Text, is_empty}
 use Rattle.toml_edit_model.specs.Syntax.{Statement, key_line, header}
-use Rattle.toml_edit_model.specs.Paths.{at_element, Path, same_path, in_last, to_key, to_element, Role, header_role, array_role, value_role, implied_role, through_role, dotted_role, elements_at, passing_role, header_path, header_role_of}
+use Rattle.toml_edit_model.specs.Paths.{at_element, Path, same_path, in_last, to_key, to_element, elements_at, passing_role, header_path, header_role_of}
 use Rattle.toml_edit_model.specs.Meaning.{parent}
 use Rattle.toml_edit_model.specs.Tree.{Key, Tree}
 use Rattle.toml_edit_model.specs.HeaderOrder.{Visit, Placed, visit_of, slots_walk, walk, place_of, places_from, is_root, comes_before, in_header_order}
@@ -31,6 +31,7 @@ use Rattle.toml_edit_laws.proofs.common.Each.{all-both, all-append, all-map}
 use Rattle.toml_edit_laws.proofs.common.Statements.{own_header}
 use Rattle.toml_edit_laws.proofs.common.Visits.{root-first}
 use Rattle.toml_edit_model.specs.Order.{sorted_by}
+use Rattle.toml_edit_model.specs.Roles.{Role, header_role, array_role, value_role, implied_role, continued_role, dotted_role}
 
 -- ---- the reader's context
 
@@ -67,7 +68,7 @@ OwnOf p q value_role = (q ≡ p.path) × (is_key_line p.statement ≡ true)
 OwnOf p q array_role = Unit {0}
 OwnOf p q dotted_role = Unit {0}
 OwnOf p q implied_role = Unit {0}
-OwnOf p q through_role = Unit {0}
+OwnOf p q continued_role = Unit {0}
 
 -- the arrays so far are those of the headers before
 abbrev Counts : List Path → List Visit → Type 0

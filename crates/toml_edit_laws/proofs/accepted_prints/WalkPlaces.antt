@@ -2,12 +2,13 @@
 use Rattle.std.proofs.Common.{◌≡◌, refl, ◌∙◌, ap, ℕ, suc, ◌+◌, arith, Bool, true, false, List, [], ◌∷◌, ◌++◌, append_assoc, inl, inr}
 use Rattle.std.specs.Prelude.{if◌then◌else◌}
 use Rattle.std.specs.List.{AllByRecursion}
-use Rattle.toml_edit_model.specs.Paths.{at_key, at_element, Path, to_key, to_element, implied_role}
+use Rattle.toml_edit_model.specs.Paths.{at_key, at_element, Path, to_key, to_element}
 use Rattle.toml_edit_model.specs.Tree.{Key, TableFields, Node, nothing, leaf, list, inline, table, tables, Items, no_items, item, Slots, no_slots, slot, Tree, IsWellMade, ItemsAreWellMade, SlotsAreWellMade}
 use Rattle.toml_edit_model.specs.HeaderOrder.{Visit, visit_of, node_walk, items_walk, slots_walk, walk}
 use Rattle.toml_edit_laws.proofs.common.Members.{Among, among-left, among-right}
 use Rattle.toml_edit_laws.proofs.accepted_prints.Spots.{Spot, dotted, headed, arrayed, slots_spot, tree_spot, suits, Sees, SeesNode, SeesItems, sees-first, sees-rest, sees-here, tree-sees}
 use Rattle.toml_edit_laws.proofs.common.Each.{all-append}
+use Rattle.toml_edit_model.specs.Roles.{implied_role}
 
 -- the way from the root to a table: into a table under a key, or into an element of the array of tables under a key
 pub data Trail : Type 0 where

@@ -4,7 +4,7 @@ use Rattle.std.specs.Prelude.{option_map}
 use Rattle.toml_edit_model.specs.Text.{Text}
 use Rattle.toml_edit_model.specs.Paths.{at_key, at_element, Path, Mention, Source}
 use Rattle.toml_edit_model.specs.Tree.{TableFields, Node, nothing, leaf, list, inline, table, tables, Slots}
-use Rattle.toml_edit_model.specs.TreeOf.{Form, under, own, arrays, kept, tables_extent, IsNodeOf, AreElementsOf, AreSlotsOf}
+use Rattle.toml_edit_model.specs.TreeOf.{Form, tables_extent, IsNodeOf, AreElementsOf, AreSlotsOf}
 use Rattle.toml_edit_laws.specs.InlineTree.{node_at, with_node}
 use Rattle.toml_edit_laws.specs.TableTree.{change_item, change_under, change_below_node, change_at}
 use Rattle.toml_edit_laws.proofs.common.OptionSteps.{map_some, bind_some}
@@ -15,6 +15,7 @@ use Rattle.toml_edit_laws.proofs.adding.TableSlots.{IsFound, slots-find, slots-c
 use Rattle.toml_edit_laws.proofs.adding.DeeperMentions.{below, own-below, under-more, under-else, kept-more, arrays-more, fields-more}
 use Rattle.toml_edit_laws.proofs.mentions.Named.{AreNamed, under-named}
 use Rattle.toml_edit_laws.specs.KeptKeys.{under_path}
+use Rattle.toml_edit_model.specs.TableMentions.{under, own, array_headers, kept}
 
 module _ (form : Form) where
   -- ---- the change, step by step
@@ -53,7 +54,7 @@ module _ (form : Form) where
   node-changed (at_element i ∷ q) change here ns j (tables x xs) o none goes each h e =
       let (ys, changed, made) = map_some (change_item i (change_below_node q change) xs) (tables x) o e in
       let all = here ++ all_deeper (at_element i) (below q ns) in
-      let same : arrays all ≡ arrays here = arrays-more here (all_deeper (at_element i) (below q ns)) (own-deeper (at_element i) (below q ns)) in
+      let same : array_headers all ≡ array_headers here = arrays-more here (all_deeper (at_element i) (below q ns)) (own-deeper (at_element i) (below q ns)) in
       let goes_on : ChangesTable form (change_below_node q change) (under (at_element i) here) (under (at_element i) all) =
       λ ss slots f n g.
       subst (λ ms. (us : Slots) × (n ≡ table f us) × AreAllSlots form ms us) (sym (under-more (at_element i) here (below q ns)))
@@ -63,7 +64,7 @@ module _ (form : Form) where
         h.0,
         h.1 ∙ ap (tables_extent form) (sym same),
         subst (λ more. AreElementsOf form all 0 more ys) (sym same)
-            (elements-change form here all 0 i i (change_below_node q change) (arrays here) xs ys index
+            (elements-change form here all 0 i i (change_below_node q change) (array_headers here) xs ys index
             (λ l apart. under-else (at_element i) (at_element l) here (below q ns) apart) goes_on h.2 changed),
       )
   node-changed [] change here ns j (tables x xs) o none goes each h e = absurd cc

@@ -5,14 +5,15 @@ use Rattle.std.specs.List.{list_any}
 use Rattle.std.proofs.Math.Bool.{and-false}
 use Rattle.toml_edit_model.specs.Text.{Text, is_empty}
 use Rattle.toml_edit_model.specs.Syntax.{Segment, Frame, Value, key_line}
-use Rattle.toml_edit_model.specs.Paths.{Step, at_key, at_element, Path, same_step, same_path, Role, header_role, Mention, Source, Context, line_mentions, source_of, mentions_of, path_start}
-use Rattle.toml_edit_model.specs.Normal.{is_header_role}
-use Rattle.toml_edit_model.specs.TreeOf.{Form, under, own, roles, is_dotted_role, is_array_role, arrays, some_at, any_role, is_single, is_slot, kept_from, kept, made_by_path, key_extent, fields_of}
+use Rattle.toml_edit_model.specs.Paths.{Step, at_key, at_element, Path, same_step, same_path, Mention, Source, Context, line_mentions, source_of, mentions_of, path_start}
+use Rattle.toml_edit_model.specs.TreeOf.{Form, made_by_path, key_extent, fields_of}
 use Rattle.toml_edit_laws.specs.TableTree.{own_mentions}
 use Rattle.toml_edit_laws.proofs.common.Tests.{append-nil, or-false}
 use Rattle.toml_edit_laws.proofs.mentions.GatherLaws.{all_deeper, under-deeper, under-other, own-first, own-deeper, kept_from-deeper}
 use Rattle.toml_edit_laws.proofs.inline_tables.PairMentions.{lines-deeper}
 use Rattle.toml_edit_laws.proofs.mentions.SomeAt.{some_at-append, under-append}
+use Rattle.toml_edit_model.specs.Roles.{Role, header_role, is_header_role, is_dotted_role, is_array_role, any_role}
+use Rattle.toml_edit_model.specs.TableMentions.{under, own, roles, array_headers, some_at, is_single, is_slot, kept_from, kept}
 
 -- ---- mentions below a path
 
@@ -96,7 +97,7 @@ own-more (m ∷ ms) ns h = ap (λ us. if is_empty m.path then m ∷ us else us) 
 pub roles-more : {S : Type 0} (ms ns : List (Mention S)) → own ns ≡ [] → roles (ms ++ ns) ≡ roles ms
 roles-more {S} ms ns h = ap (λ us. map (λ (m : Mention S). m.role) us) (own-more ms ns h)
 
-pub arrays-more : {S : Type 0} (ms ns : List (Mention S)) → own ns ≡ [] → arrays (ms ++ ns) ≡ arrays ms
+pub arrays-more : {S : Type 0} (ms ns : List (Mention S)) → own ns ≡ [] → array_headers (ms ++ ns) ≡ array_headers ms
 arrays-more {S} ms ns h = ap (λ us. filter (λ (m : Mention S). is_array_role m.role) us) (own-more ms ns h)
 
 pub fields-more : (form : Form) (ms ns : List (Mention Source)) (m : Mention Source) (r : Role) → own ns ≡ [] → fields_of form (ms ++ ns) m r ≡ fields_of form ms m r

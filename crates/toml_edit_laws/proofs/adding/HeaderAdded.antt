@@ -3,10 +3,9 @@ use Rattle.std.proofs.Common.{◌≡◌, ◌≤◌, refl, sym, ◌∙◌, ap, su
 use Rattle.std.specs.Prelude.{◌&&◌, not}
 use Rattle.toml_edit_model.specs.Mode.{Mode}
 use Rattle.toml_edit_model.specs.Syntax.{Segment, Statement, key_line, header, Header}
-use Rattle.toml_edit_model.specs.Paths.{Step, at_key, at_element, Path, to_key, Role, dotted_role, implied_role, header_role, array_role, value_role, through_role, Mention, Source, mention_of, next_start, elements_at, in_last, passing_role, header_mentions, header_role_of}
-use Rattle.toml_edit_model.specs.Normal.{is_header_role}
+use Rattle.toml_edit_model.specs.Paths.{Step, at_key, at_element, Path, to_key, Mention, Source, mention_of, next_start, elements_at, in_last, passing_role, header_mentions, header_role_of}
 use Rattle.toml_edit_model.specs.Tree.{Extent, TableFields, Node, nothing, leaf, list, inline, table, tables, no_items, item, Slots, no_slots}
-use Rattle.toml_edit_model.specs.TreeOf.{spanned_in, under, arrays, some_at, kept, key_at, header_fields, brackets_from, brackets_to, tables_extent, fields_of, AreSlotsOf}
+use Rattle.toml_edit_model.specs.TreeOf.{spanned_in, key_at, header_fields, brackets_from, brackets_to, tables_extent, fields_of, AreSlotsOf}
 use Rattle.toml_edit_laws.specs.FlatTree.{with_slot}
 use Rattle.toml_edit_laws.specs.InlineTree.{node_at, with_node}
 use Rattle.toml_edit_laws.specs.TableTree.{without_slot, with_item, reaching, headed_table, pass_below, open_table, open_element, add_header}
@@ -25,6 +24,8 @@ use Rattle.toml_edit_laws.proofs.mentions.Placed.{is_header}
 use Rattle.toml_edit_laws.proofs.mentions.SomeAt.{some_at-under, own_mention, under-own-mention}
 use Rattle.toml_edit_laws.proofs.mentions.RoleTests.{opening_role}
 use Rattle.toml_edit_laws.proofs.adding.TableMentions.{one_slot}
+use Rattle.toml_edit_model.specs.Roles.{Role, dotted_role, implied_role, header_role, array_role, value_role, continued_role, is_header_role}
+use Rattle.toml_edit_model.specs.TableMentions.{under, array_headers, some_at, kept}
 
 -- ---- the last key of a plain header
 
@@ -67,7 +68,7 @@ module _ (mode : Mode) where
   fields-headed us j implied_role h = absurd cc
   fields-headed us j array_role h = absurd cc
   fields-headed us j value_role h = absurd cc
-  fields-headed us j through_role h = absurd cc
+  fields-headed us j continued_role h = absurd cc
 
   open-table : (source : Source) (start : ℕ) (g : Segment) (ms : List (Mention Source)) (paths : List Path) (ss next : Slots)
       → AreReady paths ms → AreAllSlots mode ms ss → (o : Option Node) → IsFound mode ms g.key (first_of_key g.key (kept ms)) o
@@ -180,8 +181,8 @@ module _ (mode : Mode) where
       by_first (Some j) old found =
           let made : with_node g.key (tables (reaching x to) (with_item xs (headed_table mode m no_slots))) ss ≡ next = cc in
           let (a, more, is) = array-numbered g.key ms j ready.named ready.sourced old found.0 in
-          let headers : arrays us ++ (o ∷ []) ≡ arrays (under (at_key g.key) all) = sym (arrays-passed source start array_role g [] ms refl) in
-          let n : ℕ = length (arrays us) in
+          let headers : array_headers us ++ (o ∷ []) ≡ array_headers (under (at_key g.key) all) = sym (arrays-passed source start array_role g [] ms refl) in
+          let n : ℕ = length (array_headers us) in
           let fits : n ≤ n = omega arith in
           let numbers : 0 + n ≡ n = omega arith in
           let empty : under (at_element n) (under (at_key g.key) all) ≡ [] = sym (same n) ∙ (ready.at (at_key g.key ∷ [])).numbered n fits in
@@ -191,7 +192,7 @@ module _ (mode : Mode) where
             ap (λ (y : Extent). reaching y to) (found.1 ∙ ap (tables_extent (spanned_in mode)) is) ∙ extent-more mode a more o
                 ∙ ap (λ ys. tables_extent (spanned_in mode) (ys ++ (o ∷ []))) (sym is) ∙ ap (tables_extent (spanned_in mode)) headers,
             subst (λ hs. AreElements mode (under (at_key g.key) all) 0 hs (with_item xs (headed_table mode m no_slots))) headers
-                (elements-add mode us (under (at_key g.key) all) n 0 (arrays us) o xs same empty numbers found.2),
+                (elements-add mode us (under (at_key g.key) all) n 0 (array_headers us) o xs same empty numbers found.2),
           ))
   open-element source start g ms paths ss next ready slots (Some nothing) found e = absurd cc
   open-element source start g ms paths ss next ready slots (Some (leaf s r d)) found e = absurd cc
@@ -242,7 +243,7 @@ module _ (mode : Mode) where
           let lines =
           header-deeper source paths (opening_role is_array) (next_start start g) k (t ∷ []) (h ∷ rest)
           ∙ ap (all_deeper k) (header-deeper source (paths_under k paths) (opening_role is_array) (next_start start g) t [] (h ∷ rest)) in
-          let m = mention_of source start (k ∷ []) through_role g in
+          let m = mention_of source start (k ∷ []) continued_role g in
           subst (λ us. AreAllSlots mode (ms ++ (m ∷ us)) next) (sym lines)
           (pass-array mode source start g n (below deeper) ms paths (add_header mode is_array (all_deeper k (all_deeper t (below deeper)))) ss next ready slots
           (λ xs us ns r s added.

@@ -6,10 +6,8 @@ use Rattle.std.proofs.lemmas.Bool.{cases_Bool, or_from}
 use Rattle.std.proofs.lemmas.List.Folds.{list_any-append}
 use Rattle.toml_edit_model.specs.Text.{is_empty}
 use Rattle.toml_edit_model.specs.Syntax.{Segment}
-use Rattle.toml_edit_model.specs.Paths.{Step, at_key, at_element, Path, same_step, to_key, to_element, Role, dotted_role, implied_role, header_role, array_role, value_role, through_role, may_meet, Mention, Source, mention_of, next_start, elements_at, in_last, passing_role, header_mentions, header_path}
-use Rattle.toml_edit_model.specs.Normal.{is_header_role, first_of_list}
+use Rattle.toml_edit_model.specs.Paths.{Step, at_key, at_element, Path, same_step, to_key, to_element, Mention, Source, mention_of, next_start, elements_at, in_last, passing_role, header_mentions, header_path}
 use Rattle.toml_edit_model.specs.Accepted.{agree}
-use Rattle.toml_edit_model.specs.TreeOf.{under, own, roles, is_array_role, arrays, some_at}
 use Rattle.toml_edit_laws.proofs.common.Tests.{or-left, or-right, false-by, true-false, same_text-refl}
 use Rattle.toml_edit_laws.proofs.common.PathLaws.{same_step-refl, same_step-swap}
 use Rattle.toml_edit_laws.proofs.mentions.GatherLaws.{all_deeper, under-deeper, own-deeper}
@@ -22,6 +20,9 @@ use Rattle.toml_edit_laws.proofs.adding.HeaderAdded.{from_here}
 use Rattle.toml_edit_laws.proofs.adding.HeaderSteps.{HasStep, IsOpen, has-more, has-path, lift-step, agree-under, agree-rest, agree-own}
 use Rattle.toml_edit_laws.proofs.mentions.SomeAt.{under-append, some_at-under, own_mention}
 use Rattle.toml_edit_laws.proofs.mentions.RoleTests.{opening_role, is_through_role}
+use Rattle.toml_edit_model.specs.Roles.{Role, dotted_role, implied_role, header_role, array_role, value_role, continued_role, may_meet, is_header_role, is_array_role}
+use Rattle.toml_edit_model.specs.Kept.{first_of_list}
+use Rattle.toml_edit_model.specs.TableMentions.{under, own, roles, array_headers, some_at}
 
 -- ---- the path of a header, and its block
 
@@ -78,7 +79,7 @@ header-other implied_role h = refl
 header-other header_role h = absurd cc
 header-other array_role h = refl
 header-other value_role h = refl
-header-other through_role h = refl
+header-other continued_role h = refl
 
 no-headers : (rs : List Role) → list_any is_other rs ≡ false → list_any is_header_role rs ≡ false
 no-headers [] h = refl
@@ -93,7 +94,7 @@ none-left (implied_role ∷ rs) a t o = absurd cc
 none-left (header_role ∷ rs) a t o = absurd cc
 none-left (array_role ∷ rs) a t o = absurd cc
 none-left (value_role ∷ rs) a t o = absurd cc
-none-left (through_role ∷ rs) a t o = absurd cc
+none-left (continued_role ∷ rs) a t o = absurd cc
 
 -- Another element: all at its path are of an array.
 arrayed-more : (rs : List Role) → AreArrayed rs → ArePassed rs → list_any is_other rs ≡ false → AreArrayed (rs ++ (array_role ∷ []))
@@ -122,10 +123,10 @@ last-keeps : (is_array : Bool) (source : Source) (start : ℕ) (g : Segment) (pa
     → MayHead is_array (roles us) → Keeps is_array paths [] (us ++ (own_mention source start (opening_role is_array) g ∷ []))
 last-keeps true source start g paths us h may =
     let o = own_mention source start array_role g in
-    let longer : length (arrays (us ++ (o ∷ []))) ≡ length (arrays us) + 1 = ap length (arrays-append us (o ∷ [])) ∙ length-append (arrays us) (o ∷ []) in
-    let was : elements_at paths [] ≡ length (arrays us) = (h []).counted in
-    let count : suc (elements_at paths []) ≡ length (arrays (us ++ (o ∷ []))) = omega arith in
-    let fits : elements_at paths [] < length (arrays (us ++ (o ∷ []))) = omega arith in (
+    let longer : length (array_headers (us ++ (o ∷ []))) ≡ length (array_headers us) + 1 = ap length (arrays-append us (o ∷ [])) ∙ length-append (array_headers us) (o ∷ []) in
+    let was : elements_at paths [] ≡ length (array_headers us) = (h []).counted in
+    let count : suc (elements_at paths []) ≡ length (array_headers (us ++ (o ∷ []))) = omega arith in
+    let fits : elements_at paths [] < length (array_headers (us ++ (o ∷ []))) = omega arith in (
       paths-own source start array_role g paths ([] ∷ paths) us (λ s. refl) count (arrayed-more (roles us) (h []).arrayed (h []).passed may)
           (passed-more (roles us) (array_role ∷ []) refl (h []).passed) h,
       (fits, tt),
@@ -141,26 +142,26 @@ off-array r dotted_role h g = absurd cc
 off-array r implied_role h g = absurd cc
 off-array r header_role h g = absurd cc
 off-array r value_role h g = absurd cc
-off-array r through_role h g = absurd cc
+off-array r continued_role h g = absurd cc
 off-array dotted_role array_role h g = refl
 off-array implied_role array_role h g = refl
 off-array header_role array_role h g = refl
 off-array array_role array_role h g = absurd cc
 off-array value_role array_role h g = refl
-off-array through_role array_role h g = absurd cc
+off-array continued_role array_role h g = absurd cc
 
 off-header : (r q : Role) → is_array_role r ≡ true → is_header_role q ≡ true → may_meet r q ≡ false
 off-header dotted_role q h g = absurd cc
 off-header implied_role q h g = absurd cc
 off-header header_role q h g = absurd cc
 off-header value_role q h g = absurd cc
-off-header through_role q h g = absurd cc
+off-header continued_role q h g = absurd cc
 off-header array_role header_role h g = refl
 off-header array_role dotted_role h g = absurd cc
 off-header array_role implied_role h g = absurd cc
 off-header array_role array_role h g = absurd cc
 off-header array_role value_role h g = absurd cc
-off-header array_role through_role h g = absurd cc
+off-header array_role continued_role h g = absurd cc
 
 -- where it agrees
 last-agrees : (is_array : Bool) (source : Source) (start : ℕ) (g : Segment) (ms : List (Mention Source))
@@ -226,35 +227,35 @@ pass-keeps is_array source paths start g h rest ms ready on agreed = by_count (e
         let t = at_element n in
         let inner = paths_under k paths in
         let deeper = paths_under t inner in
-        let o = own_mention source start through_role g in
-        let m = mention_of source start (k ∷ []) through_role g in
+        let o = own_mention source start continued_role g in
+        let m = mention_of source start (k ∷ []) continued_role g in
         let deep = all_deeper t (below deeper) in
         let lines =
         header-deeper source paths (opening_role is_array) (next_start start g) k (t ∷ []) (h ∷ rest)
         ∙ ap (all_deeper k) (header-deeper source inner (opening_role is_array) (next_start start g) t [] (h ∷ rest)) in
         let path = path-deeper paths k (t ∷ []) (h ∷ rest) ∙ ap (λ q. k ∷ q) (path-deeper inner t [] (h ∷ rest)) in
-        let many : length (arrays us) ≡ suc n = sym (inside []).counted ∙ elements-under k [] paths ∙ count in
+        let many : length (array_headers us) ≡ suc n = sym (inside []).counted ∙ elements-under k [] paths ∙ count in
         let some : list_any is_array_role (roles us) ≡ true =
         elim (cases_Bool (list_any is_array_role (roles us))) [
           | inl i ↦ i
           | inr i ↦ (let clash : suc n ≡ zero = sym many ∙ ap length (no-arrays (own us) i) in absurd cc)
         ] in
         let with_own : AreReadyPaths inner (us ++ (o ∷ [])) =
-        paths-own source start through_role g inner inner us (λ s. refl) (count-passed source start through_role g inner us refl inside)
-        (arrayed-passed (roles us) (through_role ∷ []) refl refl (inside []).arrayed)
-        (λ _. list_any-append is_array_role (roles us) (through_role ∷ []) ∙ ap (λ b. b || false) some) inside in
+        paths-own source start continued_role g inner inner us (λ s. refl) (count-passed source start continued_role g inner us refl inside)
+        (arrayed-passed (roles us) (continued_role ∷ []) refl refl (inside []).arrayed)
+        (λ _. list_any-append is_array_role (roles us) (continued_role ∷ []) ∙ ap (λ b. b || false) some) inside in
         let agrees : agree may_meet (under t (us ++ (o ∷ []))) (below deeper) ≡ true =
         sym (agree-under may_meet t (us ++ (o ∷ [])) (below deeper))
-        ∙ agree-own may_meet source start through_role g us deep (own-deeper t (below deeper))
+        ∙ agree-own may_meet source start continued_role g us deep (own-deeper t (below deeper))
         (sym (agree-under may_meet k ms deep) ∙ agree-rest may_meet ms m (all_deeper k deep) (ap (λ xs. agree may_meet ms (m ∷ xs)) (sym lines) ∙ e)) in
-        let there : n < length (arrays us) = omega arith in
+        let there : n < length (array_headers us) = omega arith in
         let element : Keeps is_array inner (t ∷ header_path deeper [] (h ∷ rest)) ((us ++ (o ∷ [])) ++ deep) =
         step-keeps is_array t inner (header_path deeper [] (h ∷ rest)) (us ++ (o ∷ [])) (below deeper)
         (has-more t (us ++ (o ∷ [])) deep (has-more t us (o ∷ []) there)) with_own
         (on deeper (under t (us ++ (o ∷ []))) (λ p. with_own (t ∷ p)) agrees) in
         subst (λ xs. Keeps is_array paths (header_path paths (k ∷ t ∷ []) (h ∷ rest)) (ms ++ (m ∷ xs))) (sym lines)
-        (subst (λ q. Keeps is_array paths q (ms ++ path_of source start through_role g deep)) (sym path)
-        (step-keeps is_array k paths (t ∷ header_path deeper [] (h ∷ rest)) ms (o ∷ deep) (has-path source start through_role g deep ms) ready
+        (subst (λ q. Keeps is_array paths q (ms ++ path_of source start continued_role g deep)) (sym path)
+        (step-keeps is_array k paths (t ∷ header_path deeper [] (h ∷ rest)) ms (o ∷ deep) (has-path source start continued_role g deep ms) ready
         (subst (Keeps is_array inner (t ∷ header_path deeper [] (h ∷ rest))) (append_assoc us (o ∷ []) deep) element)))
 
 pub header-keeps : (is_array : Bool) (source : Source) (paths : List Path) (start : ℕ) (segments : List Segment) (ms : List (Mention Source)) → is_empty segments ≡ false

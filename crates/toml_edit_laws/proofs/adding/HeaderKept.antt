@@ -3,13 +3,13 @@ use Rattle.std.proofs.Common.{◌≡◌, refl, sym, ◌∙◌, ap, subst, Bool, 
 use Rattle.std.specs.Prelude.{◌&&◌, ◌||◌, not, if◌then◌else◌, filter, find}
 use Rattle.toml_edit_model.specs.Text.{Text, same_text}
 use Rattle.toml_edit_model.specs.Paths.{at_key, at_element, Path, same_path, Mention}
-use Rattle.toml_edit_model.specs.Normal.{is_header_role}
-use Rattle.toml_edit_model.specs.TreeOf.{some_at, any_role, is_single, is_slot, kept_from, kept}
 use Rattle.toml_edit_laws.proofs.common.Tests.{and_left, and-true, or-false, or-true, or-left, or-right, same_text-refl, same_text-swap, append-nil}
 use Rattle.toml_edit_laws.proofs.mentions.GatherLaws.{is_of_key, first_of_key, first_at}
 use Rattle.toml_edit_laws.proofs.common.PathLaws.{same_path-is}
 use Rattle.toml_edit_laws.proofs.mentions.SomeAt.{some_at-append}
 use Rattle.toml_edit_laws.proofs.mentions.Named.{named-at, AreNamed, other-key}
+use Rattle.toml_edit_model.specs.Roles.{is_header_role, any_role}
+use Rattle.toml_edit_model.specs.TableMentions.{some_at, is_single, is_slot, kept_from, kept}
 use Rattle.std.specs.Option.{option_or}
 
 -- ---- mentions that head no table of this one take no slot away

@@ -9,10 +9,9 @@ use Rattle.std.proofs.lemmas.List.Folds.{list_any-append}
 use Rattle.toml_edit_model.specs.Mode.{Mode}
 use Rattle.toml_edit_model.specs.Text.{is_empty}
 use Rattle.toml_edit_model.specs.Syntax.{Segment}
-use Rattle.toml_edit_model.specs.Paths.{Step, at_key, at_element, Path, same_path, Role, implied_role, array_role, Mention, Source, elements_at}
-use Rattle.toml_edit_model.specs.Normal.{is_header_role, first_of_list}
+use Rattle.toml_edit_model.specs.Paths.{Step, at_key, at_element, Path, same_path, Mention, Source, elements_at}
 use Rattle.toml_edit_model.specs.Tree.{Slots}
-use Rattle.toml_edit_model.specs.TreeOf.{spanned_in, under, own, roles, is_array_role, arrays, some_at, kept}
+use Rattle.toml_edit_model.specs.TreeOf.{spanned_in}
 use Rattle.toml_edit_laws.proofs.common.Tests.{append-nil, or-left, or-right, or-false, true-false}
 use Rattle.toml_edit_laws.proofs.mentions.KeptOrder.{HaveOneHeader}
 use Rattle.toml_edit_laws.proofs.adding.HeaderPaths.{paths_under}
@@ -27,10 +26,13 @@ use Rattle.toml_edit_laws.proofs.mentions.RoleTests.{is_through_role}
 use Rattle.toml_edit_laws.proofs.mentions.Placed.{IsHeaded}
 use Rattle.toml_edit_laws.proofs.mentions.Named.{IsNamed}
 use Rattle.toml_edit_laws.specs.KeptKeys.{under_path}
+use Rattle.toml_edit_model.specs.Roles.{Role, implied_role, array_role, is_header_role, is_array_role}
+use Rattle.toml_edit_model.specs.Kept.{first_of_list}
+use Rattle.toml_edit_model.specs.TableMentions.{under, own, roles, array_headers, some_at, kept}
 
 -- ---- lists of mentions
 
-pub arrays-append : {S : Type 0} (xs ys : List (Mention S)) → arrays (xs ++ ys) ≡ arrays xs ++ arrays ys
+pub arrays-append : {S : Type 0} (xs ys : List (Mention S)) → array_headers (xs ++ ys) ≡ array_headers xs ++ array_headers ys
 arrays-append {S} xs ys =
     ap (filter (λ (m : Mention S). is_array_role m.role)) (filter-append (λ (m : Mention S). is_empty m.path) xs ys)
     ∙ filter-append (λ (m : Mention S). is_array_role m.role) (own xs) (own ys)
@@ -78,7 +80,7 @@ module _ (mode : Mode) where
 
 -- The conditions hold with it, where it has one element more if it is of a header in double brackets.
 pub paths-own : (source : Source) (start : ℕ) (role : Role) (g : Segment) (paths after : List Path) (us : List (Mention Source))
-    → ((s : Step) → paths_under s paths ≡ paths_under s after) → elements_at after [] ≡ length (arrays (us ++ (own_mention source start role g ∷ [])))
+    → ((s : Step) → paths_under s paths ≡ paths_under s after) → elements_at after [] ≡ length (array_headers (us ++ (own_mention source start role g ∷ [])))
     → AreArrayed (roles us ++ (role ∷ [])) → ArePassed (roles us ++ (role ∷ [])) → AreReadyPaths paths us
     → AreReadyPaths after (us ++ (own_mention source start role g ∷ []))
 paths-own source start role g paths after us below count arrayed passed h = at_path
@@ -95,9 +97,9 @@ paths-own source start role g paths after us below count arrayed passed h = at_p
           counted = count;
           keyed = λ k e. sym (same (at_key k)) ∙ (h []).keyed k (ap own (same (at_key k)) ∙ e);
           numbered = λ i e.
-              let longer : length (arrays (us ++ (o ∷ []))) ≡ length (arrays us) + length (arrays (o ∷ [])) =
-              ap length (arrays-append us (o ∷ [])) ∙ length-append (arrays us) (arrays (o ∷ [])) in
-              let fits : length (arrays us) ≤ i = omega arith in
+              let longer : length (array_headers (us ++ (o ∷ []))) ≡ length (array_headers us) + length (array_headers (o ∷ [])) =
+              ap length (arrays-append us (o ∷ [])) ∙ length-append (array_headers us) (array_headers (o ∷ [])) in
+              let fits : length (array_headers us) ≤ i = omega arith in
               sym (same (at_element i)) ∙ (h []).numbered i fits;
           arrayed = subst AreArrayed (sym (roles-append us (o ∷ []))) arrayed;
           passed = subst ArePassed (sym (roles-append us (o ∷ []))) passed;
@@ -124,11 +126,11 @@ passed-more rs more none h e =
 
 -- no header in double brackets more
 pub count-passed : (source : Source) (start : ℕ) (role : Role) (g : Segment) (paths : List Path) (us : List (Mention Source))
-    → is_array_role role ≡ false → AreReadyPaths paths us → elements_at paths [] ≡ length (arrays (us ++ (own_mention source start role g ∷ [])))
+    → is_array_role role ≡ false → AreReadyPaths paths us → elements_at paths [] ≡ length (array_headers (us ++ (own_mention source start role g ∷ [])))
 count-passed source start role g paths us no_array h =
     let o = own_mention source start role g in
     (h []).counted
-    ∙ ap length (sym (arrays-append us (o ∷ []) ∙ ap (λ b. arrays us ++ (if b then o ∷ [] else [])) no_array ∙ append-nil (arrays us)))
+    ∙ ap length (sym (arrays-append us (o ∷ []) ∙ ap (λ b. array_headers us ++ (if b then o ∷ [] else [])) no_array ∙ append-nil (array_headers us)))
 
 pub ready-implied : (source : Source) (start : ℕ) (g : Segment) (paths : List Path) (us : List (Mention Source)) → AreReady paths us
     → AreReady paths (us ++ (own_mention source start implied_role g ∷ []))

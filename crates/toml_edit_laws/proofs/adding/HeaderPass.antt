@@ -6,10 +6,9 @@ use Rattle.std.proofs.lemmas.Bool.{eqb-true}
 use Rattle.std.proofs.lemmas.List.Folds.{list_any-append}
 use Rattle.toml_edit_model.specs.Mode.{Mode}
 use Rattle.toml_edit_model.specs.Syntax.{Segment}
-use Rattle.toml_edit_model.specs.Paths.{Step, at_key, at_element, Path, to_key, Role, dotted_role, implied_role, header_role, array_role, value_role, through_role, Mention, Source, mention_of, elements_at}
-use Rattle.toml_edit_model.specs.Normal.{is_header_role}
+use Rattle.toml_edit_model.specs.Paths.{Step, at_key, at_element, Path, to_key, Mention, Source, mention_of, elements_at}
 use Rattle.toml_edit_model.specs.Tree.{Node, nothing, leaf, list, inline, table, tables, Items, Slots, no_slots}
-use Rattle.toml_edit_model.specs.TreeOf.{spanned_in, under, own, roles, is_dotted_role, is_array_role, arrays, kept, key_at, key_extent, made_by_path, tables_extent, fields_of}
+use Rattle.toml_edit_model.specs.TreeOf.{spanned_in, key_at, key_extent, made_by_path, tables_extent, fields_of}
 use Rattle.toml_edit_laws.specs.FlatTree.{with_slot}
 use Rattle.toml_edit_laws.specs.InlineTree.{with_node}
 use Rattle.toml_edit_laws.specs.TableTree.{change_last, pass_below}
@@ -25,6 +24,8 @@ use Rattle.toml_edit_laws.proofs.adding.TableSlots.{slots-same, slots-add}
 use Rattle.toml_edit_laws.proofs.mentions.SomeAt.{under-append, own_mention, under-own-mention}
 use Rattle.toml_edit_laws.proofs.adding.KeySlots.{kept-passed}
 use Rattle.toml_edit_laws.proofs.adding.TableMentions.{one_slot}
+use Rattle.toml_edit_model.specs.Roles.{Role, dotted_role, implied_role, header_role, array_role, value_role, continued_role, is_header_role, is_dotted_role, is_array_role}
+use Rattle.toml_edit_model.specs.TableMentions.{under, own, roles, array_headers, kept}
 
 -- ---- one key of a path
 
@@ -41,15 +42,15 @@ roles-passed {S} source start role g below ms none =
     ∙ roles-append us (o ∷ [])
 
 pub arrays-passed : {S : Type 0} (source : S) (start : ℕ) (role : Role) (g : Segment) (below ms : List (Mention S)) → own below ≡ []
-    → arrays (under (at_key g.key) (ms ++ path_of source start role g below))
-    ≡ arrays (under (at_key g.key) ms) ++ (if is_array_role role then own_mention source start role g ∷ [] else [])
+    → array_headers (under (at_key g.key) (ms ++ path_of source start role g below))
+    ≡ array_headers (under (at_key g.key) ms) ++ (if is_array_role role then own_mention source start role g ∷ [] else [])
 arrays-passed {S} source start role g below ms none =
     let us = under (at_key g.key) ms in
     let o = own_mention source start role g in
-    ap arrays (sym (under-all source start role g below ms))
+    ap array_headers (sym (under-all source start role g below ms))
     ∙ arrays-append (us ++ (o ∷ [])) below
-    ∙ ap (λ os. arrays (us ++ (o ∷ [])) ++ arrays_of os) none
-    ∙ append-nil (arrays (us ++ (o ∷ [])))
+    ∙ ap (λ os. array_headers (us ++ (o ∷ [])) ++ arrays_of os) none
+    ∙ append-nil (array_headers (us ++ (o ∷ [])))
     ∙ arrays-append us (o ∷ [])
   where
     arrays_of : List (Mention S) → List (Mention S)
@@ -71,7 +72,7 @@ module _ (mode : Mode) where
   fields-same us all j implied_role e = ap (λ b. made_by_path (spanned_in mode) b (key_extent (spanned_in mode) j)) e
   fields-same us all j array_role e = ap (λ b. made_by_path (spanned_in mode) b (key_extent (spanned_in mode) j)) e
   fields-same us all j value_role e = ap (λ b. made_by_path (spanned_in mode) b (key_extent (spanned_in mode) j)) e
-  fields-same us all j through_role e = ap (λ b. made_by_path (spanned_in mode) b (key_extent (spanned_in mode) j)) e
+  fields-same us all j continued_role e = ap (λ b. made_by_path (spanned_in mode) b (key_extent (spanned_in mode) j)) e
 
   -- ---- one slot
 
@@ -184,21 +185,21 @@ module _ (mode : Mode) where
   pub pass-array : (source : Source) (start : ℕ) (g : Segment) (n : ℕ) (below ms : List (Mention Source)) (paths : List Path) (add : Slots → Option Slots) (ss next : Slots)
       → AreReady paths ms → AreAllSlots mode ms ss → GoesOn add (paths_under (at_element n) (paths_under (at_key g.key) paths)) below
       → elements_at paths (at_key g.key ∷ []) ≡ suc n → (o : Option Node) → IsFound mode ms g.key (first_of_key g.key (kept ms)) o
-      → pass_below mode (mention_of source start (to_key [] g.key) through_role g) add ss o ≡ Some next
-      → AreAllSlots mode (ms ++ path_of source start through_role g (all_deeper (at_element n) below)) next
+      → pass_below mode (mention_of source start (to_key [] g.key) continued_role g) add ss o ≡ Some next
+      → AreAllSlots mode (ms ++ path_of source start continued_role g (all_deeper (at_element n) below)) next
   pass-array source start g n below ms paths add ss next ready slots on count None found e = by_first (first_of_key g.key (kept ms)) refl found
     where
       by_first : (o : Option (Mention Source)) → first_of_key g.key (kept ms) ≡ o → IsFound mode ms g.key o None
-          → AreAllSlots mode (ms ++ path_of source start through_role g (all_deeper (at_element n) below)) next
+          → AreAllSlots mode (ms ++ path_of source start continued_role g (all_deeper (at_element n) below)) next
       by_first (Some j) new found = absurd found
       by_first None new found =
           let clash : suc n ≡ zero =
-          sym count ∙ count-at paths ms g.key ready ∙ ap (λ (us : List (Mention Source)). length (arrays us)) (key-empty paths g.key ms ready new) in
+          sym count ∙ count-at paths ms g.key ready ∙ ap (λ (us : List (Mention Source)). length (array_headers us)) (key-empty paths g.key ms ready new) in
           absurd cc
   pass-array source start g n below ms paths add ss next ready slots on count (Some (table f inner)) found e = by_first (first_of_key g.key (kept ms)) refl found
     where
       by_first : (o : Option (Mention Source)) → first_of_key g.key (kept ms) ≡ o → IsFound mode ms g.key o (Some (table f inner))
-          → AreAllSlots mode (ms ++ path_of source start through_role g (all_deeper (at_element n) below)) next
+          → AreAllSlots mode (ms ++ path_of source start continued_role g (all_deeper (at_element n) below)) next
       by_first None old found = absurd found
       by_first (Some j) old found =
           let clash : suc n ≡ zero = sym count ∙ count-at paths ms g.key ready ∙ ap length (table-unnumbered mode paths g.key ms j ready old found.0) in
@@ -212,19 +213,19 @@ module _ (mode : Mode) where
       none = own-deeper (at_element n) below
 
       all : List (Mention Source)
-      all = ms ++ path_of source start through_role g deep
+      all = ms ++ path_of source start continued_role g deep
 
       us : List (Mention Source)
       us = under (at_key g.key) ms
 
       o : Mention Source
-      o = own_mention source start through_role g
+      o = own_mention source start continued_role g
 
       -- what each element sees of all
       elements : (t : Step) → under t (under (at_key g.key) all) ≡ under t us ++ under t deep
       elements t =
-          ap (under t) (sym (under-all source start through_role g deep ms)) ∙ under-append t (us ++ (o ∷ [])) deep
-          ∙ ap (λ zs. zs ++ under t deep) (sym (under-own-mention source start through_role g us t))
+          ap (under t) (sym (under-all source start continued_role g deep ms)) ∙ under-append t (us ++ (o ∷ [])) deep
+          ∙ ap (λ zs. zs ++ under t deep) (sym (under-own-mention source start continued_role g us t))
 
       same : (j : ℕ) → j < n → under (at_element j) us ≡ under (at_element j) (under (at_key g.key) all)
       same j before =
@@ -242,15 +243,15 @@ module _ (mode : Mode) where
       by_first None old found = absurd found
       by_first (Some j) old found =
           let (changed, added, made) = map_some (change_last add xs) (λ (changed : Items). with_node g.key (tables x changed) ss) next e in
-          let headers : arrays us ≡ arrays (under (at_key g.key) all) = sym (arrays-passed source start through_role g deep ms none ∙ append-nil (arrays us)) in
-          let many : length (arrays us) ≡ suc n = sym (count-at paths ms g.key ready) ∙ count in
-          let numbers : 0 + length (arrays us) ≡ suc n = omega arith in
+          let headers : array_headers us ≡ array_headers (under (at_key g.key) all) = sym (arrays-passed source start continued_role g deep ms none ∙ append-nil (array_headers us)) in
+          let many : length (array_headers us) ≡ suc n = sym (count-at paths ms g.key ready) ∙ count in
+          let numbers : 0 + length (array_headers us) ≡ suc n = omega arith in
           subst (λ ns. AreAllSlots mode all ns) made
-          (old-slot source start through_role g deep ms paths j (tables x changed) ss ready refl none old slots (
+          (old-slot source start continued_role g deep ms paths j (tables x changed) ss ready refl none old slots (
             found.0,
             found.1 ∙ ap (tables_extent (spanned_in mode)) headers,
             subst (λ hs. AreElements mode (under (at_key g.key) all) 0 hs changed) headers
-                (elements-last mode us (under (at_key g.key) all) n add 0 (arrays us) xs changed same last numbers found.2 added),
+                (elements-last mode us (under (at_key g.key) all) n add 0 (array_headers us) xs changed same last numbers found.2 added),
           ))
   pass-array source start g n below ms paths add ss next ready slots on count (Some nothing) found e = absurd cc
   pass-array source start g n below ms paths add ss next ready slots on count (Some (leaf s r d)) found e = absurd cc

@@ -4,12 +4,13 @@ use Rattle.std.specs.Prelude.{if◌then◌else◌}
 use Rattle.std.proofs.lemmas.Bool.{cases_Bool}
 use Rattle.toml_edit_model.specs.Mode.{Mode}
 use Rattle.toml_edit_model.specs.Syntax.{Segment}
-use Rattle.toml_edit_model.specs.Paths.{Step, at_key, at_element, Path, same_step, same_path, to_key, Role, Mention, Source, mention_of, next_start, elements_at, in_last, passing_role, header_mentions, header_path}
+use Rattle.toml_edit_model.specs.Paths.{Step, at_key, at_element, Path, same_step, same_path, to_key, Mention, Source, mention_of, next_start, elements_at, in_last, passing_role, header_mentions, header_path}
 use Rattle.toml_edit_model.specs.Tree.{Slots}
-use Rattle.toml_edit_model.specs.TreeOf.{own}
 use Rattle.toml_edit_laws.specs.TableTree.{pass_below, add_header}
 use Rattle.toml_edit_laws.specs.InlineTree.{node_at}
 use Rattle.toml_edit_laws.proofs.mentions.GatherLaws.{all_deeper, own-deeper}
+use Rattle.toml_edit_model.specs.Roles.{Role}
+use Rattle.toml_edit_model.specs.TableMentions.{own}
 
 -- ---- numbered paths from one step on
 

@@ -3,10 +3,10 @@ use Rattle.std.proofs.Common.{◌≡◌, refl, ◌+◌, true, List, [], ◌∷�
 use Rattle.toml_edit_model.specs.Mode.{Mode}
 use Rattle.toml_edit_model.specs.Text.{Text}
 use Rattle.toml_edit_model.specs.Syntax.{Statement, key_line, header, Header, Document}
-use Rattle.toml_edit_model.specs.Paths.{Path, may_meet, Mention, Source, Context, line_mentions, header_mentions, header_role_of, path_start, start_context, source_of, mentions_of, context_after}
+use Rattle.toml_edit_model.specs.Paths.{Path, Mention, Source, Context, line_mentions, header_mentions, header_role_of, path_start, start_context, source_of, mentions_of, context_after}
 use Rattle.toml_edit_model.specs.Accepted.{agree}
 use Rattle.toml_edit_model.specs.Tree.{Node, Slots}
-use Rattle.toml_edit_model.specs.TreeOf.{spanned_in, kept, AreSlotsOf}
+use Rattle.toml_edit_model.specs.TreeOf.{spanned_in, AreSlotsOf}
 use Rattle.toml_edit_laws.specs.TableTree.{add_statement}
 use Rattle.toml_edit_laws.proofs.adding.HeaderReady.{paths_from, IsReadyAt, AreReady}
 use Rattle.toml_edit_laws.proofs.adding.HeaderAdded.{header_added}
@@ -19,6 +19,8 @@ use Rattle.toml_edit_laws.proofs.mentions.OneHeaderLaws.{line-header, header-hea
 use Rattle.toml_edit_laws.proofs.common.Each.{all-append}
 use Rattle.toml_edit_laws.proofs.mentions.Named.{IsNamed, line-named, header-named}
 use Rattle.toml_edit_laws.specs.KeptKeys.{under_path}
+use Rattle.toml_edit_model.specs.Roles.{may_meet}
+use Rattle.toml_edit_model.specs.TableMentions.{kept}
 
 -- ---- statement after statement
 

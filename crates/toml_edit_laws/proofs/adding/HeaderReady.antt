@@ -4,9 +4,8 @@ use Rattle.std.specs.Prelude.{◌⊎◌, ◌&&◌, ◌||◌, if◌then◌else◌
 use Rattle.std.specs.List.{AllByRecursion, list_any}
 use Rattle.toml_edit_model.specs.Mode.{Mode}
 use Rattle.toml_edit_model.specs.Text.{Text, is_empty}
-use Rattle.toml_edit_model.specs.Paths.{Step, at_key, at_element, Path, same_step, same_path, Role, array_role, Mention, Source, elements_at}
-use Rattle.toml_edit_model.specs.Normal.{is_header_role, first_of_list}
-use Rattle.toml_edit_model.specs.TreeOf.{spanned_in, inside, under, own, roles, is_array_role, arrays, some_at, any_role, kept, IsTableRole}
+use Rattle.toml_edit_model.specs.Paths.{Step, at_key, at_element, Path, same_step, same_path, Mention, Source, elements_at}
+use Rattle.toml_edit_model.specs.TreeOf.{spanned_in, IsTableRole}
 use Rattle.toml_edit_laws.proofs.common.Tests.{and_right, true-false}
 use Rattle.toml_edit_laws.proofs.mentions.GatherLaws.{some_at-first, first_of_key, first_at}
 use Rattle.toml_edit_laws.proofs.mentions.KeptOrder.{HaveOneHeader, under-header}
@@ -18,6 +17,9 @@ use Rattle.toml_edit_laws.proofs.mentions.RoleTests.{is_through_role}
 use Rattle.toml_edit_laws.proofs.mentions.Named.{AreNamed, under-named}
 use Rattle.toml_edit_laws.proofs.clashes.ClashKept.{some_at-such, kept-lead}
 use Rattle.toml_edit_laws.specs.KeptKeys.{under_path}
+use Rattle.toml_edit_model.specs.Roles.{Role, array_role, is_header_role, is_array_role, any_role}
+use Rattle.toml_edit_model.specs.Kept.{first_of_list}
+use Rattle.toml_edit_model.specs.TableMentions.{inside, under, own, roles, array_headers, some_at, kept}
 use Rattle.std.specs.Option.{option_or}
 
 -- ---- the conditions
@@ -38,9 +40,9 @@ ArePassed rs = list_any is_through_role rs ≡ true → list_any is_array_role r
 -- What is mentioned of one table, array or value and below it: it has as many elements as headers in double brackets, and nothing
 -- is below a key that isn't mentioned or an element that isn't there.
 pub record IsReadyAt (paths : List Path) (us : List (Mention Source)) : Type 0 where
-  pub counted : elements_at paths [] ≡ length (arrays us)
+  pub counted : elements_at paths [] ≡ length (array_headers us)
   pub keyed : (k : Text) → own (under (at_key k) us) ≡ [] → under (at_key k) us ≡ []
-  pub numbered : (i : ℕ) → length (arrays us) ≤ i → under (at_element i) us ≡ []
+  pub numbered : (i : ℕ) → length (array_headers us) ≤ i → under (at_element i) us ≡ []
   pub arrayed : AreArrayed (roles us)
   pub passed : ArePassed (roles us)
 
@@ -137,7 +139,7 @@ some-array (m ∷ xs) h =
 
 -- as many elements as headers in double brackets
 pub count-at : (paths : List Path) (ms : List (Mention Source)) (k : Text) → AreReady paths ms
-    → elements_at paths (at_key k ∷ []) ≡ length (arrays (under (at_key k) ms))
+    → elements_at paths (at_key k ∷ []) ≡ length (array_headers (under (at_key k) ms))
 count-at paths ms k h = sym (elements-under (at_key k) [] paths) ∙ (h.at (at_key k ∷ [])).counted
 
 or-none : {A : Type 0} (a b : Option A) → option_or a b ≡ None → (a ≡ None) × (b ≡ None)
@@ -215,13 +217,13 @@ key-leader k ms j n s h = by_head (head_at p ms) refl (sym (kept-lead k ms n) �
 module _ (mode : Mode) where
   -- at a table's key stands no array
   pub table-unnumbered : (paths : List Path) (k : Text) (ms : List (Mention Source)) (j : Mention Source) → AreReady paths ms → first_of_key k (kept ms) ≡ Some j
-      → IsTableRole (spanned_in mode) j.role → arrays (under (at_key k) ms) ≡ []
+      → IsTableRole (spanned_in mode) j.role → array_headers (under (at_key k) ms) ≡ []
   table-unnumbered paths k ms j h old is_table = by_array (list_any is_array_role (roles us)) refl
     where
       us : List (Mention Source)
       us = under (at_key k) ms
 
-      by_array : (b : Bool) → list_any is_array_role (roles us) ≡ b → arrays us ≡ []
+      by_array : (b : Bool) → list_any is_array_role (roles us) ≡ b → array_headers us ≡ []
       by_array false e = no-arrays (own us) e
       by_array true e =
           let first = (h.at (at_key k ∷ [])).arrayed e in
@@ -234,7 +236,7 @@ module _ (mode : Mode) where
 
 -- at an array's key stands one
 pub array-numbered : (k : Text) (ms : List (Mention Source)) (j : Mention Source) → AreNamed ms → AllByRecursion IsHeaded ms → first_of_key k (kept ms) ≡ Some j
-    → j.role ≡ array_role → (a : Mention Source) × (more : List (Mention Source)) × (arrays (under (at_key k) ms) ≡ a ∷ more)
+    → j.role ≡ array_role → (a : Mention Source) × (more : List (Mention Source)) × (array_headers (under (at_key k) ms) ≡ a ∷ more)
 array-numbered k ms j n s old is_array =
     elim (key-leader k ms j n s old).1 [
       | inl l ↦ true-false (is_header_role j.role) l.0 (ap is_header_role is_array)

@@ -5,7 +5,7 @@ use Rattle.toml_edit_model.specs.Mode.{Mode}
 use Rattle.toml_edit_model.specs.Text.{Text, same_text}
 use Rattle.toml_edit_model.specs.Paths.{at_key, at_element, Mention, Source}
 use Rattle.toml_edit_model.specs.Tree.{Extent, Node, nothing, leaf, list, inline, table, tables, Items, no_items, item, Slots, no_slots}
-use Rattle.toml_edit_model.specs.TreeOf.{spanned_in, under, kept, brackets_from, brackets_to, tables_extent, IsNodeOf, AreElementsOf, AreSlotsOf}
+use Rattle.toml_edit_model.specs.TreeOf.{spanned_in, brackets_from, brackets_to, tables_extent, IsNodeOf, AreElementsOf, AreSlotsOf}
 use Rattle.toml_edit_laws.specs.InlineTree.{node_at, with_node}
 use Rattle.toml_edit_laws.specs.TableTree.{without_slot, with_item, change_last, reaching, headed_table}
 use Rattle.toml_edit_laws.proofs.common.Tests.{same_text-is}
@@ -13,6 +13,7 @@ use Rattle.toml_edit_laws.proofs.mentions.GatherLaws.{first_of_key, first_of_key
 use Rattle.toml_edit_laws.proofs.adding.TableSlots.{without_key, IsFound as IsFoundBySlot, slots-find as key-find, slots-change as key-change, slots-without as key-without}
 use Rattle.toml_edit_laws.proofs.common.OptionSteps.{map_some}
 use Rattle.toml_edit_laws.proofs.adding.HeaderKept.{others, others-none}
+use Rattle.toml_edit_model.specs.TableMentions.{under, kept}
 
 -- the slot of a key taken out
 others-without : (k : Text) (ks : List (Mention Source)) → AreDistinct ks → without_key k ks ≡ others k ks

@@ -6,10 +6,9 @@ use Rattle.std.proofs.lemmas.Bool.{cases_Bool}
 use Rattle.std.proofs.lemmas.List.Elements.{filter-append}
 use Rattle.toml_edit_model.specs.Text.{is_empty}
 use Rattle.toml_edit_model.specs.Syntax.{Segment}
-use Rattle.toml_edit_model.specs.Paths.{Step, at_key, at_element, Path, same_step, same_path, to_key, Role, dotted_role, value_role, Mention, Source, mention_of, line_mentions, next_start, elements_at}
+use Rattle.toml_edit_model.specs.Paths.{Step, at_key, at_element, Path, same_step, same_path, to_key, Mention, Source, mention_of, line_mentions, next_start, elements_at}
 use Rattle.toml_edit_model.specs.Accepted.{agree}
 use Rattle.toml_edit_model.specs.Faults.{clash, first_clash}
-use Rattle.toml_edit_model.specs.TreeOf.{under, own, roles, is_array_role, arrays}
 use Rattle.toml_edit_laws.proofs.common.Tests.{append-nil, and_right}
 use Rattle.toml_edit_laws.proofs.mentions.GatherLaws.{all_deeper, under-deeper, under-other, own-deeper, own-first}
 use Rattle.toml_edit_laws.proofs.inline_tables.AgreeLaws.{agree-first, agree-clash, both_deeper, clash-deeper}
@@ -24,13 +23,15 @@ use Rattle.toml_edit_laws.proofs.common.Agreement.{agree-append}
 use Rattle.toml_edit_laws.proofs.common.OptionSteps.{is_none-map, is_none}
 use Rattle.toml_edit_laws.proofs.common.Lists.{left-empty, right-empty}
 use Rattle.toml_edit_laws.specs.KeptKeys.{under_path}
+use Rattle.toml_edit_model.specs.Roles.{Role, dotted_role, value_role, is_array_role}
+use Rattle.toml_edit_model.specs.TableMentions.{under, own, roles, array_headers}
 
 -- ---- steps that are there
 
 -- the key is mentioned, or there is such an element
 abbrev pub HasStep : Step → List (Mention Source) → Type 0
 HasStep (at_key k) us = own (under (at_key k) us) ≡ [] → ⊥
-HasStep (at_element i) us = i < length (arrays us)
+HasStep (at_element i) us = i < length (array_headers us)
 
 -- so is each on a path
 abbrev pub IsOpen : Path → List (Mention Source) → Type 0
@@ -46,9 +47,9 @@ has-more (at_key k) us more h =
     λ e. h (left-empty (own (under (at_key k) us)) (own (under (at_key k) more))
     (sym (own-append (under (at_key k) us) (under (at_key k) more)) ∙ ap own (sym (under-append (at_key k) us more)) ∙ e))
 has-more (at_element i) us more h =
-    let longer : length (arrays (us ++ more)) ≡ length (arrays us) + length (arrays more) =
-    ap length (arrays-append us more) ∙ length-append (arrays us) (arrays more) in
-    let fits : i < length (arrays us) = h in
+    let longer : length (array_headers (us ++ more)) ≡ length (array_headers us) + length (array_headers more) =
+    ap length (arrays-append us more) ∙ length-append (array_headers us) (array_headers more) in
+    let fits : i < length (array_headers us) = h in
     omega arith
 
 pub open-more : (p : Path) (us more : List (Mention Source)) → IsOpen p us → IsOpen p (us ++ more)
@@ -86,7 +87,7 @@ lift-step s paths after us below has away count h deep = at_path
     owns : own us ≡ own all
     owns = sym (own-append us (all_deeper s below) ∙ ap (λ xs. own us ++ xs) (own-deeper s below) ∙ append-nil (own us))
 
-    headers : arrays us ≡ arrays all
+    headers : array_headers us ≡ array_headers all
     headers = ap (filter (λ (m : Mention Source). is_array_role m.role)) owns
 
     given : roles us ≡ roles all
@@ -103,7 +104,7 @@ lift-step s paths after us below has away count h deep = at_path
               ];
           numbered = λ n e.
               elim (cases_Bool (same_step s (at_element n))) [
-                | inl i ↦ (let here : n < length (arrays all) = subst (λ t. HasStep t all) (same_step-is s (at_element n) i) has in absurd (omega arith))
+                | inl i ↦ (let here : n < length (array_headers all) = subst (λ t. HasStep t all) (same_step-is s (at_element n) i) has in absurd (omega arith))
                 | inr i ↦ sym (apart (at_element n) i) ∙ (h []).numbered n (subst (λ xs. length xs ≤ n) (sym headers) e)
               ];
           arrayed = subst AreArrayed given (h []).arrayed;

@@ -5,7 +5,7 @@ use Rattle.toml_edit_model.specs.Text.{Text}
 use Rattle.toml_edit_model.specs.Syntax.{Frame, Value, key_line}
 use Rattle.toml_edit_model.specs.Paths.{Path, Mention, Source, Context, source_of, mentions_of, path_start}
 use Rattle.toml_edit_model.specs.Tree.{Node, Slots}
-use Rattle.toml_edit_model.specs.TreeOf.{spanned_in, under, IsLineNode}
+use Rattle.toml_edit_model.specs.TreeOf.{spanned_in, IsLineNode}
 use Rattle.toml_edit_laws.specs.TableTree.{add_line, own_mentions, add_statement}
 use Rattle.toml_edit_laws.proofs.inline_tables.PairMentions.{own-line}
 use Rattle.toml_edit_laws.proofs.adding.TableMentions.{AreOfTable, of_step}
@@ -14,6 +14,7 @@ use Rattle.toml_edit_laws.proofs.adding.LineAdded.{line_added}
 use Rattle.toml_edit_laws.proofs.adding.DeeperMentions.{mentions_below}
 use Rattle.toml_edit_laws.proofs.adding.BlockChange.{block_changed}
 use Rattle.toml_edit_laws.specs.KeptKeys.{under_path}
+use Rattle.toml_edit_model.specs.TableMentions.{under}
 
 -- the conditions hold at a path
 pub of_path : (p : Path) (ms : List (Mention Source)) → AreOfTable ms → AreOfTable (under_path p ms)

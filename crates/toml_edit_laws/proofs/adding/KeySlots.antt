@@ -4,10 +4,9 @@ use Rattle.std.specs.Prelude.{◌&&◌, ◌||◌, not, if◌then◌else◌, is_s
 use Rattle.std.proofs.Math.Bool.{and-false}
 use Rattle.toml_edit_model.specs.Mode.{Mode}
 use Rattle.toml_edit_model.specs.Syntax.{Segment}
-use Rattle.toml_edit_model.specs.Paths.{at_key, same_path, to_key, Role, Mention, Source, mention_of}
-use Rattle.toml_edit_model.specs.Normal.{is_header_role}
+use Rattle.toml_edit_model.specs.Paths.{at_key, same_path, to_key, Mention, Source, mention_of}
 use Rattle.toml_edit_model.specs.Tree.{Node, Slots}
-use Rattle.toml_edit_model.specs.TreeOf.{spanned_in, under, own, some_at, any_role, kept, key_at, AreSlotsOf}
+use Rattle.toml_edit_model.specs.TreeOf.{spanned_in, key_at, AreSlotsOf}
 use Rattle.toml_edit_laws.specs.FlatTree.{with_slot}
 use Rattle.toml_edit_laws.specs.InlineTree.{with_node}
 use Rattle.toml_edit_laws.proofs.common.Tests.{append-nil, or-false, true-false}
@@ -18,6 +17,8 @@ use Rattle.toml_edit_laws.proofs.adding.TableSlots.{IsSlotNode, slots-same, slot
 use Rattle.toml_edit_laws.proofs.adding.DeeperMentions.{kept-more}
 use Rattle.toml_edit_laws.proofs.mentions.SomeAt.{own_mention, under-own-mention}
 use Rattle.toml_edit_laws.proofs.mentions.Named.{AreNamed}
+use Rattle.toml_edit_model.specs.Roles.{Role, is_header_role, any_role}
+use Rattle.toml_edit_model.specs.TableMentions.{under, own, some_at, kept}
 
 -- ---- which slots a path has whose first segment heads no table
 

@@ -5,10 +5,9 @@ use Rattle.std.specs.List.{list_any}
 use Rattle.toml_edit_model.specs.Mode.{Mode, with_return}
 use Rattle.toml_edit_model.specs.Text.{Text, is_empty}
 use Rattle.toml_edit_model.specs.Syntax.{Segment, Frame, Value, Statement, key_line, header}
-use Rattle.toml_edit_model.specs.Paths.{at_key, Path, to_key, Role, dotted_role, header_role, value_role, Mention, Source, mention_of, line_mentions, next_start}
-use Rattle.toml_edit_model.specs.Normal.{is_header_role}
+use Rattle.toml_edit_model.specs.Paths.{at_key, Path, to_key, Mention, Source, mention_of, line_mentions, next_start}
 use Rattle.toml_edit_model.specs.Tree.{TableFields, Node, nothing, leaf, list, inline, table, tables, Slots, no_slots, is_value_node}
-use Rattle.toml_edit_model.specs.TreeOf.{spanned_in, under, own, roles, is_dotted_role, kept, key_at, key_extent, made_by_path, header_fields, fields_of, value_start, IsLineNode, IsNodeOf}
+use Rattle.toml_edit_model.specs.TreeOf.{spanned_in, key_at, key_extent, made_by_path, header_fields, fields_of, value_start, IsLineNode, IsNodeOf}
 use Rattle.toml_edit_laws.specs.FlatTree.{with_slot}
 use Rattle.toml_edit_laws.specs.InlineTree.{node_at, with_node, add_last}
 use Rattle.toml_edit_laws.specs.TableTree.{extend_below, add_line}
@@ -23,6 +22,8 @@ use Rattle.toml_edit_laws.proofs.adding.TableSlots.{IsFound, slots-find}
 use Rattle.toml_edit_laws.proofs.adding.KeySlots.{AreSlots, GoesOn, slots-through, new-slot, old-slot}
 use Rattle.toml_edit_laws.proofs.mentions.Placed.{is_header}
 use Rattle.toml_edit_laws.proofs.mentions.SomeAt.{under-append, own_mention}
+use Rattle.toml_edit_model.specs.Roles.{Role, dotted_role, header_role, value_role, is_header_role, is_dotted_role}
+use Rattle.toml_edit_model.specs.TableMentions.{under, own, roles, kept}
 
 -- ---- the fields of a table that a dotted key goes through
 

@@ -6,10 +6,8 @@ use Rattle.std.proofs.lemmas.Bool.{or_from}
 use Rattle.std.proofs.lemmas.Grind.{flat_map-append}
 use Rattle.toml_edit_model.specs.Text.{one}
 use Rattle.toml_edit_model.specs.Syntax.{Segment, Statement, key_line, header, Document}
-use Rattle.toml_edit_model.specs.Paths.{at_key, at_element, Path, same_path, to_key, to_element, Role, header_role, may_meet, Mention, next_start, line_mentions, elements_at, in_last, header_mentions, header_path, header_role_of, path_start, Source, Placed, Context, source_of, mentions_of, context_after, placed_from, start_context, all_mentions}
-use Rattle.toml_edit_model.specs.Normal.{is_header_role}
+use Rattle.toml_edit_model.specs.Paths.{at_key, at_element, Path, same_path, to_key, to_element, Mention, next_start, line_mentions, elements_at, in_last, header_mentions, header_path, header_role_of, path_start, Source, Placed, Context, source_of, mentions_of, context_after, placed_from, start_context, all_mentions}
 use Rattle.toml_edit_model.specs.Accepted.{agree, is_accepted}
-use Rattle.toml_edit_model.specs.TreeOf.{under, some_at, any_role}
 use Rattle.toml_edit_laws.specs.OneByOne.{is_right_after, all_right_after}
 use Rattle.toml_edit_laws.proofs.common.Tests.{append-nil, and_left, and_right, or-true}
 use Rattle.toml_edit_laws.proofs.inline_tables.AgreeLaws.{agree-apart}
@@ -24,6 +22,8 @@ use Rattle.toml_edit_laws.proofs.mentions.OneHeaderLaws.{statement-header}
 use Rattle.toml_edit_laws.proofs.common.Each.{all-append}
 use Rattle.toml_edit_laws.proofs.mentions.Named.{EndsIn}
 use Rattle.toml_edit_laws.proofs.one_by_one.Together.{accepted-right}
+use Rattle.toml_edit_model.specs.Roles.{Role, header_role, may_meet, is_header_role, any_role}
+use Rattle.toml_edit_model.specs.TableMentions.{under, some_at}
 
 -- ---- paths that are reached
 

@@ -4,8 +4,6 @@ use Rattle.std.specs.Prelude.{◌&&◌, ◌||◌, not, if◌then◌else◌, is_s
 use Rattle.std.proofs.lemmas.Bool.{or_from}
 use Rattle.toml_edit_model.specs.Text.{Text, same_text}
 use Rattle.toml_edit_model.specs.Paths.{Step, at_key, at_element, Path, same_path, Mention, Source}
-use Rattle.toml_edit_model.specs.Normal.{is_header_role}
-use Rattle.toml_edit_model.specs.TreeOf.{under, some_at, any_role, is_single, is_slot, kept_from, kept}
 use Rattle.toml_edit_laws.proofs.common.Tests.{and_left, or-true, or-false, true-false, false-by, same_text-refl}
 use Rattle.toml_edit_laws.proofs.mentions.GatherLaws.{unmentioned-none, is_of_key, first_of_key, AreHeadless, AreDistinct}
 use Rattle.toml_edit_laws.proofs.common.Members.{Among, among-cases}
@@ -17,6 +15,8 @@ use Rattle.toml_edit_laws.proofs.mentions.SomeAt.{some_at-append, under-append, 
 use Rattle.toml_edit_laws.proofs.common.Each.{all-append}
 use Rattle.toml_edit_laws.proofs.common.OptionSteps.{none-is}
 use Rattle.toml_edit_laws.proofs.mentions.Named.{EndsIn, AreNamed, single-named, under-named, other-key, named-at}
+use Rattle.toml_edit_model.specs.Roles.{is_header_role, any_role}
+use Rattle.toml_edit_model.specs.TableMentions.{under, some_at, is_single, is_slot, kept_from, kept}
 
 -- ---- the conditions
 

@@ -5,13 +5,14 @@ use Rattle.std.proofs.lemmas.Bool.{eqb-true}
 use Rattle.toml_edit_model.specs.Text.{Text, same_text}
 use Rattle.toml_edit_model.specs.Paths.{at_key, at_element, same_step, Mention, Source}
 use Rattle.toml_edit_model.specs.Tree.{Key, TableFields, Node, table, Items, no_items, item, Slots, no_slots, slot}
-use Rattle.toml_edit_model.specs.TreeOf.{Form, under, kept, key_at, header_fields, IsNodeOf, AreElementsOf, AreSlotsOf}
+use Rattle.toml_edit_model.specs.TreeOf.{Form, key_at, header_fields, IsNodeOf, AreElementsOf, AreSlotsOf}
 use Rattle.toml_edit_laws.specs.FlatTree.{with_slot}
 use Rattle.toml_edit_laws.specs.InlineTree.{node_at, with_node}
 use Rattle.toml_edit_laws.specs.TableTree.{without_slot, with_item, change_last, change_item}
 use Rattle.toml_edit_laws.proofs.common.Tests.{false-by, same_text-is}
 use Rattle.toml_edit_laws.proofs.mentions.GatherLaws.{first_of_key, AreDistinct, first-none}
 use Rattle.toml_edit_laws.proofs.common.OptionSteps.{map_some}
+use Rattle.toml_edit_model.specs.TableMentions.{under, kept}
 
 -- ---- mentions by their keys
 

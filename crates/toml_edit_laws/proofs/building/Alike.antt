@@ -4,7 +4,7 @@ use Rattle.std.specs.Prelude.{not, ◌&&◌, if◌then◌else◌, find, option_m
 use Rattle.toml_edit_model.specs.Mode.{Mode}
 use Rattle.toml_edit_model.specs.Text.{Text}
 use Rattle.toml_edit_model.specs.Syntax.{Segment, Frame, Value, Header, key_line, header}
-use Rattle.toml_edit_model.specs.Paths.{Path, same_path, to_key, Role, dotted_role, implied_role, header_role, array_role, value_role, through_role, may_meet, Mention, Source, mention_of, next_start, line_mentions, elements_at, in_last, passing_role, header_mentions}
+use Rattle.toml_edit_model.specs.Paths.{Path, same_path, to_key, Mention, Source, mention_of, next_start, line_mentions, elements_at, in_last, passing_role, header_mentions}
 use Rattle.toml_edit_model.specs.Faults.{clash, first_clash}
 use Rattle.toml_edit_model.specs.Tree.{Node, nothing, leaf, list, inline, table, tables, Items, no_items, item, Slots, no_slots}
 use Rattle.toml_edit_model.specs.TreeOf.{spanned_in, key_at, key_extent, made_by_path}
@@ -17,6 +17,7 @@ use Rattle.toml_edit_laws.proofs.clashes.TableClash.{in_way, IsSameClash}
 use Rattle.toml_edit_laws.proofs.mentions.RoleTests.{is_through_role}
 use Rattle.toml_edit_laws.proofs.clashes.LineClash.{line-below}
 use Rattle.toml_edit_laws.proofs.adding.LineAdded.{line-on}
+use Rattle.toml_edit_model.specs.Roles.{Role, dotted_role, implied_role, header_role, array_role, value_role, continued_role, may_meet}
 
 -- ---- key lines
 
@@ -62,8 +63,8 @@ last-like c d left right (item (inline f us) no_items) way h = way
 last-like c d left right (item (tables x us) no_items) way h = way
 last-like c d left right (item n (item m xs)) way h = last-like c d left right (item m xs) way h
 
-meets-through : (r : Role) → may_meet r through_role ≡ true
-meets-through through_role = refl
+meets-through : (r : Role) → may_meet r continued_role ≡ true
+meets-through continued_role = refl
 meets-through dotted_role = refl
 meets-through implied_role = refl
 meets-through header_role = refl
@@ -71,7 +72,7 @@ meets-through array_role = refl
 meets-through value_role = refl
 
 off-through : (r q : Role) → not (may_meet r q) ≡ true → is_through_role q ≡ false
-off-through r through_role h = let met : not true ≡ true = ap not (sym (meets-through r)) ∙ h in absurd cc
+off-through r continued_role h = let met : not true ≡ true = ap not (sym (meets-through r)) ∙ h in absurd cc
 off-through r dotted_role h = refl
 off-through r implied_role h = refl
 off-through r header_role h = refl
@@ -275,7 +276,7 @@ module _ (mode : Mode) where
             (ih (to_key p g.key)) (node_at g.key ss)
             ∙ sym (header-on is_array o plain_header [] role (next_start start g) (to_key q g.key) x rest ss)
         by_count (suc n) ih =
-            let m = mention_of a_header start (to_key p g.key) through_role g in
+            let m = mention_of a_header start (to_key p g.key) continued_role g in
             let deeper = in_last (suc n) (to_key p g.key) in
             header-on is_array m a_header arrays role (next_start start g) deeper x rest ss
             ∙ by_node m (add_header mode is_array (header_mentions a_header arrays role (next_start start g) deeper (x ∷ rest))) refl refl refl
@@ -362,7 +363,7 @@ module _ (mode : Mode) where
             (header-clash-on is_array o plain_header [] role (next_start start g) (to_key q g.key) x rest ss)
             (by_node m left (λ n e. refl) (ih (to_key p g.key)) (node_at g.key ss))
         by_count (suc n) ih =
-            let m = mention_of a_header start (to_key p g.key) through_role g in
+            let m = mention_of a_header start (to_key p g.key) continued_role g in
             let deeper = in_last (suc n) (to_key p g.key) in
             let left = header_clash is_array (header_mentions a_header arrays role (next_start start g) deeper (x ∷ rest)) in
             both (header_clash is_array (from_count (suc n)) ss) (pass_clash m left (node_at g.key ss)) (header_clash is_array plainly ss) (pass_clash o right (node_at g.key ss))

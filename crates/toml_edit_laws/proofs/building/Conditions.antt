@@ -1,13 +1,14 @@
 -- What holds of the mentions of statements each of which agrees with those before it: one record of all that adding one more needs.
 use Rattle.std.proofs.Common.{◌≡◌, true, List, [], ◌++◌}
 use Rattle.toml_edit_model.specs.Syntax.{Statement, Document}
-use Rattle.toml_edit_model.specs.Paths.{may_meet, Mention, Source, Context, mentions_of, start_context, context_after}
+use Rattle.toml_edit_model.specs.Paths.{Mention, Source, Context, mentions_of, start_context, context_after}
 use Rattle.toml_edit_model.specs.Accepted.{agree}
 use Rattle.toml_edit_laws.proofs.adding.StatementMentions.{AreOfTableBefore, table_start, table_next}
 use Rattle.toml_edit_laws.proofs.adding.HeaderPlaced.{IsReadyIn, ready_first, ready_next}
 use Rattle.toml_edit_laws.proofs.clashes.ClashContext.{HasKey, AreBefore, before_none, before_next}
 use Rattle.toml_edit_laws.proofs.clashes.BlockClash.{IsLastBlock}
 use Rattle.toml_edit_laws.proofs.clashes.BlockOfHeader.{last_next}
+use Rattle.toml_edit_model.specs.Roles.{may_meet}
 
 -- These are the mentions of the statements before a context, each of which agrees with those before it.
 pub record AreDone (c : Context) (ms : List (Mention Source)) : Type 0 where

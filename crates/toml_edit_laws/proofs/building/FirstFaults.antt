@@ -5,7 +5,7 @@ use Rattle.std.specs.List.{list_all}
 use Rattle.std.proofs.lemmas.Bool.{cases_Bool}
 use Rattle.toml_edit_model.specs.Syntax.{Document}
 use Rattle.toml_edit_model.specs.Version.{v1_1}
-use Rattle.toml_edit_model.specs.Paths.{may_meet, Mention, Source, Placed, placed}
+use Rattle.toml_edit_model.specs.Paths.{Mention, Source, Placed, placed}
 use Rattle.toml_edit_model.specs.Accepted.{agree, is_sound, is_accepted, IsFirstFaulty}
 use Rattle.toml_edit_model.specs.Faults.{Fault, first_clash, statement_clash, own_faults, faults_in, IsFirstFault}
 use Rattle.toml_edit_laws.specs.OneByOne.{is_right_after, first_faults, FaultsOfFirst}
@@ -20,6 +20,7 @@ use Rattle.toml_edit_laws.proofs.mentions.Placed.{mentions_in}
 use Rattle.toml_edit_laws.proofs.building.Places.{sound-of-none}
 use Rattle.toml_edit_laws.proofs.one_by_one.Together.{right-together}
 use Rattle.toml_edit_laws.proofs.one_by_one.FirstFaulty.{wrong_here, first_faulty_laws}
+use Rattle.toml_edit_model.specs.Roles.{may_meet}
 
 -- a statement without faults is right
 faultless : (earlier : List Placed) (s : Placed) → faults_in earlier s ≡ [] → is_right_after earlier s ≡ true

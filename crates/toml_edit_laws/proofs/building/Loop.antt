@@ -5,7 +5,7 @@ use Rattle.std.specs.List.{AllByRecursion, list_all}
 use Rattle.toml_edit_model.specs.Mode.{Mode}
 use Rattle.toml_edit_model.specs.Text.{one}
 use Rattle.toml_edit_model.specs.Syntax.{Statement, key_line, header, Document}
-use Rattle.toml_edit_model.specs.Paths.{may_meet, Mention, Source, Placed, Context, source_of, mentions_of, start_context}
+use Rattle.toml_edit_model.specs.Paths.{Mention, Source, Placed, Context, source_of, mentions_of, start_context}
 use Rattle.toml_edit_model.specs.Accepted.{agree, is_sound, is_accepted}
 use Rattle.toml_edit_model.specs.Faults.{Fault, own_faults, faults_in}
 use Rattle.toml_edit_model.specs.Tree.{Node, Slots}
@@ -28,6 +28,7 @@ use Rattle.toml_edit_laws.proofs.mentions.Placed.{mentions_in}
 use Rattle.toml_edit_laws.proofs.adding.HeaderSlots.{AreAllSlots}
 use Rattle.toml_edit_laws.proofs.common.OptionSteps.{is_none}
 use Rattle.toml_edit_laws.proofs.one_by_one.Together.{right-accepted}
+use Rattle.toml_edit_model.specs.Roles.{may_meet}
 
 -- ---- keys
 

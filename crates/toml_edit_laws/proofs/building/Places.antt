@@ -4,8 +4,8 @@ use Rattle.std.specs.Prelude.{◌&&◌, nat_le, map, if◌then◌else◌}
 use Rattle.std.specs.List.{AllByRecursion, list_all}
 use Rattle.std.proofs.lemmas.Grind.{flat_map-append}
 use Rattle.toml_edit_model.specs.Text.{Text, one, is_empty}
-use Rattle.toml_edit_model.specs.Syntax.{Segment, Header, Statement, key_line, header, Document, path_text, depth, most, is_short, has_short_keys, keeps_ranges}
-use Rattle.toml_edit_model.specs.Paths.{at_key, at_element, Path, to_key, to_element, may_meet, Placed, Context, elements_at, in_last, header_path, block_of, mentions_of, start_context, context_after, placed_from}
+use Rattle.toml_edit_model.specs.Syntax.{Segment, Header, Statement, key_line, header, Document, path_text, depth, nesting_limit, is_short, has_short_keys, keeps_ranges}
+use Rattle.toml_edit_model.specs.Paths.{at_key, at_element, Path, to_key, to_element, Placed, Context, elements_at, in_last, header_path, block_of, mentions_of, start_context, context_after, placed_from}
 use Rattle.toml_edit_model.specs.Accepted.{agree, has_agreeing_pairs, is_sound, IsFirstFaulty}
 use Rattle.toml_edit_model.specs.Faults.{Fault, recursion_limit, long_path, value_faults, own_faults}
 use Rattle.toml_edit_laws.specs.OneByOne.{is_right_after, all_right_after}
@@ -21,6 +21,7 @@ use Rattle.toml_edit_laws.proofs.common.Lists.{left-empty, right-empty}
 use Rattle.toml_edit_laws.proofs.one_by_one.Together.{right-together}
 use Rattle.toml_edit_laws.proofs.one_by_one.FirstFaulty.{wrong_there}
 use Rattle.toml_edit_model.specs.Version.{v1_1}
+use Rattle.toml_edit_model.specs.Roles.{may_meet}
 
 -- ---- the conditions, after statements
 
@@ -90,7 +91,7 @@ sound-of-none start (key_line f v end) h =
     let i = start + length f.leading + length (path_text f.path) + length f.before_equals + 1 + length f.after_equals in
     let short = short-none f.path (left-empty (long_path f.path) (value_faults v i 0) h) in
     let right : is_right_value v ≡ true = sym (is_right_value-faults v i) ∙ ap is_empty (right-empty (long_path f.path) (value_faults v i 0) h) in
-    together (is_short f.path) (nat_le (depth v) most && has_short_keys v) (keeps_ranges v) (has_agreeing_pairs v) short right
+    together (is_short f.path) (nat_le (depth v) nesting_limit && has_short_keys v) (keeps_ranges v) (has_agreeing_pairs v) short right
   where
     together : (a b c d : Bool) → a ≡ true → ((b && c) && d) ≡ true → (((a && b) && c) && d) ≡ true
     together true b c d e h = h

@@ -4,7 +4,7 @@ use Rattle.std.proofs.Common.{◌≡◌, sym, ◌∙◌, ap, ◌+◌, List, ◌+
 use Rattle.std.specs.Prelude.{is_some, flat_map, option_and_then}
 use Rattle.toml_edit_model.specs.Mode.{Mode}
 use Rattle.toml_edit_model.specs.Syntax.{Statement, key_line, header}
-use Rattle.toml_edit_model.specs.Paths.{may_meet, Mention, Source, Placed, Context, source_of, mentions_of, path_start}
+use Rattle.toml_edit_model.specs.Paths.{Mention, Source, Placed, Context, source_of, mentions_of, path_start}
 use Rattle.toml_edit_model.specs.Accepted.{agree}
 use Rattle.toml_edit_model.specs.Faults.{own_faults, faults_in}
 use Rattle.toml_edit_model.specs.Tree.{Node, Slots}
@@ -25,6 +25,7 @@ use Rattle.toml_edit_laws.proofs.adding.HeaderSlots.{AreAllSlots}
 use Rattle.toml_edit_laws.proofs.common.OptionSteps.{is_none}
 use Rattle.toml_edit_laws.proofs.clashes.ClashMentions.{statements-under_path}
 use Rattle.toml_edit_laws.specs.KeptKeys.{under_path}
+use Rattle.toml_edit_model.specs.Roles.{may_meet}
 
 -- the outermost mention at which it can't go on, and the item in its way
 abbrev pub statement_clash : Context → Statement → Slots → Option (Mention Source × Node)

@@ -4,10 +4,10 @@ use Rattle.std.specs.Prelude.{is_some, option_map, option_and_then}
 use Rattle.toml_edit_model.specs.Mode.{Mode}
 use Rattle.toml_edit_model.specs.Text.{Text, is_empty}
 use Rattle.toml_edit_model.specs.Syntax.{Frame, Value, key_line}
-use Rattle.toml_edit_model.specs.Paths.{at_key, at_element, Path, Role, may_meet, Mention, Source, Context, source_of, mentions_of, path_start}
+use Rattle.toml_edit_model.specs.Paths.{at_key, at_element, Path, Mention, Source, Context, source_of, mentions_of, path_start}
 use Rattle.toml_edit_model.specs.Accepted.{agree}
 use Rattle.toml_edit_model.specs.Tree.{TableFields, Node, nothing, leaf, list, inline, table, tables, Items, no_items, item, Slots}
-use Rattle.toml_edit_model.specs.TreeOf.{spanned_in, under, kept, some_at, is_array_role, arrays as array_headers, AreElementsOf, AreSlotsOf}
+use Rattle.toml_edit_model.specs.TreeOf.{spanned_in, AreElementsOf, AreSlotsOf}
 use Rattle.toml_edit_laws.specs.InlineTree.{node_at, with_node}
 use Rattle.toml_edit_laws.specs.TableTree.{change_last, change_item, change_under, change_below_node, change_at, add_line, own_mentions, add_statement}
 use Rattle.toml_edit_laws.specs.Building.{keys_in, last_slots, slots_in, slots_along, change_in, change_along}
@@ -23,6 +23,8 @@ use Rattle.toml_edit_laws.proofs.clashes.ClashFaults.{agree-below}
 use Rattle.toml_edit_laws.proofs.mentions.SomeAt.{any-test}
 use Rattle.toml_edit_laws.proofs.common.OptionSteps.{map-twice}
 use Rattle.toml_edit_laws.specs.KeptKeys.{under_path}
+use Rattle.toml_edit_model.specs.Roles.{Role, may_meet, is_array_role}
+use Rattle.toml_edit_model.specs.TableMentions.{under, kept, some_at, array_headers}
 
 -- ---- the table of a block
 

@@ -4,7 +4,6 @@ use Rattle.std.specs.Prelude.{◌&&◌, ◌||◌, if◌then◌else◌, filter}
 use Rattle.toml_edit_model.specs.Text.{Text, is_empty}
 use Rattle.toml_edit_model.specs.Syntax.{Segment, Statement, key_line, header}
 use Rattle.toml_edit_model.specs.Paths.{Step, at_key, at_element, Path, same_path, to_key, Mention, Source, Context, mention_of, elements_at, in_last, passing_role, header_mentions, header_path, next_start, source_of, mentions_of, path_start, context_after}
-use Rattle.toml_edit_model.specs.TreeOf.{under, some_at, is_array_role}
 use Rattle.toml_edit_laws.proofs.common.Tests.{or-true, same_text-refl}
 use Rattle.toml_edit_laws.proofs.mentions.GatherLaws.{all_deeper, under-deeper, own-deeper}
 use Rattle.toml_edit_laws.proofs.inline_tables.InlineBuild.{path_of, under-path, under-all}
@@ -17,6 +16,8 @@ use Rattle.toml_edit_laws.proofs.adding.HeaderPaths.{paths_under, header-deeper,
 use Rattle.toml_edit_laws.proofs.adding.HeaderKeeps.{block_at, block-deeper}
 use Rattle.toml_edit_laws.proofs.mentions.SomeAt.{some_at-append, under-append, own_mention}
 use Rattle.toml_edit_laws.proofs.mentions.RoleTests.{opening_role}
+use Rattle.toml_edit_model.specs.TableMentions.{under, some_at}
+use Rattle.toml_edit_model.specs.Roles.{is_array_role}
 
 -- ---- it stays
 

@@ -9,10 +9,8 @@ use Rattle.std.proofs.lemmas.Grind.{flat_map-append}
 use Rattle.toml_edit_model.specs.Text.{Text, is_empty}
 use Rattle.toml_edit_model.specs.Trivia.{IsNewline}
 use Rattle.toml_edit_model.specs.Syntax.{Statement, key_line, header, Document, IsStatement, AreStatements}
-use Rattle.toml_edit_model.specs.Paths.{at_key, Path, same_path, to_key, to_element, Role, dotted_role, implied_role, header_role, array_role, value_role, through_role, may_meet, Mention, Source, Placed, Context, elements_at, header_path, line_mentions, header_mentions, header_role_of, path_start, source_of, mentions_of, context_after, start_context, placed_from, all_mentions}
+use Rattle.toml_edit_model.specs.Paths.{at_key, Path, same_path, to_key, to_element, Mention, Source, Placed, Context, elements_at, header_path, line_mentions, header_mentions, header_role_of, path_start, source_of, mentions_of, context_after, start_context, placed_from, all_mentions}
 use Rattle.toml_edit_model.specs.Accepted.{agree, is_sound, is_accepted}
-use Rattle.toml_edit_model.specs.Faults.{is_value_role}
-use Rattle.toml_edit_model.specs.TreeOf.{some_at, any_role, is_array_role}
 use Rattle.toml_edit_laws.specs.OneByOne.{is_right_after, all_right_after}
 use Rattle.toml_edit_laws.specs.Building.{context_from}
 use Rattle.toml_edit_laws.proofs.common.Tests.{and_left, and_right, or-left, or-right, or-true, false-by, true-false, append-nil}
@@ -29,6 +27,8 @@ use Rattle.toml_edit_laws.proofs.common.Each.{all-append}
 use Rattle.toml_edit_laws.proofs.mentions.RoleTests.{is_through_role}
 use Rattle.toml_edit_laws.proofs.mentions.Named.{EndsIn, AreNamed, line-named, header-named}
 use Rattle.toml_edit_laws.proofs.one_by_one.Together.{accepted-right}
+use Rattle.toml_edit_model.specs.Roles.{Role, dotted_role, implied_role, header_role, array_role, value_role, continued_role, may_meet, is_value_role, any_role, is_array_role}
+use Rattle.toml_edit_model.specs.TableMentions.{some_at}
 
 -- ---- arrays of tables
 
@@ -44,7 +44,7 @@ array-first p ms are h = by_first (first_at p ms) refl
 
     by_kind : (j : Mention Source) (r : Role) → j.role ≡ r → first_at p ms ≡ Some j → first_role p ms ≡ Some array_role
     by_kind j array_role e f = ap (option_map (λ (m : Mention Source). m.role)) f ∙ ap (λ (r : Role). Some r) e
-    by_kind j through_role e f = are.through p (role-at is_through_role p ms j f (ap is_through_role e))
+    by_kind j continued_role e f = are.through p (role-at is_through_role p ms j f (ap is_through_role e))
     by_kind j value_role e f = true-false (some_at is_value_role p ms) (role-at is_value_role p ms j f (ap is_value_role e)) no-value
     by_kind j dotted_role e f = true-false (some_at is_table_role p ms) (role-at is_table_role p ms j f (ap is_table_role e)) no-table
     by_kind j implied_role e f = true-false (some_at is_table_role p ms) (role-at is_table_role p ms j f (ap is_table_role e)) no-table

@@ -2,9 +2,10 @@
 use Rattle.std.proofs.Common.{◌≡◌, refl, sym, ◌∙◌, ap, ℕ, zero, suc, Bool, true, false, List, [], ◌∷◌, ◌++◌, length}
 use Rattle.std.specs.Prelude.{◌&&◌, ◌||◌, if◌then◌else◌, filter}
 use Rattle.toml_edit_model.specs.Text.{is_empty}
-use Rattle.toml_edit_model.specs.Paths.{Step, Path, same_step, same_path, Role, Mention, elements_at, in_last}
-use Rattle.toml_edit_model.specs.TreeOf.{inside, under, own, some_at, is_array_role, arrays as array_headers}
+use Rattle.toml_edit_model.specs.Paths.{Step, Path, same_step, same_path, Mention, elements_at, in_last}
 use Rattle.toml_edit_laws.proofs.adding.HeaderPaths.{paths_under, elements-under}
+use Rattle.toml_edit_model.specs.Roles.{Role, is_array_role}
+use Rattle.toml_edit_model.specs.TableMentions.{inside, under, own, some_at, array_headers}
 
 -- ---- counts
 

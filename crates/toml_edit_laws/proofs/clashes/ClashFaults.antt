@@ -5,11 +5,11 @@ use Rattle.toml_edit_model.specs.Mode.{Mode, with_return}
 use Rattle.toml_edit_model.specs.Text.{Text}
 use Rattle.toml_edit_model.specs.Syntax.{Segment, Frame, Value, scalar, array, inline_table, Header, Statement, key_line, header}
 use Rattle.toml_edit_model.specs.Scalars.{Scalar}
-use Rattle.toml_edit_model.specs.Paths.{Step, Path, Role, may_meet, Mention, Source, Placed, Context, line_mentions, source_of, path_start}
+use Rattle.toml_edit_model.specs.Paths.{Step, Path, Mention, Source, Placed, Context, line_mentions, source_of, path_start}
 use Rattle.toml_edit_model.specs.Accepted.{agree}
-use Rattle.toml_edit_model.specs.Faults.{fault, scalar_type, type_name, first_clash, is_value_role, extends, duplicate_key, cannot_extend, statement_value_type, clash_message, statement_clash, own_faults, faults_in}
+use Rattle.toml_edit_model.specs.Faults.{fault, scalar_type, type_name, first_clash, duplicate_key, cannot_extend, statement_value_type, clash_message, statement_clash, own_faults, faults_in}
 use Rattle.toml_edit_model.specs.Tree.{Node, nothing, leaf, list, inline, table, tables, Slots}
-use Rattle.toml_edit_model.specs.TreeOf.{spanned_in, under, kept, IsValueNode, IsLineNode, AreSlotsOf}
+use Rattle.toml_edit_model.specs.TreeOf.{spanned_in, IsValueNode, IsLineNode, AreSlotsOf}
 use Rattle.toml_edit_laws.specs.TableTree.{own_mentions}
 use Rattle.toml_edit_laws.specs.TableClash.{line_clash, header_clash, table_way_message, table_way_faults}
 use Rattle.toml_edit_laws.proofs.mentions.GatherLaws.{all_deeper}
@@ -24,6 +24,8 @@ use Rattle.toml_edit_laws.proofs.mentions.Placed.{placed_at}
 use Rattle.toml_edit_laws.proofs.common.OptionSteps.{is_none-map, is_none}
 use Rattle.toml_edit_laws.proofs.clashes.ClashRoles.{is_array_node, is_table_node}
 use Rattle.toml_edit_laws.specs.KeptKeys.{under_path}
+use Rattle.toml_edit_model.specs.Roles.{Role, may_meet, is_value_role, extends}
+use Rattle.toml_edit_model.specs.TableMentions.{under, kept}
 
 -- ---- what is said of a clash
 

@@ -6,12 +6,12 @@ use Rattle.std.specs.List.{AllByRecursion, list_all}
 use Rattle.std.proofs.Math.Bool.{and-false}
 use Rattle.toml_edit_model.specs.Mode.{Mode}
 use Rattle.toml_edit_model.specs.Text.{Text}
-use Rattle.toml_edit_model.specs.Syntax.{Segment, Frame, Value, Header, Statement, key_line, header, Document, path_text, depth, most, is_short, has_short_keys, keeps_ranges}
-use Rattle.toml_edit_model.specs.Paths.{may_meet, Mention, Source, Placed, Context, source_of, mentions_of, path_start, context_after, start_context, placed_from, placed}
+use Rattle.toml_edit_model.specs.Syntax.{Segment, Frame, Value, Header, Statement, key_line, header, Document, path_text, depth, nesting_limit, is_short, has_short_keys, keeps_ranges}
+use Rattle.toml_edit_model.specs.Paths.{Mention, Source, Placed, Context, source_of, mentions_of, path_start, context_after, start_context, placed_from, placed}
 use Rattle.toml_edit_model.specs.Accepted.{agree, has_agreeing_pairs, is_sound, is_accepted}
 use Rattle.toml_edit_model.specs.Faults.{Fault, first_clash, statement_clash, long_path, value_faults, own_faults, faults_in}
 use Rattle.toml_edit_model.specs.Tree.{Node, Slots}
-use Rattle.toml_edit_model.specs.TreeOf.{spanned_in, kept, AreSlotsOf}
+use Rattle.toml_edit_model.specs.TreeOf.{spanned_in, AreSlotsOf}
 use Rattle.toml_edit_laws.specs.OneByOne.{is_right_after, all_right_after, first_faults}
 use Rattle.toml_edit_laws.specs.TableTree.{own_mentions}
 use Rattle.toml_edit_laws.specs.TableClash.{line_clash, header_clash, table_way_fault, table_way_faults}
@@ -29,6 +29,8 @@ use Rattle.toml_edit_laws.proofs.common.OptionSteps.{is_none}
 use Rattle.toml_edit_laws.proofs.clashes.ClashMentions.{statements-under_path}
 use Rattle.toml_edit_laws.proofs.one_by_one.Together.{accepted-is}
 use Rattle.toml_edit_laws.specs.KeptKeys.{under_path}
+use Rattle.toml_edit_model.specs.Roles.{may_meet}
+use Rattle.toml_edit_model.specs.TableMentions.{kept}
 
 -- ---- right statements have no faults
 
@@ -38,7 +40,7 @@ long-none p h = rw h refl
 pub sound-none : (start : ℕ) (t : Statement) → is_sound t ≡ true → own_faults start t ≡ []
 sound-none start (key_line f v end) h =
     let i = start + length f.leading + length (path_text f.path) + length f.before_equals + 1 + length f.after_equals in
-    let parts = apart (is_short f.path) (nat_le (depth v) most && has_short_keys v) (keeps_ranges v) (has_agreeing_pairs v) h in
+    let parts = apart (is_short f.path) (nat_le (depth v) nesting_limit && has_short_keys v) (keeps_ranges v) (has_agreeing_pairs v) h in
     ap (λ fs. fs ++ value_faults v i 0) (long-none f.path parts.0) ∙ is_empty-nil (value_faults v i 0) (is_right_value-faults v i ∙ parts.1)
   where
     apart : (a b c d : Bool) → (((a && b) && c) && d) ≡ true → (a ≡ true) × (((b && c) && d) ≡ true)

@@ -3,14 +3,14 @@ use Rattle.std.proofs.Common.{◌≡◌, refl, sym, ◌∙◌, ap, subst, Bool, 
 use Rattle.std.specs.Prelude.{◌⊎◌, ◌&&◌, ◌||◌, not, if◌then◌else◌, find, is_some}
 use Rattle.std.specs.List.{AllByRecursion}
 use Rattle.toml_edit_model.specs.Text.{Text, same_text}
-use Rattle.toml_edit_model.specs.Paths.{at_key, Path, same_path, Role, Mention}
-use Rattle.toml_edit_model.specs.Normal.{is_header_role}
-use Rattle.toml_edit_model.specs.TreeOf.{some_at, any_role, is_single, is_slot, kept_from, kept}
+use Rattle.toml_edit_model.specs.Paths.{at_key, Path, same_path, Mention}
 use Rattle.toml_edit_laws.proofs.common.Tests.{and_left, and_right, same_text-refl}
 use Rattle.toml_edit_laws.proofs.mentions.GatherLaws.{some_at-first, is_of_key, first_of_key, first_at}
 use Rattle.toml_edit_laws.proofs.common.PathLaws.{same_path-is}
 use Rattle.toml_edit_laws.proofs.mentions.SomeAt.{some_at-append}
 use Rattle.toml_edit_laws.proofs.mentions.Named.{AreNamed, other-key, named-at}
+use Rattle.toml_edit_model.specs.Roles.{Role, is_header_role, any_role}
+use Rattle.toml_edit_model.specs.TableMentions.{some_at, is_single, is_slot, kept_from, kept}
 use Rattle.std.specs.Option.{option_or}
 
 -- ---- what a search finds

@@ -5,9 +5,8 @@ use Rattle.std.specs.Prelude.{◌&&◌, ◌||◌, not, if◌then◌else◌, opti
 use Rattle.std.specs.List.{AllByRecursion, list_all}
 use Rattle.std.proofs.lemmas.Bool.{or_from}
 use Rattle.toml_edit_model.specs.Text.{Text}
-use Rattle.toml_edit_model.specs.Paths.{Step, at_key, Path, same_step, same_path, Role, dotted_role, implied_role, header_role, array_role, may_meet, Mention, Source}
+use Rattle.toml_edit_model.specs.Paths.{Step, at_key, Path, same_step, same_path, Mention, Source}
 use Rattle.toml_edit_model.specs.Accepted.{agree}
-use Rattle.toml_edit_model.specs.TreeOf.{inside, under, some_at, any_role}
 use Rattle.toml_edit_laws.proofs.common.Tests.{and_left, and_right, or-true, true-false}
 use Rattle.toml_edit_laws.proofs.common.PathLaws.{same_path-swap, same_step-is, same_path-is}
 use Rattle.toml_edit_laws.proofs.mentions.GatherLaws.{first_at}
@@ -17,6 +16,8 @@ use Rattle.toml_edit_laws.proofs.common.Each.{all-append}
 use Rattle.toml_edit_laws.proofs.mentions.RoleTests.{is_through_role, every_role, by_role, implies, implied}
 use Rattle.toml_edit_laws.proofs.mentions.Named.{AreNamed, under-named}
 use Rattle.toml_edit_laws.specs.KeptKeys.{under_path}
+use Rattle.toml_edit_model.specs.Roles.{Role, dotted_role, implied_role, header_role, array_role, may_meet, any_role}
+use Rattle.toml_edit_model.specs.TableMentions.{inside, under, some_at}
 
 -- ---- tests of roles
 

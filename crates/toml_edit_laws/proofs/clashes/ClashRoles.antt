@@ -5,11 +5,9 @@ use Rattle.std.specs.List.{list_any}
 use Rattle.toml_edit_model.specs.Mode.{Mode}
 use Rattle.toml_edit_model.specs.Text.{Text, is_empty}
 use Rattle.toml_edit_model.specs.Syntax.{Statement, key_line, header}
-use Rattle.toml_edit_model.specs.Paths.{at_key, Path, same_path, Role, dotted_role, implied_role, header_role, array_role, value_role, through_role, Mention, Source}
-use Rattle.toml_edit_model.specs.Normal.{is_header_role}
-use Rattle.toml_edit_model.specs.Faults.{is_value_role}
+use Rattle.toml_edit_model.specs.Paths.{at_key, Path, same_path, Mention, Source}
 use Rattle.toml_edit_model.specs.Tree.{TableFields, Node, nothing, leaf, list, inline, table, tables, Slots, is_value_node}
-use Rattle.toml_edit_model.specs.TreeOf.{Form, spanned_in, under, own, roles, kept, some_at, is_dotted_role, is_array_role, key_extent, made_by_path, header_fields, fields_of, IsTableRole, IsLineNode, IsNodeOf, AreSlotsOf}
+use Rattle.toml_edit_model.specs.TreeOf.{Form, spanned_in, key_extent, made_by_path, header_fields, fields_of, IsTableRole, IsLineNode, IsNodeOf, AreSlotsOf}
 use Rattle.toml_edit_laws.specs.InlineTree.{node_at}
 use Rattle.toml_edit_laws.proofs.common.Tests.{true-false}
 use Rattle.toml_edit_laws.proofs.mentions.GatherLaws.{first_of_key, first_of_key-is, first_at}
@@ -20,6 +18,8 @@ use Rattle.toml_edit_laws.proofs.common.OptionSteps.{some-is}
 use Rattle.toml_edit_laws.proofs.mentions.Placed.{is_header, IsHeaded}
 use Rattle.toml_edit_laws.proofs.mentions.SomeAt.{some_at-under, some_at-less}
 use Rattle.toml_edit_laws.proofs.mentions.RoleTests.{is_through_role, by_role, implies}
+use Rattle.toml_edit_model.specs.Roles.{Role, dotted_role, implied_role, header_role, array_role, value_role, continued_role, is_header_role, is_value_role, is_dotted_role, is_array_role}
+use Rattle.toml_edit_model.specs.TableMentions.{under, own, roles, kept, some_at}
 
 module _ (mode : Mode) where
   -- ---- the item of a key
@@ -163,14 +163,14 @@ table-kept form k ms j f ss implied_role are lead key e t g =
     no-header : IsLead (at_key k ∷ []) ms j → some_at is_header_role (at_key k ∷ []) ms ≡ false
     no-header (inl h) = true-false (is_header_role j.role) h.0 (ap is_header_role e)
     no-header (inr h) = h.0
-table-kept form k ms j f ss through_role are lead key e t g = by_lead lead
+table-kept form k ms j f ss continued_role are lead key e t g = by_lead lead
   where
     by_lead : IsLead (at_key k ∷ []) ms j → AreRolesOf ms (at_key k ∷ []) (table f ss)
     by_lead (inl h) = true-false (is_header_role j.role) h.0 (ap is_header_role e)
     by_lead (inr h) =
         let stands : some_at is_through_role (at_key k ∷ []) ms ≡ true = lead-role is_through_role (at_key k ∷ []) ms j lead (ap is_through_role e) in
         let first : Some j.role ≡ Some array_role = sym (ap (option_map (λ (m : Mention Source). m.role)) h.1) ∙ are.through (at_key k ∷ []) stands in
-        let role : through_role ≡ array_role = sym e ∙ some-is j.role array_role first in
+        let role : continued_role ≡ array_role = sym e ∙ some-is j.role array_role first in
         absurd cc
 table-kept form k ms j f ss value_role are lead key e t g = absurd t
 table-kept form k ms j f ss array_role are lead key e t g = absurd t

@@ -5,14 +5,15 @@ use Rattle.std.proofs.Math.Bool.{and-false}
 use Rattle.std.proofs.lemmas.Bool.{or_from}
 use Rattle.toml_edit_model.specs.Syntax.{Segment}
 use Rattle.toml_edit_model.specs.Text.{Text, is_empty}
-use Rattle.toml_edit_model.specs.Paths.{Step, at_key, at_element, Path, same_step, same_path, to_key, to_element, Role, dotted_role, value_role, may_meet, Mention, mention_of, line_mentions, next_start, elements_at, in_last, passing_role, header_mentions, header_path}
-use Rattle.toml_edit_model.specs.TreeOf.{some_at, any_role, is_array_role}
+use Rattle.toml_edit_model.specs.Paths.{Step, at_key, at_element, Path, same_step, same_path, to_key, to_element, Mention, mention_of, line_mentions, next_start, elements_at, in_last, passing_role, header_mentions, header_path}
 use Rattle.toml_edit_laws.proofs.common.Tests.{and_right, and-true, or-left, or-right, or-false, false-by, true-false}
 use Rattle.toml_edit_laws.proofs.common.PathLaws.{same_path-swap, is_front, front-refl, front-more, front-through, same_path-is, in_last-front}
 use Rattle.toml_edit_laws.proofs.clashes.ClashMentions.{HaveMeetingRoles}
 use Rattle.toml_edit_laws.proofs.clashes.ClashCounts.{count_at, count-none}
 use Rattle.toml_edit_laws.proofs.mentions.SomeAt.{some_at-less}
 use Rattle.toml_edit_laws.proofs.mentions.RoleTests.{opening_role, is_through_role, implies}
+use Rattle.toml_edit_model.specs.Roles.{Role, dotted_role, value_role, may_meet, any_role, is_array_role}
+use Rattle.toml_edit_model.specs.TableMentions.{some_at}
 
 -- ---- paths that go on
 

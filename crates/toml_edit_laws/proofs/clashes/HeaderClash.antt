@@ -4,11 +4,11 @@ use Rattle.std.specs.Prelude.{not, ◌&&◌, ◌||◌, if◌then◌else◌, is_s
 use Rattle.toml_edit_model.specs.Mode.{Mode}
 use Rattle.toml_edit_model.specs.Text.{is_empty}
 use Rattle.toml_edit_model.specs.Syntax.{Segment}
-use Rattle.toml_edit_model.specs.Paths.{Step, at_key, at_element, Path, to_key, header_role, array_role, implied_role, may_meet, Mention, Source, mention_of, elements_at, in_last, passing_role, header_mentions, next_start}
+use Rattle.toml_edit_model.specs.Paths.{Step, at_key, at_element, Path, to_key, Mention, Source, mention_of, elements_at, in_last, passing_role, header_mentions, next_start}
 use Rattle.toml_edit_model.specs.Accepted.{agree}
 use Rattle.toml_edit_model.specs.Faults.{first_clash}
 use Rattle.toml_edit_model.specs.Tree.{Node, nothing, leaf, list, inline, table, tables, Items, no_items, item, Slots}
-use Rattle.toml_edit_model.specs.TreeOf.{spanned_in, under, kept, some_at, any_role, is_array_role, arrays as array_headers, AreElementsOf, AreSlotsOf}
+use Rattle.toml_edit_model.specs.TreeOf.{spanned_in, AreElementsOf, AreSlotsOf}
 use Rattle.toml_edit_laws.specs.InlineTree.{node_at}
 use Rattle.toml_edit_laws.specs.TableTree.{add_header}
 use Rattle.toml_edit_laws.specs.TableClash.{clash_in_last, pass_clash, table_clash, element_clash, header_clash}
@@ -25,6 +25,8 @@ use Rattle.toml_edit_laws.proofs.adding.HeaderPaths.{paths_under, header-deeper}
 use Rattle.toml_edit_laws.proofs.mentions.SomeAt.{some_at-less}
 use Rattle.toml_edit_laws.proofs.mentions.RoleTests.{opening_role, by_role, implies}
 use Rattle.toml_edit_laws.proofs.common.OptionSteps.{is_none}
+use Rattle.toml_edit_model.specs.Roles.{header_role, array_role, implied_role, may_meet, any_role, is_array_role}
+use Rattle.toml_edit_model.specs.TableMentions.{under, kept, some_at, array_headers}
 
 header-below : (is_array : Bool) (m : Mention Source) (source : Source) (arrays : List Path) (start : ℕ) (p : Path) (h : Segment) (rest : List Segment) (ss : Slots)
     → header_clash is_array (m ∷ header_mentions source arrays (opening_role is_array) start p (h ∷ rest)) ss

@@ -5,11 +5,11 @@ use Rattle.std.specs.Prelude.{not, ◌||◌, if◌then◌else◌, is_some, optio
 use Rattle.toml_edit_model.specs.Mode.{Mode}
 use Rattle.toml_edit_model.specs.Text.{is_empty}
 use Rattle.toml_edit_model.specs.Syntax.{Segment}
-use Rattle.toml_edit_model.specs.Paths.{Step, at_key, Path, to_key, dotted_role, value_role, may_meet, Mention, Source, mention_of, line_mentions, next_start}
+use Rattle.toml_edit_model.specs.Paths.{Step, at_key, Path, to_key, Mention, Source, mention_of, line_mentions, next_start}
 use Rattle.toml_edit_model.specs.Accepted.{agree}
 use Rattle.toml_edit_model.specs.Faults.{first_clash}
 use Rattle.toml_edit_model.specs.Tree.{Node, nothing, leaf, list, inline, table, tables, Slots, no_slots}
-use Rattle.toml_edit_model.specs.TreeOf.{spanned_in, under, kept, key_at, key_extent, made_by_path, AreSlotsOf}
+use Rattle.toml_edit_model.specs.TreeOf.{spanned_in, key_at, key_extent, made_by_path, AreSlotsOf}
 use Rattle.toml_edit_laws.specs.FlatTree.{with_slot}
 use Rattle.toml_edit_laws.specs.InlineTree.{node_at, with_node, add_last}
 use Rattle.toml_edit_laws.specs.TableTree.{extend_below, add_line}
@@ -23,6 +23,8 @@ use Rattle.toml_edit_laws.proofs.clashes.ClashKept.{kept-free}
 use Rattle.toml_edit_laws.proofs.clashes.ClashRoles.{IsSlotNode, IsFound, node-found, standing}
 use Rattle.toml_edit_laws.proofs.clashes.TableClash.{blocks, way_of, in_way, IsSameClash, same-none, clash_here, clash_later, deeper_way, same-deeper, clash_new}
 use Rattle.toml_edit_laws.proofs.common.OptionSteps.{is_some-map, is_none}
+use Rattle.toml_edit_model.specs.Roles.{dotted_role, value_role, may_meet}
+use Rattle.toml_edit_model.specs.TableMentions.{under, kept}
 
 -- ---- a line goes on where nothing stands in its way
 

@@ -4,11 +4,10 @@ use Rattle.std.specs.Prelude.{◌&&◌, ◌||◌, not, MatchBool, if◌then◌el
 use Rattle.std.proofs.lemmas.Bool.{or_from, MatchBool-at_true, MatchBool-at_false}
 use Rattle.toml_edit_model.specs.Mode.{Mode}
 use Rattle.toml_edit_model.specs.Text.{Text}
-use Rattle.toml_edit_model.specs.Paths.{Step, at_key, Path, same_path, Role, dotted_role, implied_role, header_role, array_role, value_role, through_role, may_meet, Mention, Source}
-use Rattle.toml_edit_model.specs.Normal.{is_header_role}
-use Rattle.toml_edit_model.specs.Faults.{clash, first_clash, is_value_role}
+use Rattle.toml_edit_model.specs.Paths.{Step, at_key, Path, same_path, Mention, Source}
+use Rattle.toml_edit_model.specs.Faults.{clash, first_clash}
 use Rattle.toml_edit_model.specs.Tree.{Node, nothing, leaf, list, inline, table, tables, is_value_node}
-use Rattle.toml_edit_model.specs.TreeOf.{spanned_in, under, some_at, any_role, is_dotted_role, is_array_role, IsLineNode}
+use Rattle.toml_edit_model.specs.TreeOf.{spanned_in, IsLineNode}
 use Rattle.toml_edit_laws.proofs.common.Tests.{or-left, or-right}
 use Rattle.toml_edit_laws.proofs.mentions.GatherLaws.{deeper, all_deeper, unmentioned-none}
 use Rattle.toml_edit_laws.proofs.inline_tables.AgreeLaws.{clash-none, both_deeper, clash-deeper, clash-at, clash-free}
@@ -17,6 +16,8 @@ use Rattle.toml_edit_laws.proofs.clashes.ClashRoles.{AreRolesOf, IsStanding, is_
 use Rattle.toml_edit_laws.proofs.mentions.SomeAt.{some_at-under, some_at-less}
 use Rattle.toml_edit_laws.proofs.common.OptionSteps.{is_none}
 use Rattle.toml_edit_laws.proofs.mentions.RoleTests.{by_role, implies}
+use Rattle.toml_edit_model.specs.Roles.{Role, dotted_role, implied_role, header_role, array_role, value_role, continued_role, may_meet, is_header_role, is_value_role, any_role, is_dotted_role, is_array_role}
+use Rattle.toml_edit_model.specs.TableMentions.{under, some_at}
 
 -- ---- the roles that an item refuses
 
@@ -27,7 +28,7 @@ blocks implied_role n = is_array_node n || is_value_node n
 blocks header_role n = (is_headed_node n || is_dotted_node n) || (is_array_node n || is_value_node n)
 blocks array_role n = is_table_node n || is_value_node n
 blocks value_role n = is_table_node n || (is_array_node n || is_value_node n)
-blocks through_role n = false
+blocks continued_role n = false
 
 abbrev refuses : Role → Role → Bool
 refuses dotted_role q = is_header_role q || (is_array_role q || is_value_role q)
@@ -35,7 +36,7 @@ refuses implied_role q = is_array_role q || is_value_role q
 refuses header_role q = (is_header_role q || is_dotted_role q) || (is_array_role q || is_value_role q)
 refuses array_role q = is_table_role q || is_value_role q
 refuses value_role q = is_table_role q || (is_array_role q || is_value_role q)
-refuses through_role q = false
+refuses continued_role q = false
 
 abbrev same_bool : Bool → Bool → Bool
 same_bool true b = b
@@ -53,8 +54,8 @@ refuses-is implied_role q =
 refuses-is header_role q = same_bool-is (not (may_meet q header_role)) (refuses header_role q) (by_role (λ s. same_bool (not (may_meet s header_role)) (refuses header_role s)) refl q)
 refuses-is array_role q = same_bool-is (not (may_meet q array_role)) (refuses array_role q) (by_role (λ s. same_bool (not (may_meet s array_role)) (refuses array_role s)) refl q)
 refuses-is value_role q = same_bool-is (not (may_meet q value_role)) (refuses value_role q) (by_role (λ s. same_bool (not (may_meet s value_role)) (refuses value_role s)) refl q)
-refuses-is through_role q =
-    same_bool-is (not (may_meet q through_role)) (refuses through_role q) (by_role (λ s. same_bool (not (may_meet s through_role)) (refuses through_role s)) refl q)
+refuses-is continued_role q =
+    same_bool-is (not (may_meet q continued_role)) (refuses continued_role q) (by_role (λ s. same_bool (not (may_meet s continued_role)) (refuses continued_role s)) refl q)
 
 some_at-same : (one other : Role → Bool) (p : Path) (ms : List (Mention Source)) → ((r : Role) → one r ≡ other r) → some_at one p ms ≡ some_at other p ms
 some_at-same one other p [] h = refl
@@ -95,7 +96,7 @@ blocked r p ms n h = some_at-same (λ q. not (may_meet q r)) (refuses r) p ms (r
     by_later value_role =
         some_at-or is_table_role (λ q. is_array_role q || is_value_role q) p ms
         ∙ ap (λ b. b || some_at (λ q. is_array_role q || is_value_role q) p ms) h.table ∙ ap (λ b. is_table_node n || b) array_or_value
-    by_later through_role = some_at-never p ms
+    by_later continued_role = some_at-never p ms
 
 -- ---- the clash at one path
 
@@ -130,7 +131,7 @@ value-meets implied_role n h = refl
 value-meets header_role n h = refl
 value-meets array_role n h = refl
 value-meets value_role n h = refl
-value-meets through_role n h = absurd cc
+value-meets continued_role n h = absurd cc
 
 other-kind : (r : Role) (n : Node) → blocks r n ≡ true → is_value_node n ≡ false → (is_table_node n || is_array_node n) ≡ true
 other-kind r (table f ss) h e = refl
@@ -146,7 +147,7 @@ other-kind r nothing h e = absurd (by_later r h)
     by_later header_role h = cc
     by_later array_role h = cc
     by_later value_role h = cc
-    by_later through_role h = cc
+    by_later continued_role h = cc
 
 -- where nothing is at the path, nothing clashes
 pub way_free : (m : Mention Source) (ms : List (Mention Source)) → some_at any_role m.path ms ≡ false → find (clash may_meet m) ms ≡ None

@@ -6,7 +6,7 @@ use Rattle.toml_edit_model.specs.Syntax.{Value, scalar, array, inline_table, Ele
 use Rattle.toml_edit_model.specs.Text.{Text, same_text}
 use Rattle.toml_edit_model.specs.Paths.{at_key, at_element, Mention, Source, all_mentions, to_key, to_element}
 use Rattle.toml_edit_model.specs.Tree.{Key, Extent, TableFields, Node, nothing, leaf, list, inline, table, tables, Items, no_items, item, Slots, no_slots, slot, is_value_node}
-use Rattle.toml_edit_model.specs.TreeOf.{owned_in, under, kept, ends_path, Entry, value_start, entries, arrays, IsValueNode, AreElementNodes, AreEntrySlots, IsLineNode, IsNodeOf, AreElementsOf, AreSlotsOf}
+use Rattle.toml_edit_model.specs.TreeOf.{owned_in, Entry, value_start, entries, IsValueNode, AreElementNodes, AreEntrySlots, IsLineNode, IsNodeOf, AreElementsOf, AreSlotsOf}
 use Rattle.toml_edit_model.specs.HeaderOrder.{Visit, visit_of}
 use Rattle.toml_edit_model.specs.SlotLists.{Slot, slot_list, item_list, slot_of, is_item}
 use Rattle.toml_edit_laws.specs.Locality.{Turn, into_table, into_element, is_table, Leads, root_visit, tables_in}
@@ -17,6 +17,8 @@ use Rattle.toml_edit_laws.proofs.commands.Apart.{Named, named}
 use Rattle.toml_edit_laws.proofs.commands.Finding.{some-and, some-second}
 use Rattle.toml_edit_laws.proofs.common.OptionSteps.{some-is}
 use Rattle.toml_edit_laws.proofs.common.Tests.{either}
+use Rattle.toml_edit_model.specs.TableMentions.{under, kept, array_headers}
+use Rattle.toml_edit_model.specs.Roles.{ends_path}
 
 -- values inside a value, and no tables
 abbrev mutual
@@ -254,7 +256,7 @@ module _ (mode : Mode) where
   mutual
     node-filled : (n : Node) (ns : List (Mention Source)) (m : Mention Source) → IsNodeOf (owned_in mode) ns m n → IsFilled n
     node-filled (table f ss) ns m h = slots-filled ss ns (kept ns) h.2
-    node-filled (tables e xs) ns m h = items-filled xs ns 0 (arrays ns) h.2
+    node-filled (tables e xs) ns m h = items-filled xs ns 0 (array_headers ns) h.2
     node-filled nothing ns m h = h
     node-filled (leaf s r d) ns m h = tt
     node-filled (list f xs) ns m h = line-inside (list f xs) m.source m.source.statement h.1

@@ -1,7 +1,8 @@
 -- Whether mentions agree with others, taken apart by appended lists.
 use Rattle.std.proofs.Common.{Bool, List, ◌≡◌, ◌++◌, false, true, refl, ap, ◌∙◌, ◌∷◌, []}
 use Rattle.toml_edit_model.specs.Accepted.{agree}
-use Rattle.toml_edit_model.specs.Paths.{same_path, Role, Mention}
+use Rattle.toml_edit_model.specs.Paths.{same_path, Mention}
+use Rattle.toml_edit_model.specs.Roles.{Role}
 use Rattle.std.proofs.lemmas.List.Folds.{list_all-append}
 use Rattle.std.specs.List.{list_all}
 use Rattle.std.specs.Prelude.{not, ◌&&◌, ◌||◌}

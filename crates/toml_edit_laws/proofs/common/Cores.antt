@@ -1,9 +1,10 @@
 -- What rules read of a mention: its path and its role.
-use Rattle.toml_edit_model.specs.Paths.{Path, Role, Mention, to_key, value_role, dotted_role}
+use Rattle.toml_edit_model.specs.Paths.{Path, Mention, to_key}
 use Rattle.std.proofs.Common.{List, ◌∷◌, []}
 use Rattle.std.specs.Prelude.{map}
 use Rattle.toml_edit_model.specs.Text.{Text}
 use Rattle.toml_edit_model.specs.Syntax.{Segment}
+use Rattle.toml_edit_model.specs.Roles.{Role, value_role, dotted_role}
 
 abbrev pub Core : Type 0
 Core = Path × Role

@@ -1,10 +1,10 @@
 -- The first element of a list that passes a test.
 use Rattle.std.specs.Prelude.{find, map, option_map, filter, ◌&&◌, if◌then◌else◌}
 use Rattle.std.proofs.Common.{Bool, inr, refl, List, inl, ◌≡◌, ◌∷◌, ◌++◌, Some, ap, true, ◌∙◌, sym, None, false, []}
-use Rattle.toml_edit_model.specs.Normal.{first_of_list}
 use Rattle.std.proofs.lemmas.Bool.{cases_Bool}
 use Rattle.toml_edit_laws.proofs.common.Members.{Among}
 use Rattle.toml_edit_laws.proofs.common.Tests.{true-false}
+use Rattle.toml_edit_model.specs.Kept.{first_of_list}
 use Rattle.std.specs.Option.{option_or}
 use Rattle.std.specs.List.{list_any}
 

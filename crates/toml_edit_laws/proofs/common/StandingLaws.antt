@@ -4,9 +4,10 @@ use Rattle.std.proofs.lemmas.List.{length-append}
 use Rattle.std.proofs.Math.Seq.{drop-append_seam, take-append_seam}
 use Rattle.toml_edit_model.specs.Text.{Text}
 use Rattle.toml_edit_model.specs.Tree.{owned as owned_text}
-use Rattle.toml_edit_model.specs.TreeOf.{span_of, cut_out, owned_raw}
+use Rattle.toml_edit_model.specs.TreeOf.{span_of}
 use Rattle.toml_edit_laws.specs.Standing.{Stands}
 use Rattle.toml_edit_laws.proofs.common.Tests.{append-nil}
+use Rattle.toml_edit_model.specs.OwnedForm.{cut_out, owned_raw}
 
 pub stands-left : (source : Text) (i : ℕ) (a b : Text) → Stands source i (a ++ b) → Stands source i a
 stands-left source i a b h =

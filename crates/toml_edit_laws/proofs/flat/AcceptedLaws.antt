@@ -5,7 +5,7 @@ use Rattle.std.specs.List.{list_all}
 use Rattle.std.proofs.lemmas.List.Folds.{list_all-append, list_any-append}
 use Rattle.toml_edit_model.specs.Text.{Text, same_text, one}
 use Rattle.toml_edit_model.specs.Syntax.{mark_text}
-use Rattle.toml_edit_model.specs.Paths.{may_meet, Placed}
+use Rattle.toml_edit_model.specs.Paths.{Placed}
 use Rattle.toml_edit_model.specs.Accepted.{agree, is_sound, is_accepted}
 use Rattle.toml_edit_model.specs.Flat.{Line, line_statement, flat_document}
 use Rattle.toml_edit_laws.specs.OneByOne.{all_right_after}
@@ -13,6 +13,7 @@ use Rattle.toml_edit_laws.specs.FlatTree.{is_among, is_right_value, are_right, l
 use Rattle.toml_edit_laws.proofs.common.Tests.{and_left, and_right, and-assoc, not-true, append-nil, not-or, same_text-swap}
 use Rattle.toml_edit_laws.proofs.flat.Mentions.{line_mention, line_place, line_places, placed-lines}
 use Rattle.toml_edit_laws.proofs.one_by_one.Together.{accepted-is}
+use Rattle.toml_edit_model.specs.Roles.{may_meet}
 
 -- the earlier statements mention these keys alone
 abbrev Mentioned : List Placed → List Text → Type 0

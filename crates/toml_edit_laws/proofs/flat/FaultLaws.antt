@@ -8,8 +8,8 @@ use Rattle.std.proofs.lemmas.List.Folds.{find-append}
 use Rattle.std.proofs.lemmas.Grind.{flat_map-append}
 use Rattle.toml_edit_model.specs.Text.{Text, same_text, one}
 use Rattle.toml_edit_model.specs.Syntax.{mark_text}
-use Rattle.toml_edit_model.specs.Paths.{may_meet, Mention, Source, Placed, placed}
-use Rattle.toml_edit_model.specs.Faults.{Fault, fault, clash, first_clash, duplicate_key, cannot_extend, is_value_role, statement_value_type, statement_clash, value_faults, faults_in}
+use Rattle.toml_edit_model.specs.Paths.{Mention, Source, Placed, placed}
+use Rattle.toml_edit_model.specs.Faults.{Fault, fault, clash, first_clash, duplicate_key, cannot_extend, statement_value_type, statement_clash, value_faults, faults_in}
 use Rattle.toml_edit_model.specs.Flat.{Line, flat_document}
 use Rattle.toml_edit_laws.specs.OneByOne.{first_faults}
 use Rattle.toml_edit_laws.specs.FlatTree.{is_among, are_right, line_keys, line_text, lines_text, key_start, value_at, next_line, end_of, is_right_value, key_faults, line_faults}
@@ -20,6 +20,7 @@ use Rattle.toml_edit_laws.proofs.mentions.Placed.{mentions_in}
 use Rattle.toml_edit_laws.proofs.values.ValueFaults.{is_empty-nil, is_right_value-faults}
 use Rattle.toml_edit_laws.proofs.flat.AcceptedLaws.{is_among-append, line-right, line-new, rest-right}
 use Rattle.toml_edit_laws.proofs.flat.Mentions.{line_mention, line_place, line_places, placed-lines}
+use Rattle.toml_edit_model.specs.Roles.{may_meet, is_value_role}
 
 -- the statements mention these keys alone
 abbrev Seen : List Placed → List Text → Type 0

@@ -4,9 +4,10 @@ use Rattle.std.proofs.Common.{◌≡◌, refl, ◌∙◌, ap, ℕ, suc, ◌+◌,
 use Rattle.std.specs.Prelude.{map, flat_map}
 use Rattle.toml_edit_model.specs.Text.{Text}
 use Rattle.toml_edit_model.specs.Syntax.{mark_text}
-use Rattle.toml_edit_model.specs.Paths.{at_key, Mention, Source, Placed, Context, source_of, placed_from, placed, all_mentions, value_role}
+use Rattle.toml_edit_model.specs.Paths.{at_key, Mention, Source, Placed, Context, source_of, placed_from, placed, all_mentions}
 use Rattle.toml_edit_model.specs.Flat.{Line, simple_key, line_statement, flat_document}
 use Rattle.toml_edit_laws.specs.FlatTree.{next_line}
+use Rattle.toml_edit_model.specs.Roles.{value_role}
 
 -- where a line stands: after so many, from this byte on
 abbrev pub standing : ℕ → ℕ → Context

@@ -7,15 +7,16 @@ use Rattle.toml_edit_model.specs.Mode.{with_return}
 use Rattle.toml_edit_model.specs.Text.{Text, same_text, one}
 use Rattle.toml_edit_model.specs.Syntax.{mark_text}
 use Rattle.toml_edit_model.specs.Paths.{at_key, same_path, Mention, Source, all_mentions}
-use Rattle.toml_edit_model.specs.Normal.{is_header_role}
 use Rattle.toml_edit_model.specs.Tree.{Node, nothing, leaf, list, inline, table, tables, Slots, no_slots, slot}
-use Rattle.toml_edit_model.specs.TreeOf.{Form, value_start, under, some_at, any_role, kept_from, kept, key_at, IsValueNode, IsLineNode, IsNodeOf, AreSlotsOf, IsTreeOf}
+use Rattle.toml_edit_model.specs.TreeOf.{Form, value_start, key_at, IsValueNode, IsLineNode, IsNodeOf, AreSlotsOf, IsTreeOf}
 use Rattle.toml_edit_model.specs.Flat.{Line, line_frame, line_statement, flat_document}
 use Rattle.toml_edit_laws.specs.FlatTree.{is_among, are_right, next_line, after_equals_start, line_key, IsNodeOfLine, AreLineSlots, flat_tree}
 use Rattle.toml_edit_laws.proofs.common.Tests.{append-nil, and-true, same_text-swap}
 use Rattle.toml_edit_laws.proofs.flat.AcceptedLaws.{is_among-append, line-new, rest-right}
 use Rattle.toml_edit_laws.proofs.values.ValueNodes.{value_item}
 use Rattle.toml_edit_laws.proofs.flat.Mentions.{line_mention, line_mentions_from, all_mentions-lines}
+use Rattle.toml_edit_model.specs.Roles.{is_header_role, any_role}
+use Rattle.toml_edit_model.specs.TableMentions.{under, some_at, kept_from, kept}
 
 -- ---- the slots are those of all lines
 

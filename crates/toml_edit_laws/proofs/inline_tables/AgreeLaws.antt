@@ -2,15 +2,16 @@
 use Rattle.std.proofs.Common.{◌≡◌, refl, sym, ◌∙◌, ap, subst, Bool, true, false, List, [], ◌∷◌, ◌++◌, Option, Some, None}
 use Rattle.std.specs.Prelude.{◌&&◌, ◌||◌, not, if◌then◌else◌, find, option_map}
 use Rattle.std.specs.List.{list_all}
-use Rattle.toml_edit_model.specs.Paths.{Step, Path, same_step, same_path, Role, Mention}
+use Rattle.toml_edit_model.specs.Paths.{Step, Path, same_step, same_path, Mention}
 use Rattle.toml_edit_model.specs.Accepted.{agree, all_agree}
 use Rattle.toml_edit_model.specs.Faults.{clash, first_clash}
-use Rattle.toml_edit_model.specs.TreeOf.{inside, under, some_at}
 use Rattle.toml_edit_laws.proofs.common.Tests.{and_left, and_right, true-false}
 use Rattle.toml_edit_laws.proofs.mentions.GatherLaws.{deeper, all_deeper, first_at}
 use Rattle.toml_edit_laws.proofs.common.PathLaws.{same_step-is, same_path-refl, same_path-is}
 use Rattle.toml_edit_laws.proofs.common.Agreement.{agree-all}
 use Rattle.toml_edit_laws.proofs.common.OptionSteps.{is_none}
+use Rattle.toml_edit_model.specs.Roles.{Role}
+use Rattle.toml_edit_model.specs.TableMentions.{inside, under, some_at}
 
 -- ---- agreement, mention by mention
 

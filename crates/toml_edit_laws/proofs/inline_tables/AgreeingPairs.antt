@@ -5,15 +5,15 @@ use Rattle.std.proofs.Math.Bool.{and-false}
 use Rattle.std.proofs.lemmas.Bool.{or_from}
 use Rattle.toml_edit_model.specs.Text.{is_empty}
 use Rattle.toml_edit_model.specs.Syntax.{Segment}
-use Rattle.toml_edit_model.specs.Paths.{Step, at_key, Path, same_step, same_path, to_key, Role, dotted_role, implied_role, header_role, array_role, value_role, through_role, may_meet_inline, Mention, mention_of, line_mentions, next_start}
+use Rattle.toml_edit_model.specs.Paths.{Step, at_key, Path, same_step, same_path, to_key, Mention, mention_of, line_mentions, next_start}
 use Rattle.toml_edit_model.specs.Accepted.{agree}
-use Rattle.toml_edit_model.specs.Faults.{is_value_role}
-use Rattle.toml_edit_model.specs.TreeOf.{under, own, some_at, is_dotted_role}
 use Rattle.toml_edit_laws.proofs.common.Tests.{true-false}
 use Rattle.toml_edit_laws.proofs.mentions.GatherLaws.{all_deeper, own-first}
 use Rattle.toml_edit_laws.proofs.inline_tables.PairMentions.{AreOfPairs, of_none, of_both, of_under, of_line, own-line, lines-deeper, some_at-deeper}
 use Rattle.toml_edit_laws.proofs.inline_tables.AgreeLaws.{agree-apart}
 use Rattle.toml_edit_laws.proofs.mentions.SomeAt.{some_at-append, some_at-under}
+use Rattle.toml_edit_model.specs.Roles.{Role, dotted_role, implied_role, header_role, array_role, value_role, continued_role, may_meet_inline, is_value_role, is_dotted_role}
+use Rattle.toml_edit_model.specs.TableMentions.{under, own, some_at}
 
 abbrev pub is_other_role : Role → Bool
 is_other_role r = not (is_value_role r || is_dotted_role r)
@@ -103,7 +103,7 @@ value-apart dotted_role q h g = absurd cc
 value-apart implied_role q h g = absurd cc
 value-apart header_role q h g = absurd cc
 value-apart array_role q h g = absurd cc
-value-apart through_role q h g = absurd cc
+value-apart continued_role q h g = absurd cc
 
 dotted-apart : (r q : Role) → is_dotted_role r ≡ true → is_value_role q ≡ true → may_meet_inline r q ≡ false
 dotted-apart dotted_role value_role h g = refl
@@ -111,12 +111,12 @@ dotted-apart dotted_role dotted_role h g = absurd cc
 dotted-apart dotted_role implied_role h g = absurd cc
 dotted-apart dotted_role header_role h g = absurd cc
 dotted-apart dotted_role array_role h g = absurd cc
-dotted-apart dotted_role through_role h g = absurd cc
+dotted-apart dotted_role continued_role h g = absurd cc
 dotted-apart value_role q h g = refl
 dotted-apart implied_role q h g = refl
 dotted-apart header_role q h g = refl
 dotted-apart array_role q h g = refl
-dotted-apart through_role q h g = refl
+dotted-apart continued_role q h g = refl
 
 -- Pairs that agree with agreeing ones before them do all agree.
 pub agreeing-both : {S : Type 0} (xs ys : List (Mention S)) → AreAgreeing xs → AreAgreeing ys → agree may_meet_inline xs ys ≡ true → AreAgreeing (xs ++ ys)

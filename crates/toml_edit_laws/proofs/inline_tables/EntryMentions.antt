@@ -2,14 +2,15 @@
 use Rattle.std.proofs.Common.{◌≡◌, ◌⊎◌, ℕ, ◌+◌, suc, refl, sym, ap, subst, ◌∙◌, inl, inr, true, false, Bool, List, [], ◌∷◌, ◌++◌, length}
 use Rattle.std.specs.List.{list_all}
 use Rattle.toml_edit_model.specs.Syntax.{Frame, Value, Pairs, no_pairs, pair, value_text, frame_text}
-use Rattle.toml_edit_model.specs.Paths.{Step, at_key, Path, Role, dotted_role, implied_role, header_role, array_role, value_role, through_role, may_meet_inline, Mention, line_mentions, PairSource, pair_mentions}
-use Rattle.toml_edit_model.specs.Normal.{is_header_role}
+use Rattle.toml_edit_model.specs.Paths.{Step, at_key, Path, Mention, line_mentions, PairSource, pair_mentions}
 use Rattle.toml_edit_model.specs.Accepted.{agree, all_agree}
-use Rattle.toml_edit_model.specs.TreeOf.{Form, under, Entry, entry_of, entries}
+use Rattle.toml_edit_model.specs.TreeOf.{Form, Entry, entry_of, entries}
 use Rattle.toml_edit_laws.proofs.common.Tests.{and_left, and_right}
 use Rattle.toml_edit_laws.proofs.common.Members.{Among, among-left, among-right, among-cases}
 use Rattle.toml_edit_laws.proofs.mentions.KeyMentions.{below, line-role, line-named, line-closed, line-alone, line-shows, line-source, twin, agree-may}
 use Rattle.toml_edit_laws.proofs.mentions.KeptMentions.{moved, Lifted, under-has, under-is, HaveNoHeaders}
+use Rattle.toml_edit_model.specs.Roles.{Role, dotted_role, implied_role, header_role, array_role, value_role, continued_role, may_meet_inline, is_header_role}
+use Rattle.toml_edit_model.specs.TableMentions.{under}
 
 -- The mentions at and below a key: of dotted keys and of values, each named by the last key of its path, together with each key on
 -- the way to it, with nothing else at or below a value, and with something below a dotted key.
@@ -97,7 +98,7 @@ no-value-last implied_role h = cc
 no-value-last header_role h = cc
 no-value-last array_role h = cc
 no-value-last value_role h = cc
-no-value-last through_role h = cc
+no-value-last continued_role h = cc
 
 -- each pair's value is such
 abbrev pub EachValue : (Value → Type 0) → Pairs → Type 0

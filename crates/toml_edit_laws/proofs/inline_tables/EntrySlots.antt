@@ -5,11 +5,13 @@ use Rattle.toml_edit_model.specs.Text.{Text, same_text}
 use Rattle.toml_edit_model.specs.Syntax.{Value, scalar, array, inline_table}
 use Rattle.toml_edit_model.specs.Paths.{at_key, Mention}
 use Rattle.toml_edit_model.specs.Tree.{Key, InlineFields, Node, nothing, leaf, list, inline, table, tables, Slots, no_slots, slot}
-use Rattle.toml_edit_model.specs.TreeOf.{Form, Entry, under, kept, ends_path, key_of, key_extent, IsValueNode, AreEntrySlots}
+use Rattle.toml_edit_model.specs.TreeOf.{Form, Entry, key_of, key_extent, IsValueNode, AreEntrySlots}
 use Rattle.toml_edit_laws.specs.FlatTree.{with_slot}
 use Rattle.toml_edit_laws.specs.InlineTree.{node_at, with_node, path_fields}
 use Rattle.toml_edit_laws.proofs.common.Tests.{same_text-is}
 use Rattle.toml_edit_laws.proofs.mentions.GatherLaws.{first_of_key, AreDistinct, first-none}
+use Rattle.toml_edit_model.specs.TableMentions.{under, kept}
+use Rattle.toml_edit_model.specs.Roles.{ends_path}
 
 module _ (form : Form) where
   -- the item of a kept mention, among these mentions

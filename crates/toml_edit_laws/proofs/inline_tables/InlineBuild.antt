@@ -3,9 +3,9 @@ use Rattle.std.proofs.Common.{◌≡◌, refl, sym, ◌∙◌, ap, subst, ℕ, �
 use Rattle.std.specs.Prelude.{◌&&◌, ◌||◌, not, if◌then◌else◌, option_map, is_some}
 use Rattle.toml_edit_model.specs.Text.{Text, same_text}
 use Rattle.toml_edit_model.specs.Syntax.{Segment, Frame, Value}
-use Rattle.toml_edit_model.specs.Paths.{at_key, Path, same_path, to_key, Role, dotted_role, value_role, Mention, mention_of, line_mentions, next_start}
+use Rattle.toml_edit_model.specs.Paths.{at_key, Path, same_path, to_key, Mention, mention_of, line_mentions, next_start}
 use Rattle.toml_edit_model.specs.Tree.{Node, nothing, leaf, list, inline, table, tables, Slots, no_slots}
-use Rattle.toml_edit_model.specs.TreeOf.{Form, Entry, under, own, some_at, any_role, kept_from, kept, key_of, key_extent, entry_of, value_start, IsValueNode, AreEntrySlots}
+use Rattle.toml_edit_model.specs.TreeOf.{Form, Entry, key_of, key_extent, entry_of, value_start, IsValueNode, AreEntrySlots}
 use Rattle.toml_edit_laws.specs.FlatTree.{with_slot}
 use Rattle.toml_edit_laws.specs.InlineTree.{node_at, with_node, path_fields, change_below, add_last, add_entry}
 use Rattle.toml_edit_laws.proofs.common.Tests.{append-nil, same_text-refl}
@@ -14,6 +14,8 @@ use Rattle.toml_edit_laws.proofs.common.OptionSteps.{map_some, guard_read}
 use Rattle.toml_edit_laws.proofs.inline_tables.PairMentions.{AreOfPairs, of_both, of_under, of_line, of_first, own-line, lines-deeper}
 use Rattle.toml_edit_laws.proofs.inline_tables.EntrySlots.{IsEntryNode, slots-same, slots-kept, slots-add, slots-find, slots-change, IsFound, node-dotted, dotted-node}
 use Rattle.toml_edit_laws.proofs.mentions.SomeAt.{under-append, some_at-under, own_mention}
+use Rattle.toml_edit_model.specs.Roles.{Role, dotted_role, value_role, any_role}
+use Rattle.toml_edit_model.specs.TableMentions.{under, own, some_at, kept_from, kept}
 
 -- ---- the mentions of a pair, after others
 

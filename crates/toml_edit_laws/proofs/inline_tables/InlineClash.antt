@@ -4,11 +4,11 @@ use Rattle.std.specs.Prelude.{◌&&◌, ◌||◌, not, MatchBool, if◌then◌el
 use Rattle.std.proofs.lemmas.Bool.{MatchBool-at_true, MatchBool-at_false}
 use Rattle.toml_edit_model.specs.Text.{Text, is_empty}
 use Rattle.toml_edit_model.specs.Syntax.{Segment, Value}
-use Rattle.toml_edit_model.specs.Paths.{Step, at_key, Path, same_path, to_key, Role, dotted_role, implied_role, header_role, array_role, value_role, through_role, may_meet_inline, Mention, mention_of, line_mentions, next_start}
+use Rattle.toml_edit_model.specs.Paths.{Step, at_key, Path, same_path, to_key, Mention, mention_of, line_mentions, next_start}
 use Rattle.toml_edit_model.specs.Accepted.{agree}
-use Rattle.toml_edit_model.specs.Faults.{clash, first_clash, is_value_role}
+use Rattle.toml_edit_model.specs.Faults.{clash, first_clash}
 use Rattle.toml_edit_model.specs.Tree.{InlineFields, Node, nothing, leaf, list, inline, table, tables, Slots, no_slots}
-use Rattle.toml_edit_model.specs.TreeOf.{Form, Entry, under, kept, some_at, is_dotted_role, ends_path, key_of, key_extent, IsValueNode, AreEntrySlots}
+use Rattle.toml_edit_model.specs.TreeOf.{Form, Entry, key_of, key_extent, IsValueNode, AreEntrySlots}
 use Rattle.toml_edit_laws.specs.FlatTree.{with_slot}
 use Rattle.toml_edit_laws.specs.InlineTree.{node_at, with_node, path_fields, change_below, add_last, add_entry, clash_below, entry_clash}
 use Rattle.toml_edit_laws.proofs.common.Tests.{or-left, or-right, false-by, true-false}
@@ -20,6 +20,8 @@ use Rattle.toml_edit_laws.proofs.inline_tables.EntrySlots.{IsEntryNode, slots-fi
 use Rattle.toml_edit_laws.proofs.inline_tables.InlineBuild.{path_of, under-new}
 use Rattle.toml_edit_laws.proofs.common.OptionSteps.{is_some-map, is_none}
 use Rattle.toml_edit_laws.proofs.mentions.SomeAt.{any-test}
+use Rattle.toml_edit_model.specs.Roles.{Role, dotted_role, implied_role, header_role, array_role, value_role, continued_role, may_meet_inline, is_value_role, is_dotted_role, ends_path}
+use Rattle.toml_edit_model.specs.TableMentions.{under, kept, some_at}
 
 -- ---- one pair goes on where nothing stands in its way
 
@@ -111,7 +113,7 @@ refused-dotted implied_role = refl
 refused-dotted header_role = refl
 refused-dotted array_role = refl
 refused-dotted value_role = refl
-refused-dotted through_role = refl
+refused-dotted continued_role = refl
 
 refused-value : (r : Role) → may_meet_inline r value_role ≡ false
 refused-value dotted_role = refl
@@ -119,7 +121,7 @@ refused-value implied_role = refl
 refused-value header_role = refl
 refused-value array_role = refl
 refused-value value_role = refl
-refused-value through_role = refl
+refused-value continued_role = refl
 
 value-refuses : (r : Role) → is_value_role r ≡ true → may_meet_inline r dotted_role ≡ false
 value-refuses value_role h = refl
@@ -127,7 +129,7 @@ value-refuses dotted_role h = absurd cc
 value-refuses implied_role h = refl
 value-refuses header_role h = refl
 value-refuses array_role h = refl
-value-refuses through_role h = refl
+value-refuses continued_role h = refl
 
 dotted-else : (r : Role) → is_value_role r ≡ false → is_other_role r ≡ false → is_dotted_role r ≡ true
 dotted-else dotted_role h g = refl
@@ -135,7 +137,7 @@ dotted-else value_role h g = absurd cc
 dotted-else implied_role h g = absurd cc
 dotted-else header_role h g = absurd cc
 dotted-else array_role h g = absurd cc
-dotted-else through_role h g = absurd cc
+dotted-else continued_role h g = absurd cc
 
 none-refused : (p : Path) (ms : List (Mention Entry)) → some_at is_value_role p ms ≡ false → some_at is_other_role p ms ≡ false
     → some_at (λ r. not (may_meet_inline r dotted_role)) p ms ≡ false
@@ -181,7 +183,7 @@ module _ (form : Form) where
   by_role implied_role A B C o f h = absurd cc
   by_role header_role A B C o f h = absurd cc
   by_role array_role A B C o f h = absurd cc
-  by_role through_role A B C o f h = absurd cc
+  by_role continued_role A B C o f h = absurd cc
 
   entry-way : (ms : List (Mention Entry)) (j : Mention Entry) (n : Node) → is_other_role j.role ≡ false → IsEntryNode form ms j n → IsInTheWay j n
   entry-way ms j nothing o h = by_role j.role (IsValueNode form j.source.value j.source.start j.source.before j.source.after nothing) ⊥ ⊥ o (λ x. x) h.1

@@ -5,11 +5,11 @@ use Rattle.std.specs.List.{list_all}
 use Rattle.std.proofs.lemmas.List.{map-append}
 use Rattle.toml_edit_model.specs.Text.{Text}
 use Rattle.toml_edit_model.specs.Syntax.{Frame, Value, scalar, array, inline_table, Pairs, no_pairs, pair}
-use Rattle.toml_edit_model.specs.Paths.{Role, may_meet_inline, Mention, PairSource, line_mentions, pair_mentions}
+use Rattle.toml_edit_model.specs.Paths.{Mention, PairSource, line_mentions, pair_mentions}
 use Rattle.toml_edit_model.specs.Accepted.{agree, all_agree}
-use Rattle.toml_edit_model.specs.Faults.{Fault, fault, first_clash, type_name, scalar_type, duplicate_key, cannot_extend, extends, is_value_role, is_inline, clash_message, pair_clash, pair_clashes}
+use Rattle.toml_edit_model.specs.Faults.{Fault, fault, first_clash, type_name, scalar_type, duplicate_key, cannot_extend, is_inline, clash_message, pair_clash, pair_clashes}
 use Rattle.toml_edit_model.specs.Tree.{Node, leaf, list, inline, Items, no_items, item, Slots, no_slots}
-use Rattle.toml_edit_model.specs.TreeOf.{Form, Entry, kept, entry_of, entries, IsValueNode, AreEntrySlots}
+use Rattle.toml_edit_model.specs.TreeOf.{Form, Entry, entry_of, entries, IsValueNode, AreEntrySlots}
 use Rattle.toml_edit_laws.specs.InlineTree.{add_entry, entry_clash, pair_path, next_pair, followed_by, end_of_pairs, AreKeyed, ArePairNodes, clash_or_later, entries_clash, way_message, way_fault, BeginWith}
 use Rattle.toml_edit_laws.proofs.common.Tests.{append-nil, and_left, and_right, and_both, true-false}
 use Rattle.toml_edit_laws.proofs.inline_tables.AgreeLaws.{agree-clash, all_agree-next}
@@ -19,6 +19,8 @@ use Rattle.toml_edit_laws.proofs.inline_tables.InlineClash.{IsDotted, IsInTheWay
 use Rattle.toml_edit_laws.proofs.inline_tables.InlinePairs.{entry_paths, agreement-of, all-with-none}
 use Rattle.toml_edit_laws.proofs.inline_tables.MentionSources.{sourced, both_sourced, line-sourced, clash-sourced}
 use Rattle.toml_edit_laws.proofs.common.OptionSteps.{is_none}
+use Rattle.toml_edit_model.specs.Roles.{Role, may_meet_inline, extends, is_value_role}
+use Rattle.toml_edit_model.specs.TableMentions.{kept}
 
 -- ---- by the values of pairs alone
 

@@ -6,10 +6,9 @@ use Rattle.std.proofs.lemmas.List.{map-append}
 use Rattle.toml_edit_model.specs.Mode.{Mode}
 use Rattle.toml_edit_model.specs.Text.{one, is_empty}
 use Rattle.toml_edit_model.specs.Syntax.{Segment, IsSpacedSegment}
-use Rattle.toml_edit_model.specs.Paths.{at_key, Path, to_key, Mention, mention_of, value_role, dotted_role}
-use Rattle.toml_edit_model.specs.Normal.{bare_ends}
+use Rattle.toml_edit_model.specs.Paths.{at_key, Path, to_key, Mention, mention_of}
 use Rattle.toml_edit_model.specs.Tree.{Key, Node, nothing, leaf, list, inline, table, tables, Slots, no_slots, slot}
-use Rattle.toml_edit_model.specs.TreeOf.{owned_in, under, kept, Entry, IsValueNode, AreEntrySlots}
+use Rattle.toml_edit_model.specs.TreeOf.{owned_in, Entry, IsValueNode, AreEntrySlots}
 use Rattle.toml_edit_model.specs.Print.{Line, segments, last_leaf, is_line_node, value_of, inside_lines, lines_inside, line_of}
 use Rattle.toml_edit_laws.proofs.common.Tests.{same_text-is}
 use Rattle.toml_edit_laws.proofs.mentions.GatheredLines.{first_key, rest_of, has_first, keys_before, group, group-part, group-sorted, rests, alone, go_on, AllFilled, AllPart}
@@ -18,6 +17,9 @@ use Rattle.toml_edit_laws.proofs.mentions.MentionGroups.{lower, first_mention, b
 use Rattle.toml_edit_laws.proofs.mentions.KeptPaths.{AreKept, kept_below, group-kept, kept-here, key_segment, segments-bare, last-key, key-shown}
 use Rattle.toml_edit_laws.proofs.common.Each.{all-filter, all_pass, all-map}
 use Rattle.toml_edit_model.specs.Order.{sorted_by}
+use Rattle.toml_edit_model.specs.Roles.{value_role, dotted_role}
+use Rattle.toml_edit_model.specs.Kept.{unspaced_ends}
+use Rattle.toml_edit_model.specs.TableMentions.{under, kept}
 
 -- each line is of the element at its place
 abbrev pub AreLines : {X : Type 0} → (Line → X → Type 0) → List Line → List X → Type 0
@@ -81,7 +83,7 @@ module _ (mode : Mode) where
   PrintsPair entry full Prints x =
       (n : Node) (ks : List Key)
       → IsValueNode (owned_in mode) (entry x).value (entry x).start (entry x).before (entry x).after n
-      → last_leaf ks ≡ (entry x).leaf → segments mode ks ≡ bare_ends (full x)
+      → last_leaf ks ≡ (entry x).leaf → segments mode ks ≡ unspaced_ends (full x)
       → (is_line_node n ≡ true) × Prints (record { keys = ks; item = n; value = value_of mode n }) x
 
   module _ {X : Type 0} (entry : X → Entry) (rank_of : Path → ℕ) (kept_at : Path → Option Segment) (full : X → List Segment) (Prints : Line → X → Type 0) where
@@ -149,9 +151,9 @@ module _ (mode : Mode) where
         leader-has (λ y. full y ≡ map (key_segment mode) ks ++ kept_below kept_at p (path_of y)) path_of xs x h.spelled leads
         ∙ ap (λ ts. map (key_segment mode) ks ++ kept_below kept_at p ts) is
         ∙ ap (λ o. map (key_segment mode) ks ++ one (unwrap_or o s)) (kept-here kept_at p path_of xs x s [] h.kept is leads) in
-        let spelled : segments mode (ks ++ one k) ≡ bare_ends (full x) =
+        let spelled : segments mode (ks ++ one k) ≡ unspaced_ends (full x) =
         segments-bare mode (ks ++ one k)
-        ∙ ap bare_ends (map-append (key_segment mode) ks (one k) ∙ ap (λ t. map (key_segment mode) ks ++ one t) shown ∙ sym full_is) in
+        ∙ ap unspaced_ends (map-append (key_segment mode) ks (one k) ∙ ap (λ t. map (key_segment mode) ks ++ one t) shown ∙ sym full_is) in
         let leaf_is : last_leaf (ks ++ one k) ≡ (entry x).leaf = last-key ks k ∙ ap (λ j. j.leaf) slot_is.0 in
         let printed = leader-has (PrintsPair entry full Prints) path_of xs x h.printed leads n (ks ++ one k) slot_is.1 leaf_is spelled in
         subst (λ ys. AreLines Prints (slot_lines (is_line_node n) (ks ++ one k) n) (sorted_by (before p path_of) ys)) (sym (lead ∙ ap (λ ys. x ∷ ys) others))

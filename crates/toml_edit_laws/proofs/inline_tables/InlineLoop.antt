@@ -4,12 +4,12 @@ use Rattle.std.specs.Prelude.{◌&&◌, is_some}
 use Rattle.std.specs.List.{list_all}
 use Rattle.std.proofs.Math.Bool.{and-false}
 use Rattle.toml_edit_model.specs.Text.{is_empty}
-use Rattle.toml_edit_model.specs.Syntax.{Segment, Frame, Value, Pairs, no_pairs, pair, begins_bare, ArePairs}
-use Rattle.toml_edit_model.specs.Paths.{may_meet_inline, Mention, pair_mentions}
+use Rattle.toml_edit_model.specs.Syntax.{Segment, Frame, Value, Pairs, no_pairs, pair, begins_unspaced, ArePairs}
+use Rattle.toml_edit_model.specs.Paths.{Mention, pair_mentions}
 use Rattle.toml_edit_model.specs.Accepted.{agree, all_agree}
 use Rattle.toml_edit_model.specs.Faults.{first_clash, pair_clashes}
 use Rattle.toml_edit_model.specs.Tree.{Node, Slots, no_slots}
-use Rattle.toml_edit_model.specs.TreeOf.{Form, Entry, kept, entry_of, entries, AreEntrySlots}
+use Rattle.toml_edit_model.specs.TreeOf.{Form, Entry, entry_of, entries, AreEntrySlots}
 use Rattle.toml_edit_laws.specs.InlineTree.{add_entry, entry_clash, pair_path, next_pair, followed_by, end_of_pairs, AreKeyed, IsPairNode, BeginWith}
 use Rattle.toml_edit_laws.proofs.common.Tests.{append-nil, and_left, and_right, and_both, and-true, and-assoc}
 use Rattle.toml_edit_laws.proofs.inline_tables.AgreeLaws.{agree-clash, all_agree-next}
@@ -19,13 +19,15 @@ use Rattle.toml_edit_laws.proofs.inline_tables.InlineClash.{same-none, entry_cla
 use Rattle.toml_edit_laws.proofs.inline_tables.InlinePairs.{entry_paths, agreement-of, all-with-none}
 use Rattle.toml_edit_laws.proofs.inline_tables.InlineFaults.{clash_fault}
 use Rattle.toml_edit_laws.proofs.common.OptionSteps.{is_none}
+use Rattle.toml_edit_model.specs.Roles.{may_meet_inline}
+use Rattle.toml_edit_model.specs.TableMentions.{kept}
 
 -- each pair of the grammar has a key
 pub keyed_pairs : (ps : Pairs) → ArePairs ps → AreKeyed ps
 keyed_pairs no_pairs h = tt
 keyed_pairs (pair f v ps) h = (by_path f.path h.0.1.begins, keyed_pairs ps h.2)
   where
-    by_path : (p : List Segment) → begins_bare p ≡ true → is_empty p ≡ false
+    by_path : (p : List Segment) → begins_unspaced p ≡ true → is_empty p ≡ false
     by_path [] e = absurd cc
     by_path (s ∷ p) e = refl
 

@@ -3,10 +3,10 @@ use Rattle.std.proofs.Common.{◌≡◌, refl, sym, ◌∙◌, ap, subst, ℕ, s
 use Rattle.std.specs.Prelude.{◌&&◌, map, is_some, option_and_then}
 use Rattle.std.specs.List.{list_all}
 use Rattle.toml_edit_model.specs.Syntax.{Pairs, no_pairs, pair}
-use Rattle.toml_edit_model.specs.Paths.{may_meet_inline, Mention, PairSource, line_mentions, pair_mentions}
+use Rattle.toml_edit_model.specs.Paths.{Mention, PairSource, line_mentions, pair_mentions}
 use Rattle.toml_edit_model.specs.Accepted.{agree, all_agree}
 use Rattle.toml_edit_model.specs.Tree.{Node, Items, no_items, item, Slots, no_slots}
-use Rattle.toml_edit_model.specs.TreeOf.{Form, Entry, kept, entry_of, entries, AreEntrySlots}
+use Rattle.toml_edit_model.specs.TreeOf.{Form, Entry, entry_of, entries, AreEntrySlots}
 use Rattle.toml_edit_laws.specs.InlineTree.{add_entry, pair_path, next_pair, AreKeyed, ArePairNodes, add_entries, entry_clash, clash_or_later, entries_clash}
 use Rattle.toml_edit_laws.proofs.common.Tests.{append-nil}
 use Rattle.toml_edit_laws.proofs.common.OptionSteps.{bind_some, is_none}
@@ -16,6 +16,8 @@ use Rattle.toml_edit_laws.proofs.inline_tables.AgreeingPairs.{AreAgreeing, agree
 use Rattle.toml_edit_laws.proofs.inline_tables.InlineBuild.{entry_added}
 use Rattle.toml_edit_laws.proofs.inline_tables.InlineClash.{entry_or_clash, entry_goes}
 use Rattle.toml_edit_laws.proofs.inline_tables.MentionSources.{bare, line-bare, all_agree-bare}
+use Rattle.toml_edit_model.specs.Roles.{may_meet_inline}
+use Rattle.toml_edit_model.specs.TableMentions.{kept}
 
 module _ (form : Form) where
   -- the mentions of each pair

@@ -5,15 +5,16 @@ use Rattle.std.specs.List.{AllByRecursion, list_all}
 use Rattle.std.proofs.lemmas.Bool.{cases_Bool}
 use Rattle.toml_edit_model.specs.Text.{Text, same_text, is_empty}
 use Rattle.toml_edit_model.specs.Syntax.{Segment}
-use Rattle.toml_edit_model.specs.Paths.{Path, same_path, to_key, Role, dotted_role, value_role, may_meet_inline, Mention, mention_of, next_start, line_mentions}
+use Rattle.toml_edit_model.specs.Paths.{Path, same_path, to_key, Mention, mention_of, next_start, line_mentions}
 use Rattle.toml_edit_model.specs.Accepted.{agree}
-use Rattle.toml_edit_model.specs.Normal.{stands_before}
 use Rattle.toml_edit_laws.proofs.common.Tests.{true-false, false-by, and_left, and_right, and_both, same_text-is}
 use Rattle.toml_edit_laws.proofs.common.OrderLaws.{sorted-alike, sorted-image}
 use Rattle.toml_edit_laws.proofs.common.PathLaws.{same_path-key}
 use Rattle.toml_edit_laws.proofs.mentions.GatheredLines.{part_ways, keys_before}
 use Rattle.toml_edit_laws.proofs.mentions.MentionGroups.{line-from, first_role, lower, lower-append, lower-line, flat_lines}
 use Rattle.toml_edit_model.specs.Order.{sorted_by}
+use Rattle.toml_edit_model.specs.Roles.{Role, dotted_role, value_role, may_meet_inline}
+use Rattle.toml_edit_model.specs.Kept.{stands_before}
 
 -- ---- the order of lines
 

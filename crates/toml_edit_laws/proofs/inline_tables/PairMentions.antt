@@ -4,14 +4,14 @@ use Rattle.std.specs.Prelude.{◌&&◌, ◌||◌}
 use Rattle.std.proofs.Math.Bool.{and-false}
 use Rattle.std.proofs.lemmas.Bool.{or_from}
 use Rattle.toml_edit_model.specs.Syntax.{Segment}
-use Rattle.toml_edit_model.specs.Paths.{Step, at_key, Path, same_step, same_path, to_key, Role, dotted_role, value_role, Mention, mention_of, line_mentions, next_start}
-use Rattle.toml_edit_model.specs.Normal.{is_header_role}
-use Rattle.toml_edit_model.specs.TreeOf.{under, own, some_at, any_role}
+use Rattle.toml_edit_model.specs.Paths.{Step, at_key, Path, same_step, same_path, to_key, Mention, mention_of, line_mentions, next_start}
 use Rattle.toml_edit_laws.proofs.common.Tests.{or-left, or-right}
 use Rattle.toml_edit_laws.proofs.mentions.GatherLaws.{all_deeper, own-deeper, AreHeadless}
 use Rattle.toml_edit_laws.proofs.mentions.SomeAt.{some_at-append, some_at-under}
 use Rattle.toml_edit_laws.proofs.common.Each.{all-append}
 use Rattle.toml_edit_laws.proofs.mentions.Named.{IsNamed, AreNamed, under-named, line-named}
+use Rattle.toml_edit_model.specs.Roles.{Role, dotted_role, value_role, is_header_role, any_role}
+use Rattle.toml_edit_model.specs.TableMentions.{under, own, some_at}
 
 -- ---- lists of mentions
 

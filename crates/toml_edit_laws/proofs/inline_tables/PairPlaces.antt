@@ -5,15 +5,16 @@ use Rattle.std.specs.List.{AllByRecursion, list_all}
 use Rattle.toml_edit_model.specs.Mode.{Mode, shown_text}
 use Rattle.toml_edit_model.specs.Text.{is_empty}
 use Rattle.toml_edit_model.specs.Syntax.{Segment, Frame, Value, Pairs, no_pairs, pair, value_text, frame_text, ArePairs, IsSpacedSegment}
-use Rattle.toml_edit_model.specs.Paths.{may_meet_inline, Mention, PairSource, line_mentions, pair_mentions}
+use Rattle.toml_edit_model.specs.Paths.{Mention, PairSource, line_mentions, pair_mentions}
 use Rattle.toml_edit_model.specs.Accepted.{agree, all_agree}
-use Rattle.toml_edit_model.specs.Normal.{lean_frame, normal_value, normal_pairs}
+use Rattle.toml_edit_model.specs.Normal.{shown_frame, normal_value, normal_pairs}
 use Rattle.toml_edit_model.specs.TreeOf.{owned_in, Entry, entry_of, entries}
 use Rattle.toml_edit_laws.proofs.common.Tests.{and_left, and_right}
 use Rattle.toml_edit_laws.proofs.mentions.GatheredLines.{part_ways, AllFilled, AllPart}
 use Rattle.toml_edit_laws.proofs.mentions.MentionGroups.{flat_lines}
 use Rattle.toml_edit_laws.proofs.inline_tables.PairLines.{agree-parts}
 use Rattle.toml_edit_laws.proofs.mentions.Placed.{filled-path}
+use Rattle.toml_edit_model.specs.Roles.{may_meet_inline}
 
 -- a pair in its inline table: where it begins in the source, and its number and place among the normal pairs
 pub record PairAt : Type 0 where
@@ -34,13 +35,13 @@ module _ (mode : Mode) where
   pairs_at no_pairs i start number = []
   pairs_at (pair f v ps) i start number =
       record { frame = f; value = v; place = i; number = number; start = start }
-      ∷ pairs_at ps (i + length (frame_text f (value_text v)) + 1) (start + length (frame_text (lean_frame mode f) (value_text (normal_value mode v))) + 1) (suc number)
+      ∷ pairs_at ps (i + length (frame_text f (value_text v)) + 1) (start + length (frame_text (shown_frame mode f) (value_text (normal_value mode v))) + 1) (suc number)
 
   abbrev pub pair_entry : PairAt → Entry
   pair_entry x = entry_of (owned_in mode) x.place x.frame x.value
 
   abbrev pub normal_source : PairAt → PairSource
-  normal_source x = record { frame = lean_frame mode x.frame; value = normal_value mode x.value }
+  normal_source x = record { frame = shown_frame mode x.frame; value = normal_value mode x.value }
 
   abbrev pub normal_start : PairAt → ℕ
   normal_start x = x.start + length (shown_text mode x.frame.leading)
@@ -53,19 +54,19 @@ module _ (mode : Mode) where
   entries-are no_pairs i start number = refl
   entries-are (pair f v ps) i start number =
       ap (λ ms. line_mentions (entry_of (owned_in mode) i f v) (i + length f.leading) [] f.path ++ ms)
-      (entries-are ps (i + length (frame_text f (value_text v)) + 1) (start + length (frame_text (lean_frame mode f) (value_text (normal_value mode v))) + 1) (suc number))
+      (entries-are ps (i + length (frame_text f (value_text v)) + 1) (start + length (frame_text (shown_frame mode f) (value_text (normal_value mode v))) + 1) (suc number))
 
   pub mentions-are : (ps : Pairs) (i start number : ℕ) → pair_mentions start (normal_pairs mode ps) ≡ map normal_line (pairs_at ps i start number)
   mentions-are no_pairs i start number = refl
   mentions-are (pair f v ps) i start number =
       ap (λ mss. normal_line (record { frame = f; value = v; place = i; number = number; start = start }) ∷ mss)
-      (mentions-are ps (i + length (frame_text f (value_text v)) + 1) (start + length (frame_text (lean_frame mode f) (value_text (normal_value mode v))) + 1) (suc number))
+      (mentions-are ps (i + length (frame_text f (value_text v)) + 1) (start + length (frame_text (shown_frame mode f) (value_text (normal_value mode v))) + 1) (suc number))
 
   pub pairs-filled : (ps : Pairs) (i start number : ℕ) → ArePairs ps → AllFilled pair_path (pairs_at ps i start number)
   pairs-filled no_pairs i start number h = tt
   pairs-filled (pair f v ps) i start number h = (
     filled-path f.path h.0.1.begins,
-    pairs-filled ps (i + length (frame_text f (value_text v)) + 1) (start + length (frame_text (lean_frame mode f) (value_text (normal_value mode v))) + 1) (suc number) h.2,
+    pairs-filled ps (i + length (frame_text f (value_text v)) + 1) (start + length (frame_text (shown_frame mode f) (value_text (normal_value mode v))) + 1) (suc number) h.2,
   )
 
   pub pairs-spaced : (ps : Pairs) (i start number : ℕ) → ArePairs ps
@@ -73,7 +74,7 @@ module _ (mode : Mode) where
   pairs-spaced no_pairs i start number h = tt
   pairs-spaced (pair f v ps) i start number h = (
     h.0.0.segments,
-    pairs-spaced ps (i + length (frame_text f (value_text v)) + 1) (start + length (frame_text (lean_frame mode f) (value_text (normal_value mode v))) + 1) (suc number) h.2,
+    pairs-spaced ps (i + length (frame_text f (value_text v)) + 1) (start + length (frame_text (shown_frame mode f) (value_text (normal_value mode v))) + 1) (suc number) h.2,
   )
 
   -- a pair that agrees with those after it parts ways with each
@@ -88,7 +89,7 @@ module _ (mode : Mode) where
       let later : ℕ = at + length (frame_text e (value_text v)) + 1 in (
         agree-parts source next first (at + length e.leading) [] f.path e.path full (filled-path e.path h.0.1.begins)
             (and_left test (list_all (agree may_meet_inline here) (pair_mentions later ps)) g),
-        parts-with f source first ps (i + length (frame_text e (value_text v)) + 1) (start + length (frame_text (lean_frame mode e) (value_text (normal_value mode v))) + 1) (suc number)
+        parts-with f source first ps (i + length (frame_text e (value_text v)) + 1) (start + length (frame_text (shown_frame mode e) (value_text (normal_value mode v))) + 1) (suc number)
             later (suc at_number) full h.2 (and_right test (list_all (agree may_meet_inline here) (pair_mentions later ps)) g),
       )
 
@@ -101,7 +102,7 @@ module _ (mode : Mode) where
       let rest : List (List (Mention PairSource)) = pair_mentions later ps in
       let test : Bool = list_all (agree may_meet_inline (line_mentions source (at + length f.leading) [] f.path)) rest in
       let next : ℕ = i + length (frame_text f (value_text v)) + 1 in
-      let next_normal : ℕ = start + length (frame_text (lean_frame mode f) (value_text (normal_value mode v))) + 1 in (
+      let next_normal : ℕ = start + length (frame_text (shown_frame mode f) (value_text (normal_value mode v))) + 1 in (
         parts-with f source (at + length f.leading) ps next next_normal (suc number) later (suc at_number) (filled-path f.path h.0.1.begins) h.2
             (and_left test (all_agree may_meet_inline rest) g),
         pairs-part ps next next_normal (suc number) later (suc at_number) h.2 (and_right test (all_agree may_meet_inline rest) g),

@@ -3,12 +3,12 @@ use Rattle.std.proofs.Common.{◌≡◌, refl, sym, ◌∙◌, ap, subst, Bool, 
 use Rattle.std.specs.Prelude.{◌&&◌, ◌||◌, not, if◌then◌else◌, map, find, is_some, Option}
 use Rattle.toml_edit_model.specs.Text.{Text, same_text, is_empty}
 use Rattle.toml_edit_model.specs.Paths.{Step, at_key, at_element, Path, same_step, same_path, Mention}
-use Rattle.toml_edit_model.specs.Normal.{is_header_role}
-use Rattle.toml_edit_model.specs.TreeOf.{under, some_at, any_role, own, is_single, is_slot, kept_from, kept}
 use Rattle.toml_edit_laws.proofs.common.Tests.{append-nil, and_left, and_both, and-true, or-left, or-right, or-false, or-true, same_text-refl, same_text-is, true-false}
 use Rattle.toml_edit_laws.proofs.common.PathLaws.{same_step-refl, same_path-refl, same_path-is}
 use Rattle.toml_edit_laws.proofs.mentions.SomeAt.{some_at-append}
 use Rattle.toml_edit_laws.proofs.mentions.Named.{AreNamed, single-named, other-key, named-at}
+use Rattle.toml_edit_model.specs.Roles.{is_header_role, any_role}
+use Rattle.toml_edit_model.specs.TableMentions.{under, some_at, own, is_single, is_slot, kept_from, kept}
 
 -- ---- mentions after mentions
 

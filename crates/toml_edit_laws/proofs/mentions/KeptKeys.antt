@@ -2,13 +2,13 @@
 use Rattle.std.proofs.Common.{◌≡◌, refl, sym, ◌∙◌, ap, List, [], ◌∷◌, ◌++◌, Option, Some, None}
 use Rattle.std.specs.Prelude.{option_map}
 use Rattle.toml_edit_model.specs.Paths.{Path, Mention, Source, all_mentions}
-use Rattle.toml_edit_model.specs.Normal.{kept_mention}
-use Rattle.toml_edit_model.specs.TreeOf.{under, kept}
 use Rattle.toml_edit_laws.specs.KeptKeys.{under_path, IsKeptOf, KeptKeys}
 use Rattle.toml_edit_laws.proofs.common.Each.{all-map}
 use Rattle.toml_edit_laws.proofs.mentions.KeptOrder.{HaveOneHeader, under-header}
 use Rattle.toml_edit_laws.proofs.mentions.KeptOfPaths.{told, kept-under, kept-mentions}
 use Rattle.toml_edit_laws.proofs.mentions.OneHeaderLaws.{document-header}
+use Rattle.toml_edit_model.specs.Kept.{kept_mention}
+use Rattle.toml_edit_model.specs.TableMentions.{under, kept}
 
 header-along : (p : Path) (ms : List (Mention Source)) → HaveOneHeader ms → HaveOneHeader (under_path p ms)
 header-along [] ms h = h

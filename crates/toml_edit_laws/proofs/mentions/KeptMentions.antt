@@ -3,11 +3,11 @@ use Rattle.std.proofs.Common.{◌≡◌, refl, sym, ap, subst, ◌∙◌, inl, i
 use Rattle.std.specs.Prelude.{◌&&◌, ◌||◌, not, if◌then◌else◌}
 use Rattle.std.proofs.lemmas.List.Folds.{list_any-append}
 use Rattle.toml_edit_model.specs.Paths.{Step, Path, same_step, same_path, Mention}
-use Rattle.toml_edit_model.specs.Normal.{is_header_role}
-use Rattle.toml_edit_model.specs.TreeOf.{inside, under, some_at, any_role, is_single, is_slot, kept_from}
 use Rattle.toml_edit_laws.proofs.common.Tests.{and_left, and_right, or-left, not-true, true-false}
 use Rattle.toml_edit_laws.proofs.common.Members.{Among, among-left, among-right, among-cases}
 use Rattle.toml_edit_laws.proofs.common.PathLaws.{same_step-refl, same_step-is, same_path-refl, same_path-is}
+use Rattle.toml_edit_model.specs.Roles.{is_header_role, any_role}
+use Rattle.toml_edit_model.specs.TableMentions.{inside, under, some_at, is_single, is_slot, kept_from}
 
 -- the mention with another path
 abbrev pub moved : {S : Type 0} → Mention S → Path → Mention S

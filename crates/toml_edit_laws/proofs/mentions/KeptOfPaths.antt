@@ -8,15 +8,16 @@ use Rattle.std.proofs.lemmas.List.Elements.{filter-append}
 use Rattle.std.proofs.lemmas.List.Folds.{find-append}
 use Rattle.toml_edit_model.specs.Text.{one}
 use Rattle.toml_edit_model.specs.Syntax.{Segment}
-use Rattle.toml_edit_model.specs.Paths.{Step, Path, Role, same_step, same_path, Mention}
-use Rattle.toml_edit_model.specs.Normal.{is_header_role, mentions_at, first_of_list, kept_mention}
-use Rattle.toml_edit_model.specs.TreeOf.{inside, under, some_at, any_role, is_slot, kept_from, kept}
+use Rattle.toml_edit_model.specs.Paths.{Step, Path, same_step, same_path, Mention}
 use Rattle.toml_edit_laws.proofs.common.OptionSteps.{map-or, map-twice}
 use Rattle.toml_edit_laws.proofs.common.Tests.{and-true, or-left, or-right, true-false}
 use Rattle.toml_edit_laws.proofs.common.PathLaws.{same_path-is, same_path-refl, same_path-swap, same_step-swap}
 use Rattle.toml_edit_laws.proofs.mentions.KeptPaths.{kept_in}
 use Rattle.toml_edit_laws.proofs.mentions.KeptOrder.{HaveOneHeader, slot-parts}
 use Rattle.toml_edit_laws.proofs.mentions.SomeAt.{some_at-append}
+use Rattle.toml_edit_model.specs.Roles.{Role, is_header_role, any_role}
+use Rattle.toml_edit_model.specs.Kept.{mentions_at, first_of_list, kept_mention}
+use Rattle.toml_edit_model.specs.TableMentions.{inside, under, some_at, is_slot, kept_from, kept}
 
 -- ---- one step down
 

@@ -6,8 +6,6 @@ use Rattle.std.proofs.lemmas.Bool.{cases_Bool, not-true}
 use Rattle.toml_edit_model.specs.Text.{Text, same_text, one}
 use Rattle.toml_edit_model.specs.Syntax.{Statement, key_line, header, Document}
 use Rattle.toml_edit_model.specs.Paths.{Step, at_key, Path, same_step, same_path, to_key, Mention, header_role_of, path_start, Source, Placed, Context, source_of, mentions_of, context_after, placed_from, start_context, all_mentions}
-use Rattle.toml_edit_model.specs.Normal.{is_header_role}
-use Rattle.toml_edit_model.specs.TreeOf.{inside, under, some_at, any_role, is_single, is_slot, kept_from, kept}
 use Rattle.toml_edit_laws.proofs.common.Tests.{and_left, and_right, and-true, or-true, same_text-swap, or-left, or-right, true-false, false-by, same_text-is}
 use Rattle.toml_edit_laws.proofs.common.OrderLaws.{passes_first}
 use Rattle.toml_edit_laws.proofs.common.PathLaws.{same_step-is, same_path-refl, same_path-swap}
@@ -17,6 +15,8 @@ use Rattle.toml_edit_laws.proofs.mentions.RankLaws.{is_at, RanksFollow}
 use Rattle.toml_edit_laws.proofs.mentions.SomeAt.{some_at-append, some_at-under}
 use Rattle.toml_edit_laws.proofs.common.Each.{all-both, all-append, all-map, all-image}
 use Rattle.toml_edit_laws.proofs.mentions.Named.{EndsIn, AreNamed, single-named, line-named, header-named}
+use Rattle.toml_edit_model.specs.Roles.{is_header_role, any_role}
+use Rattle.toml_edit_model.specs.TableMentions.{inside, under, some_at, is_single, is_slot, kept_from, kept}
 
 -- ---- paths end in the keys of their segments
 

@@ -8,8 +8,7 @@ use Rattle.std.proofs.lemmas.List.Elements.{filter-append}
 use Rattle.toml_edit_model.specs.Mode.{Mode, shown_text}
 use Rattle.toml_edit_model.specs.Text.{Text, same_text, one, is_empty}
 use Rattle.toml_edit_model.specs.Syntax.{Segment, IsSpacedSegment}
-use Rattle.toml_edit_model.specs.Paths.{Step, at_key, Path, same_path, to_key, dotted_role, Mention, mention_of, next_start, line_mentions}
-use Rattle.toml_edit_model.specs.Normal.{is_header_role, mentions_at, first_of_list, kept_mention, bare_end, bare_ends, rank}
+use Rattle.toml_edit_model.specs.Paths.{Step, at_key, Path, same_path, to_key, Mention, mention_of, next_start, line_mentions}
 use Rattle.toml_edit_model.specs.Tree.{Decor, Key}
 use Rattle.toml_edit_model.specs.TreeOf.{owned_in, key_of}
 use Rattle.toml_edit_model.specs.Print.{segment_of, dot_prefix, dot_suffix, segments_after, segments, last_leaf}
@@ -18,6 +17,8 @@ use Rattle.toml_edit_laws.proofs.common.OrderLaws.{place-first, first-map, first
 use Rattle.toml_edit_laws.proofs.mentions.GatheredLines.{first_key, rest_of, has_first, begins_with, steps, group, rests, AllFilled}
 use Rattle.toml_edit_laws.proofs.mentions.Leaders.{AreRanked, Leads}
 use Rattle.toml_edit_laws.proofs.mentions.MentionGroups.{NoHeaders, lines-headers, flat_lines, line-from}
+use Rattle.toml_edit_model.specs.Roles.{dotted_role, is_header_role}
+use Rattle.toml_edit_model.specs.Kept.{mentions_at, first_of_list, kept_mention, unspaced_end, unspaced_ends, rank}
 use Rattle.std.specs.Option.{option_or}
 
 -- ---- the first segment of each path
@@ -241,12 +242,12 @@ module _ (mode : Mode) where
   abbrev pub key_segment : Key → Segment
   key_segment k = segment_of k (dot_prefix mode k) (dot_suffix mode k)
 
-  after-bare : (ks : List Key) → segments_after mode ks ≡ bare_end (map key_segment ks)
+  after-bare : (ks : List Key) → segments_after mode ks ≡ unspaced_end (map key_segment ks)
   after-bare [] = refl
   after-bare (k ∷ []) = refl
   after-bare (k ∷ l ∷ rest) = ap (λ ss. key_segment k ∷ ss) (after-bare (l ∷ rest))
 
-  pub segments-bare : (ks : List Key) → segments mode ks ≡ bare_ends (map key_segment ks)
+  pub segments-bare : (ks : List Key) → segments mode ks ≡ unspaced_ends (map key_segment ks)
   segments-bare [] = refl
   segments-bare (k ∷ []) = refl
   segments-bare (k ∷ l ∷ rest) = ap (λ ss. segment_of k [] (dot_suffix mode k) ∷ ss) (after-bare (l ∷ rest))

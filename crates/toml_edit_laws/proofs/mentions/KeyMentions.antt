@@ -3,10 +3,11 @@ use Rattle.std.proofs.Common.{◌≡◌, ◌⊎◌, ℕ, refl, sym, ap, subst, �
 use Rattle.std.specs.Prelude.{◌||◌, not}
 use Rattle.std.proofs.lemmas.List.{append_cancel_left}
 use Rattle.toml_edit_model.specs.Syntax.{Segment}
-use Rattle.toml_edit_model.specs.Paths.{Step, at_key, Path, same_path, to_key, Role, dotted_role, value_role, Mention, line_mentions, next_start}
+use Rattle.toml_edit_model.specs.Paths.{Step, at_key, Path, same_path, to_key, Mention, line_mentions, next_start}
 use Rattle.toml_edit_model.specs.Accepted.{agree}
 use Rattle.toml_edit_laws.proofs.common.Members.{Among, passes-among}
 use Rattle.toml_edit_laws.proofs.common.PathLaws.{same_path-refl}
+use Rattle.toml_edit_model.specs.Roles.{Role, dotted_role, value_role}
 
 -- ---- the segments of a key
 

@@ -7,9 +7,7 @@ use Rattle.std.proofs.lemmas.List.Elements.{filter-append}
 use Rattle.std.proofs.lemmas.List.Folds.{list_any-append}
 use Rattle.toml_edit_model.specs.Text.{Text, same_text, one, is_empty}
 use Rattle.toml_edit_model.specs.Syntax.{Segment}
-use Rattle.toml_edit_model.specs.Paths.{Step, at_key, Path, same_path, to_key, Role, dotted_role, value_role, Mention, mention_of, next_start, line_mentions}
-use Rattle.toml_edit_model.specs.Normal.{is_header_role}
-use Rattle.toml_edit_model.specs.TreeOf.{inside, under, some_at, any_role, is_single, is_slot, kept_from, kept}
+use Rattle.toml_edit_model.specs.Paths.{Step, at_key, Path, same_path, to_key, Mention, mention_of, next_start, line_mentions}
 use Rattle.toml_edit_laws.specs.FlatTree.{is_among}
 use Rattle.toml_edit_laws.proofs.common.Tests.{and-true, or-false, append-nil, same_text-is, same_text-swap}
 use Rattle.toml_edit_laws.proofs.mentions.GatheredLines.{first_key, rest_of, has_first, group, rests, AllFilled}
@@ -17,6 +15,8 @@ use Rattle.toml_edit_laws.proofs.mentions.Leaders.{leaders}
 use Rattle.toml_edit_laws.proofs.mentions.SomeAt.{under-append}
 use Rattle.toml_edit_laws.proofs.common.Each.{all-append}
 use Rattle.toml_edit_laws.proofs.common.Lists.{not_empty-last}
+use Rattle.toml_edit_model.specs.Roles.{Role, dotted_role, value_role, is_header_role, any_role}
+use Rattle.toml_edit_model.specs.TableMentions.{inside, under, some_at, is_single, is_slot, kept_from, kept}
 
 -- the role of the first mention of a line, by what follows it
 abbrev pub first_role : List Segment → Role

@@ -1,13 +1,14 @@
 -- Mentions whose paths end in the keys of their segments.
 use Rattle.toml_edit_model.specs.Text.{Text, one, same_text}
-use Rattle.toml_edit_model.specs.Paths.{Path, to_key, Mention, at_element, at_key, Step, same_step, line_mentions, next_start, elements_at, Role, header_mentions, in_last, same_path}
+use Rattle.toml_edit_model.specs.Paths.{Path, to_key, Mention, at_element, at_key, Step, same_step, line_mentions, next_start, elements_at, header_mentions, in_last, same_path}
 use Rattle.std.proofs.Common.{◌≡◌, List, refl, true, ◌∷◌, inl, inr, false, subst, ◌∙◌, ◌++◌, ℕ, ap, sym, []}
 use Rattle.std.specs.Prelude.{◌⊎◌}
 use Rattle.std.specs.List.{AllByRecursion}
-use Rattle.toml_edit_model.specs.TreeOf.{is_single, under, inside}
 use Rattle.std.proofs.lemmas.Bool.{cases_Bool}
 use Rattle.toml_edit_model.specs.Syntax.{Segment}
 use Rattle.toml_edit_laws.proofs.common.Tests.{same_text-swap, and-true}
+use Rattle.toml_edit_model.specs.Roles.{Role}
+use Rattle.toml_edit_model.specs.TableMentions.{is_single, under, inside}
 
 -- the path is the table's own, or ends in this key
 abbrev pub EndsIn : Text → Path → Type 0

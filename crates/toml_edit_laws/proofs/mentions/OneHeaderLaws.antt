@@ -5,10 +5,8 @@ use Rattle.std.specs.List.{AllByRecursion, list_all}
 use Rattle.std.proofs.lemmas.List.Folds.{list_all-append}
 use Rattle.toml_edit_model.specs.Text.{one}
 use Rattle.toml_edit_model.specs.Syntax.{Segment, Statement, key_line, header, Document}
-use Rattle.toml_edit_model.specs.Paths.{Path, same_path, to_key, Role, dotted_role, implied_role, header_role, array_role, value_role, through_role, may_meet, Mention, next_start, line_mentions, elements_at, in_last, passing_role, header_mentions, header_role_of, path_start, Source, Placed, Context, source_of, mentions_of, context_after, placed_from, start_context, all_mentions}
-use Rattle.toml_edit_model.specs.Normal.{is_header_role}
+use Rattle.toml_edit_model.specs.Paths.{Path, same_path, to_key, Mention, next_start, line_mentions, elements_at, in_last, passing_role, header_mentions, header_role_of, path_start, Source, Placed, Context, source_of, mentions_of, context_after, placed_from, start_context, all_mentions}
 use Rattle.toml_edit_model.specs.Accepted.{agree, is_sound, is_accepted}
-use Rattle.toml_edit_model.specs.TreeOf.{some_at}
 use Rattle.toml_edit_laws.specs.OneByOne.{is_right_after, all_right_after}
 use Rattle.toml_edit_laws.proofs.common.Tests.{and_left, and_right}
 use Rattle.toml_edit_laws.proofs.common.PathLaws.{same_path-swap}
@@ -16,6 +14,8 @@ use Rattle.toml_edit_laws.proofs.mentions.KeptOrder.{HaveOneHeader}
 use Rattle.toml_edit_laws.proofs.mentions.SomeAt.{some_at-append}
 use Rattle.toml_edit_laws.proofs.common.Each.{all-map}
 use Rattle.toml_edit_laws.proofs.one_by_one.Together.{accepted-right}
+use Rattle.toml_edit_model.specs.Roles.{Role, dotted_role, implied_role, header_role, array_role, value_role, continued_role, may_meet, is_header_role}
+use Rattle.toml_edit_model.specs.TableMentions.{some_at}
 
 -- the headers of these mentions have no other header among those
 abbrev HaveNoHeaderIn : {S : Type 0} → List (Mention S) → List (Mention S) → Type 0
@@ -62,12 +62,12 @@ meets-none header_role dotted_role h g = refl
 meets-none header_role implied_role h g = refl
 meets-none header_role array_role h g = refl
 meets-none header_role value_role h g = refl
-meets-none header_role through_role h g = refl
+meets-none header_role continued_role h g = refl
 meets-none dotted_role b h g = absurd cc
 meets-none implied_role b h g = absurd cc
 meets-none array_role b h g = absurd cc
 meets-none value_role b h g = absurd cc
-meets-none through_role b h g = absurd cc
+meets-none continued_role b h g = absurd cc
 
 -- the mention meets none of these at its path that it may not meet
 abbrev meets_all : {S : Type 0} → Mention S → List (Mention S) → Bool

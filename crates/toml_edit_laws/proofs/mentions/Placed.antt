@@ -1,16 +1,16 @@
 -- Statements in their places: the source and the paths of their mentions.
 use Rattle.std.proofs.Common.{List, false, true, refl, ◌≡◌, ◌∷◌, Bool, ℕ, ◌+◌, inl, ap, inr, ◌∙◌, length, [], sym, subst}
-use Rattle.toml_edit_model.specs.Paths.{Placed, Mention, Source, Context, source_of, mentions_of, Path, line_mentions, next_start, to_key, in_last, Role, elements_at, header_mentions, header_role_of, path_start, may_meet, context_after, header_path}
+use Rattle.toml_edit_model.specs.Paths.{Placed, Mention, Source, Context, source_of, mentions_of, Path, line_mentions, next_start, to_key, in_last, elements_at, header_mentions, header_role_of, path_start, context_after, header_path}
 use Rattle.std.specs.Prelude.{flat_map, map, ◌&&◌}
-use Rattle.toml_edit_model.specs.Syntax.{Segment, begins_bare, Statement, header, key_line, statement_text, IsSpelledSegment}
+use Rattle.toml_edit_model.specs.Syntax.{Segment, begins_unspaced, Statement, header, key_line, statement_text, IsSpelledSegment}
 use Rattle.toml_edit_model.specs.Text.{is_empty, Text}
 use Rattle.std.specs.List.{AllByRecursion, list_all}
-use Rattle.toml_edit_model.specs.Normal.{is_header_role}
 use Rattle.toml_edit_laws.proofs.common.Members.{Among}
 use Rattle.toml_edit_model.specs.Accepted.{agree, is_sound}
 use Rattle.toml_edit_laws.specs.OneByOne.{is_right_after}
 use Rattle.toml_edit_laws.proofs.common.Agreement.{agree-append}
 use Rattle.toml_edit_laws.proofs.common.Tests.{and_right}
+use Rattle.toml_edit_model.specs.Roles.{Role, may_meet, is_header_role}
 
 abbrev pub mentions_in : List Placed → List (Mention Source)
 mentions_in places = flat_map (λ (s : Placed). s.mentions) places
@@ -19,7 +19,7 @@ mentions_in places = flat_map (λ (s : Placed). s.mentions) places
 abbrev pub mention_lists : List Placed → List (List (Mention Source))
 mention_lists places = map (λ (s : Placed). s.mentions) places
 
-pub filled-path : (ss : List Segment) → begins_bare ss ≡ true → is_empty ss ≡ false
+pub filled-path : (ss : List Segment) → begins_unspaced ss ≡ true → is_empty ss ≡ false
 filled-path [] h = absurd cc
 filled-path (s ∷ ss) h = refl
 

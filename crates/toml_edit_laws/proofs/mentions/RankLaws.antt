@@ -6,14 +6,15 @@ use Rattle.std.proofs.lemmas.Bool.{cases_Bool}
 use Rattle.std.proofs.lemmas.List.Folds.{flat_map-map}
 use Rattle.toml_edit_model.specs.Text.{Text, same_text, one}
 use Rattle.toml_edit_model.specs.Syntax.{Segment, Statement, key_line, header, Document}
-use Rattle.toml_edit_model.specs.Paths.{Step, at_key, Path, same_step, same_path, to_key, path_start, header_role_of, Role, Mention, next_start, line_mentions, elements_at, in_last, header_mentions, header_path, keys_of, Placed, Context, context_after, mentions_of, source_of, placed_from, start_context, placed, all_mentions}
-use Rattle.toml_edit_model.specs.Normal.{rank}
-use Rattle.toml_edit_model.specs.TreeOf.{inside, under}
+use Rattle.toml_edit_model.specs.Paths.{Step, at_key, Path, same_step, same_path, to_key, path_start, header_role_of, Mention, next_start, line_mentions, elements_at, in_last, header_mentions, header_path, keys_of, Placed, Context, context_after, mentions_of, source_of, placed_from, start_context, placed, all_mentions}
 use Rattle.toml_edit_laws.proofs.common.Tests.{true-false, false-by}
 use Rattle.toml_edit_laws.proofs.common.OrderLaws.{passes_first, place-first}
 use Rattle.toml_edit_laws.proofs.common.PathLaws.{same_step-is, same_step-refl, same_path-is, is_front, front-refl, front-key, front-more, front-through, front-keys, in_last-front}
 use Rattle.toml_edit_laws.proofs.mentions.Placed.{mention_lists}
 use Rattle.toml_edit_laws.proofs.common.Each.{all-map}
+use Rattle.toml_edit_model.specs.Roles.{Role}
+use Rattle.toml_edit_model.specs.Kept.{rank}
+use Rattle.toml_edit_model.specs.TableMentions.{inside, under}
 
 -- the mention is of the path
 abbrev pub is_at : {S : Type 0} → Path → Mention S → Bool

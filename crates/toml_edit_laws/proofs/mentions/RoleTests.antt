@@ -1,11 +1,9 @@
 -- Roles of lines and of headers.
 use Rattle.std.proofs.Common.{false, Bool, true, refl, ◌≡◌}
-use Rattle.toml_edit_model.specs.Paths.{Role, header_role, array_role, value_role, dotted_role, through_role, implied_role}
 use Rattle.toml_edit_laws.proofs.normal_texts.Trims.{is_last_role}
 use Rattle.std.specs.Prelude.{if◌then◌else◌, ◌&&◌}
-use Rattle.toml_edit_model.specs.TreeOf.{is_array_role}
-use Rattle.toml_edit_model.specs.Normal.{is_header_role}
 use Rattle.toml_edit_laws.proofs.common.Tests.{and_left, and_right}
+use Rattle.toml_edit_model.specs.Roles.{Role, header_role, array_role, value_role, dotted_role, continued_role, implied_role, is_array_role, is_header_role}
 
 abbrev pub is_bracket_role : Role → Bool
 is_bracket_role header_role = true
@@ -27,14 +25,14 @@ array-bracket dotted_role h = absurd cc
 array-bracket implied_role h = absurd cc
 array-bracket header_role h = absurd cc
 array-bracket value_role h = absurd cc
-array-bracket through_role h = absurd cc
+array-bracket continued_role h = absurd cc
 
 -- the role of a header's last segment
 abbrev pub opening_role : Bool → Role
 opening_role is_array = if is_array then array_role else header_role
 
 abbrev pub is_through_role : Role → Bool
-is_through_role through_role = true
+is_through_role continued_role = true
 is_through_role _ = false
 
 pub header-is : (r : Role) → is_header_role r ≡ true → r ≡ header_role
@@ -43,11 +41,11 @@ header-is dotted_role h = absurd cc
 header-is implied_role h = absurd cc
 header-is array_role h = absurd cc
 header-is value_role h = absurd cc
-header-is through_role h = absurd cc
+header-is continued_role h = absurd cc
 
 -- what holds of the six roles holds of each
 abbrev pub every_role : (Role → Bool) → Bool
-every_role test = test dotted_role && (test implied_role && (test header_role && (test array_role && (test value_role && test through_role))))
+every_role test = test dotted_role && (test implied_role && (test header_role && (test array_role && (test value_role && test continued_role))))
 
 pub by_role : (test : Role → Bool) → every_role test ≡ true → (r : Role) → test r ≡ true
 by_role test h dotted_role = and_left (test dotted_role) _ h
@@ -56,10 +54,10 @@ by_role test h header_role = and_left (test header_role) _ (and_right (test impl
 by_role test h array_role =
     and_left (test array_role) _ (and_right (test header_role) _ (and_right (test implied_role) _ (and_right (test dotted_role) _ h)))
 by_role test h value_role =
-    and_left (test value_role) (test through_role)
+    and_left (test value_role) (test continued_role)
     (and_right (test array_role) _ (and_right (test header_role) _ (and_right (test implied_role) _ (and_right (test dotted_role) _ h))))
-by_role test h through_role =
-    and_right (test value_role) (test through_role)
+by_role test h continued_role =
+    and_right (test value_role) (test continued_role)
     (and_right (test array_role) _ (and_right (test header_role) _ (and_right (test implied_role) _ (and_right (test dotted_role) _ h))))
 
 -- one test where another holds

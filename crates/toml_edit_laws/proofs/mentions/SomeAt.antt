@@ -1,8 +1,7 @@
 -- Mentions below a step, and whether some mention at a path has a role.
 use Rattle.std.proofs.Common.{Bool, List, ◌≡◌, ◌++◌, append_assoc, ap, sym, refl, ◌∙◌, ◌∷◌, inl, inr, false, true, ℕ, []}
 use Rattle.std.proofs.lemmas.List.Folds.{list_any-append}
-use Rattle.toml_edit_model.specs.Paths.{same_path, Path, Role, Mention, Step, same_step, mention_of}
-use Rattle.toml_edit_model.specs.TreeOf.{some_at, inside, under, any_role}
+use Rattle.toml_edit_model.specs.Paths.{same_path, Path, Mention, Step, same_step, mention_of}
 use Rattle.std.specs.Prelude.{◌&&◌, ◌||◌}
 use Rattle.std.proofs.lemmas.Bool.{cases_Bool, or_from}
 use Rattle.toml_edit_laws.proofs.common.Tests.{true-false, or-left, or-right, append-nil, or-true}
@@ -10,6 +9,8 @@ use Rattle.toml_edit_model.specs.Syntax.{Segment}
 use Rattle.toml_edit_laws.proofs.common.Members.{Among}
 use Rattle.toml_edit_laws.proofs.common.PathLaws.{same_path-refl}
 use Rattle.toml_edit_laws.proofs.mentions.RoleTests.{implies}
+use Rattle.toml_edit_model.specs.Roles.{Role, any_role}
+use Rattle.toml_edit_model.specs.TableMentions.{some_at, inside, under}
 
 pub some_at-append : {S : Type 0} (test : Role → Bool) (p : Path) (xs ys : List (Mention S)) → some_at test p (xs ++ ys) ≡ (some_at test p xs || some_at test p ys)
 some_at-append test p xs ys = list_any-append (λ m. same_path m.path p && test m.role) xs ys

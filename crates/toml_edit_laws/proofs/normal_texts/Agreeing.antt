@@ -5,7 +5,7 @@ use Rattle.std.specs.List.{AllByRecursion, list_all}
 use Rattle.std.proofs.lemmas.Bool.{cases_Bool}
 use Rattle.std.proofs.lemmas.List.Folds.{list_all-append, list_all-map}
 use Rattle.toml_edit_model.specs.Syntax.{Segment}
-use Rattle.toml_edit_model.specs.Paths.{Path, same_path, to_key, Role, may_meet, may_meet_inline, Mention, Source, Placed, next_start, line_mentions}
+use Rattle.toml_edit_model.specs.Paths.{Path, same_path, to_key, Mention, Source, Placed, next_start, line_mentions}
 use Rattle.toml_edit_model.specs.Accepted.{agree, all_agree, is_sound}
 use Rattle.toml_edit_model.specs.Normal.{is_line, line_before, ordered}
 use Rattle.toml_edit_laws.specs.OneByOne.{is_right_after, all_right_after}
@@ -17,6 +17,7 @@ use Rattle.toml_edit_laws.proofs.common.Cores.{Core, core, cores}
 use Rattle.toml_edit_laws.proofs.mentions.RoleTests.{by_line_roles, is_line_role}
 use Rattle.toml_edit_laws.proofs.common.Pairs.{AllPairs}
 use Rattle.toml_edit_model.specs.Order.{insert_by}
+use Rattle.toml_edit_model.specs.Roles.{Role, may_meet, may_meet_inline}
 
 -- ---- agreement by cores
 

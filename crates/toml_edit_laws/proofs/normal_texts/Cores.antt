@@ -4,12 +4,14 @@ use Rattle.std.specs.Prelude.{map, find, flat_map, option_map, unwrap_or}
 use Rattle.std.specs.List.{AllByRecursion}
 use Rattle.toml_edit_model.specs.Text.{Text}
 use Rattle.toml_edit_model.specs.Syntax.{Segment, Statement, key_line, header}
-use Rattle.toml_edit_model.specs.Paths.{Path, same_path, to_key, Role, dotted_role, passing_role, Mention, Context, next_start, line_mentions, elements_at, in_last, header_mentions, header_path, header_role_of, path_start, source_of, mentions_of, context_after, placed_from}
-use Rattle.toml_edit_model.specs.Normal.{is_header_role, mentions_at, first_of_list, kept_mention, kept_segment, own_path, bare_end, bare_ends, kept_path}
+use Rattle.toml_edit_model.specs.Paths.{Path, same_path, to_key, passing_role, Mention, Context, next_start, line_mentions, elements_at, in_last, header_mentions, header_path, header_role_of, path_start, source_of, mentions_of, context_after, placed_from}
 use Rattle.toml_edit_laws.proofs.common.PathLaws.{same_path-is}
 use Rattle.toml_edit_laws.proofs.clashes.ClashKept.{find-all}
 use Rattle.toml_edit_laws.proofs.common.Cores.{Core, cores, keys_of_segments, line_cores}
 use Rattle.toml_edit_laws.proofs.common.Each.{all-append, all_pass}
+use Rattle.toml_edit_model.specs.Roles.{Role, dotted_role, is_header_role}
+use Rattle.toml_edit_model.specs.Kept.{mentions_at, first_of_list, kept_mention, kept_segment, unspaced_end, unspaced_ends, kept_path}
+use Rattle.toml_edit_model.specs.Settled.{own_path}
 use Rattle.std.specs.Option.{option_or}
 
 -- ---- cores
@@ -128,12 +130,12 @@ kept-keys ms [] h g = refl
 kept-keys {S = S} ms (m ∷ own) h g =
     ap (λ k. k ∷ keys_of_segments (map (kept_segment ms) own)) (kept-key ms m h g.0) ∙ ap (λ ks. m.segment.key ∷ ks) (kept-keys ms own h g.1)
 
-end-keys : (ss : List Segment) → keys_of_segments (bare_end ss) ≡ keys_of_segments ss
+end-keys : (ss : List Segment) → keys_of_segments (unspaced_end ss) ≡ keys_of_segments ss
 end-keys [] = refl
 end-keys (s ∷ []) = refl
 end-keys (s ∷ r ∷ rest) = ap (λ ks. s.key ∷ ks) (end-keys (r ∷ rest))
 
-pub ends-keys : (ss : List Segment) → keys_of_segments (bare_ends ss) ≡ keys_of_segments ss
+pub ends-keys : (ss : List Segment) → keys_of_segments (unspaced_ends ss) ≡ keys_of_segments ss
 ends-keys [] = refl
 ends-keys (s ∷ rest) = end-keys (record s { before = [] } ∷ rest)
 

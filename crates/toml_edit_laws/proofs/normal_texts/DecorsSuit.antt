@@ -9,8 +9,8 @@ use Rattle.toml_edit_model.specs.Trivia.{IsWhiteSpace, IsWholeTrivia}
 use Rattle.toml_edit_model.specs.Syntax.{Segment, Value, scalar, array, inline_table, Elements, no_elements, element, Pairs, no_pairs, pair, value_text, frame_text, IsSpacedSegment, has_elements, has_pairs, IsValue, AreElements, ArePairs}
 use Rattle.toml_edit_model.specs.Paths.{at_key, Path, to_key, Mention, next_start, line_mentions}
 use Rattle.toml_edit_model.specs.Tree.{owned, ArrayFields, InlineFields, Decor, unset, Key, Node, nothing, leaf, list, inline, table, tables, Items, no_items, item, Slots, no_slots, slot, shown_prefix, shown_suffix, shown_raw, node_decor, is_value_node}
-use Rattle.toml_edit_model.specs.TreeOf.{owned_in, under, kept, ends_path, Entry, entry_of, entries, key_of, IsValueNode, AreElementNodes, AreEntrySlots}
-use Rattle.toml_edit_model.specs.Print.{blank, dot_prefix, dot_suffix, segments_after, segments, is_line_node}
+use Rattle.toml_edit_model.specs.TreeOf.{owned_in, Entry, entry_of, entries, key_of, IsValueNode, AreElementNodes, AreEntrySlots}
+use Rattle.toml_edit_model.specs.Print.{one_space, dot_prefix, dot_suffix, segments_after, segments, is_line_node}
 use Rattle.toml_edit_model.specs.Fits.{LineSuits, ElementSuits, Suits, ItemsSuit, InsideSuits, NodeSuitsInside}
 use Rattle.toml_edit_laws.proofs.common.WhiteSpace.{white-shown}
 use Rattle.toml_edit_laws.proofs.mentions.KeptPaths.{last-key}
@@ -21,6 +21,8 @@ use Rattle.toml_edit_laws.proofs.normal_texts.Lean.{lean-trivia}
 use Rattle.toml_edit_laws.proofs.mentions.KeptOrder.{kept-all}
 use Rattle.toml_edit_laws.proofs.common.Trivia.{close-trivia}
 use Rattle.toml_edit_laws.proofs.common.Each.{all-append}
+use Rattle.toml_edit_model.specs.TableMentions.{under, kept}
+use Rattle.toml_edit_model.specs.Roles.{ends_path}
 
 pub on-true : (b : Bool) (P Q : Type 0) → b ≡ true → P → MatchBool b P Q
 on-true b P Q e p = subst (λ c. MatchBool c P Q) (sym e) p
@@ -54,13 +56,13 @@ module _ (mode : Mode) where
   key-spaced own m h = (lean-white m.segment.before h.0, lean-white m.segment.after h.1)
 
   -- a line with its last key
-  pub line-suits : (MayFollow : Text → Type 0) (ks : List Key) (k : Key) (n : Node) → AreSpacedKeys (ks ++ one k) → IsWholeTrivia (shown_prefix mode [] k.leaf) → IsWhiteSpace (shown_suffix mode blank k.leaf)
-      → IsWhiteSpace (shown_prefix mode blank (node_decor n)) → MayFollow (shown_suffix mode [] (node_decor n)) → LineSuits mode MayFollow (ks ++ one k) n
+  pub line-suits : (MayFollow : Text → Type 0) (ks : List Key) (k : Key) (n : Node) → AreSpacedKeys (ks ++ one k) → IsWholeTrivia (shown_prefix mode [] k.leaf) → IsWhiteSpace (shown_suffix mode one_space k.leaf)
+      → IsWhiteSpace (shown_prefix mode one_space (node_decor n)) → MayFollow (shown_suffix mode [] (node_decor n)) → LineSuits mode MayFollow (ks ++ one k) n
   line-suits MayFollow ks k n h a b c d =
       record {
         leading = subst (λ o. IsWholeTrivia (shown_prefix mode [] o)) (sym (last-key ks k)) a;
         segments = segments-spaced (ks ++ one k) h;
-        before_equals = subst (λ o. IsWhiteSpace (shown_suffix mode blank o)) (sym (last-key ks k)) b;
+        before_equals = subst (λ o. IsWhiteSpace (shown_suffix mode one_space o)) (sym (last-key ks k)) b;
         after_equals = c;
         trailing = d;
       }
@@ -73,7 +75,7 @@ module _ (mode : Mode) where
   -- a pair in the grammar, as an entry
   record IsFitEntry (e : Entry) : Type 0 where
     pub leading : IsWholeTrivia (shown_prefix mode [] e.leaf)
-    pub equals : IsWhiteSpace (shown_suffix mode blank e.leaf)
+    pub equals : IsWhiteSpace (shown_suffix mode one_space e.leaf)
     pub value : IsValue e.value
     pub before : IsWhiteSpace e.before
     pub after : IsWholeTrivia e.after
@@ -119,8 +121,8 @@ module _ (mode : Mode) where
             on-true (is_line_node n) (LineSuits mode IsWholeTrivia (js ++ one k) n × Suits mode n) (NodeSuitsInside mode n (js ++ one k))
             (value-line (owned_in mode) v m.source.start m.source.before m.source.after n is) (
               line-suits IsWholeTrivia js k n here (subst (λ (d : Decor). IsWholeTrivia (shown_prefix mode [] d)) (sym leaf_is) f.1.leading)
-                  (subst (λ (d : Decor). IsWhiteSpace (shown_suffix mode blank d)) (sym leaf_is) f.1.equals)
-                  (subst (λ (d : Decor). IsWhiteSpace (shown_prefix mode blank d)) (sym decor) (lean-white m.source.before f.1.before))
+                  (subst (λ (d : Decor). IsWhiteSpace (shown_suffix mode one_space d)) (sym leaf_is) f.1.equals)
+                  (subst (λ (d : Decor). IsWhiteSpace (shown_prefix mode one_space d)) (sym decor) (lean-white m.source.before f.1.before))
                   (subst (λ (d : Decor). IsWholeTrivia (shown_suffix mode [] d)) (sym decor) (lean-trivia mode m.source.after f.1.after)),
               value v m.source.start m.source.before m.source.after f.1.value is,
             )

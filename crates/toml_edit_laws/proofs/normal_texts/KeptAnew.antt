@@ -4,8 +4,7 @@ use Rattle.std.specs.Prelude.{◌&&◌, ◌||◌, map, find, flat_map, option_ma
 use Rattle.std.specs.List.{AllByRecursion, list_any}
 use Rattle.std.proofs.lemmas.Bool.{cases_Bool}
 use Rattle.toml_edit_model.specs.Syntax.{Segment}
-use Rattle.toml_edit_model.specs.Paths.{Path, same_path, Role, dotted_role, implied_role, header_role, array_role, value_role, through_role, Mention}
-use Rattle.toml_edit_model.specs.Normal.{is_header_role, mentions_at, first_of_list, kept_mention, kept_segment, own_path, bare_ends, kept_path}
+use Rattle.toml_edit_model.specs.Paths.{Path, same_path, Mention}
 use Rattle.toml_edit_laws.proofs.common.Tests.{and_left, and_right, true-false}
 use Rattle.toml_edit_laws.proofs.common.PathLaws.{same_path-is, same_path-refl}
 use Rattle.toml_edit_laws.proofs.common.Members.{Among, all-among, among-each}
@@ -19,6 +18,9 @@ use Rattle.toml_edit_laws.proofs.common.Pairs.{AllPairs}
 use Rattle.toml_edit_laws.proofs.common.OptionSteps.{map-or}
 use Rattle.toml_edit_laws.proofs.common.Searches.{find-filter, first-filter, find-some, find-there, find-none}
 use Rattle.toml_edit_laws.proofs.normal_texts.TaggedMentions.{tagged, mentions_of_all, in-tagged, tagged-in, find-tagged, first-tagged, at}
+use Rattle.toml_edit_model.specs.Roles.{Role, dotted_role, implied_role, header_role, array_role, value_role, continued_role, is_header_role}
+use Rattle.toml_edit_model.specs.Kept.{mentions_at, first_of_list, kept_mention, kept_segment, unspaced_ends, kept_path}
+use Rattle.toml_edit_model.specs.Settled.{own_path}
 use Rattle.std.specs.Option.{option_or}
 
 -- ---- kept mentions as searches
@@ -54,7 +56,7 @@ header-last dotted_role h = absurd cc
 header-last implied_role h = absurd cc
 header-last array_role h = absurd cc
 header-last value_role h = absurd cc
-header-last through_role h = absurd cc
+header-last continued_role h = absurd cc
 
 header-no-line : (r : Role) → is_header_role r ≡ true → is_line_role r ≡ true → ⊥
 header-no-line header_role h g = cc
@@ -62,7 +64,7 @@ header-no-line dotted_role h g = cc
 header-no-line implied_role h g = cc
 header-no-line array_role h g = cc
 header-no-line value_role h g = cc
-header-no-line through_role h g = cc
+header-no-line continued_role h g = cc
 
 -- ---- lists spelled anew
 
@@ -332,7 +334,7 @@ module _ {S X : Type 0} (line : X → Bool) (block : X → ℕ) (base : X → Pa
     -- Each element in order, spelled anew, is spelled as its kept keys.
     pub anew-kept : {T : Type 0} (ns : List (List (Mention T))) → AreAnew ms ment zs ns → (z : X) (n : List (Mention T)) → Among z zs
         → cores n ≡ cores (ment z) → own_path n ≡ kept_path ms (ment z) → own_path n ≡ kept_path (flat_map (λ m. m) ns) n
-    anew-kept ns anew z n a e f = f ∙ sym (ap bare_ends (segments-kept ns anew z (ment z) n a (among-each (ment z)) e))
+    anew-kept ns anew z n a e f = f ∙ sym (ap unspaced_ends (segments-kept ns anew z (ment z) n a (among-each (ment z)) e))
 
     pub anew-all : {T : Type 0} (ns : List (List (Mention T))) → AreAnew ms ment zs ns → AllByRecursion (λ n. own_path n ≡ kept_path (flat_map (λ m. m) ns) n) ns
     anew-all {T} ns anew = each zs ns (among-each zs) anew

@@ -2,9 +2,9 @@
 use Rattle.std.proofs.Common.{◌≡◌, ◌⊎◌, refl, sym, ◌∙◌, ap, subst, ℕ, zero, suc, ◌+◌, Bool, true, false, List, [], ◌∷◌, Option, Some, None, inl, inr}
 use Rattle.std.specs.Prelude.{◌||◌, map, find, flat_map, option_map, if◌then◌else◌}
 use Rattle.std.specs.List.{AllByRecursion, list_any}
-use Rattle.toml_edit_model.specs.Syntax.{Segment, Statement, key_line, header, begins_bare}
-use Rattle.toml_edit_model.specs.Paths.{Path, same_path, to_key, Role, dotted_role, value_role, implied_role, header_role, array_role, through_role, passing_role, may_meet, Mention, mention_of, Source, Placed, Context, next_start, elements_at, in_last, header_mentions, header_path, header_role_of, path_start, source_of, mentions_of, context_after}
-use Rattle.toml_edit_model.specs.Normal.{is_header_role, kept_mention, is_line}
+use Rattle.toml_edit_model.specs.Syntax.{Segment, Statement, key_line, header, begins_unspaced}
+use Rattle.toml_edit_model.specs.Paths.{Path, same_path, to_key, passing_role, Mention, mention_of, Source, Placed, Context, next_start, elements_at, in_last, header_mentions, header_path, header_role_of, path_start, source_of, mentions_of, context_after}
+use Rattle.toml_edit_model.specs.Normal.{is_line}
 use Rattle.toml_edit_laws.proofs.common.Tests.{and_left, and_right, and_both, true-false, or-true}
 use Rattle.toml_edit_laws.proofs.common.PathLaws.{same_path-is, same_path-refl}
 use Rattle.toml_edit_laws.proofs.common.Members.{Among, all-among}
@@ -22,6 +22,8 @@ use Rattle.toml_edit_laws.proofs.mentions.RoleTests.{is_line_role, array-last}
 use Rattle.toml_edit_laws.proofs.common.Pairs.{AllPairs}
 use Rattle.toml_edit_laws.proofs.common.Searches.{find-append, find-map, find-some, find-there, find-none}
 use Rattle.toml_edit_laws.proofs.normal_texts.TaggedMentions.{tagged, in-tagged, tagged-in, find-tagged, first-tagged, at}
+use Rattle.toml_edit_model.specs.Roles.{Role, dotted_role, value_role, implied_role, header_role, array_role, continued_role, may_meet, is_header_role}
+use Rattle.toml_edit_model.specs.Kept.{kept_mention}
 use Rattle.std.specs.Option.{option_or}
 
 -- ---- the last mention of a header
@@ -41,7 +43,7 @@ header-end source arrays role start p (s ∷ r ∷ rest) m (inr a) l =
     let here : Path = to_key p s.key in
     header-end source arrays role (next_start start s) (in_last (elements_at arrays here) here) (r ∷ rest) m a l
 
-header-has : (source : Source) (arrays : List Path) (role : Role) (start : ℕ) (p : Path) (ss : List Segment) → begins_bare ss ≡ true
+header-has : (source : Source) (arrays : List Path) (role : Role) (start : ℕ) (p : Path) (ss : List Segment) → begins_unspaced ss ≡ true
     → (m : Mention Source) × Among m (header_mentions source arrays role start p ss) × (m.path ≡ header_path arrays p ss) × (m.role ≡ role)
 header-has source arrays role start p [] h = absurd cc
 header-has source arrays role start p (s ∷ ss) h = some start p s ss
@@ -56,29 +58,29 @@ header-has source arrays role start p (s ∷ ss) h = some start p s ss
 
 -- a header that goes on in an array's element goes through a path of the arrays
 header-through : (source : Source) (arrays : List Path) (role : Role) (start : ℕ) (p : Path) (ss : List Segment) (m : Mention Source) → Among m (header_mentions source arrays role start p ss)
-    → is_last_role role ≡ true → m.role ≡ through_role → elements_at arrays m.path ≡ 0 → ⊥
+    → is_last_role role ≡ true → m.role ≡ continued_role → elements_at arrays m.path ≡ 0 → ⊥
 header-through source arrays role start p [] m a l t e = elim a [ ]
 header-through source arrays role start p (s ∷ []) m (inl g) l t e =
-    let is : role ≡ through_role = sym (ap (λ (k : Mention Source). k.role) g) ∙ t in
+    let is : role ≡ continued_role = sym (ap (λ (k : Mention Source). k.role) g) ∙ t in
     true-false (is_last_role role) l (ap is_last_role is)
 header-through source arrays role start p (s ∷ []) m (inr a) l t e = elim a [ ]
 header-through source arrays role start p (s ∷ r ∷ rest) m (inl g) l t e =
-    let role_is : passing_role (elements_at arrays (to_key p s.key)) ≡ through_role = sym (ap (λ (k : Mention Source). k.role) g) ∙ t in
+    let role_is : passing_role (elements_at arrays (to_key p s.key)) ≡ continued_role = sym (ap (λ (k : Mention Source). k.role) g) ∙ t in
     clash role_is
   where
-    clash : passing_role (elements_at arrays (to_key p s.key)) ≡ through_role → ⊥
+    clash : passing_role (elements_at arrays (to_key p s.key)) ≡ continued_role → ⊥
     clash h =
         let none : elements_at arrays (to_key p s.key) ≡ 0 = ap (elements_at arrays) (sym (ap (λ (k : Mention Source). k.path) g)) ∙ e in
-        let bad : implied_role ≡ through_role = sym (ap passing_role none) ∙ h in
+        let bad : implied_role ≡ continued_role = sym (ap passing_role none) ∙ h in
         cc
 header-through source arrays role start p (s ∷ r ∷ rest) m (inr a) l t e =
     let here : Path = to_key p s.key in
     header-through source arrays role (next_start start s) (in_last (elements_at arrays here) here) (r ∷ rest) m a l t e
 
-line-not-through : (r : Role) → is_line_role r ≡ true → r ≡ through_role → ⊥
-line-not-through r h e = (let bad : is_line_role through_role ≡ true = subst (λ q. is_line_role q ≡ true) e h in cc)
+line-not-through : (r : Role) → is_line_role r ≡ true → r ≡ continued_role → ⊥
+line-not-through r h e = (let bad : is_line_role continued_role ≡ true = subst (λ q. is_line_role q ≡ true) e h in cc)
 
-place-through : (c : Context) (s : Statement) (m : Mention Source) → Among m (mentions_of c s) → m.role ≡ through_role → elements_at c.arrays m.path ≡ 0 → ⊥
+place-through : (c : Context) (s : Statement) (m : Mention Source) → Among m (mentions_of c s) → m.role ≡ continued_role → elements_at c.arrays m.path ≡ 0 → ⊥
 place-through c (key_line f v end) m a t e =
     line-not-through m.role
     (all-among (λ (k : Mention Source). is_line_role k.role ≡ true) m (mentions_of c (key_line f v end))
@@ -106,7 +108,7 @@ adds-none c (header i end) p h g e =
 
 -- The first mention of a path isn't on the way through an array there.
 pub first-through : (n : ℕ) (arrays : List Path) (block : Path) (xs : List Placed) (p : Path) (w : Placed × Mention Source) → Run n arrays block xs → AllByRecursion IsRightPlace xs
-    → find (λ v. at p (core v.1)) (tagged mentions_at xs) ≡ Some w → elements_at arrays p ≡ 0 → w.1.role ≡ through_role → ⊥
+    → find (λ v. at p (core v.1)) (tagged mentions_at xs) ≡ Some w → elements_at arrays p ≡ 0 → w.1.role ≡ continued_role → ⊥
 first-through n arrays block [] p w r h f e t = cc
 first-through n arrays block (x ∷ xs) p w (c, s, is, k, a, b, rest) h f e t =
     by_found (find (λ m. at p (core m)) x.mentions) refl
@@ -164,9 +166,9 @@ source-is x (c, s, is, a, g) m e =
     all-among (λ (k : Mention Source). k.source ≡ source_of c s) m (mentions_of c s) (own-sources c s) (subst (λ (y : Placed). Among m y.mentions) is e)
     ∙ sym (ap (λ (y : Placed). y.source) is)
 
-meets-array : (r : Role) → may_meet r array_role ≡ true → (r ≡ array_role) ⊎ (r ≡ through_role)
+meets-array : (r : Role) → may_meet r array_role ≡ true → (r ≡ array_role) ⊎ (r ≡ continued_role)
 meets-array array_role h = inl refl
-meets-array through_role h = inr refl
+meets-array continued_role h = inr refl
 meets-array dotted_role h = absurd cc
 meets-array implied_role h = absurd cc
 meets-array header_role h = absurd cc
@@ -178,7 +180,7 @@ header-roles dotted_role h = absurd cc
 header-roles implied_role h = absurd cc
 header-roles array_role h = absurd cc
 header-roles value_role h = absurd cc
-header-roles through_role h = absurd cc
+header-roles continued_role h = absurd cc
 
 -- the mention is of a header of this path
 abbrev pub IsOfHeader : List Placed → Path → Mention Source → Type 0

@@ -5,12 +5,13 @@ use Rattle.std.specs.List.{AllByRecursion}
 use Rattle.toml_edit_model.specs.Text.{Text, carriage_return, hash, has_byte, is_empty, without_returns}
 use Rattle.toml_edit_model.specs.Mode.{Mode, plain, exact, shown_text}
 use Rattle.toml_edit_model.specs.Trivia.{Newline, lf, crlf, newline_text, comment, Piece, blank, break, remark, piece_text, IsPiece, IsWholeTrivia, IsLineEnd, IsFinalTrivia}
-use Rattle.toml_edit_model.specs.Syntax.{Segment, IsSpacedSegment, IsSpelledSegment, begins_bare, ends_bare, IsPath}
+use Rattle.toml_edit_model.specs.Syntax.{Segment, IsSpacedSegment, IsSpelledSegment, begins_unspaced, ends_unspaced, IsPath}
 use Rattle.toml_edit_model.specs.Paths.{Mention}
-use Rattle.toml_edit_model.specs.Normal.{kept_mention, kept_segment, own_path, bare_end, bare_ends, kept_path, has_no_return, is_shown_text}
 use Rattle.toml_edit_laws.proofs.common.WhiteSpace.{white-returns}
 use Rattle.toml_edit_laws.proofs.normal_texts.Cores.{kept-holds}
 use Rattle.toml_edit_laws.proofs.common.Trivia.{visible-returns, open-returns, returns-append, end-returns}
+use Rattle.toml_edit_model.specs.Kept.{kept_mention, kept_segment, unspaced_end, unspaced_ends, kept_path}
+use Rattle.toml_edit_model.specs.Settled.{own_path, has_no_return, is_shown_text}
 
 -- ---- no CR is left
 
@@ -113,24 +114,24 @@ kept-rights : {S : Type 0} (ms own : List (Mention S)) → AreRightMentions ms �
 kept-rights ms [] h g = tt
 kept-rights ms (m ∷ own) h g = (kept-right ms m h g.0, kept-rights ms own h g.1)
 
-end-right : (ss : List Segment) → AreRightSegments ss → AreRightSegments (bare_end ss)
+end-right : (ss : List Segment) → AreRightSegments ss → AreRightSegments (unspaced_end ss)
 end-right [] h = tt
 end-right (s ∷ []) h = (((h.0.0.0, refl), h.0.1), tt)
 end-right (s ∷ r ∷ rest) h = (h.0, end-right (r ∷ rest) h.1)
 
-ends-right : (ss : List Segment) → AreRightSegments ss → AreRightSegments (bare_ends ss)
+ends-right : (ss : List Segment) → AreRightSegments ss → AreRightSegments (unspaced_ends ss)
 ends-right [] h = tt
 ends-right (s ∷ rest) h = end-right (record s { before = [] } ∷ rest) (((refl, h.0.0.1), h.0.1), h.1)
 
 pub path-right : {S : Type 0} (ms own : List (Mention S)) → AreRightMentions ms → AreRightMentions own → AreRightSegments (kept_path ms own)
 path-right ms own h g = ends-right (map (kept_segment ms) own) (kept-rights ms own h g)
 
-end-bare : (s : Segment) (ss : List Segment) → ends_bare (bare_end (s ∷ ss)) ≡ true
+end-bare : (s : Segment) (ss : List Segment) → ends_unspaced (unspaced_end (s ∷ ss)) ≡ true
 end-bare s [] = refl
 end-bare s (r ∷ []) = refl
 end-bare s (r ∷ t ∷ rest) = end-bare r (t ∷ rest)
 
-begin-bare : (s : Segment) (ss : List Segment) → begins_bare (bare_ends (s ∷ ss)) ≡ true
+begin-bare : (s : Segment) (ss : List Segment) → begins_unspaced (unspaced_ends (s ∷ ss)) ≡ true
 begin-bare s [] = refl
 begin-bare s (r ∷ rest) = refl
 

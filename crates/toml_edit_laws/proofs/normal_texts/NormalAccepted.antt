@@ -6,10 +6,10 @@ use Rattle.std.proofs.lemmas.Bool.{leb-true, le-leb}
 use Rattle.toml_edit_model.specs.Mode.{Mode, plain, exact, shown_text}
 use Rattle.toml_edit_model.specs.Text.{Text, is_empty}
 use Rattle.toml_edit_model.specs.Trivia.{IsWhiteSpace, IsNewline, lf, crlf}
-use Rattle.toml_edit_model.specs.Syntax.{Segment, Value, Statement, key_line, header, Document, open_statements, begins_bare, IsStatement, AreStatements, IsDocument, depth, most, is_short, has_short_keys, keeps_ranges, keeps_limits}
-use Rattle.toml_edit_model.specs.Paths.{Path, Role, may_meet, Mention, Source, Placed, Context, line_mentions, header_mentions, header_role_of, path_start, source_of, mentions_of, context_after, placed_from, placed, start_context}
+use Rattle.toml_edit_model.specs.Syntax.{Segment, Value, Statement, key_line, header, Document, open_statements, begins_unspaced, IsStatement, AreStatements, IsDocument, depth, nesting_limit, is_short, has_short_keys, keeps_ranges, keeps_limits}
+use Rattle.toml_edit_model.specs.Paths.{Path, Mention, Source, Placed, Context, line_mentions, header_mentions, header_role_of, path_start, source_of, mentions_of, context_after, placed_from, placed, start_context}
 use Rattle.toml_edit_model.specs.Accepted.{agree, has_agreeing_pairs, is_sound, is_accepted, AcceptedAs}
-use Rattle.toml_edit_model.specs.Normal.{kept_mention, kept_path, is_line, ordered, opening_of, closing_of, kept_statement, has_open_end, normal_end, normal_last, normal_value, normal_statement, normal_in, normal_text_in}
+use Rattle.toml_edit_model.specs.Normal.{is_line, ordered, opening_of, closing_of, kept_statement, has_open_end, normal_end, normal_last, normal_value, normal_statement, normal_in, normal_text_in}
 use Rattle.toml_edit_laws.proofs.common.LineEnds.{IsEnd}
 use Rattle.toml_edit_laws.proofs.accepted_prints.PrintedCut.{open-are}
 use Rattle.toml_edit_laws.proofs.print_of_read.PrintOfRead.{open-end-final}
@@ -26,6 +26,8 @@ use Rattle.toml_edit_laws.proofs.common.Pairs.{AllPairs}
 use Rattle.toml_edit_laws.proofs.mentions.Placed.{mention_lists}
 use Rattle.toml_edit_laws.proofs.common.Each.{all-append, all-map}
 use Rattle.toml_edit_laws.proofs.one_by_one.Together.{accepted-right, right-accepted}
+use Rattle.toml_edit_model.specs.Roles.{Role, may_meet}
+use Rattle.toml_edit_model.specs.Kept.{kept_mention, kept_path}
 
 -- ---- right places
 
@@ -65,12 +67,12 @@ right-places c (s ∷ ss) h g = ((c, s, refl, h.0, ap is_sound (sym (source-stat
 
 -- ---- normal statements
 
-filled : {S : Type 0} (source : S) (start : ℕ) (p : Path) (ss : List Segment) → begins_bare ss ≡ true → is_empty (line_mentions source start p ss) ≡ false
+filled : {S : Type 0} (source : S) (start : ℕ) (p : Path) (ss : List Segment) → begins_unspaced ss ≡ true → is_empty (line_mentions source start p ss) ≡ false
 filled source start p [] h = absurd cc
 filled source start p (s ∷ []) h = refl
 filled source start p (s ∷ r ∷ rest) h = refl
 
-filled-header : {S : Type 0} (source : S) (arrays : List Path) (role : Role) (start : ℕ) (p : Path) (ss : List Segment) → begins_bare ss ≡ true
+filled-header : {S : Type 0} (source : S) (arrays : List Path) (role : Role) (start : ℕ) (p : Path) (ss : List Segment) → begins_unspaced ss ≡ true
     → is_empty (header_mentions source arrays role start p ss) ≡ false
 filled-header source arrays role start p [] h = absurd cc
 filled-header source arrays role start p (s ∷ []) h = refl
@@ -152,19 +154,19 @@ module _ (mode : Mode) where
       let own : List (Mention Source) = mentions_of c (key_line f v end) in
       let parts = and_left (keeps_limits (key_line f v end) && keeps_ranges v) (has_agreeing_pairs v) g in
       let agrees = and_right (keeps_limits (key_line f v end) && keeps_ranges v) (has_agreeing_pairs v) g in
-      let limits = and_left (is_short f.path && (nat_le (depth v) most && has_short_keys v)) (keeps_ranges v) parts in
-      let ranges = and_right (is_short f.path && (nat_le (depth v) most && has_short_keys v)) (keeps_ranges v) parts in
-      let deep = and_right (is_short f.path) (nat_le (depth v) most && has_short_keys v) limits in
-      let value = value-right mode v h.1 (and_right (nat_le (depth v) most) (has_short_keys v) deep) ranges agrees in
+      let limits = and_left (is_short f.path && (nat_le (depth v) nesting_limit && has_short_keys v)) (keeps_ranges v) parts in
+      let ranges = and_right (is_short f.path && (nat_le (depth v) nesting_limit && has_short_keys v)) (keeps_ranges v) parts in
+      let deep = and_right (is_short f.path) (nat_le (depth v) nesting_limit && has_short_keys v) limits in
+      let value = value-right mode v h.1 (and_right (nat_le (depth v) nesting_limit) (has_short_keys v) deep) ranges agrees in
       let low : depth (normal_value mode v) ≤ depth v = value.depth in
-      let below : depth v ≤ 80 = leb-true (depth v) 80 (and_left (nat_le (depth v) most) (has_short_keys v) deep) in
+      let below : depth v ≤ 80 = leb-true (depth v) 80 (and_left (nat_le (depth v) nesting_limit) (has_short_keys v) deep) in
       let path = kept-is-path ms own (rights ms r) (own-rights c (key_line f v end) h)
       (filled (source_of c (key_line f v end)) (c.start + path_start (key_line f v end)) c.block f.path h.0.1.begins) in
       let same : keys_of_segments (kept_path ms own) ≡ keys_of_segments f.path =
       kept-path-keys ms own k (statement-keyed c (key_line f v end))
       ∙ ap keys_of_segments (own-line (source_of c (key_line f v end)) (c.start + path_start (key_line f v end)) c.block f.path) in
       let short : is_short (kept_path ms own) ≡ true =
-      short-keys (kept_path ms own) f.path same (and_left (is_short f.path) (nat_le (depth v) most && has_short_keys v) limits) in
+      short-keys (kept_path ms own) f.path same (and_left (is_short f.path) (nat_le (depth v) nesting_limit && has_short_keys v) limits) in
       let w : Value = normal_value mode v in (
         (
           (
@@ -180,10 +182,10 @@ module _ (mode : Mode) where
           value.value,
           normal-newline mode end h.2,
         ),
-        and_both ((is_short (kept_path ms own) && (nat_le (depth w) most && has_short_keys w)) && keeps_ranges w) (has_agreeing_pairs w)
-            (and_both (is_short (kept_path ms own) && (nat_le (depth w) most && has_short_keys w)) (keeps_ranges w)
-            (and_both (is_short (kept_path ms own)) (nat_le (depth w) most && has_short_keys w) short
-            (and_both (nat_le (depth w) most) (has_short_keys w) (le-leb (depth w) 80 (omega arith)) value.short))
+        and_both ((is_short (kept_path ms own) && (nat_le (depth w) nesting_limit && has_short_keys w)) && keeps_ranges w) (has_agreeing_pairs w)
+            (and_both (is_short (kept_path ms own) && (nat_le (depth w) nesting_limit && has_short_keys w)) (keeps_ranges w)
+            (and_both (is_short (kept_path ms own)) (nat_le (depth w) nesting_limit && has_short_keys w) short
+            (and_both (nat_le (depth w) nesting_limit) (has_short_keys w) (le-leb (depth w) 80 (omega arith)) value.short))
             value.ranges)
             value.agreeing,
       )

@@ -6,11 +6,11 @@ use Rattle.std.proofs.lemmas.Bool.{cases_Bool}
 use Rattle.std.proofs.lemmas.List.Elements.{Contains-append_left, Contains-append_right, Contains-append_cases}
 use Rattle.toml_edit_model.specs.Mode.{Mode, plain, exact}
 use Rattle.toml_edit_model.specs.Text.{Text}
-use Rattle.toml_edit_model.specs.Syntax.{begins_bare, keeps_limits, is_short, depth, most, has_short_keys, elements_have_short_keys, pairs_have_short_keys, keeps_ranges, elements_keep_ranges, pairs_keep_ranges, Segment, Frame, Value, scalar, array, inline_table, Elements, no_elements, element, Pairs, no_pairs, pair, Statement, key_line, header, Document, open_statements, value_text, frame_text, IsValue, AreElements, ArePairs, IsDocument}
-use Rattle.toml_edit_model.specs.Paths.{may_meet_inline, Path, to_key, to_element, Mention, PairSource, Source, Placed, Context, line_mentions, pair_mentions, elements_at, header_path, path_start, source_of, mentions_of, context_after, placed_from, placed, start_context}
+use Rattle.toml_edit_model.specs.Syntax.{begins_unspaced, keeps_limits, is_short, depth, nesting_limit, has_short_keys, elements_have_short_keys, pairs_have_short_keys, keeps_ranges, elements_keep_ranges, pairs_keep_ranges, Segment, Frame, Value, scalar, array, inline_table, Elements, no_elements, element, Pairs, no_pairs, pair, Statement, key_line, header, Document, open_statements, value_text, frame_text, IsValue, AreElements, ArePairs, IsDocument}
+use Rattle.toml_edit_model.specs.Paths.{Path, to_key, to_element, Mention, PairSource, Source, Placed, Context, line_mentions, pair_mentions, elements_at, header_path, path_start, source_of, mentions_of, context_after, placed_from, placed, start_context}
 use Rattle.toml_edit_model.specs.Accepted.{is_accepted, is_sound, all_agree, has_agreeing_pairs, elements_have_agreeing_pairs, pairs_have_agreeing_pairs}
 use Rattle.toml_edit_model.specs.Meaning.{Fact, fact, a_table, an_array, SameFacts, below_keys, value_facts, elements_facts, pairs_facts, tables_along, element_header_facts, statement_facts, facts_from, meaning}
-use Rattle.toml_edit_model.specs.Normal.{pair_before, own_path, kept_path, kept_pair, some_of, pairs_of, ordered_pairs, is_line, line_before, ordered, normal_value, normal_elements, normal_pairs, has_open_end, normal_last, normal_statement, normal_in}
+use Rattle.toml_edit_model.specs.Normal.{pair_before, kept_pair, some_of, pairs_of, ordered_pairs, is_line, line_before, ordered, normal_value, normal_elements, normal_pairs, has_open_end, normal_last, normal_statement, normal_in}
 use Rattle.toml_edit_laws.proofs.common.Tests.{and_left, and_right}
 use Rattle.toml_edit_laws.proofs.common.OrderLaws.{all-sorted}
 use Rattle.toml_edit_laws.proofs.normal_texts.SettledStays.{own-line, IsAny}
@@ -24,6 +24,9 @@ use Rattle.toml_edit_laws.proofs.mentions.Placed.{placed_at, source-statement}
 use Rattle.toml_edit_laws.proofs.mentions.Placed.{mention_lists}
 use Rattle.toml_edit_laws.proofs.common.Each.{all-map}
 use Rattle.toml_edit_model.specs.Order.{insert_by, sorted_by}
+use Rattle.toml_edit_model.specs.Roles.{may_meet_inline}
+use Rattle.toml_edit_model.specs.Settled.{own_path}
+use Rattle.toml_edit_model.specs.Kept.{kept_path}
 
 -- ---- the same facts
 
@@ -114,7 +117,7 @@ abbrev mention_facts : Path → List (Mention PairSource) → List Fact
 mention_facts p [] = []
 mention_facts p (m ∷ own) = below_keys p (own_path (m ∷ own)) (value_facts m.source.value)
 
-line-facts : (p : Path) (n start : ℕ) (f : Frame) (v : Value) (ss : List Segment) → begins_bare ss ≡ true
+line-facts : (p : Path) (n start : ℕ) (f : Frame) (v : Value) (ss : List Segment) → begins_unspaced ss ≡ true
     → mention_facts p (line_mentions (source_at n f v) start [] ss) ≡ below_keys p ss (value_facts v)
 line-facts p n start f v [] h = absurd cc
 line-facts p n start f v (s ∷ []) h = refl
@@ -314,10 +317,10 @@ module _ (mode : Mode) where
   sound-value (key_line f v end) h g =
       let parts = and_left (keeps_limits (key_line f v end) && keeps_ranges v) (has_agreeing_pairs v) g in
       let agrees = and_right (keeps_limits (key_line f v end) && keeps_ranges v) (has_agreeing_pairs v) g in
-      let limits = and_left (is_short f.path && (nat_le (depth v) most && has_short_keys v)) (keeps_ranges v) parts in
-      let ranges = and_right (is_short f.path && (nat_le (depth v) most && has_short_keys v)) (keeps_ranges v) parts in
-      let deep = and_right (is_short f.path) (nat_le (depth v) most && has_short_keys v) limits in
-      value-is-right v h.1 (and_right (nat_le (depth v) most) (has_short_keys v) deep) ranges agrees
+      let limits = and_left (is_short f.path && (nat_le (depth v) nesting_limit && has_short_keys v)) (keeps_ranges v) parts in
+      let ranges = and_right (is_short f.path && (nat_le (depth v) nesting_limit && has_short_keys v)) (keeps_ranges v) parts in
+      let deep = and_right (is_short f.path) (nat_le (depth v) nesting_limit && has_short_keys v) limits in
+      value-is-right v h.1 (and_right (nat_le (depth v) nesting_limit) (has_short_keys v) deep) ranges agrees
   sound-value (header e end) h g = tt
 
   has-right : (x : Placed) → IsRightPlace x → HasRightValue x.source.statement

@@ -4,10 +4,10 @@ use Rattle.std.specs.Prelude.{◌&&◌, ◌||◌, not, map, flat_map, option_map
 use Rattle.std.specs.List.{AllByRecursion, list_all}
 use Rattle.toml_edit_model.specs.Mode.{Mode, shown_text}
 use Rattle.toml_edit_model.specs.Text.{Text, same_text}
-use Rattle.toml_edit_model.specs.Syntax.{Statement, key_line, header, Document, IsDocument, keeps_limits, is_short, depth, most, has_short_keys, keeps_ranges}
+use Rattle.toml_edit_model.specs.Syntax.{Statement, key_line, header, Document, IsDocument, keeps_limits, is_short, depth, nesting_limit, has_short_keys, keeps_ranges}
 use Rattle.toml_edit_model.specs.Paths.{Path, Mention, Source, Placed, placed, start_context}
 use Rattle.toml_edit_model.specs.Accepted.{is_sound, is_accepted, has_agreeing_pairs}
-use Rattle.toml_edit_model.specs.Normal.{kept_mention, kept_path, own_path, same_segments, is_kept, is_line, line_before, ordered, opening_of, closing_of, kept_statement, is_shown_text, is_settled_end, is_lean_frame, lean_frame, normal_value, normal_statement, is_settled_value, is_settled_statement, has_ordered_lines, normal_in, is_settled_in}
+use Rattle.toml_edit_model.specs.Normal.{is_line, line_before, ordered, opening_of, closing_of, kept_statement, shown_frame, normal_value, normal_statement, normal_in}
 use Rattle.toml_edit_laws.proofs.common.Tests.{and_left, and_right, and_both, same_text-refl}
 use Rattle.toml_edit_laws.proofs.common.Members.{Among, all-among, among-each}
 use Rattle.toml_edit_laws.proofs.normal_texts.SettledStays.{IsAny, any-statements, settled-stays}
@@ -28,6 +28,8 @@ use Rattle.toml_edit_laws.proofs.mentions.Placed.{mention_lists}
 use Rattle.toml_edit_laws.proofs.common.Each.{all-both, all-map}
 use Rattle.toml_edit_laws.proofs.one_by_one.Together.{accepted-right}
 use Rattle.toml_edit_model.specs.Order.{is_sorted_by}
+use Rattle.toml_edit_model.specs.Kept.{kept_mention, kept_path}
+use Rattle.toml_edit_model.specs.Settled.{own_path, same_segments, is_kept, is_shown_text, is_settled_end, is_shown_frame, is_settled_value, is_settled_statement, has_ordered_lines, is_settled_in}
 
 -- ---- lines in order, by their kinds and paths
 
@@ -152,12 +154,12 @@ module _ (mode : Mode) where
       by_kind (key_line f v end) i e f_inner =
           let parts = and_left (keeps_limits (key_line f v end) && keeps_ranges v) (has_agreeing_pairs v) e in
           let agrees = and_right (keeps_limits (key_line f v end) && keeps_ranges v) (has_agreeing_pairs v) e in
-          let limits = and_left (is_short f.path && (nat_le (depth v) most && has_short_keys v)) (keeps_ranges v) parts in
-          let ranges = and_right (is_short f.path && (nat_le (depth v) most && has_short_keys v)) (keeps_ranges v) parts in
-          let deep = and_right (is_short f.path) (nat_le (depth v) most && has_short_keys v) limits in
-          and_both (is_lean_frame mode (lean_frame mode f) && is_settled_value mode (normal_value mode v)) (is_kept new y.mentions && is_settled_end mode h.end)
-          (and_both (is_lean_frame mode (lean_frame mode f)) (is_settled_value mode (normal_value mode v)) (lean-is mode f)
-          (value-settled mode v i.1 (and_right (nat_le (depth v) most) (has_short_keys v) deep) ranges agrees))
+          let limits = and_left (is_short f.path && (nat_le (depth v) nesting_limit && has_short_keys v)) (keeps_ranges v) parts in
+          let ranges = and_right (is_short f.path && (nat_le (depth v) nesting_limit && has_short_keys v)) (keeps_ranges v) parts in
+          let deep = and_right (is_short f.path) (nat_le (depth v) nesting_limit && has_short_keys v) limits in
+          and_both (is_shown_frame mode (shown_frame mode f) && is_settled_value mode (normal_value mode v)) (is_kept new y.mentions && is_settled_end mode h.end)
+          (and_both (is_shown_frame mode (shown_frame mode f)) (is_settled_value mode (normal_value mode v)) (lean-is mode f)
+          (value-settled mode v i.1 (and_right (nat_le (depth v) nesting_limit) (has_short_keys v) deep) ranges agrees))
           (and_both (is_kept new y.mentions) (is_settled_end mode h.end) is_kept_here h.settled)
       by_kind (header i end) b e f_inner =
           let to : Statement = with_end h.end (normal_statement mode ms x (header i end)) in

@@ -4,10 +4,10 @@ use Rattle.std.specs.Prelude.{map, flat_map}
 use Rattle.std.specs.List.{AllByRecursion}
 use Rattle.std.proofs.lemmas.Bool.{cases_Bool}
 use Rattle.toml_edit_model.specs.Text.{is_empty}
-use Rattle.toml_edit_model.specs.Syntax.{Frame, Value, Pairs, no_pairs, pair, value_text, frame_text, begins_bare, has_pairs, ArePairs}
-use Rattle.toml_edit_model.specs.Paths.{Role, Mention, PairSource, line_mentions, pair_mentions}
+use Rattle.toml_edit_model.specs.Syntax.{Frame, Value, Pairs, no_pairs, pair, value_text, frame_text, begins_unspaced, has_pairs, ArePairs}
+use Rattle.toml_edit_model.specs.Paths.{Mention, PairSource, line_mentions, pair_mentions}
 use Rattle.toml_edit_model.specs.Accepted.{agree}
-use Rattle.toml_edit_model.specs.Normal.{pair_before, kept_path, kept_pair, some_of, pairs_of, ordered_pairs}
+use Rattle.toml_edit_model.specs.Normal.{pair_before, kept_pair, some_of, pairs_of, ordered_pairs}
 use Rattle.toml_edit_laws.proofs.common.OrderLaws.{all-sorted}
 use Rattle.toml_edit_laws.proofs.normal_texts.SettledStays.{own-line, kept-pair}
 use Rattle.toml_edit_laws.proofs.normal_texts.Cores.{line-cores, AreKeyed, IsKeyed, line-keyed, kept-path-keys}
@@ -16,6 +16,8 @@ use Rattle.toml_edit_laws.proofs.common.Cores.{cores, keys_of_segments, line_cor
 use Rattle.toml_edit_laws.proofs.common.Pairs.{AllPairs}
 use Rattle.toml_edit_laws.proofs.common.Each.{all-append}
 use Rattle.toml_edit_model.specs.Order.{insert_by, sorted_by}
+use Rattle.toml_edit_model.specs.Roles.{Role}
+use Rattle.toml_edit_model.specs.Kept.{kept_path}
 
 -- ---- each pair
 
@@ -29,7 +31,7 @@ source_at n f v = record { frame = f; value = v }
 -- these are the mentions of a pair, of which this holds
 abbrev pub IsMentionOf : (Frame → Value → Type 0) → List (Mention PairSource) → Type 0
 IsMentionOf Q ms =
-    (f : Frame) × (v : Value) × (n : ℕ) × (start : ℕ) × (ms ≡ line_mentions (source_at n f v) start [] f.path) × (begins_bare f.path ≡ true) × Q f v
+    (f : Frame) × (v : Value) × (n : ℕ) × (start : ℕ) × (ms ≡ line_mentions (source_at n f v) start [] f.path) × (begins_unspaced f.path ≡ true) × Q f v
 
 pub mentions-of : (Q : Frame → Value → Type 0) (start number : ℕ) (ps : Pairs) → ArePairs ps → EachPair Q ps → AllByRecursion (IsMentionOf Q) (pair_mentions start ps)
 mentions-of Q start number no_pairs h g = tt
@@ -43,7 +45,7 @@ abbrev pub spelled : List (Mention PairSource) → ℕ → ℕ → Frame → Val
 spelled all n start f v = record f { path = kept_path all (line_mentions (source_at n f v) start [] f.path) }
 
 pub kept-each : (Q R : Frame → Value → Type 0) (all : List (Mention PairSource))
-    → ((f : Frame) (v : Value) (n start : ℕ) → begins_bare f.path ≡ true → Q f v → R (spelled all n start f v) v)
+    → ((f : Frame) (v : Value) (n start : ℕ) → begins_unspaced f.path ≡ true → Q f v → R (spelled all n start f v) v)
     → (mss : List (List (Mention PairSource))) → AllByRecursion (IsMentionOf Q) mss → EachPair R (pairs_of (some_of (map (kept_pair all) mss)))
 kept-each Q R all h [] g = tt
 kept-each Q R all h (ms ∷ mss) g =
@@ -56,7 +58,7 @@ kept-each Q R all h (ms ∷ mss) g =
 
 -- What holds of each pair, spelled anew, holds of each ordered pair.
 pub ordered-each : (Q R : Frame → Value → Type 0) (ps : Pairs) → ArePairs ps
-    → ((f : Frame) (v : Value) (n start : ℕ) → begins_bare f.path ≡ true → Q f v → R (spelled (flat_map (λ ms. ms) (pair_mentions 0 ps)) n start f v) v)
+    → ((f : Frame) (v : Value) (n start : ℕ) → begins_unspaced f.path ≡ true → Q f v → R (spelled (flat_map (λ ms. ms) (pair_mentions 0 ps)) n start f v) v)
     → EachPair Q ps → EachPair R (ordered_pairs ps)
 ordered-each Q R ps h f g =
     let mss : List (List (Mention PairSource)) = pair_mentions 0 ps in

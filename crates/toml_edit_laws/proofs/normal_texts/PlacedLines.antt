@@ -4,11 +4,11 @@ use Rattle.std.specs.Prelude.{◌||◌, not, map, if◌then◌else◌}
 use Rattle.std.specs.List.{AllByRecursion, list_all}
 use Rattle.std.proofs.lemmas.Bool.{cases_lt}
 use Rattle.toml_edit_model.specs.Text.{Text, is_empty}
-use Rattle.toml_edit_model.specs.Syntax.{Segment, Statement, key_line, header, begins_bare, ends_bare}
-use Rattle.toml_edit_model.specs.Paths.{Path, same_path, to_key, Role, may_meet, may_meet_inline, Mention, Source, Placed, Context, line_mentions, header_mentions, header_path, header_role_of, keys_of, path_start, source_of, mentions_of, context_after}
+use Rattle.toml_edit_model.specs.Syntax.{Segment, Statement, key_line, header, begins_unspaced, ends_unspaced}
+use Rattle.toml_edit_model.specs.Paths.{Path, same_path, to_key, Mention, Source, Placed, Context, line_mentions, header_mentions, header_path, header_role_of, keys_of, path_start, source_of, mentions_of, context_after}
 use Rattle.toml_edit_model.specs.Accepted.{agree}
 use Rattle.toml_edit_model.specs.Meaning.{parent}
-use Rattle.toml_edit_model.specs.Normal.{rank, is_line, line_before, ordered, own_path}
+use Rattle.toml_edit_model.specs.Normal.{is_line, line_before, ordered}
 use Rattle.toml_edit_laws.proofs.common.Tests.{and_left, and_right, and_both}
 use Rattle.toml_edit_laws.proofs.common.PathLaws.{is_front}
 use Rattle.toml_edit_laws.proofs.mentions.RankLaws.{line-along, header-along}
@@ -29,6 +29,9 @@ use Rattle.toml_edit_laws.proofs.common.Pairs.{AllPairs, pairs-of}
 use Rattle.toml_edit_laws.proofs.common.Each.{all-both, all-map, all-image}
 use Rattle.toml_edit_laws.proofs.common.Members.{all-among}
 use Rattle.toml_edit_model.specs.Order.{insert_by}
+use Rattle.toml_edit_model.specs.Roles.{Role, may_meet, may_meet_inline}
+use Rattle.toml_edit_model.specs.Kept.{rank}
+use Rattle.toml_edit_model.specs.Settled.{own_path}
 
 -- ---- a statement as an element
 
@@ -308,7 +311,7 @@ spaced-place c (key_line f v end) h =
     subst (λ b. IsWhole b own) (sym base) (line-whole (source_of c (key_line f v end)) (c.start + path_start (key_line f v end)) c.block f.path) in
     record {
       whole = whole;
-      own = own-trimmed (base_at (placed_at c (key_line f v end))) own whole (ap begins_bare path_is ∙ h.0.1.begins) (ap ends_bare path_is ∙ h.0.1.ends);
+      own = own-trimmed (base_at (placed_at c (key_line f v end))) own whole (ap begins_unspaced path_is ∙ h.0.1.begins) (ap ends_unspaced path_is ∙ h.0.1.ends);
       header_base = λ e. absurd cc;
       roles = λ e. place-roles c (key_line f v end) refl;
     }
@@ -320,7 +323,7 @@ spaced-place c (header e end) h =
     subst (λ b. IsWhole b own) (sym base) (header-whole (source_of c (header e end)) c.arrays (header_role_of e) (c.start + path_start (header e end)) [] e.path (array-last e.is_array)) in
     record {
       whole = whole;
-      own = own-trimmed (base_at (placed_at c (header e end))) own whole (ap begins_bare path_is ∙ h.0.1.begins) (ap ends_bare path_is ∙ h.0.1.ends);
+      own = own-trimmed (base_at (placed_at c (header e end))) own whole (ap begins_unspaced path_is ∙ h.0.1.begins) (ap ends_unspaced path_is ∙ h.0.1.ends);
       header_base = λ l. base;
       roles = λ l. absurd cc;
     }

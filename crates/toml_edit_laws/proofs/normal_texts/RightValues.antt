@@ -6,10 +6,10 @@ use Rattle.std.proofs.lemmas.List.{length-map}
 use Rattle.toml_edit_model.specs.Mode.{Mode, shown_text}
 use Rattle.toml_edit_model.specs.Text.{Text, is_empty}
 use Rattle.toml_edit_model.specs.Trivia.{IsWholeTrivia}
-use Rattle.toml_edit_model.specs.Syntax.{Segment, Frame, Value, scalar, array, inline_table, Elements, no_elements, element, Pairs, no_pairs, pair, value_text, frame_text, begins_bare, IsFrame, IsClose, has_elements, has_pairs, IsValue, AreElements, ArePairs, depth, elements_depth, pairs_depth, is_short, has_short_keys, elements_have_short_keys, pairs_have_short_keys, keeps_ranges, elements_keep_ranges, pairs_keep_ranges}
-use Rattle.toml_edit_model.specs.Paths.{Mention, PairSource, may_meet_inline, line_mentions, pair_mentions}
+use Rattle.toml_edit_model.specs.Syntax.{Segment, Frame, Value, scalar, array, inline_table, Elements, no_elements, element, Pairs, no_pairs, pair, value_text, frame_text, begins_unspaced, IsFrame, IsClose, has_elements, has_pairs, IsValue, AreElements, ArePairs, depth, elements_depth, pairs_depth, is_short, has_short_keys, elements_have_short_keys, pairs_have_short_keys, keeps_ranges, elements_keep_ranges, pairs_keep_ranges}
+use Rattle.toml_edit_model.specs.Paths.{Mention, PairSource, line_mentions, pair_mentions}
 use Rattle.toml_edit_model.specs.Accepted.{agree, all_agree, has_agreeing_pairs, elements_have_agreeing_pairs, pairs_have_agreeing_pairs}
-use Rattle.toml_edit_model.specs.Normal.{pair_before, kept_path, ordered_pairs, lean_frame, normal_value, normal_elements, normal_pairs}
+use Rattle.toml_edit_model.specs.Normal.{pair_before, ordered_pairs, shown_frame, normal_value, normal_elements, normal_pairs}
 use Rattle.toml_edit_laws.proofs.common.Tests.{and_left, and_right, and_both}
 use Rattle.toml_edit_laws.proofs.common.OrderLaws.{all-sorted}
 use Rattle.toml_edit_laws.proofs.values.ClosingLaws.{has-normal}
@@ -23,6 +23,8 @@ use Rattle.toml_edit_laws.proofs.common.Cores.{cores, keys_of_segments}
 use Rattle.toml_edit_laws.proofs.common.Pairs.{AllPairs}
 use Rattle.toml_edit_laws.proofs.common.Each.{all-append}
 use Rattle.toml_edit_model.specs.Order.{sorted_by}
+use Rattle.toml_edit_model.specs.Roles.{may_meet_inline}
+use Rattle.toml_edit_model.specs.Kept.{kept_path}
 
 -- ---- right values
 
@@ -89,15 +91,15 @@ pub short-keys : (ss rs : List Segment) → keys_of_segments ss ≡ keys_of_segm
 short-keys ss rs e h =
     ap (λ n. nat_le n 80) (sym (length-map ss (λ s. s.key)) ∙ ap length e ∙ length-map rs (λ s. s.key)) ∙ h
 
-filled-line : (n start : ℕ) (f : Frame) (v : Value) → begins_bare f.path ≡ true → is_empty (line_mentions (source_at n f v) start [] f.path) ≡ false
+filled-line : (n start : ℕ) (f : Frame) (v : Value) → begins_unspaced f.path ≡ true → is_empty (line_mentions (source_at n f v) start [] f.path) ≡ false
 filled-line n start f v h = by_path f.path h
   where
-    by_path : (ss : List Segment) → begins_bare ss ≡ true → is_empty (line_mentions (source_at n f v) start [] ss) ≡ false
+    by_path : (ss : List Segment) → begins_unspaced ss ≡ true → is_empty (line_mentions (source_at n f v) start [] ss) ≡ false
     by_path [] h = absurd cc
     by_path (s ∷ []) h = refl
     by_path (s ∷ r ∷ rest) h = refl
 
-spelled-right : (n : ℕ) (ps : Pairs) → ArePairs ps → (f : Frame) (v : Value) (number start : ℕ) → begins_bare f.path ≡ true → IsRightPair n f v
+spelled-right : (n : ℕ) (ps : Pairs) → ArePairs ps → (f : Frame) (v : Value) (number start : ℕ) → begins_unspaced f.path ≡ true → IsRightPair n f v
     → IsRightPair n (spelled (flat_map (λ ms. ms) (pair_mentions 0 ps)) number start f v) v
 spelled-right n ps h f v number start b g =
     let all : List (Mention PairSource) = flat_map (λ ms. ms) (pair_mentions 0 ps) in
@@ -157,7 +159,7 @@ module _ (mode : Mode) where
 
   -- ---- frames
 
-  lean-frame : (f : Frame) → IsFrame IsWholeTrivia f → IsFrame IsWholeTrivia (lean_frame mode f)
+  lean-frame : (f : Frame) → IsFrame IsWholeTrivia f → IsFrame IsWholeTrivia (shown_frame mode f)
   lean-frame f h = (
     record {
       leading = lean-trivia mode f.leading h.0.leading;
@@ -175,7 +177,7 @@ module _ (mode : Mode) where
   pub normal-said : (i j m n : ℕ) (ps : Pairs) → map cores (pair_mentions i ps) ≡ map cores (pair_mentions j (normal_pairs mode ps))
   normal-said i j m n no_pairs = refl
   normal-said i j m n (pair f v ps) =
-      let g : Frame = lean_frame mode f in
+      let g : Frame = shown_frame mode f in
       let w : Value = normal_value mode v in
       ap (λ c. c ∷ map cores (pair_mentions (i + length (frame_text f (value_text v)) + 1) ps))
       (line-cores (source_at m f v) (i + length f.leading) [] f.path ∙ sym (line-cores (source_at n g w) (j + length g.leading) [] f.path))

@@ -6,12 +6,14 @@ use Rattle.toml_edit_model.specs.Mode.{Mode, plain, exact}
 use Rattle.toml_edit_model.specs.Text.{Text}
 use Rattle.toml_edit_model.specs.Syntax.{Segment, Statement, key_line, header, Document, open_statements}
 use Rattle.toml_edit_model.specs.Paths.{at_key, Path, to_element, Mention, Source, Placed, Context, elements_at, header_path, header_role_of, keys_of, path_start, source_of, mentions_of, context_after, placed_from}
-use Rattle.toml_edit_model.specs.Normal.{stands_before, rank, own_path, kept_path, is_line, line_before, ordered, normal_end, is_settled_end, has_open_end, normal_last, normal_statement}
+use Rattle.toml_edit_model.specs.Normal.{is_line, line_before, ordered, normal_end, has_open_end, normal_last, normal_statement}
 use Rattle.toml_edit_laws.proofs.normal_texts.SettledStays.{own-line, own-header}
 use Rattle.toml_edit_laws.proofs.normal_texts.Cores.{header_cores, header_place, line-cores, header-cores, header-place, AreKeyed, statement-keyed, kept-path-keys}
 use Rattle.toml_edit_laws.proofs.common.Cores.{cores, keys_of_segments, line_cores}
 use Rattle.toml_edit_laws.proofs.mentions.Placed.{placed_at, source-statement}
 use Rattle.toml_edit_model.specs.Order.{insert_by}
+use Rattle.toml_edit_model.specs.Kept.{stands_before, rank, kept_path}
+use Rattle.toml_edit_model.specs.Settled.{own_path, is_settled_end}
 
 -- ---- runs
 

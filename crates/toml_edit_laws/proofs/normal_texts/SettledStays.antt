@@ -5,13 +5,16 @@ use Rattle.std.specs.List.{AllByRecursion, list_all}
 use Rattle.toml_edit_model.specs.Mode.{Mode, plain, exact, shown_text}
 use Rattle.toml_edit_model.specs.Text.{Text, newline, same_text, is_empty, has_byte, carriage_return, without_returns}
 use Rattle.toml_edit_model.specs.Trivia.{IsNewline, lf, crlf}
-use Rattle.toml_edit_model.specs.Syntax.{Segment, Around, Frame, Value, scalar, array, inline_table, Elements, no_elements, element, Pairs, no_pairs, pair, Statement, key_line, header, Document, value_text, frame_text, document_text, newline_after, without_newline, open_statements, begins_bare, IsValue, AreElements, ArePairs, IsDocument, IsStatement, AreStatements}
-use Rattle.toml_edit_model.specs.Paths.{Path, to_key, Role, Mention, Source, PairSource, Placed, Context, line_mentions, header_mentions, next_start, elements_at, in_last, header_role_of, path_start, source_of, mentions_of, context_after, placed_from, placed, start_context, pair_mentions}
-use Rattle.toml_edit_model.specs.Normal.{line_before, is_line, ordered, has_no_return, is_shown_text, has_open_end, normal_end, normal_last, is_settled_end, same_segment, same_segments, own_path, is_kept, kept_path, kept_pair, some_of, pairs_of, pair_before, are_settled_pairs, is_lean_frame, ordered_pairs, lean_frame, lean_around, normal_value, normal_elements, normal_pairs, is_settled_value, are_settled_elements, have_settled_values, has_ordered_lines, kept_statement, opening_of, closing_of, normal_statement, is_settled_statement, normal_in, normal_text_in, is_settled_in}
+use Rattle.toml_edit_model.specs.Syntax.{Segment, Around, Frame, Value, scalar, array, inline_table, Elements, no_elements, element, Pairs, no_pairs, pair, Statement, key_line, header, Document, value_text, frame_text, document_text, newline_after, without_newline, open_statements, begins_unspaced, IsValue, AreElements, ArePairs, IsDocument, IsStatement, AreStatements}
+use Rattle.toml_edit_model.specs.Paths.{Path, to_key, Mention, Source, PairSource, Placed, Context, line_mentions, header_mentions, next_start, elements_at, in_last, header_role_of, path_start, source_of, mentions_of, context_after, placed_from, placed, start_context, pair_mentions}
+use Rattle.toml_edit_model.specs.Normal.{line_before, is_line, ordered, has_open_end, normal_end, normal_last, kept_pair, some_of, pairs_of, pair_before, ordered_pairs, shown_frame, shown_around, normal_value, normal_elements, normal_pairs, kept_statement, opening_of, closing_of, normal_statement, normal_in, normal_text_in}
 use Rattle.toml_edit_laws.proofs.common.Tests.{and_left, and_right, and_both, if-true, not-true, same_text-is}
 use Rattle.toml_edit_laws.proofs.common.LineEnds.{IsEnd}
 use Rattle.toml_edit_laws.proofs.mentions.Placed.{placed_at, source-statement}
 use Rattle.toml_edit_model.specs.Order.{insert_by, sorted_by, is_sorted_by}
+use Rattle.toml_edit_model.specs.Roles.{Role}
+use Rattle.toml_edit_model.specs.Settled.{has_no_return, is_shown_text, is_settled_end, same_segment, same_segments, own_path, is_kept, are_settled_pairs, is_shown_frame, is_settled_value, are_settled_elements, have_settled_values, has_ordered_lines, is_settled_statement, is_settled_in}
+use Rattle.toml_edit_model.specs.Kept.{kept_path}
 
 -- ---- lines in order stay where they are
 
@@ -72,7 +75,7 @@ own-header source arrays role start p (s ∷ r ∷ rest) =
     let here : Path = to_key p s.key in
     ap (λ ss. s ∷ ss) (own-header source arrays role (next_start start s) (in_last (elements_at arrays here) here) (r ∷ rest))
 
-pub kept-pair : (all : List (Mention PairSource)) (source : PairSource) (start : ℕ) (p : Path) (ss : List Segment) → begins_bare ss ≡ true
+pub kept-pair : (all : List (Mention PairSource)) (source : PairSource) (start : ℕ) (p : Path) (ss : List Segment) → begins_unspaced ss ≡ true
     → kept_pair all (line_mentions source start p ss) ≡ Some (record source.frame { path = kept_path all (line_mentions source start p ss) }, source.value)
 kept-pair all source start p [] h = absurd cc
 kept-pair all source start p (s ∷ []) h = refl
@@ -189,12 +192,12 @@ ends-stay exact d h g = all-exact d.final d.statements h.0
 module _ (mode : Mode) where
   -- ---- values
 
-  lean-frame : (f : Frame) → is_lean_frame mode f ≡ true → lean_frame mode f ≡ f
+  lean-frame : (f : Frame) → is_shown_frame mode f ≡ true → shown_frame mode f ≡ f
   lean-frame f h =
       ap (λ t. record f { leading = t; trailing = shown_text mode f.trailing }) (without_returns-none mode f.leading (and_left (is_shown_text mode f.leading) (is_shown_text mode f.trailing) h))
       ∙ ap (λ t. record f { trailing = t }) (without_returns-none mode f.trailing (and_right (is_shown_text mode f.leading) (is_shown_text mode f.trailing) h))
 
-  lean-around : (a : Around) → (is_shown_text mode a.before && is_shown_text mode a.after) ≡ true → lean_around mode a ≡ a
+  lean-around : (a : Around) → (is_shown_text mode a.before && is_shown_text mode a.after) ≡ true → shown_around mode a ≡ a
   lean-around a h =
       ap (λ t. record a { before = t; after = shown_text mode a.after }) (without_returns-none mode a.before (and_left (is_shown_text mode a.before) (is_shown_text mode a.after) h))
       ∙ ap (λ t. record a { after = t }) (without_returns-none mode a.after (and_right (is_shown_text mode a.before) (is_shown_text mode a.after) h))
@@ -224,8 +227,8 @@ module _ (mode : Mode) where
     pub pairs-stay : (ps : Pairs) → ArePairs ps → have_settled_values mode ps ≡ true → normal_pairs mode ps ≡ ps
     pairs-stay no_pairs h g = refl
     pairs-stay (pair f v ps) h g =
-        let rest = and_right (is_lean_frame mode f) (is_settled_value mode v && have_settled_values mode ps) g in
-        ap (λ e. pair e (normal_value mode v) (normal_pairs mode ps)) (lean-frame f (and_left (is_lean_frame mode f) (is_settled_value mode v && have_settled_values mode ps) g))
+        let rest = and_right (is_shown_frame mode f) (is_settled_value mode v && have_settled_values mode ps) g in
+        ap (λ e. pair e (normal_value mode v) (normal_pairs mode ps)) (lean-frame f (and_left (is_shown_frame mode f) (is_settled_value mode v && have_settled_values mode ps) g))
         ∙ ap (λ w. pair f w (normal_pairs mode ps)) (value-stays v h.1 (and_left (is_settled_value mode v) (have_settled_values mode ps) rest))
         ∙ ap (pair f v) (pairs-stay ps h.2 (and_right (is_settled_value mode v) (have_settled_values mode ps) rest))
 
@@ -236,14 +239,14 @@ module _ (mode : Mode) where
       → normal_statement mode ms (placed_at c s) s ≡ closed mode s
   statement-stays ms c (key_line f v end) h g =
       let own : List (Mention Source) = mentions_of c (key_line f v end) in
-      let first = and_left (is_lean_frame mode f && is_settled_value mode v) (is_kept ms own && is_settled_end mode end) g in
-      let second = and_right (is_lean_frame mode f && is_settled_value mode v) (is_kept ms own && is_settled_end mode end) g in
+      let first = and_left (is_shown_frame mode f && is_settled_value mode v) (is_kept ms own && is_settled_end mode end) g in
+      let second = and_right (is_shown_frame mode f && is_settled_value mode v) (is_kept ms own && is_settled_end mode end) g in
       let path_is : kept_path ms own ≡ f.path =
       sym (same_segments-is (own_path own) (kept_path ms own) (and_left (is_kept ms own) (is_settled_end mode end) second))
       ∙ own-line (source_of c (key_line f v end)) (c.start + path_start (key_line f v end)) c.block f.path in
-      ap (λ e. key_line (record e { path = kept_path ms own }) (normal_value mode v) (normal_end mode end)) (lean-frame f (and_left (is_lean_frame mode f) (is_settled_value mode v) first))
+      ap (λ e. key_line (record e { path = kept_path ms own }) (normal_value mode v) (normal_end mode end)) (lean-frame f (and_left (is_shown_frame mode f) (is_settled_value mode v) first))
       ∙ ap (λ p. key_line (record f { path = p }) (normal_value mode v) (normal_end mode end)) path_is
-      ∙ ap (λ w. key_line f w (normal_end mode end)) (value-stays v h.1 (and_right (is_lean_frame mode f) (is_settled_value mode v) first))
+      ∙ ap (λ w. key_line f w (normal_end mode end)) (value-stays v h.1 (and_right (is_shown_frame mode f) (is_settled_value mode v) first))
   statement-stays ms c (header h end) is g =
       let own : List (Mention Source) = mentions_of c (header h end) in
       let from : Statement = kept_statement ms (source_of c (header h end)).path (header h end) in
@@ -266,7 +269,7 @@ module _ (mode : Mode) where
       → is_settled_end mode (newline_after s) ≡ true
   end-settled ms c (key_line f v end) g =
       let own : List (Mention Source) = mentions_of c (key_line f v end) in
-      and_right (is_kept ms own) (is_settled_end mode end) (and_right (is_lean_frame mode f && is_settled_value mode v) (is_kept ms own && is_settled_end mode end) g)
+      and_right (is_kept ms own) (is_settled_end mode end) (and_right (is_shown_frame mode f && is_settled_value mode v) (is_kept ms own && is_settled_end mode end) g)
   end-settled ms c (header h end) g =
       let own : List (Mention Source) = mentions_of c (header h end) in
       let from : Statement = kept_statement ms (source_of c (header h end)).path (header h end) in

@@ -5,10 +5,10 @@ use Rattle.std.specs.List.{AllByRecursion, list_any, list_all, position_or_len}
 use Rattle.toml_edit_model.specs.Mode.{Mode, shown_text}
 use Rattle.toml_edit_model.specs.Text.{Text, same_text}
 use Rattle.toml_edit_model.specs.Trivia.{IsWholeTrivia}
-use Rattle.toml_edit_model.specs.Syntax.{ends_bare, Segment, Frame, Value, scalar, array, inline_table, Elements, no_elements, element, Pairs, no_pairs, pair, begins_bare, IsFrame, IsValue, AreElements, ArePairs, is_short, has_short_keys, elements_have_short_keys, pairs_have_short_keys, keeps_ranges, elements_keep_ranges, pairs_keep_ranges}
-use Rattle.toml_edit_model.specs.Paths.{at_key, Path, same_path, to_key, Role, dotted_role, value_role, implied_role, header_role, array_role, through_role, may_meet_inline, Mention, PairSource, line_mentions, pair_mentions}
+use Rattle.toml_edit_model.specs.Syntax.{ends_unspaced, Segment, Frame, Value, scalar, array, inline_table, Elements, no_elements, element, Pairs, no_pairs, pair, begins_unspaced, IsFrame, IsValue, AreElements, ArePairs, is_short, has_short_keys, elements_have_short_keys, pairs_have_short_keys, keeps_ranges, elements_keep_ranges, pairs_keep_ranges}
+use Rattle.toml_edit_model.specs.Paths.{at_key, Path, same_path, to_key, Mention, PairSource, line_mentions, pair_mentions}
 use Rattle.toml_edit_model.specs.Accepted.{agree, all_agree, has_agreeing_pairs, elements_have_agreeing_pairs, pairs_have_agreeing_pairs}
-use Rattle.toml_edit_model.specs.Normal.{rank, stands_before, pair_before, kept_path, own_path, same_segment, same_segments, is_kept, are_settled_pairs, ordered_pairs, is_shown_text, is_lean_frame, lean_frame, normal_value, normal_elements, normal_pairs, is_settled_value, are_settled_elements, have_settled_values}
+use Rattle.toml_edit_model.specs.Normal.{pair_before, ordered_pairs, shown_frame, normal_value, normal_elements, normal_pairs}
 use Rattle.toml_edit_laws.proofs.common.Tests.{and_left, and_right, and_both, same_text-refl}
 use Rattle.toml_edit_laws.proofs.common.PathLaws.{is_front}
 use Rattle.toml_edit_laws.proofs.mentions.RankLaws.{line-along}
@@ -29,6 +29,9 @@ use Rattle.toml_edit_laws.proofs.common.Cores.{Core, cores, keys_of_segments}
 use Rattle.toml_edit_laws.proofs.common.Pairs.{AllPairs, pairs-of}
 use Rattle.toml_edit_laws.proofs.common.Each.{all-map, all-image}
 use Rattle.toml_edit_model.specs.Order.{insert_by, sorted_by, is_sorted_by}
+use Rattle.toml_edit_model.specs.Roles.{Role, dotted_role, value_role, implied_role, header_role, array_role, continued_role, may_meet_inline}
+use Rattle.toml_edit_model.specs.Kept.{rank, stands_before, kept_path}
+use Rattle.toml_edit_model.specs.Settled.{own_path, same_segment, same_segments, is_kept, are_settled_pairs, is_shown_text, is_shown_frame, is_settled_value, are_settled_elements, have_settled_values}
 
 -- ---- ranks by paths
 
@@ -106,12 +109,12 @@ inline-ends dotted_role implied_role h = absurd cc
 inline-ends dotted_role header_role h = absurd cc
 inline-ends dotted_role array_role h = absurd cc
 inline-ends dotted_role value_role h = absurd cc
-inline-ends dotted_role through_role h = absurd cc
+inline-ends dotted_role continued_role h = absurd cc
 inline-ends implied_role q h = absurd cc
 inline-ends header_role q h = absurd cc
 inline-ends array_role q h = absurd cc
 inline-ends value_role q h = absurd cc
-inline-ends through_role q h = absurd cc
+inline-ends continued_role q h = absurd cc
 
 -- ---- pairs as lines of one block
 
@@ -175,8 +178,8 @@ spaced m (f, v, n, start, is, b, q) =
     record {
       whole = line-whole (source_at n f v) start [] f.path;
       own =
-          own-trimmed [] own (line-whole (source_at n f v) start [] f.path) (ap begins_bare path_is ∙ q.1.begins)
-          (ap ends_bare path_is ∙ q.1.ends);
+          own-trimmed [] own (line-whole (source_at n f v) start [] f.path) (ap begins_unspaced path_is ∙ q.1.begins)
+          (ap ends_unspaced path_is ∙ q.1.ends);
       header_base = λ e. absurd cc;
       roles = λ e. of-line (source_at n f v) start [] f.path;
     }
@@ -276,12 +279,12 @@ ordered-settled ps h g =
 module _ (mode : Mode) where
   -- ---- values
 
-  settled-from : (ps : Pairs) → EachPair (λ f v. (is_lean_frame mode f ≡ true) × (is_settled_value mode v ≡ true)) ps → have_settled_values mode ps ≡ true
+  settled-from : (ps : Pairs) → EachPair (λ f v. (is_shown_frame mode f ≡ true) × (is_settled_value mode v ≡ true)) ps → have_settled_values mode ps ≡ true
   settled-from no_pairs h = refl
   settled-from (pair f v ps) h =
-      and_both (is_lean_frame mode f) (is_settled_value mode v && have_settled_values mode ps) h.0.0 (and_both (is_settled_value mode v) (have_settled_values mode ps) h.0.1 (settled-from ps h.1))
+      and_both (is_shown_frame mode f) (is_settled_value mode v && have_settled_values mode ps) h.0.0 (and_both (is_settled_value mode v) (have_settled_values mode ps) h.0.1 (settled-from ps h.1))
 
-  pub lean-is : (f : Frame) → is_lean_frame mode (lean_frame mode f) ≡ true
+  pub lean-is : (f : Frame) → is_shown_frame mode (shown_frame mode f) ≡ true
   lean-is f = and_both (is_shown_text mode (shown_text mode f.leading)) (is_shown_text mode (shown_text mode f.trailing)) (no-return mode f.leading) (no-return mode f.trailing)
 
   mutual
@@ -297,7 +300,7 @@ module _ (mode : Mode) where
         and_both (is_shown_text mode (shown_text mode t) && are_settled_pairs (pair_mentions 0 new)) (have_settled_values mode new)
         (and_both (is_shown_text mode (shown_text mode t)) (are_settled_pairs (pair_mentions 0 new)) (no-return mode t) (ordered-settled (normal_pairs mode ps) are (normal-agree mode 0 0 0 ps first)))
         (settled-from new
-        (ordered-each (λ f v. (is_lean_frame mode f ≡ true) × (is_settled_value mode v ≡ true)) (λ f v. (is_lean_frame mode f ≡ true) × (is_settled_value mode v ≡ true)) (normal_pairs mode ps) are
+        (ordered-each (λ f v. (is_shown_frame mode f ≡ true) × (is_settled_value mode v ≡ true)) (λ f v. (is_shown_frame mode f ≡ true) × (is_settled_value mode v ≡ true)) (normal_pairs mode ps) are
         (λ f v n start e g. g) (pairs-settled ps h.1 a b rest)))
 
     elements-settled : (es : Elements) → AreElements es → elements_have_short_keys es ≡ true → elements_keep_ranges es ≡ true → elements_have_agreeing_pairs es ≡ true
@@ -313,7 +316,7 @@ module _ (mode : Mode) where
         (and_right (has_agreeing_pairs v) (elements_have_agreeing_pairs es) c)))
 
     pairs-settled : (ps : Pairs) → ArePairs ps → pairs_have_short_keys ps ≡ true → pairs_keep_ranges ps ≡ true → pairs_have_agreeing_pairs ps ≡ true
-        → EachPair (λ f v. (is_lean_frame mode f ≡ true) × (is_settled_value mode v ≡ true)) (normal_pairs mode ps)
+        → EachPair (λ f v. (is_shown_frame mode f ≡ true) × (is_settled_value mode v ≡ true)) (normal_pairs mode ps)
     pairs-settled no_pairs h a b c = tt
     pairs-settled (pair f v ps) h a b c =
         let short = and_right (is_short f.path) (has_short_keys v && pairs_have_short_keys ps) a in (

@@ -6,14 +6,14 @@ use Rattle.std.proofs.lemmas.List.{length-map}
 use Rattle.std.proofs.lemmas.List.Folds.{list_all-append}
 use Rattle.toml_edit_model.specs.Mode.{Mode}
 use Rattle.toml_edit_model.specs.Text.{Text, one, is_empty}
-use Rattle.toml_edit_model.specs.Syntax.{Value, Elements, no_elements, element, Pairs, no_pairs, pair, depth, elements_depth, pairs_depth, most, is_short, has_short_keys, elements_have_short_keys, pairs_have_short_keys, keeps_limits}
+use Rattle.toml_edit_model.specs.Syntax.{Value, Elements, no_elements, element, Pairs, no_pairs, pair, depth, elements_depth, pairs_depth, nesting_limit, is_short, has_short_keys, elements_have_short_keys, pairs_have_short_keys, keeps_limits}
 use Rattle.toml_edit_model.specs.Paths.{Path}
 use Rattle.toml_edit_model.specs.Tree.{Key, Node, nothing, leaf, list, inline, table, tables, Items, no_items, item, Slots, no_slots, slot, Tree, shown_raw, node_decor}
-use Rattle.toml_edit_model.specs.TreeOf.{owned_node, owned_items, owned_slots, owned_tree}
 use Rattle.toml_edit_model.specs.HeaderOrder.{Placed, in_header_order}
 use Rattle.toml_edit_model.specs.Print.{Line, segments, segments_after, is_line_node, table_lines, dotted_lines, inside_lines, lines_inside, lines_of, line_of, value_of, elements_of, around_of, add_after, close_array, add_after_pairs, close_inline, pairs_of_lines, line_statement, has_header, header_statement, Printed, printed_line, printed_header, printed_table, printed_tables, statements_of}
 use Rattle.toml_edit_laws.proofs.normal_texts.SpansWalk.{key, visit, line, inside-owned, lines-owned, header-same, placed_visit, order-owned}
 use Rattle.toml_edit_laws.proofs.common.Each.{all-append}
+use Rattle.toml_edit_model.specs.OwnedForm.{owned_node, owned_items, owned_slots, owned_tree}
 
 -- ---- closing texts
 
@@ -71,7 +71,7 @@ module _ (mode : Mode) where
 
   module _ (source : Text) where
     short-same : (ks : List Key) → is_short (segments mode (map (key mode source) ks)) ≡ is_short (segments mode ks)
-    short-same ks = ap (λ n. nat_le n most) (segments-length (map (key mode source) ks) ∙ length-map ks (key mode source) ∙ sym (segments-length ks))
+    short-same ks = ap (λ n. nat_le n nesting_limit) (segments-length (map (key mode source) ks) ∙ length-map ks (key mode source) ∙ sym (segments-length ks))
 
     -- depth and keys stay
     abbrev Same : Value → Value → Type 0
@@ -112,12 +112,12 @@ module _ (mode : Mode) where
       node-same (table f ss) = (refl, refl)
       node-same (tables e xs) = (refl, refl)
       node-same (list f xs) =
-          let one = close-depth f.comma (shown_raw mode (Rattle.toml_edit_model.specs.TreeOf.owned_raw source f.trailing)) (elements_of mode (owned_items source xs) true) in
+          let one = close-depth f.comma (shown_raw mode (Rattle.toml_edit_model.specs.OwnedForm.owned_raw source f.trailing)) (elements_of mode (owned_items source xs) true) in
           let other = close-depth f.comma (shown_raw mode f.trailing) (elements_of mode xs true) in
           let both = items-same xs true in
           (one.0 ∙ ap suc both.0 ∙ sym other.0, one.1 ∙ both.1 ∙ sym other.1)
       node-same (inline f ss) =
-          let one = close-pairs f.comma (shown_raw mode (Rattle.toml_edit_model.specs.TreeOf.owned_raw source f.trailing)) (pairs_of_lines mode (inside_lines mode (owned_slots source ss) [])) in
+          let one = close-pairs f.comma (shown_raw mode (Rattle.toml_edit_model.specs.OwnedForm.owned_raw source f.trailing)) (pairs_of_lines mode (inside_lines mode (owned_slots source ss) [])) in
           let other = close-pairs f.comma (shown_raw mode f.trailing) (pairs_of_lines mode (inside_lines mode ss [])) in
           let first = pairs-lines (inside_lines mode (owned_slots source ss) []) in
           let second = pairs-lines (inside_lines mode ss []) in
@@ -212,9 +212,9 @@ module _ (mode : Mode) where
     lines-keep [] h = refl
     lines-keep (l ∷ ls) h =
         let new : Value = value_of mode (owned_node source l.item) in
-        ap (λ b. (b && (nat_le (depth new) most && has_short_keys new)) && lines_keep (map (line mode source) ls)) (short-same l.keys)
-        ∙ ap (λ n. (is_short (segments mode l.keys) && (nat_le n most && has_short_keys new)) && lines_keep (map (line mode source) ls)) h.0.0
-        ∙ ap (λ b. (is_short (segments mode l.keys) && (nat_le (depth l.value) most && b)) && lines_keep (map (line mode source) ls)) h.0.1
+        ap (λ b. (b && (nat_le (depth new) nesting_limit && has_short_keys new)) && lines_keep (map (line mode source) ls)) (short-same l.keys)
+        ∙ ap (λ n. (is_short (segments mode l.keys) && (nat_le n nesting_limit && has_short_keys new)) && lines_keep (map (line mode source) ls)) h.0.0
+        ∙ ap (λ b. (is_short (segments mode l.keys) && (nat_le (depth l.value) nesting_limit && b)) && lines_keep (map (line mode source) ls)) h.0.1
         ∙ ap (λ b. keeps_limits (line_statement mode l) && b) (lines-keep ls h.1)
 
     table-owned : (g : Placed) → table_keeps (placed_visit mode source g) ≡ table_keeps g

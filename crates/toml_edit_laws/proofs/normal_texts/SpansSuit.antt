@@ -7,11 +7,11 @@ use Rattle.toml_edit_model.specs.Mode.{Mode, shown_text, with_return}
 use Rattle.toml_edit_model.specs.Text.{Text, one}
 use Rattle.toml_edit_model.specs.Trivia.{IsWhiteSpace, IsWholeTrivia, IsFinalTrivia}
 use Rattle.toml_edit_model.specs.Syntax.{Segment, Value, scalar, array, inline_table, Elements, no_elements, element, Pairs, no_pairs, pair, Statement, key_line, header, Document, value_text, frame_text, path_text}
-use Rattle.toml_edit_model.specs.Paths.{at_key, at_element, Path, to_key, to_element, Role, dotted_role, implied_role, header_role, array_role, value_role, through_role, Mention, next_start, line_mentions, Source, all_mentions}
+use Rattle.toml_edit_model.specs.Paths.{at_key, at_element, Path, to_key, to_element, Mention, next_start, line_mentions, Source, all_mentions}
 use Rattle.toml_edit_model.specs.Tree.{Raw, owned, span, ArrayFields, InlineFields, TableFields, Decor, unset, Key, Node, nothing, leaf, list, inline, table, tables, Items, no_items, item, Slots, no_slots, slot, Tree, shown_side, shown_prefix, shown_suffix, shown_raw, node_decor, is_value_node}
-use Rattle.toml_edit_model.specs.TreeOf.{spanned_in, owned_in, span_of, decor_at, under, arrays, kept, ends_path, Entry, entry_of, entries, key_of, key_at, statement_leaf, fields_of, header_fields, IsValueNode, IsLineNode, AreElementNodes, AreEntrySlots, IsNodeOf, AreElementsOf, AreSlotsOf, IsTreeOf, owned_tree}
+use Rattle.toml_edit_model.specs.TreeOf.{spanned_in, owned_in, span_of, decor_at, Entry, entry_of, entries, key_of, key_at, statement_leaf, fields_of, header_fields, IsValueNode, IsLineNode, AreElementNodes, AreEntrySlots, IsNodeOf, AreElementsOf, AreSlotsOf, IsTreeOf}
 use Rattle.toml_edit_model.specs.HeaderOrder.{visit_of, node_walk, items_walk, slots_walk, walk, places_from, comes_before, in_header_order}
-use Rattle.toml_edit_model.specs.Print.{blank, Line, last_leaf, is_line_node, table_lines, dotted_lines, line_of, value_of}
+use Rattle.toml_edit_model.specs.Print.{one_space, Line, last_leaf, is_line_node, table_lines, dotted_lines, line_of, value_of}
 use Rattle.toml_edit_model.specs.Accepted.{AcceptedAs}
 use Rattle.toml_edit_model.specs.Fits.{LineSuits, ElementSuits, Suits, ItemsSuit, InsideSuits, NodeSuitsInside, EndsLine, PrintedLineSuits, TableSuits, DecorsSuit, FitsIn}
 use Rattle.toml_edit_laws.specs.TextsFit.{SpansFit}
@@ -29,6 +29,9 @@ use Rattle.toml_edit_laws.proofs.normal_texts.SpansLimits.{limits-owned}
 use Rattle.toml_edit_laws.proofs.mentions.KeptOrder.{kept-all}
 use Rattle.toml_edit_laws.proofs.common.Trivia.{empty-trivia}
 use Rattle.toml_edit_laws.proofs.common.Each.{all-append, all-map}
+use Rattle.toml_edit_model.specs.Roles.{Role, dotted_role, implied_role, header_role, array_role, value_role, continued_role, ends_path}
+use Rattle.toml_edit_model.specs.TableMentions.{under, array_headers, kept}
+use Rattle.toml_edit_model.specs.OwnedForm.{owned_tree}
 
 -- ---- sides that are no texts of their own
 
@@ -82,8 +85,8 @@ module _ (mode : Mode) where
 
   bare-line : (MayFollow : Text → Type 0) → MayFollow [] → (ks : List Key) (k : Key) (n : Node) → AreSpacedKeys mode (ks ++ one k) → IsBare k.leaf → IsBare (node_decor n) → LineSuits mode MayFollow (ks ++ one k) n
   bare-line MayFollow none ks k n s h g =
-      line-suits mode MayFollow ks k n s (bare-shown IsWholeTrivia [] k.leaf.prefix h.0 empty-trivia empty-trivia) (bare-shown IsWhiteSpace blank k.leaf.suffix h.1 refl refl)
-      (bare-shown IsWhiteSpace blank (node_decor n).prefix g.0 refl refl) (bare-shown MayFollow [] (node_decor n).suffix g.1 none none)
+      line-suits mode MayFollow ks k n s (bare-shown IsWholeTrivia [] k.leaf.prefix h.0 empty-trivia empty-trivia) (bare-shown IsWhiteSpace one_space k.leaf.suffix h.1 refl refl)
+      (bare-shown IsWhiteSpace one_space (node_decor n).prefix g.0 refl refl) (bare-shown MayFollow [] (node_decor n).suffix g.1 none none)
 
   raw-trivia : (i : ℕ) (t : Text) → IsWholeTrivia (shown_raw mode (span_of i t))
   raw-trivia i t = bare-shown IsWholeTrivia [] (Some (span_of i t)) (span-bare i t) empty-trivia empty-trivia
@@ -229,7 +232,7 @@ module _ (mode : Mode) where
   role-bare us m implied_role = unset-bare
   role-bare us m array_role = unset-bare
   role-bare us m value_role = unset-bare
-  role-bare us m through_role = unset-bare
+  role-bare us m continued_role = unset-bare
 
   inner-bare : (d : Decor) → IsBare d → IsInner mode d
   inner-bare d h = (bare-shown IsWhiteSpace [] d.prefix h.0 refl refl, bare-shown IsWhiteSpace [] d.suffix h.1 refl refl)
@@ -253,7 +256,7 @@ module _ (mode : Mode) where
       visit-suits p js false i ss us s l (subst (λ (o : TableFields). IsBare o.decor) (sym g.1) (role-bare us m m.role)) g.2,
       slots-visits ss us (kept us) p js s g.2,
     )
-    node-visits (tables x xs) us m p js s l g = items-visits xs us (arrays us) 0 p js 0 s l g.2
+    node-visits (tables x xs) us m p js s l g = items-visits xs us (array_headers us) 0 p js 0 s l g.2
 
     items-visits : (xs : Items) (us hs : List (Mention Source)) (i : ℕ) (p : Path) (js : List Key) (n : ℕ) → AreSpacedKeys mode js → IsBare (last_leaf js)
         → AreElementsOf (spanned_in mode) us i hs xs → AllVisits mode (items_walk xs p js n)

@@ -7,12 +7,12 @@ use Rattle.toml_edit_model.specs.Mode.{Mode}
 use Rattle.toml_edit_model.specs.Text.{Text, one, is_empty}
 use Rattle.toml_edit_model.specs.Paths.{Path, to_key, to_element}
 use Rattle.toml_edit_model.specs.Tree.{Key, Node, nothing, leaf, list, inline, table, tables, Items, no_items, item, Slots, no_slots, slot, Tree}
-use Rattle.toml_edit_model.specs.TreeOf.{owned_key, owned_fields, owned_node, owned_items, owned_slots, owned_tree}
 use Rattle.toml_edit_model.specs.HeaderOrder.{Visit, visit_of, node_walk, items_walk, slots_walk, walk, Placed, place_of, places_from, is_root, comes_before, in_header_order}
 use Rattle.toml_edit_model.specs.Print.{Line, is_line_node, table_lines, dotted_lines, inside_lines, lines_inside, lines_of, line_of, value_of, has_header}
 use Rattle.toml_edit_model.specs.Fits.{is_undotted, is_too_late, none_too_late, headed, elements_are_ordered}
 use Rattle.toml_edit_laws.proofs.common.OrderLaws.{sorted-alike, sorted-image}
 use Rattle.toml_edit_model.specs.Order.{sorted_by}
+use Rattle.toml_edit_model.specs.OwnedForm.{owned_key, owned_fields, owned_node, owned_items, owned_slots, owned_tree}
 
 module _ (mode : Mode) where
   module _ (source : Text) where

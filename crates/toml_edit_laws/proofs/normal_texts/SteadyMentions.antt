@@ -6,9 +6,7 @@ use Rattle.std.specs.List.{AllByRecursion}
 use Rattle.std.proofs.lemmas.Bool.{cases_Bool, or_cases, or_from}
 use Rattle.toml_edit_model.specs.Text.{Text, one}
 use Rattle.toml_edit_model.specs.Syntax.{Segment, Statement, key_line, header, Document}
-use Rattle.toml_edit_model.specs.Paths.{at_key, at_element, Path, same_path, to_key, to_element, Role, dotted_role, header_role, array_role, value_role, passing_role, Mention, next_start, Source, Context, line_mentions, elements_at, in_last, header_mentions, header_path, header_role_of, path_start, source_of, mentions_of, context_after, placed_from, start_context, all_mentions}
-use Rattle.toml_edit_model.specs.Normal.{is_header_role}
-use Rattle.toml_edit_model.specs.TreeOf.{under, some_at, is_slot, kept_from, kept}
+use Rattle.toml_edit_model.specs.Paths.{at_key, at_element, Path, same_path, to_key, to_element, passing_role, Mention, next_start, Source, Context, line_mentions, elements_at, in_last, header_mentions, header_path, header_role_of, path_start, source_of, mentions_of, context_after, placed_from, start_context, all_mentions}
 use Rattle.toml_edit_laws.proofs.common.Tests.{and_left, or-true, true-false, append-nil}
 use Rattle.toml_edit_laws.proofs.common.PathLaws.{same_path-is, same_path-refl}
 use Rattle.toml_edit_laws.proofs.mentions.KeptOrder.{document-named, slot-parts}
@@ -19,6 +17,8 @@ use Rattle.toml_edit_laws.proofs.mentions.Placed.{is_header}
 use Rattle.toml_edit_laws.proofs.mentions.SomeAt.{some_at-append, some_at-under, any-test}
 use Rattle.toml_edit_laws.proofs.common.Each.{all-append}
 use Rattle.toml_edit_laws.proofs.mentions.Named.{EndsIn, AreNamed, single-named, under-named}
+use Rattle.toml_edit_model.specs.Roles.{Role, dotted_role, header_role, array_role, value_role, is_header_role}
+use Rattle.toml_edit_model.specs.TableMentions.{under, some_at, is_slot, kept_from, kept}
 
 -- ---- roles
 

@@ -7,10 +7,9 @@ use Rattle.std.proofs.lemmas.List.Folds.{list_all-append}
 use Rattle.toml_edit_model.specs.Mode.{Mode}
 use Rattle.toml_edit_model.specs.Text.{Text, one, is_empty}
 use Rattle.toml_edit_model.specs.Syntax.{scalar, array, inline_table, Statement, key_line, header, Document}
-use Rattle.toml_edit_model.specs.Paths.{at_key, at_element, Path, same_path, to_key, to_element, Role, dotted_role, implied_role, header_role, array_role, value_role, through_role, Mention, Source, all_mentions}
-use Rattle.toml_edit_model.specs.Normal.{is_header_role}
+use Rattle.toml_edit_model.specs.Paths.{at_key, at_element, Path, same_path, to_key, to_element, Mention, Source, all_mentions}
 use Rattle.toml_edit_model.specs.Tree.{Key, TableFields, InlineFields, Node, nothing, leaf, list, inline, table, tables, Items, no_items, item, Slots, no_slots, slot, Tree}
-use Rattle.toml_edit_model.specs.TreeOf.{owned_in, under, some_at, roles, arrays, own, kept, is_dotted_role, is_array_role, made_by_path, headed_by, header_fields, fields_of, key_extent, IsLineNode, IsNodeOf, AreElementsOf, AreSlotsOf, IsTreeOf}
+use Rattle.toml_edit_model.specs.TreeOf.{owned_in, made_by_path, headed_by, header_fields, fields_of, key_extent, IsLineNode, IsNodeOf, AreElementsOf, AreSlotsOf, IsTreeOf}
 use Rattle.toml_edit_model.specs.HeaderOrder.{Visit, visit_of, node_walk, items_walk, slots_walk, walk}
 use Rattle.toml_edit_model.specs.Print.{Line, table_lines, has_header}
 use Rattle.toml_edit_model.specs.Fits.{is_undotted, is_dotted_inline, has_no_dotted_inline, has_steady_header, is_steady_visit, is_steady_in}
@@ -21,6 +20,8 @@ use Rattle.toml_edit_laws.proofs.mentions.RoleTests.{is_bracket_role, array-brac
 use Rattle.toml_edit_laws.proofs.mentions.Placed.{is_header}
 use Rattle.toml_edit_laws.proofs.mentions.SomeAt.{some_at-under}
 use Rattle.toml_edit_laws.proofs.common.Each.{all-filter, all_pass, all-map}
+use Rattle.toml_edit_model.specs.Roles.{Role, dotted_role, implied_role, header_role, array_role, value_role, continued_role, is_header_role, is_dotted_role, is_array_role}
+use Rattle.toml_edit_model.specs.TableMentions.{under, some_at, roles, array_headers, own, kept}
 
 -- ---- visits
 
@@ -50,7 +51,7 @@ dotted-direct (m ∷ ms) k h =
     direct true implied_role e = absurd cc
     direct true header_role e = absurd cc
     direct true array_role e = absurd cc
-    direct true through_role e = absurd cc
+    direct true continued_role e = absurd cc
     direct false r e = absurd cc
 
 opening-none : (p : Path) (us : List (Mention Source)) → some_at is_header_role p us ≡ false → some_at is_dotted_role p us ≡ false → some_at is_opening p us ≡ false
@@ -68,16 +69,16 @@ opening-none p (m ∷ us) h g =
     by_role true implied_role e f = refl
     by_role true array_role e f = refl
     by_role true value_role e f = refl
-    by_role true through_role e f = refl
+    by_role true continued_role e f = refl
     by_role false r e f = refl
 
 -- the mentions of an array's elements are of headers
 abbrev pub AreElements : List (Mention Source) → Type 0
 AreElements ms = AllByRecursion (λ a. is_header a.source.statement ≡ true) ms
 
-pub elements-headed : (us : List (Mention Source)) → AllByRecursion IsBracketed us → AreElements (arrays us)
+pub elements-headed : (us : List (Mention Source)) → AllByRecursion IsBracketed us → AreElements (array_headers us)
 elements-headed us h =
-    all-map (λ a. IsBracketed a × (is_array_role a.role ≡ true)) (λ a. is_header a.source.statement ≡ true) (arrays us)
+    all-map (λ a. IsBracketed a × (is_array_role a.role ≡ true)) (λ a. is_header a.source.statement ≡ true) (array_headers us)
     (λ a g. g.0 (array-bracket a.role g.1))
     (all_pass IsBracketed (λ a. is_array_role a.role) (own us) (all-filter IsBracketed (λ a. is_empty a.path) us h))
 
@@ -130,7 +131,7 @@ module _ (mode : Mode) where
   dotted-role us m implied_role h = h
   dotted-role us m array_role h = h
   dotted-role us m value_role h = h
-  dotted-role us m through_role h = h
+  dotted-role us m continued_role h = h
 
   no-lines : (ms ks : List (Mention Source)) (ss : Slots) (js : List Key) → SaysNothing ms → AllByRecursion (IsSlotOf ms) ks → AreSlotsOf (owned_in mode) ms ks ss → table_lines mode ss js ≡ []
   no-lines ms [] no_slots js none g h = refl
@@ -223,7 +224,7 @@ module _ (mode : Mode) where
   steady-table us m p js f ss are none b implied_role r e h = ap (λ g. fine (visit_of p js false g ss)) e ∙ path-made us m p js ss are (none (ap is_header_role r)) h
   steady-table us m p js f ss are none b array_role r e h = ap (λ g. fine (visit_of p js false g ss)) e ∙ path-made us m p js ss are (none (ap is_header_role r)) h
   steady-table us m p js f ss are none b value_role r e h = ap (λ g. fine (visit_of p js false g ss)) e ∙ path-made us m p js ss are (none (ap is_header_role r)) h
-  steady-table us m p js f ss are none b through_role r e h = ap (λ g. fine (visit_of p js false g ss)) e ∙ path-made us m p js ss are (none (ap is_header_role r)) h
+  steady-table us m p js f ss are none b continued_role r e h = ap (λ g. fine (visit_of p js false g ss)) e ∙ path-made us m p js ss are (none (ap is_header_role r)) h
 
   -- ---- the walk
 
@@ -237,7 +238,7 @@ module _ (mode : Mode) where
     node-fine us m (table f ss) p js are none b h =
         and_both (fine (visit_of p js false f ss)) (list_all fine (slots_walk ss p js)) (steady-table us m p js f ss are none b m.role refl h.1 h.2)
         (slots-fine false us (kept us) ss p js are (kept-slots false us are) h.2)
-    node-fine us m (tables e xs) p js are none b h = items-fine us (arrays us) xs 0 p js 0 are (elements-headed us are.bracketed) h.2
+    node-fine us m (tables e xs) p js are none b h = items-fine us (array_headers us) xs 0 p js 0 are (elements-headed us are.bracketed) h.2
 
     items-fine : (us as_left : List (Mention Source)) (xs : Items) (i : ℕ) (p : Path) (js : List Key) (n : ℕ) → IsOfTable false us → AreElements as_left
         → AreElementsOf (owned_in mode) us i as_left xs → AllFine (items_walk xs p js n)

@@ -7,11 +7,11 @@ use Rattle.toml_edit_model.specs.Mode.{Mode, plain, exact, shown_text, with_retu
 use Rattle.toml_edit_model.specs.Text.{Text, one, is_empty}
 use Rattle.toml_edit_model.specs.Trivia.{IsWhiteSpace, IsWholeTrivia, IsLineEnd, IsFinalTrivia}
 use Rattle.toml_edit_model.specs.Syntax.{Statement, key_line, header, Document, IsSpacedSegment, IsDocument}
-use Rattle.toml_edit_model.specs.Paths.{at_key, at_element, Path, to_key, to_element, Role, dotted_role, implied_role, header_role, array_role, value_role, through_role, Mention, Source, Placed, placed, start_context, all_mentions}
+use Rattle.toml_edit_model.specs.Paths.{at_key, at_element, Path, to_key, to_element, Mention, Source, Placed, placed, start_context, all_mentions}
 use Rattle.toml_edit_model.specs.Tree.{owned, Decor, unset, Key, TableFields, Node, nothing, leaf, list, inline, table, tables, Items, no_items, item, Slots, no_slots, slot, Tree, shown_prefix, shown_suffix, shown_raw, node_decor}
-use Rattle.toml_edit_model.specs.TreeOf.{is_array_role, own, ends_path, owned_in, under, arrays, kept, key_at, statement_leaf, frame_leaf, fields_of, header_fields, IsTableRole, IsLineNode, IsNodeOf, AreElementsOf, AreSlotsOf, IsTreeOf}
+use Rattle.toml_edit_model.specs.TreeOf.{owned_in, key_at, statement_leaf, frame_leaf, fields_of, header_fields, IsTableRole, IsLineNode, IsNodeOf, AreElementsOf, AreSlotsOf, IsTreeOf}
 use Rattle.toml_edit_model.specs.HeaderOrder.{Visit, visit_of, node_walk, items_walk, slots_walk, walk, places_from, place_of, comes_before, in_header_order}
-use Rattle.toml_edit_model.specs.Print.{blank, Line, last_leaf, is_line_node, table_lines, dotted_lines, lines_of, line_of, value_of, has_header, key_prefix}
+use Rattle.toml_edit_model.specs.Print.{one_space, Line, last_leaf, is_line_node, table_lines, dotted_lines, lines_of, line_of, value_of, has_header, key_prefix}
 use Rattle.toml_edit_model.specs.Fits.{LineSuits, Suits, EndsLine, PrintedLineSuits, HeaderSuits, TableSuits, DecorsSuit}
 use Rattle.toml_edit_laws.proofs.common.LineEnds.{IsEnd, ended}
 use Rattle.toml_edit_laws.proofs.common.OrderLaws.{all-sorted}
@@ -28,6 +28,8 @@ use Rattle.toml_edit_laws.proofs.mentions.RoleTests.{is_bracket_role}
 use Rattle.toml_edit_laws.proofs.common.Trivia.{empty-trivia, white-feed, empty-end}
 use Rattle.toml_edit_laws.proofs.mentions.Placed.{is_header}
 use Rattle.toml_edit_laws.proofs.common.Each.{all-append, all-filter, all-map}
+use Rattle.toml_edit_model.specs.Roles.{Role, dotted_role, implied_role, header_role, array_role, value_role, continued_role, is_array_role, ends_path}
+use Rattle.toml_edit_model.specs.TableMentions.{own, under, array_headers, kept}
 
 -- ---- mentions
 
@@ -46,7 +48,7 @@ fit-element i ms h = all-under IsFitSource (λ m t p e a. a) (at_element i) ms h
 fit-kept : (ms : List (Mention Source)) → AllFit ms → AllFit (kept ms)
 fit-kept ms h = kept-all IsFitSource [] ms h
 
-arrays-fit : (us : List (Mention Source)) → AllFit us → AllFit (arrays us)
+arrays-fit : (us : List (Mention Source)) → AllFit us → AllFit (array_headers us)
 arrays-fit us h = all-filter IsFitSource (λ m. is_array_role m.role) (own us) (all-filter IsFitSource (λ m. is_empty m.path) us h)
 
 both-fit : (ms : List (Mention Source)) → AllByRecursion IsRightMention ms → AllByRecursion IsBracketed ms → AllFit ms
@@ -91,8 +93,8 @@ module _ (mode : Mode) where
           let decor : node_decor n ≡ record { prefix = Some (owned f.after_equals); suffix = Some (owned (with_return mode f.trailing end)) } = owned-decor mode v _ 0 0 f.after_equals (with_return mode f.trailing end) n g in (
             value-line (owned_in mode) v _ f.after_equals (with_return mode f.trailing end) n g,
             line-suits mode (EndsLine mode) js k n spaced (subst (λ (d : Decor). IsWholeTrivia (shown_prefix mode [] d)) (sym leaf) (lean-trivia mode f.leading a.0.0.leading))
-                (subst (λ (d : Decor). IsWhiteSpace (shown_suffix mode blank d)) (sym leaf) (lean-white mode f.before_equals a.0.0.before_equals))
-                (subst (λ (d : Decor). IsWhiteSpace (shown_prefix mode blank d)) (sym decor) (lean-white mode f.after_equals a.0.0.after_equals))
+                (subst (λ (d : Decor). IsWhiteSpace (shown_suffix mode one_space d)) (sym leaf) (lean-white mode f.before_equals a.0.0.before_equals))
+                (subst (λ (d : Decor). IsWhiteSpace (shown_prefix mode one_space d)) (sym decor) (lean-white mode f.after_equals a.0.0.after_equals))
                 (subst (λ (d : Decor). EndsLine mode (shown_suffix mode [] d)) (sym decor) (ends-line mode f.trailing end a.0.0.trailing a.2)),
             node-suits mode n v _ f.after_equals (with_return mode f.trailing end) a.1 g,
           )
@@ -164,7 +166,7 @@ module _ (mode : Mode) where
   role-fields us m implied_role h = (empty-trivia, empty-ends mode)
   role-fields us m array_role h = (empty-trivia, empty-ends mode)
   role-fields us m value_role h = (empty-trivia, empty-ends mode)
-  role-fields us m through_role h = (empty-trivia, empty-ends mode)
+  role-fields us m continued_role h = (empty-trivia, empty-ends mode)
 
   leaf-inner : (source : Source) (s : Statement) → IsAny s → is_header s ≡ true → IsInner (statement_leaf (owned_in mode) source s)
   leaf-inner source (key_line f v end) h e = absurd cc
@@ -181,7 +183,7 @@ module _ (mode : Mode) where
   key-inner m value_role e none f = absurd (none refl)
   key-inner m dotted_role e none f = unset-inner
   key-inner m implied_role e none f = unset-inner
-  key-inner m through_role e none f = unset-inner
+  key-inner m continued_role e none f = unset-inner
 
   slot-inner : (k : Key) (m : Mention Source) (js : List Key) → k ≡ key_at (owned_in mode) m → (m.role ≡ value_role → ⊥) → IsFitSource m → IsInner (last_leaf (js ++ one k))
   slot-inner k m js e none f =
@@ -210,7 +212,7 @@ module _ (mode : Mode) where
           slots-visits ss us (kept us) p (js ++ one k) h (fit-kept us h) s g.2,
         )
     node-visits (tables x xs) k us m p js h f s e g =
-        items-visits xs us (arrays us) 0 p (js ++ one k) 0 h (arrays-fit us h) s (slot-inner k m js e (λ r. clash (sym g.0 ∙ r)) f) g.2
+        items-visits xs us (array_headers us) 0 p (js ++ one k) 0 h (arrays-fit us h) s (slot-inner k m js e (λ r. clash (sym g.0 ∙ r)) f) g.2
       where
         clash : array_role ≡ value_role → ⊥
         clash q = cc

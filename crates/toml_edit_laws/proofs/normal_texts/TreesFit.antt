@@ -4,11 +4,11 @@ use Rattle.std.specs.Prelude.{◌&&◌, ◌||◌, not, ℤ, pos, negsuc, map, fi
 use Rattle.std.specs.List.{AllByRecursion, list_all}
 use Rattle.toml_edit_model.specs.Mode.{Mode, plain, exact}
 use Rattle.toml_edit_model.specs.Syntax.{Statement, key_line, Header, header, Document, open_statements, IsDocument, keeps_limits, is_ranged}
-use Rattle.toml_edit_model.specs.Paths.{header_role_of, header_role, array_role, Mention, Source, Context, context_after, placed_from, placed, start_context, all_mentions}
+use Rattle.toml_edit_model.specs.Paths.{header_role_of, Mention, Source, Context, context_after, placed_from, placed, start_context, all_mentions}
 use Rattle.toml_edit_model.specs.Accepted.{has_agreeing_tables, is_sound, is_accepted}
 use Rattle.toml_edit_model.specs.Normal.{has_open_end, normal_last, normal_in}
 use Rattle.toml_edit_model.specs.Tree.{TableFields, Tree, shown_prefix}
-use Rattle.toml_edit_model.specs.TreeOf.{owned_in, is_array_role, IsTreeOf}
+use Rattle.toml_edit_model.specs.TreeOf.{owned_in, IsTreeOf}
 use Rattle.toml_edit_model.specs.HeaderOrder.{Visit, walk, slots_walk, places_from, place_of, comes_before, in_header_order}
 use Rattle.toml_edit_model.specs.Print.{has_header, statements_of, written_statements, add_before}
 use Rattle.toml_edit_model.specs.Fits.{is_too_late, none_too_late, headed, elements_are_ordered, is_steady_visit, has_steady_header, has_own_prefix, has_no_dotted_inline, FitsIn}
@@ -28,6 +28,7 @@ use Rattle.toml_edit_laws.proofs.common.Statements.{add-nothing}
 use Rattle.toml_edit_laws.proofs.common.Pairs.{AllPairs, pairs-filter}
 use Rattle.toml_edit_laws.proofs.mentions.Placed.{source-statement}
 use Rattle.toml_edit_laws.proofs.one_by_one.Together.{accepted-right}
+use Rattle.toml_edit_model.specs.Roles.{header_role, array_role, is_array_role}
 
 -- ---- limits
 

@@ -5,10 +5,12 @@ use Rattle.std.specs.List.{AllByRecursion}
 use Rattle.std.proofs.lemmas.Bool.{eq-eqb, ne_eqb}
 use Rattle.std.proofs.lemmas.List.{length-append}
 use Rattle.toml_edit_model.specs.Text.{Text, one, is_empty}
-use Rattle.toml_edit_model.specs.Syntax.{Segment, begins_bare, ends_bare}
-use Rattle.toml_edit_model.specs.Paths.{at_key, at_element, Path, to_key, Role, dotted_role, header_role, array_role, value_role, passing_role, Mention, mention_of, next_start, line_mentions, elements_at, in_last, header_mentions}
-use Rattle.toml_edit_model.specs.Normal.{own_path, bare_end, bare_ends}
+use Rattle.toml_edit_model.specs.Syntax.{Segment, begins_unspaced, ends_unspaced}
+use Rattle.toml_edit_model.specs.Paths.{at_key, at_element, Path, to_key, passing_role, Mention, mention_of, next_start, line_mentions, elements_at, in_last, header_mentions}
 use Rattle.toml_edit_laws.proofs.values.ValueFaults.{is_empty-nil}
+use Rattle.toml_edit_model.specs.Roles.{Role, dotted_role, header_role, array_role, value_role}
+use Rattle.toml_edit_model.specs.Settled.{own_path}
+use Rattle.toml_edit_model.specs.Kept.{unspaced_end, unspaced_ends}
 
 -- the last segment of a statement has such a role
 abbrev pub is_last_role : Role → Bool
@@ -38,7 +40,7 @@ IsWhole b [] = Unit {0}
 IsWhole b (m ∷ []) = (is_last_role m.role ≡ true) × (is_next b m.path ≡ true)
 IsWhole b (m ∷ n ∷ rest) = (is_last_role m.role ≡ false) × (is_next b m.path ≡ true) × IsTail b (n ∷ rest)
 
-tail-trims : {S : Type 0} (b : Path) (g : Mention S → Segment) (ms : List (Mention S)) → IsTail b ms → bare_end (map g ms) ≡ map (trimmed b g) ms
+tail-trims : {S : Type 0} (b : Path) (g : Mention S → Segment) (ms : List (Mention S)) → IsTail b ms → unspaced_end (map g ms) ≡ map (trimmed b g) ms
 tail-trims b g [] h = refl
 tail-trims b g (m ∷ []) h = rw (h.0, h.1) refl
 tail-trims b g (m ∷ n ∷ rest) h =
@@ -50,7 +52,7 @@ tail-trims b g (m ∷ n ∷ rest) h =
     by_tests false false p q = refl
 
 -- Without outer white space the first and the last segments are trimmed.
-pub whole-trims : {S : Type 0} (b : Path) (g : Mention S → Segment) (ms : List (Mention S)) → IsWhole b ms → bare_ends (map g ms) ≡ map (trimmed b g) ms
+pub whole-trims : {S : Type 0} (b : Path) (g : Mention S → Segment) (ms : List (Mention S)) → IsWhole b ms → unspaced_ends (map g ms) ≡ map (trimmed b g) ms
 whole-trims b g [] h = refl
 whole-trims b g (m ∷ []) h = rw (h.0, h.1) refl
 whole-trims b g (m ∷ n ∷ rest) h =
@@ -143,16 +145,16 @@ header-whole source arrays role start b (s ∷ r ∷ rest) l =
 
 -- ---- paths with bare ends
 
-end-own : (ss : List Segment) → ends_bare ss ≡ true → bare_end ss ≡ ss
+end-own : (ss : List Segment) → ends_unspaced ss ≡ true → unspaced_end ss ≡ ss
 end-own [] h = refl
 end-own (s ∷ []) h = ap (λ t. record s { after = t } ∷ []) (sym (is_empty-nil s.after h))
 end-own (s ∷ r ∷ rest) h = ap (λ ss. s ∷ ss) (end-own (r ∷ rest) h)
 
-first-bare : (s : Segment) (rest : List Segment) → ends_bare (s ∷ rest) ≡ true → ends_bare (record s { before = [] } ∷ rest) ≡ true
+first-bare : (s : Segment) (rest : List Segment) → ends_unspaced (s ∷ rest) ≡ true → ends_unspaced (record s { before = [] } ∷ rest) ≡ true
 first-bare s [] h = h
 first-bare s (r ∷ rest) h = h
 
-ends-own : (ss : List Segment) → begins_bare ss ≡ true → ends_bare ss ≡ true → bare_ends ss ≡ ss
+ends-own : (ss : List Segment) → begins_unspaced ss ≡ true → ends_unspaced ss ≡ true → unspaced_ends ss ≡ ss
 ends-own [] b h = refl
 ends-own (s ∷ rest) b h =
     end-own (record s { before = [] } ∷ rest) (first-bare s rest h) ∙ ap (λ t. record s { before = t } ∷ rest) (sym (is_empty-nil s.before b))
@@ -162,7 +164,7 @@ maps-same f g [] h = tt
 maps-same f g (x ∷ xs) h = (let a : f x ≡ g x = cc in let b : map f xs ≡ map g xs = cc in (a, maps-same f g xs b))
 
 -- The segments of a path in the grammar are trimmed already.
-pub own-trimmed : {S : Type 0} (b : Path) (ms : List (Mention S)) → IsWhole b ms → begins_bare (own_path ms) ≡ true → ends_bare (own_path ms) ≡ true
+pub own-trimmed : {S : Type 0} (b : Path) (ms : List (Mention S)) → IsWhole b ms → begins_unspaced (own_path ms) ≡ true → ends_unspaced (own_path ms) ≡ true
     → AllByRecursion (λ m. trimmed b (λ k. k.segment) m ≡ m.segment) ms
 own-trimmed b ms h f g =
     maps-same (trimmed b (λ k. k.segment)) (λ k. k.segment) ms (sym (whole-trims b (λ k. k.segment) ms h) ∙ ends-own (own_path ms) f g)

@@ -5,10 +5,11 @@ use Rattle.std.specs.List.{list_all}
 use Rattle.std.proofs.lemmas.List.Folds.{list_all-append, list_all-map}
 use Rattle.toml_edit_model.specs.Syntax.{Document}
 use Rattle.toml_edit_model.specs.Version.{Version, v1_1, is_of_version}
-use Rattle.toml_edit_model.specs.Paths.{may_meet, Mention, Source, Placed, placed}
+use Rattle.toml_edit_model.specs.Paths.{Mention, Source, Placed, placed}
 use Rattle.toml_edit_model.specs.Accepted.{agree, all_agree, is_sound, is_sound_in, are_right_in, is_accepted}
 use Rattle.toml_edit_laws.specs.OneByOne.{is_right_in, all_right_in, all_right_after, OneByOne}
 use Rattle.toml_edit_laws.proofs.common.Tests.{and_left, and_right, and_both}
+use Rattle.toml_edit_model.specs.Roles.{may_meet}
 
 -- two tests that pass together
 pub same_test : (a b : Bool) → (a ≡ true → b ≡ true) → (b ≡ true → a ≡ true) → a ≡ b

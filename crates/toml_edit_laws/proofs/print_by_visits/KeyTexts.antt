@@ -5,7 +5,7 @@ use Rattle.toml_edit_model.specs.Mode.{Mode}
 use Rattle.toml_edit_model.specs.Text.{Text}
 use Rattle.toml_edit_model.specs.Syntax.{path_text, value_text}
 use Rattle.toml_edit_model.specs.Tree.{Decor, unset, Key, Node, key_text, node_decor, shown_prefix, shown_suffix}
-use Rattle.toml_edit_model.specs.Print.{Line, blank, dot_prefix, dot_suffix, last_leaf, segments, segments_after, value_of}
+use Rattle.toml_edit_model.specs.Print.{Line, one_space, dot_prefix, dot_suffix, last_leaf, segments, segments_after, value_of}
 use Rattle.toml_edit_laws.proofs.common.Tests.{append-nil}
 use Rattle.toml_edit_laws.specs.PrintByVisits.{Headed, before_key, dotted_keys, header_parts, header_text, pair_start, written_path}
 use Rattle.toml_edit_laws.proofs.common.Lists.{append-six}
@@ -128,13 +128,13 @@ module _ (mode : Mode) where
   -- a line or a pair up to the end of its value
   abbrev pub line_start : Text → Line → Text
   line_start default l =
-      shown_prefix mode default (last_leaf l.keys) ++ (path_text (segments mode l.keys) ++ (shown_suffix mode blank (last_leaf l.keys) ++ (codes "=" ++
-      (shown_prefix mode blank (node_decor l.item) ++ value_text l.value))))
+      shown_prefix mode default (last_leaf l.keys) ++ (path_text (segments mode l.keys) ++ (shown_suffix mode one_space (last_leaf l.keys) ++ (codes "=" ++
+      (shown_prefix mode one_space (node_decor l.item) ++ value_text l.value))))
 
   -- the same in the parts that are written
   pub line_start-is : (default : Text) (ks : List Key) (k : Key) (n : Node)
       → line_start default (record { keys = ks ++ (k ∷ []); item = n; value = value_of mode n }) ≡ pair_start mode default ks k n (value_text (value_of mode n))
   line_start-is default ks k n =
-      ap (λ (d : Decor). shown_prefix mode default d ++ (path_text (segments mode (ks ++ (k ∷ []))) ++ (shown_suffix mode blank d ++ (codes "=" ++ (shown_prefix mode blank (node_decor n) ++ value_text (value_of mode n)))))) (last_leaf-end ks k)
-      ∙ ap (λ (t : Text). shown_prefix mode default k.leaf ++ (t ++ (shown_suffix mode blank k.leaf ++ (codes "=" ++ (shown_prefix mode blank (node_decor n) ++ value_text (value_of mode n)))))) (path-is ks k)
-      ∙ in_order (shown_prefix mode default k.leaf) (dotted_keys mode true ks) (before_key mode ks k) (key_text k) (shown_suffix mode blank k.leaf) (codes "=") (shown_prefix mode blank (node_decor n)) (value_text (value_of mode n))
+      ap (λ (d : Decor). shown_prefix mode default d ++ (path_text (segments mode (ks ++ (k ∷ []))) ++ (shown_suffix mode one_space d ++ (codes "=" ++ (shown_prefix mode one_space (node_decor n) ++ value_text (value_of mode n)))))) (last_leaf-end ks k)
+      ∙ ap (λ (t : Text). shown_prefix mode default k.leaf ++ (t ++ (shown_suffix mode one_space k.leaf ++ (codes "=" ++ (shown_prefix mode one_space (node_decor n) ++ value_text (value_of mode n)))))) (path-is ks k)
+      ∙ in_order (shown_prefix mode default k.leaf) (dotted_keys mode true ks) (before_key mode ks k) (key_text k) (shown_suffix mode one_space k.leaf) (codes "=") (shown_prefix mode one_space (node_decor n)) (value_text (value_of mode n))

@@ -8,11 +8,9 @@ use Rattle.std.proofs.lemmas.List.Folds.{flat_map-map}
 use Rattle.toml_edit_model.specs.Mode.{Mode}
 use Rattle.toml_edit_model.specs.Text.{Text, one, is_empty}
 use Rattle.toml_edit_model.specs.Syntax.{Segment, IsSpacedSegment}
-use Rattle.toml_edit_model.specs.Paths.{at_key, Path, same_path, to_key, Role, value_role, dotted_role, Mention, Source, mention_of, line_mentions}
-use Rattle.toml_edit_model.specs.Normal.{is_header_role, kept_mention, bare_ends}
-use Rattle.toml_edit_model.specs.Faults.{is_value_role}
+use Rattle.toml_edit_model.specs.Paths.{at_key, Path, same_path, to_key, Mention, Source, mention_of, line_mentions}
 use Rattle.toml_edit_model.specs.Tree.{unset, Key, TableFields, Node, nothing, leaf, list, inline, table, tables, Slots, no_slots, slot}
-use Rattle.toml_edit_model.specs.TreeOf.{owned_in, under, kept, some_at, any_role, is_dotted_role, ends_path, key_at, statement_leaf, IsLineNode, IsNodeOf, AreSlotsOf}
+use Rattle.toml_edit_model.specs.TreeOf.{owned_in, key_at, statement_leaf, IsLineNode, IsNodeOf, AreSlotsOf}
 use Rattle.toml_edit_model.specs.Print.{Line, segments, last_leaf, is_line_node, value_of, table_lines, dotted_lines, line_of}
 use Rattle.toml_edit_laws.proofs.common.Tests.{true-false, false-by, same_text-is, same_text-refl}
 use Rattle.toml_edit_laws.proofs.common.OrderLaws.{none-left}
@@ -35,6 +33,9 @@ use Rattle.toml_edit_laws.proofs.mentions.SomeAt.{among-test}
 use Rattle.toml_edit_laws.proofs.common.Each.{all-filter}
 use Rattle.toml_edit_laws.proofs.mentions.Named.{EndsIn, single-named}
 use Rattle.toml_edit_model.specs.Order.{sorted_by}
+use Rattle.toml_edit_model.specs.Roles.{Role, value_role, dotted_role, is_header_role, is_value_role, any_role, is_dotted_role, ends_path}
+use Rattle.toml_edit_model.specs.Kept.{kept_mention, unspaced_ends}
+use Rattle.toml_edit_model.specs.TableMentions.{under, kept, some_at}
 
 -- a mention that a test finds at a path
 pub member-at : {S : Type 0} (test : Role → Bool) (p : Path) (ms : List (Mention S)) → some_at test p ms ≡ true
@@ -89,7 +90,7 @@ module _ (mode : Mode) where
   PrintsLine source full Prints x =
       (n : Node) (ks : List Key)
       → IsLineNode (owned_in mode) (source x) (source x).statement n
-      → last_leaf ks ≡ statement_leaf (owned_in mode) (source x) (source x).statement → segments mode ks ≡ bare_ends (full x)
+      → last_leaf ks ≡ statement_leaf (owned_in mode) (source x) (source x).statement → segments mode ks ≡ unspaced_ends (full x)
       → (is_line_node n ≡ true) × Prints (record { keys = ks; item = n; value = value_of mode n }) x
 
   -- the lines of a slot, by whether its item is a line of its own
@@ -213,9 +214,9 @@ module _ (mode : Mode) where
         all-among (λ y. full y ≡ map (key_segment mode) ks ++ kept_below (kept_in all) p (path_of y)) x xs h.spelled found.1
         ∙ ap (λ ts. map (key_segment mode) ks ++ kept_below (kept_in all) p ts) path_is
         ∙ ap (λ o. map (key_segment mode) ks ++ one (unwrap_or o m.segment)) (kept-slot p path_of start ks xs ms h m is) in
-        let spelled : segments mode (ks ++ one k) ≡ bare_ends (full x) =
+        let spelled : segments mode (ks ++ one k) ≡ unspaced_ends (full x) =
         segments-bare mode (ks ++ one k)
-        ∙ ap bare_ends (map-append (key_segment mode) ks (one k) ∙ ap (λ t. map (key_segment mode) ks ++ one t) shown ∙ sym full_is) in
+        ∙ ap unspaced_ends (map-append (key_segment mode) ks (one k) ∙ ap (λ t. map (key_segment mode) ks ++ one t) shown ∙ sym full_is) in
         let leaf_is : last_leaf (ks ++ one k) ≡ statement_leaf (owned_in mode) (source x) (source x).statement =
         last-key ks k ∙ ap (λ (j : Key). j.leaf) key_is
         ∙ ap (λ r. if ends_path r then statement_leaf (owned_in mode) m.source m.source.statement else unset) role

@@ -4,9 +4,8 @@ use Rattle.std.specs.Prelude.{◌⊎◌, ◌&&◌, filter, ◌==◌}
 use Rattle.std.proofs.lemmas.Bool.{eq-eqb}
 use Rattle.std.proofs.lemmas.List.{map-append}
 use Rattle.toml_edit_model.specs.Text.{Text, one}
-use Rattle.toml_edit_model.specs.Paths.{Step, at_key, at_element, Path, same_path, to_key, to_element, header_role, value_role, Mention, Source}
-use Rattle.toml_edit_model.specs.Normal.{is_header_role, is_line}
-use Rattle.toml_edit_model.specs.TreeOf.{some_at, is_dotted_role, is_array_role}
+use Rattle.toml_edit_model.specs.Paths.{Step, at_key, at_element, Path, same_path, to_key, to_element, Mention, Source}
+use Rattle.toml_edit_model.specs.Normal.{is_line}
 use Rattle.toml_edit_laws.proofs.common.Tests.{true-false, and_both}
 use Rattle.toml_edit_laws.proofs.common.Members.{Among}
 use Rattle.toml_edit_laws.proofs.mentions.KeptOrder.{HaveOneHeader}
@@ -14,6 +13,8 @@ use Rattle.toml_edit_laws.proofs.clashes.ClashMentions.{AreOfStatements, kinds-a
 use Rattle.toml_edit_laws.proofs.mentions.GatheredLines.{steps}
 use Rattle.toml_edit_laws.proofs.print_of_read.BlockLines.{IsWay}
 use Rattle.toml_edit_laws.proofs.mentions.SomeAt.{among-test}
+use Rattle.toml_edit_model.specs.Roles.{header_role, value_role, is_header_role, is_dotted_role, is_array_role}
+use Rattle.toml_edit_model.specs.TableMentions.{some_at}
 
 -- ---- paths
 

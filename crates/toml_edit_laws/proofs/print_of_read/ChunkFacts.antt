@@ -8,10 +8,9 @@ use Rattle.std.proofs.lemmas.List.Elements.{filter-append}
 use Rattle.std.proofs.lemmas.List.Concat.{flat_map-append}
 use Rattle.toml_edit_model.specs.Text.{Text, one, is_empty}
 use Rattle.toml_edit_model.specs.Syntax.{Segment, Statement, key_line, header, Header, Document}
-use Rattle.toml_edit_model.specs.Paths.{Path, same_path, to_key, to_element, Role, header_role, array_role, value_role, dotted_role, implied_role, through_role, may_meet, Mention, Source, Placed, Context, mention_of, next_start, line_mentions, header_mentions, header_path, elements_at, in_last, passing_role, header_role_of, path_start, source_of, mentions_of, context_after, block_of, placed_from, start_context, all_mentions}
+use Rattle.toml_edit_model.specs.Paths.{Path, same_path, to_key, to_element, Mention, Source, Placed, Context, mention_of, next_start, line_mentions, header_mentions, header_path, elements_at, in_last, passing_role, header_role_of, path_start, source_of, mentions_of, context_after, block_of, placed_from, start_context, all_mentions}
 use Rattle.toml_edit_model.specs.Accepted.{agree, is_sound, is_accepted}
 use Rattle.toml_edit_model.specs.Normal.{is_line}
-use Rattle.toml_edit_model.specs.TreeOf.{is_array_role}
 use Rattle.toml_edit_laws.specs.OneByOne.{is_right_after, all_right_after}
 use Rattle.toml_edit_laws.proofs.common.Tests.{append-nil, and_left, and_right}
 use Rattle.toml_edit_laws.proofs.common.OrderLaws.{none-left}
@@ -26,6 +25,7 @@ use Rattle.toml_edit_laws.proofs.mentions.Placed.{mentions_in, placed_at, own-so
 use Rattle.toml_edit_laws.proofs.mentions.RoleTests.{is_bracket_role}
 use Rattle.toml_edit_laws.proofs.common.Each.{all-append, all-map}
 use Rattle.toml_edit_laws.proofs.one_by_one.Together.{accepted-right}
+use Rattle.toml_edit_model.specs.Roles.{Role, header_role, array_role, value_role, dotted_role, implied_role, continued_role, may_meet, is_array_role}
 
 -- ---- the mentions of one statement
 
@@ -263,7 +263,7 @@ array-none {S = S} p ms h =
     no_array dotted_role e = refl
     no_array value_role e = refl
     no_array implied_role e = refl
-    no_array through_role e = refl
+    no_array continued_role e = refl
 
 opening-role : (b : Bool) → is_bracket_role (if b then array_role else header_role) ≡ true
 opening-role true = refl

@@ -5,10 +5,11 @@ use Rattle.std.specs.List.{AllByRecursion}
 use Rattle.std.proofs.lemmas.Bool.{cases_Bool}
 use Rattle.toml_edit_model.specs.Syntax.{Segment, Statement, key_line, header}
 use Rattle.toml_edit_model.specs.Paths.{Path, Mention, Source, Placed, Context, path_start, context_after, block_of, placed_from}
-use Rattle.toml_edit_model.specs.Normal.{stands_before, rank, is_line, line_before, ordered}
+use Rattle.toml_edit_model.specs.Normal.{is_line, line_before, ordered}
 use Rattle.toml_edit_laws.proofs.common.OrderLaws.{sorted-alike}
 use Rattle.toml_edit_laws.proofs.mentions.Placed.{placed_at}
 use Rattle.toml_edit_model.specs.Order.{insert_by, sorted_by}
+use Rattle.toml_edit_model.specs.Kept.{stands_before, rank}
 
 -- ---- places
 

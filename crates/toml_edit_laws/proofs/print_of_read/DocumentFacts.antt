@@ -6,10 +6,9 @@ use Rattle.toml_edit_laws.proofs.common.LineEnds.{IsEnd}
 use Rattle.toml_edit_model.specs.Text.{Text, one}
 use Rattle.toml_edit_model.specs.Trivia.{IsLineEnd, IsNewline}
 use Rattle.toml_edit_model.specs.Syntax.{Segment, Statement, key_line, header, Document, IsSpacedSegment, IsFrame, IsValue, IsHeader, IsStatement, AreStatements, keeps_limits, is_ranged}
-use Rattle.toml_edit_model.specs.Paths.{at_key, Path, to_key, Role, header_role, array_role, value_role, dotted_role, may_meet, Mention, Source, Placed, Context, mention_of, next_start, line_mentions, header_mentions, elements_at, in_last, passing_role, header_role_of, path_start, source_of, mentions_of, context_after, placed_from, start_context, placed, all_mentions}
+use Rattle.toml_edit_model.specs.Paths.{at_key, Path, to_key, Mention, Source, Placed, Context, mention_of, next_start, line_mentions, header_mentions, elements_at, in_last, passing_role, header_role_of, path_start, source_of, mentions_of, context_after, placed_from, start_context, placed, all_mentions}
 use Rattle.toml_edit_model.specs.Accepted.{agree, has_agreeing_pairs, is_sound, is_accepted}
 use Rattle.toml_edit_model.specs.Normal.{is_line}
-use Rattle.toml_edit_model.specs.TreeOf.{is_dotted_role}
 use Rattle.toml_edit_laws.specs.OneByOne.{is_right_after, all_right_after}
 use Rattle.toml_edit_laws.proofs.common.Tests.{and_left, and_right}
 use Rattle.toml_edit_laws.proofs.common.Members.{Among, among-cases, all-among, all-of-among}
@@ -24,6 +23,7 @@ use Rattle.toml_edit_laws.proofs.mentions.RoleTests.{is_bracket_role}
 use Rattle.toml_edit_laws.proofs.common.Each.{all-append}
 use Rattle.toml_edit_laws.proofs.mentions.SomeAt.{among-test}
 use Rattle.toml_edit_laws.proofs.one_by_one.Together.{accepted-right}
+use Rattle.toml_edit_model.specs.Roles.{Role, header_role, array_role, value_role, dotted_role, may_meet, is_dotted_role}
 
 -- ---- statements
 

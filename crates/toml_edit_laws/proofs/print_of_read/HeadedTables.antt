@@ -8,7 +8,7 @@ use Rattle.toml_edit_model.specs.Mode.{Mode}
 use Rattle.toml_edit_model.specs.Text.{one}
 use Rattle.toml_edit_model.specs.Syntax.{Statement, key_line, header}
 use Rattle.toml_edit_model.specs.Paths.{Path, Mention, Source, Context, source_of, mentions_of, context_after, path_start, placed_from}
-use Rattle.toml_edit_model.specs.TreeOf.{owned_in, kept, AreSlotsOf}
+use Rattle.toml_edit_model.specs.TreeOf.{owned_in, AreSlotsOf}
 use Rattle.toml_edit_model.specs.Tree.{Slots}
 use Rattle.toml_edit_model.specs.HeaderOrder.{Visit, slots_walk}
 use Rattle.toml_edit_laws.proofs.common.Tests.{and_left, and_right, or-left, or-right, true-false}
@@ -22,6 +22,7 @@ use Rattle.toml_edit_laws.proofs.print_of_read.HeaderVisits.{none-filtered}
 use Rattle.toml_edit_laws.proofs.print_of_read.HeadersInOrder.{number_of, has_number, set-number}
 use Rattle.toml_edit_laws.proofs.mentions.Placed.{mentions_in, own-sources}
 use Rattle.toml_edit_laws.proofs.print_of_read.Seats.{IsVisit}
+use Rattle.toml_edit_model.specs.TableMentions.{kept}
 
 -- ---- numbers of headers
 

@@ -9,7 +9,7 @@ use Rattle.toml_edit_model.specs.Syntax.{Statement, key_line, header}
 use Rattle.toml_edit_model.specs.Paths.{Step, at_key, at_element, Path, same_step, same_path, to_key, to_element, Mention, Source}
 use Rattle.toml_edit_model.specs.Normal.{is_line}
 use Rattle.toml_edit_model.specs.Tree.{Key, TableFields, Node, nothing, leaf, list, inline, table, tables, Items, no_items, item, Slots, no_slots, slot}
-use Rattle.toml_edit_model.specs.TreeOf.{owned_in, inside, under, own, arrays, is_array_role, kept, key_at, header_fields, IsNodeOf, AreElementsOf, AreSlotsOf}
+use Rattle.toml_edit_model.specs.TreeOf.{owned_in, key_at, header_fields, IsNodeOf, AreElementsOf, AreSlotsOf}
 use Rattle.toml_edit_model.specs.HeaderOrder.{Visit, visit_of, node_walk, items_walk, slots_walk}
 use Rattle.toml_edit_laws.specs.FlatTree.{is_among}
 use Rattle.toml_edit_laws.proofs.common.Tests.{append-nil, same_text-is}
@@ -22,6 +22,8 @@ use Rattle.toml_edit_laws.proofs.print_of_read.LevelFacts.{among-filter}
 use Rattle.toml_edit_laws.proofs.print_of_read.Blocks.{nth, arrays_at}
 use Rattle.toml_edit_laws.proofs.print_of_read.ChunkFacts.{is_heading, OpensAt, opens_table, opens_element}
 use Rattle.toml_edit_laws.proofs.print_of_read.NoVisits.{is_number, numbered, first-other, HaveNone, HaveNoneBelow, HaveOtherNumbers, none-below, none-under, none-kept, header-other, first-none, slots-none, items-none}
+use Rattle.toml_edit_model.specs.TableMentions.{inside, under, own, array_headers, kept}
+use Rattle.toml_edit_model.specs.Roles.{is_array_role}
 
 -- ---- one header of a number
 
@@ -107,11 +109,11 @@ arrays-under s r (m ∷ ms) = by_path m.path (arrays-under s r ms)
           | inr e ↦ rw e ih
         ]
 
-pub arrays-own : (ms : List (Mention Source)) → arrays ms ≡ arrays_at [] ms
+pub arrays-own : (ms : List (Mention Source)) → array_headers ms ≡ arrays_at [] ms
 arrays-own [] = refl
 arrays-own (m ∷ ms) = by_path m.path (arrays-own ms)
   where
-    by_path : (p : Path) → arrays ms ≡ arrays_at [] ms
+    by_path : (p : Path) → array_headers ms ≡ arrays_at [] ms
         → filter (λ (x : Mention Source). is_array_role x.role) (if is_empty p then m ∷ own ms else own ms)
         ≡ (if same_path p [] && is_array_role m.role then m ∷ arrays_at [] ms else arrays_at [] ms)
     by_path [] ih = elim (cases_Bool (is_array_role m.role)) [ inl e ↦ rw e (ap (λ xs. m ∷ xs) ih) | inr e ↦ rw e ih ]
@@ -121,7 +123,7 @@ length-map : {A B : Type 0} (f : A → B) (xs : List A) → length (map f xs) �
 length-map f [] = refl
 length-map f (x ∷ xs) = ap suc (length-map f xs)
 
-pub arrays-count : (k : Text) (ms : List (Mention Source)) → length (arrays (under (at_key k) ms)) ≡ count_at is_array_role (at_key k ∷ []) ms
+pub arrays-count : (k : Text) (ms : List (Mention Source)) → length (array_headers (under (at_key k) ms)) ≡ count_at is_array_role (at_key k ∷ []) ms
 arrays-count k ms =
     ap length (arrays-own (under (at_key k) ms) ∙ arrays-under (at_key k) [] ms)
     ∙ length-map (λ (m : Mention Source). moved m []) (arrays_at (at_key k ∷ []) ms)

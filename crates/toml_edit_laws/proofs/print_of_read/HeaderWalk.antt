@@ -4,10 +4,10 @@ use Rattle.std.specs.Prelude.{filter, ◌==◌, if◌then◌else◌}
 use Rattle.std.proofs.lemmas.Bool.{cases_Bool, ne_eqb}
 use Rattle.toml_edit_model.specs.Mode.{Mode}
 use Rattle.toml_edit_model.specs.Text.{Text, one, is_empty}
-use Rattle.toml_edit_model.specs.Paths.{Step, at_key, at_element, Path, to_key, to_element, Role, header_role, array_role, value_role, Mention, Source}
-use Rattle.toml_edit_model.specs.Normal.{is_header_role, is_line}
+use Rattle.toml_edit_model.specs.Paths.{Step, at_key, at_element, Path, to_key, to_element, Mention, Source}
+use Rattle.toml_edit_model.specs.Normal.{is_line}
 use Rattle.toml_edit_model.specs.Tree.{Key, TableFields, Node, nothing, leaf, list, inline, table, tables, Slots}
-use Rattle.toml_edit_model.specs.TreeOf.{owned_in, under, arrays, some_at, is_array_role, kept, key_at, header_fields, fields_of, IsNodeOf, AreSlotsOf}
+use Rattle.toml_edit_model.specs.TreeOf.{owned_in, key_at, header_fields, fields_of, IsNodeOf, AreSlotsOf}
 use Rattle.toml_edit_model.specs.HeaderOrder.{Visit, visit_of, node_walk, slots_walk}
 use Rattle.toml_edit_laws.proofs.common.Tests.{true-false}
 use Rattle.toml_edit_laws.proofs.common.Members.{Among, all-among, all-of-among}
@@ -28,6 +28,8 @@ use Rattle.toml_edit_laws.proofs.mentions.SomeAt.{among-test}
 use Rattle.toml_edit_laws.proofs.print_of_read.Seats.{IsSeat, seat-down, seat-key, IsKeyPath, IsVisit, seat-leaf, in-slot, role-number}
 use Rattle.toml_edit_laws.proofs.mentions.Named.{EndsIn}
 use Rattle.toml_edit_laws.specs.KeptKeys.{under_path}
+use Rattle.toml_edit_model.specs.Roles.{Role, header_role, array_role, value_role, is_header_role, is_array_role}
+use Rattle.toml_edit_model.specs.TableMentions.{under, array_headers, some_at, kept}
 
 -- ---- a header at its key
 
@@ -58,13 +60,13 @@ one-under n test k h ms only path role =
     below : filter (is_heading n) (under (at_key k) ms) ≡ one (moved h [])
     below = heading-under n (at_key k) ms ∙ ap (under (at_key k)) only ∙ under-here (at_key k) [] h path
 
-numbers-arrays : (n : ℕ) (ns : List (Mention Source)) → filter (λ x. x.source.headers == n) (arrays ns) ≡ arrays (filter (is_heading n) ns)
+numbers-arrays : (n : ℕ) (ns : List (Mention Source)) → filter (λ x. x.source.headers == n) (array_headers ns) ≡ array_headers (filter (is_heading n) ns)
 numbers-arrays n [] = refl
 numbers-arrays n (m ∷ ns) = by_path m.path (numbers-arrays n ns)
   where
-    by_path : (p : Path) → filter (λ (x : Mention Source). x.source.headers == n) (arrays ns) ≡ arrays (filter (is_heading n) ns)
-        → filter (λ (x : Mention Source). x.source.headers == n) (arrays (moved m p ∷ ns))
-        ≡ arrays (if is_heading n m then moved m p ∷ filter (is_heading n) ns else filter (is_heading n) ns)
+    by_path : (p : Path) → filter (λ (x : Mention Source). x.source.headers == n) (array_headers ns) ≡ array_headers (filter (is_heading n) ns)
+        → filter (λ (x : Mention Source). x.source.headers == n) (array_headers (moved m p ∷ ns))
+        ≡ array_headers (if is_heading n m then moved m p ∷ filter (is_heading n) ns else filter (is_heading n) ns)
     by_path (s ∷ p) ih = ih ∙ elim (cases_Bool (is_heading n m)) [ inl e ↦ rw e refl | inr e ↦ rw e refl ]
     by_path [] ih =
         elim (cases_Bool (is_array_role m.role)) [
@@ -76,7 +78,7 @@ numbers-arrays n (m ∷ ns) = by_path m.path (numbers-arrays n ns)
           | inr a ↦ rw a (ih ∙ elim (cases_Bool (is_heading n m)) [ inl e ↦ rw (e, a) refl | inr e ↦ rw e refl ])
         ]
 
-array-one : (h : Mention Source) → h.role ≡ array_role → arrays (one (moved h [])) ≡ one (moved h [])
+array-one : (h : Mention Source) → h.role ≡ array_role → array_headers (one (moved h [])) ≡ one (moved h [])
 array-one h e = rw (ap is_array_role e) refl
 
 -- a mention ends in its key
@@ -170,7 +172,7 @@ module _ (mode : Mode) where
           ns : List (Mention Source)
           ns = under (at_key m.segment.key) ms
 
-          found : nth i (arrays ns) ≡ Some (moved h [])
+          found : nth i (array_headers ns) ≡ Some (moved h [])
           found =
               ap (nth i) (arrays-own ns ∙ arrays-under (at_key m.segment.key) [] ms)
               ∙ map-nth (λ (x : Mention Source). moved x []) i (arrays_at (one (at_key m.segment.key)) ms) h
@@ -186,8 +188,8 @@ module _ (mode : Mode) where
           by_node (tables x xs) g e =
               let index : i ≡ 0 + i = omega arith in
               let el : IsElement mode n ns i xs (to_key q m.segment.key) (ks ++ one key) 0 (moved h []) =
-              items-here mode n ns i i 0 (arrays ns) xs (to_key q m.segment.key) (ks ++ one key) (moved h []) index under_key.none g.2 found
-              (numbers-arrays n ns ∙ ap arrays under_key.only ∙ array-one h role) (role-number n h under_key.number) head in
+              items-here mode n ns i i 0 (array_headers ns) xs (to_key q m.segment.key) (ks ++ one key) (moved h []) index under_key.none g.2 found
+              (numbers-arrays n ns ∙ ap array_headers under_key.only ∙ array-one h role) (role-number n h under_key.number) head in
               let place_is : to_element (to_key q m.segment.key) i ≡ q ++ (at_key k ∷ at_element i ∷ []) =
               ap (λ t. to_element (to_key q t) i) (sym same) ∙ append_assoc q (one (at_key k)) (one (at_element i)) in
               let seat_below = seat-down all (to_key q m.segment.key) (at_element i) ns (seat-down all q (at_key m.segment.key) ms seat) in (
@@ -271,8 +273,8 @@ module _ (mode : Mode) where
       by_node m key (inline f us) slot_is same key_is g e = absurd cc
       by_node m key (table f us) slot_is same key_is g e = absurd cc
       by_node m key (tables x xs) slot_is same key_is g e =
-          items-down mode n ns i i 0 (arrays ns) xs (to_key q m.segment.key) (ks ++ one key) P (let index : i ≡ 0 + i = omega arith in index) none others g.2
-          (let whole : length (arrays ns) ≡ count_at is_array_role (one (at_key k)) ms =
+          items-down mode n ns i i 0 (array_headers ns) xs (to_key q m.segment.key) (ks ++ one key) P (let index : i ≡ 0 + i = omega arith in index) none others g.2
+          (let whole : length (array_headers ns) ≡ count_at is_array_role (one (at_key k)) ms =
           arrays-count m.segment.key ms ∙ ap (λ t. count_at is_array_role (one (at_key t)) ms) (sym same) in
           let bound : i < count_at is_array_role (one (at_key k)) ms = less in omega arith)
           (λ us h2.
@@ -297,9 +299,9 @@ module _ (mode : Mode) where
               (heading-under n (at_element j) ns ∙ ap (under (at_element j)) only_below
               ∙ under-there (at_element j) (at_element i) r (moved h (at_element i ∷ r)) refl (ne_eqb i j (λ e. apart (sym e))))
 
-          others : HaveOtherNumbers n (arrays ns)
+          others : HaveOtherNumbers n (array_headers ns)
           others =
-              all-of-among (λ a. (a.source.headers == n) ≡ false) (arrays ns) (λ a b.
+              all-of-among (λ a. (a.source.headers == n) ≡ false) (array_headers ns) (λ a b.
               let a_is = array-is a ns b in
               other-number n a (array-bracket a.role a_is.2)
               (none-but n (moved h (at_element i ∷ r)) ns only_below a a_is.0 (λ e. let clash : [] ≡ at_element i ∷ r = sym a_is.1 ∙ e in absurd cc)))

@@ -4,10 +4,11 @@ use Rattle.std.specs.Prelude.{map, unwrap_or}
 use Rattle.toml_edit_model.specs.Mode.{Mode}
 use Rattle.toml_edit_model.specs.Text.{Text, one}
 use Rattle.toml_edit_model.specs.Syntax.{Segment}
-use Rattle.toml_edit_model.specs.Paths.{at_key, at_element, Path, to_key, to_element, Role, Mention, Source, mention_of, next_start, elements_at, in_last, passing_role, header_mentions, header_path}
-use Rattle.toml_edit_model.specs.Normal.{kept_segment}
+use Rattle.toml_edit_model.specs.Paths.{at_key, at_element, Path, to_key, to_element, Mention, Source, mention_of, next_start, elements_at, in_last, passing_role, header_mentions, header_path}
 use Rattle.toml_edit_model.specs.Tree.{Key}
 use Rattle.toml_edit_laws.proofs.mentions.KeptPaths.{kept_in, key_segment}
+use Rattle.toml_edit_model.specs.Roles.{Role}
+use Rattle.toml_edit_model.specs.Kept.{kept_segment}
 
 -- the path of a header from a path on
 abbrev last_steps : ℕ → Path → Path

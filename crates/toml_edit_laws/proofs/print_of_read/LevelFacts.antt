@@ -6,7 +6,6 @@ use Rattle.std.proofs.lemmas.Bool.{cases_Bool}
 use Rattle.toml_edit_model.specs.Text.{Text, same_text, one}
 use Rattle.toml_edit_model.specs.Syntax.{Segment}
 use Rattle.toml_edit_model.specs.Paths.{Step, at_key, Path, same_step, to_key, Mention, mention_of, line_mentions, next_start}
-use Rattle.toml_edit_model.specs.TreeOf.{inside, under}
 use Rattle.toml_edit_laws.specs.FlatTree.{is_among}
 use Rattle.toml_edit_laws.proofs.common.Tests.{false-by, same_text-is, same_text-refl, same_text-swap}
 use Rattle.toml_edit_laws.proofs.mentions.GatherLaws.{first_of_key, AreDistinct}
@@ -15,6 +14,7 @@ use Rattle.toml_edit_laws.proofs.mentions.KeptMentions.{moved, under-is}
 use Rattle.toml_edit_laws.proofs.common.OrderLaws.{none-left}
 use Rattle.toml_edit_laws.proofs.mentions.GatheredLines.{has_first, group, part_ways, AllPart}
 use Rattle.toml_edit_laws.proofs.mentions.MentionGroups.{first_role, line-from}
+use Rattle.toml_edit_model.specs.TableMentions.{inside, under}
 
 -- ---- members
 

@@ -6,9 +6,9 @@ use Rattle.std.proofs.lemmas.List.Elements.{filter-append}
 use Rattle.toml_edit_model.specs.Mode.{Mode}
 use Rattle.toml_edit_model.specs.Text.{one, is_empty}
 use Rattle.toml_edit_model.specs.Syntax.{Statement, key_line, header}
-use Rattle.toml_edit_model.specs.Paths.{Step, at_key, at_element, Path, to_key, to_element, Role, dotted_role, implied_role, header_role, array_role, value_role, through_role, Mention, Source}
+use Rattle.toml_edit_model.specs.Paths.{Step, at_key, at_element, Path, to_key, to_element, Mention, Source}
 use Rattle.toml_edit_model.specs.Tree.{Key, TableFields, Node, nothing, leaf, list, inline, table, tables, Items, no_items, item, Slots, no_slots, slot}
-use Rattle.toml_edit_model.specs.TreeOf.{owned_in, under, own, arrays, is_array_role, is_single, kept, header_fields, fields_of, IsNodeOf, AreElementsOf, AreSlotsOf}
+use Rattle.toml_edit_model.specs.TreeOf.{owned_in, header_fields, fields_of, IsNodeOf, AreElementsOf, AreSlotsOf}
 use Rattle.toml_edit_model.specs.HeaderOrder.{Visit, visit_of, node_walk, items_walk, slots_walk}
 use Rattle.toml_edit_laws.proofs.common.Members.{Among, all-among, all-of-among}
 use Rattle.toml_edit_laws.proofs.mentions.KeptMentions.{under-is, kept-is}
@@ -17,6 +17,8 @@ use Rattle.toml_edit_laws.proofs.print_of_read.ChunkFacts.{is_heading}
 use Rattle.toml_edit_laws.proofs.mentions.RoleTests.{is_bracket_role, array-bracket}
 use Rattle.toml_edit_laws.proofs.values.ValueFaults.{is_empty-nil}
 use Rattle.toml_edit_laws.proofs.common.Each.{all-map}
+use Rattle.toml_edit_model.specs.Roles.{Role, dotted_role, implied_role, header_role, array_role, value_role, continued_role, is_array_role}
+use Rattle.toml_edit_model.specs.TableMentions.{under, own, array_headers, is_single, kept}
 
 -- the number of a table's header
 abbrev pub is_number : ℕ → Option ℤ → Bool
@@ -57,7 +59,7 @@ none-kept n ms h =
     all-among (λ (x : Mention Source). is_empty x.path ≡ false → is_heading n x ≡ false) m ms h is.among (single-full m.path is.single))
 
 -- the headers in double brackets of the array itself
-pub array-is : {S : Type 0} (a : Mention S) (ms : List (Mention S)) → Among a (arrays ms) → Among a ms × (a.path ≡ []) × (is_array_role a.role ≡ true)
+pub array-is : {S : Type 0} (a : Mention S) (ms : List (Mention S)) → Among a (array_headers ms) → Among a ms × (a.path ≡ []) × (is_array_role a.role ≡ true)
 array-is {S = S} a ms h =
     let up = among-filter (λ (m : Mention S). is_array_role m.role) a (own ms) h in
     let here = among-filter (λ (m : Mention S). is_empty m.path) a ms up.0 in
@@ -70,9 +72,9 @@ HaveOtherNumbers n hs = AllByRecursion (λ a. (a.source.headers == n) ≡ false)
 pub other-number : (n : ℕ) (m : Mention Source) → is_bracket_role m.role ≡ true → is_heading n m ≡ false → (m.source.headers == n) ≡ false
 other-number n m h e = sym (ap (λ b. b && (m.source.headers == n)) h) ∙ e
 
-pub none-arrays : (n : ℕ) (ms : List (Mention Source)) → HaveNone n ms → HaveOtherNumbers n (arrays ms)
+pub none-arrays : (n : ℕ) (ms : List (Mention Source)) → HaveNone n ms → HaveOtherNumbers n (array_headers ms)
 none-arrays n ms h =
-    all-of-among (λ a. (a.source.headers == n) ≡ false) (arrays ms) (λ a b.
+    all-of-among (λ a. (a.source.headers == n) ≡ false) (array_headers ms) (λ a b.
     let is = array-is a ms b in
     other-number n a (array-bracket a.role is.2) (all-among (λ m. is_heading n m ≡ false) a ms h is.0))
 
@@ -96,7 +98,7 @@ module _ (mode : Mode) where
   fields-other n ns m implied_role e h = refl
   fields-other n ns m array_role e h = refl
   fields-other n ns m value_role e h = refl
-  fields-other n ns m through_role e h = refl
+  fields-other n ns m continued_role e h = refl
 
   -- ---- the walk
 
@@ -120,7 +122,7 @@ module _ (mode : Mode) where
     node-none n ns m (table f ss) p ks none e h =
         first-other n (visit_of p ks false f ss) (slots_walk ss p ks) (ap (λ (g : TableFields). is_number n g.position) h.1 ∙ fields-other n ns m m.role refl e)
         (slots-none n ns (kept ns) ss p ks (none-below n ns none) (none-kept n ns (none-below n ns none)) h.2)
-    node-none n ns m (tables x xs) p ks none e h = items-none n ns 0 (arrays ns) xs p ks (none-below n ns none) (none-arrays n ns none) h.2
+    node-none n ns m (tables x xs) p ks none e h = items-none n ns 0 (array_headers ns) xs p ks (none-below n ns none) (none-arrays n ns none) h.2
 
     pub items-none : (n : ℕ) (ns : List (Mention Source)) (i : ℕ) (hs : List (Mention Source)) (xs : Items) (p : Path) (ks : List Key) → HaveNoneBelow n ns
         → HaveOtherNumbers n hs → AreElementsOf (owned_in mode) ns i hs xs → filter (numbered n) (items_walk xs p ks i) ≡ []

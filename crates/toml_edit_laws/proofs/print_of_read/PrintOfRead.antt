@@ -12,9 +12,9 @@ use Rattle.toml_edit_model.specs.Text.{Text, one, is_empty}
 use Rattle.toml_edit_model.specs.Syntax.{Header, Statement, header, Document, IsDocument, IsHeader, open_statements, AreStatements, document_text, key_line}
 use Rattle.toml_edit_model.specs.Paths.{Step, at_key, at_element, Path, Mention, Source, Placed, start_context, placed, all_mentions}
 use Rattle.toml_edit_model.specs.Accepted.{is_accepted}
-use Rattle.toml_edit_model.specs.Normal.{rank, is_line, ordered, normal_statement, normal_in, normal_text_in, has_open_end, normal_last, normal, normal_text}
+use Rattle.toml_edit_model.specs.Normal.{is_line, ordered, normal_statement, normal_in, normal_text_in, has_open_end, normal_last, normal, normal_text}
 use Rattle.toml_edit_model.specs.Tree.{Tree, TableFields, shown_prefix, shown_suffix, shown_raw, owned}
-use Rattle.toml_edit_model.specs.TreeOf.{owned_in, kept, IsTreeOf, root_fields, owned_form}
+use Rattle.toml_edit_model.specs.TreeOf.{owned_in, IsTreeOf, root_fields, owned_form}
 use Rattle.toml_edit_model.specs.HeaderOrder.{Visit, slots_walk, is_root, in_header_order}
 use Rattle.toml_edit_model.specs.Print.{Line, lines_of, table_lines, line_statement, Printed, printed_line, printed_header, printed_table, printed, statements_of, print_in, add_before, final_of, document_in, leaves_open, open_last, written_statements, print, printed_document}
 use Rattle.toml_edit_laws.proofs.print_of_read.NoVisits.{numbered}
@@ -45,6 +45,8 @@ use Rattle.toml_edit_laws.proofs.print_of_read.Seats.{IsSeat, seat-first, seat-s
 use Rattle.toml_edit_laws.proofs.one_by_one.Together.{accepted-right}
 use Rattle.toml_edit_model.specs.Order.{sorted_by}
 use Rattle.toml_edit_laws.specs.KeptKeys.{under_path}
+use Rattle.toml_edit_model.specs.Kept.{rank}
+use Rattle.toml_edit_model.specs.TableMentions.{kept}
 
 right-header : (s : Statement) (h : Header) (end : Text) → s ≡ header h end → IsRightStatement s → IsHeader h × IsEnd end
 right-header s h end e r = subst IsRightStatement e r

@@ -7,10 +7,10 @@ use Rattle.toml_edit_model.specs.Mode.{Mode, shown_text, line_end, line_newline}
 use Rattle.toml_edit_model.specs.Text.{Text, one, is_empty, has_byte, line_feed}
 use Rattle.toml_edit_model.specs.Trivia.{IsWhiteSpace}
 use Rattle.toml_edit_model.specs.Syntax.{Segment, Header, Statement, key_line, header, IsHeader}
-use Rattle.toml_edit_model.specs.Paths.{Path, header_role, array_role, Mention, Source, header_role_of, path_start}
-use Rattle.toml_edit_model.specs.Normal.{is_line, kept_mention, bare_ends, kept_segment, kept_path, kept_statement, opening_of, closing_of, normal_statement, normal_end}
+use Rattle.toml_edit_model.specs.Paths.{Path, Mention, Source, header_role_of, path_start}
+use Rattle.toml_edit_model.specs.Normal.{is_line, kept_statement, opening_of, closing_of, normal_statement, normal_end}
 use Rattle.toml_edit_model.specs.Tree.{Decor, Key, TableFields, shown_prefix, shown_suffix}
-use Rattle.toml_edit_model.specs.TreeOf.{owned_in, headed_by, header_fields, statement_leaf, is_array_role}
+use Rattle.toml_edit_model.specs.TreeOf.{owned_in, headed_by, header_fields, statement_leaf}
 use Rattle.toml_edit_model.specs.HeaderOrder.{Visit, is_root}
 use Rattle.toml_edit_model.specs.Print.{segments, last_leaf, has_header, header_default, header_of, lines_of, Printed, printed_header, header_statement, header_suffix}
 use Rattle.toml_edit_laws.proofs.common.Tests.{or-true}
@@ -25,6 +25,8 @@ use Rattle.toml_edit_laws.proofs.print_of_read.KeysAlong.{AreAlong, element-alon
 use Rattle.toml_edit_laws.proofs.mentions.RoleTests.{is_bracket_role}
 use Rattle.toml_edit_laws.proofs.common.Trivia.{end-shown, white-feed}
 use Rattle.toml_edit_laws.proofs.print_of_read.Seats.{IsLeafOf, IsKeyPath, IsVisit}
+use Rattle.toml_edit_model.specs.Roles.{header_role, array_role, is_array_role}
+use Rattle.toml_edit_model.specs.Kept.{kept_mention, unspaced_ends, kept_segment, kept_path}
 
 role-array : (b : Bool) → is_array_role (if b then array_role else header_role) ≡ b
 role-array true = refl
@@ -133,7 +135,7 @@ module _ (mode : Mode) where
       keys : segments mode v.keys ≡ kept_path all ch.head.mentions
       keys =
           segments-bare mode v.keys
-          ∙ ap bare_ends
+          ∙ ap unspaced_ends
           (sym
           (ap (map (kept_segment all)) is.mentions
           ∙ header-along mode all ch.head.source is.arrays (header_role_of h) (ch.head.source.start + path_start (header h is.end)) [] h.path v.keys

@@ -6,12 +6,12 @@ use Rattle.toml_edit_laws.proofs.common.LineEnds.{ended}
 use Rattle.toml_edit_model.specs.Mode.{Mode, shown_text, line_end, line_newline, with_return}
 use Rattle.toml_edit_model.specs.Text.{is_empty, Text}
 use Rattle.toml_edit_model.specs.Syntax.{Segment, Frame, Statement, key_line, header, Value}
-use Rattle.toml_edit_model.specs.Paths.{Path, same_path, to_key, Role, dotted_role, value_role, may_meet, may_meet_inline, Mention, Source, Placed, Context, next_start, line_mentions, mentions_of, context_after, placed_from}
+use Rattle.toml_edit_model.specs.Paths.{Path, same_path, to_key, Mention, Source, Placed, Context, next_start, line_mentions, mentions_of, context_after, placed_from}
 use Rattle.toml_edit_model.specs.Accepted.{agree}
-use Rattle.toml_edit_model.specs.Normal.{stands_before, rank, bare_ends, kept_segment, normal_statement, normal_end}
+use Rattle.toml_edit_model.specs.Normal.{normal_statement, normal_end}
 use Rattle.toml_edit_model.specs.Tree.{Decor, Key, Node, Slots, shown_prefix, shown_suffix, node_decor}
-use Rattle.toml_edit_model.specs.TreeOf.{owned_in, decor_at, value_start, statement_leaf, kept, IsLineNode, AreSlotsOf}
-use Rattle.toml_edit_model.specs.Print.{blank, Line, segments, last_leaf, is_line_node, value_of, table_lines, line_statement}
+use Rattle.toml_edit_model.specs.TreeOf.{owned_in, decor_at, value_start, statement_leaf, IsLineNode, AreSlotsOf}
+use Rattle.toml_edit_model.specs.Print.{one_space, Line, segments, last_leaf, is_line_node, value_of, table_lines, line_statement}
 use Rattle.toml_edit_laws.proofs.common.Tests.{and_left, and_right, append-nil}
 use Rattle.toml_edit_laws.proofs.common.OrderLaws.{sorted-alike}
 use Rattle.toml_edit_laws.proofs.common.WhiteSpace.{white-shown}
@@ -41,6 +41,9 @@ use Rattle.toml_edit_laws.proofs.common.Each.{all-map}
 use Rattle.toml_edit_laws.proofs.print_of_read.Seats.{IsSeat}
 use Rattle.toml_edit_model.specs.Order.{sorted_by}
 use Rattle.toml_edit_laws.specs.KeptKeys.{under_path}
+use Rattle.toml_edit_model.specs.Roles.{Role, dotted_role, value_role, may_meet, may_meet_inline}
+use Rattle.toml_edit_model.specs.Kept.{stands_before, rank, unspaced_ends, kept_segment}
+use Rattle.toml_edit_model.specs.TableMentions.{kept}
 
 -- ---- one line
 
@@ -86,8 +89,8 @@ module _ (mode : Mode) where
       record {
         leading = shown_prefix mode [] key;
         path = path;
-        before_equals = shown_suffix mode blank key;
-        after_equals = shown_prefix mode blank value;
+        before_equals = shown_suffix mode one_space key;
+        after_equals = shown_prefix mode one_space value;
         trailing = line_end mode (shown_suffix mode [] value);
       }
 
@@ -95,7 +98,7 @@ module _ (mode : Mode) where
   framed_line key path value v = key_line (framed key path value) v (line_newline mode (shown_suffix mode [] value))
 
   statement-printed : (all : List (Mention Source)) (s : Placed) (t : Statement) → IsRightStatement t → (n : Node) (ks : List Key) → IsLineNode (owned_in mode) s.source t n
-      → last_leaf ks ≡ statement_leaf (owned_in mode) s.source t → segments mode ks ≡ bare_ends (kept_of all s)
+      → last_leaf ks ≡ statement_leaf (owned_in mode) s.source t → segments mode ks ≡ unspaced_ends (kept_of all s)
       → (is_line_node n ≡ true) × (line_statement mode (record { keys = ks; item = n; value = value_of mode n }) ≡ normal_statement mode all s t)
   statement-printed all s (header h end) right n ks is leaf_is path_is = absurd is
   statement-printed all s (key_line f v end) right n ks is leaf_is path_is =
@@ -107,7 +110,7 @@ module _ (mode : Mode) where
         value-line (owned_in mode) v i f.after_equals after n is,
         ap (λ d. framed_line d (segments mode ks) (node_decor n) (value_of mode n)) leaf_is
             ∙ ap (λ p. framed_line leaf p (node_decor n) (value_of mode n)) path_is
-            ∙ ap (λ d. framed_line leaf (bare_ends (kept_of all s)) d (value_of mode n)) decor_is
+            ∙ ap (λ d. framed_line leaf (unspaced_ends (kept_of all s)) d (value_of mode n)) decor_is
             ∙ ap (λ t. with_parts f t (shown_text mode f.after_equals) (line_end mode (shown_text mode after)) (value_of mode n) (line_newline mode (shown_text mode after))) (white-shown mode f.before_equals right.0.0.before_equals)
             ∙ ap (λ t. with_parts f f.before_equals t (line_end mode (shown_text mode after)) (value_of mode n) (line_newline mode (shown_text mode after))) (white-shown mode f.after_equals right.0.0.after_equals)
             ∙ ap (λ t. with_parts f f.before_equals f.after_equals t (value_of mode n) (line_newline mode (shown_text mode after))) ends.trailing
@@ -117,7 +120,7 @@ module _ (mode : Mode) where
     where
       with_parts : Frame → Text → Text → Text → Value → Text → Statement
       with_parts g b a t w e =
-          key_line (record { leading = shown_text mode g.leading; path = bare_ends (kept_of all s); before_equals = b; after_equals = a; trailing = t }) w e
+          key_line (record { leading = shown_text mode g.leading; path = unspaced_ends (kept_of all s); before_equals = b; after_equals = a; trailing = t }) w e
 
   prints-normal : (all : List (Mention Source)) (s : Placed) → IsRightStatement s.source.statement → PrintsLine mode (λ (x : Placed). x.source) (kept_of all) (PrintsNormal all) s
   prints-normal all s right n ks is leaf_is path_is = statement-printed all s s.source.statement right n ks is leaf_is path_is

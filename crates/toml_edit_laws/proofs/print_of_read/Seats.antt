@@ -1,13 +1,13 @@
 -- Where the mentions below a path stand among all, and what a visit of a header is there.
 use Rattle.toml_edit_model.specs.Mode.{Mode}
 use Rattle.toml_edit_laws.proofs.mentions.KeptOrder.{HaveOneHeader, under-header}
-use Rattle.toml_edit_model.specs.Paths.{Path, Mention, Source, Step, to_key, at_key, to_element, Role, dotted_role, through_role, header_role, array_role, value_role, implied_role}
+use Rattle.toml_edit_model.specs.Paths.{Path, Mention, Source, Step, to_key, at_key, to_element}
 use Rattle.toml_edit_model.specs.Syntax.{IsSpacedSegment}
 use Rattle.std.specs.List.{AllByRecursion}
 use Rattle.std.proofs.Common.{List, ◌≡◌, sym, ap, ◌∙◌, ◌++◌, refl, Some, subst, true, Bool, ℕ, false, ◌∷◌, []}
 use Rattle.toml_edit_laws.proofs.clashes.ClashMentions.{AreOfStatements, statements-under}
 use Rattle.toml_edit_laws.proofs.print_of_read.UnderPaths.{path-step, path-spaced, path-kept, path-source, path-lifted}
-use Rattle.toml_edit_model.specs.TreeOf.{under, kept, owned_in, statement_leaf, key_at, is_array_role, header_fields, AreSlotsOf, ends_path, some_at, any_role, IsNodeOf}
+use Rattle.toml_edit_model.specs.TreeOf.{owned_in, statement_leaf, key_at, header_fields, AreSlotsOf, IsNodeOf}
 use Rattle.toml_edit_model.specs.Text.{one, Text, same_text}
 use Rattle.toml_edit_laws.proofs.print_of_read.BlockLines.{IsSlot, kept-slots}
 use Rattle.toml_edit_laws.proofs.mentions.KeptPaths.{kept_in, key-shown, key_segment, last-key}
@@ -28,6 +28,8 @@ use Rattle.toml_edit_laws.proofs.print_of_read.HeaderVisits.{heading-under, slot
 use Rattle.toml_edit_laws.proofs.mentions.SomeAt.{among-test}
 use Rattle.toml_edit_laws.proofs.common.Tests.{same_text-refl, true-false, and_right}
 use Rattle.toml_edit_laws.specs.KeptKeys.{under_path}
+use Rattle.toml_edit_model.specs.Roles.{Role, dotted_role, continued_role, header_role, array_role, value_role, implied_role, is_array_role, ends_path, any_role}
+use Rattle.toml_edit_model.specs.TableMentions.{under, kept, some_at}
 
 -- the mentions below a path of a document
 pub record IsSeat (all : List (Mention Source)) (q : Path) (ms : List (Mention Source)) : Type 0 where
@@ -115,7 +117,7 @@ module _ (mode : Mode) where
       opening-ends dotted_role e = absurd cc
       opening-ends implied_role e = absurd cc
       opening-ends value_role e = absurd cc
-      opening-ends through_role e = absurd cc
+      opening-ends continued_role e = absurd cc
 
   -- the header is in the slot of the first key of its path
   pub in-slot : (all : List (Mention Source)) (k : Text) (r : Path) (n : ℕ) (h : Mention Source) (q : Path) (ks : List Key) (ms : List (Mention Source)) (ss : Slots) (P : Visit → Type 0)

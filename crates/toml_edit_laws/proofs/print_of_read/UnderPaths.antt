@@ -5,7 +5,6 @@ use Rattle.std.specs.List.{AllByRecursion}
 use Rattle.toml_edit_model.specs.Text.{one}
 use Rattle.toml_edit_model.specs.Syntax.{IsSpacedSegment}
 use Rattle.toml_edit_model.specs.Paths.{Step, Path, Mention, Source}
-use Rattle.toml_edit_model.specs.TreeOf.{under}
 use Rattle.toml_edit_laws.proofs.common.Tests.{append-nil}
 use Rattle.toml_edit_laws.proofs.common.Members.{Among}
 use Rattle.toml_edit_laws.proofs.mentions.KeptMentions.{moved, under-is}
@@ -16,6 +15,7 @@ use Rattle.toml_edit_laws.proofs.mentions.RankLaws.{RanksFollow, under-follow}
 use Rattle.toml_edit_laws.proofs.print_of_read.LevelFacts.{all-under, under-filter}
 use Rattle.toml_edit_laws.proofs.mentions.SomeAt.{under-append}
 use Rattle.toml_edit_laws.specs.KeptKeys.{under_path}
+use Rattle.toml_edit_model.specs.TableMentions.{under}
 
 pub path-step : {S : Type 0} (p : Path) (s : Step) (ms : List (Mention S)) → under_path (p ++ one s) ms ≡ under s (under_path p ms)
 path-step [] s ms = refl

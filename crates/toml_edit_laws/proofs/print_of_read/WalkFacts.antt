@@ -5,10 +5,10 @@ use Rattle.std.specs.List.{AllByRecursion}
 use Rattle.toml_edit_model.specs.Mode.{Mode}
 use Rattle.toml_edit_model.specs.Text.{Text, one}
 use Rattle.toml_edit_model.specs.Syntax.{Segment, Statement, key_line, header, IsSpacedSegment}
-use Rattle.toml_edit_model.specs.Paths.{at_key, at_element, Path, to_key, to_element, Role, dotted_role, implied_role, header_role, array_role, value_role, through_role, Mention, Source, Placed}
-use Rattle.toml_edit_model.specs.Normal.{is_header_role, is_line}
+use Rattle.toml_edit_model.specs.Paths.{at_key, at_element, Path, to_key, to_element, Mention, Source, Placed}
+use Rattle.toml_edit_model.specs.Normal.{is_line}
 use Rattle.toml_edit_model.specs.Tree.{owned, Key, TableFields, Node, nothing, leaf, list, inline, table, tables, Items, no_items, item, Slots, no_slots, slot}
-use Rattle.toml_edit_model.specs.TreeOf.{owned_in, under, arrays, some_at, is_dotted_role, kept, header_fields, fields_of, made_by_path, IsNodeOf, AreElementsOf, AreSlotsOf}
+use Rattle.toml_edit_model.specs.TreeOf.{owned_in, header_fields, fields_of, made_by_path, IsNodeOf, AreElementsOf, AreSlotsOf}
 use Rattle.toml_edit_model.specs.Print.{Line, lines_of, table_lines}
 use Rattle.toml_edit_model.specs.HeaderOrder.{Visit, visit_of, node_walk, items_walk, slots_walk, is_root}
 use Rattle.toml_edit_laws.proofs.common.Tests.{append-nil}
@@ -30,6 +30,8 @@ use Rattle.toml_edit_laws.proofs.common.Each.{all-append}
 use Rattle.toml_edit_laws.proofs.common.Lists.{not_empty-last}
 use Rattle.toml_edit_laws.proofs.print_of_read.Seats.{IsSeat, seat-down, seat-slots}
 use Rattle.toml_edit_laws.specs.KeptKeys.{under_path}
+use Rattle.toml_edit_model.specs.Roles.{Role, dotted_role, implied_role, header_role, array_role, value_role, continued_role, is_header_role, is_dotted_role}
+use Rattle.toml_edit_model.specs.TableMentions.{under, array_headers, some_at, kept}
 
 pub path-some : {S : Type 0} (test : Role → Bool) (p q : Path) (ms : List (Mention S)) → some_at test q (under_path p ms) ≡ some_at test (p ++ q) ms
 path-some test [] q ms = refl
@@ -127,7 +129,7 @@ module _ (mode : Mode) where
         made-read p ks f us _ _ g (implied-lines all rank_of q ms m f us seat follow are lines slot_is is)
     table-read q ms m f us p ks implied_role seat slot_is is e g =
         made-read p ks f us _ _ g (implied-lines all rank_of q ms m f us seat follow are lines slot_is is)
-    table-read q ms m f us p ks through_role seat slot_is is e g =
+    table-read q ms m f us p ks continued_role seat slot_is is e g =
         made-read p ks f us _ _ g (implied-lines all rank_of q ms m f us seat follow are lines slot_is is)
     table-read q ms m f us p ks array_role seat slot_is is e g =
         made-read p ks f us _ _ g (implied-lines all rank_of q ms m f us seat follow are lines slot_is is)
@@ -160,10 +162,10 @@ module _ (mode : Mode) where
           )
       node-read q ms m (tables x xs) ks k seat slot_is h =
           let ns : List (Mention Source) = under (at_key m.segment.key) ms in
-          items-read (to_key q m.segment.key) ns 0 (arrays ns) xs ks k (seat-down all q (at_key m.segment.key) ms seat) (λ a b. b) h.2
+          items-read (to_key q m.segment.key) ns 0 (array_headers ns) xs ks k (seat-down all q (at_key m.segment.key) ms seat) (λ a b. b) h.2
 
       items-read : (q : Path) (ns : List (Mention Source)) (i : ℕ) (hs : List (Mention Source)) (xs : Items) (ks : List Key) (k : Key) → IsSeat all q ns
-          → ((a : Mention Source) → Among a hs → Among a (arrays ns)) → AreElementsOf (owned_in mode) ns i hs xs → AllByRecursion IsEntered (items_walk xs q (ks ++ one k) i)
+          → ((a : Mention Source) → Among a hs → Among a (array_headers ns)) → AreElementsOf (owned_in mode) ns i hs xs → AllByRecursion IsEntered (items_walk xs q (ks ++ one k) i)
       items-read q ns i [] no_items ks k seat own h = tt
       items-read q ns i [] (item x xs) ks k seat own h = absurd h
       items-read q ns i (a ∷ hs) no_items ks k seat own h = absurd h

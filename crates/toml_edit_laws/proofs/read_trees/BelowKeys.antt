@@ -2,10 +2,8 @@
 use Rattle.std.proofs.Common.{◌≡◌, ◌⊎◌, ◌<◌, ℕ, refl, sym, ap, subst, ◌∙◌, inl, inr, true, false, Bool, List, [], ◌∷◌, ◌++◌, Option, Some, None}
 use Rattle.std.specs.Prelude.{◌&&◌, ◌||◌, if◌then◌else◌, option_map}
 use Rattle.toml_edit_model.specs.Text.{Text, same_text}
-use Rattle.toml_edit_model.specs.Paths.{at_key, at_element, Path, same_path, to_key, Role, dotted_role, implied_role, header_role, array_role, value_role, through_role, Mention, Source}
-use Rattle.toml_edit_model.specs.Normal.{is_header_role}
-use Rattle.toml_edit_model.specs.Faults.{is_value_role}
-use Rattle.toml_edit_model.specs.TreeOf.{Form, under, kept, some_at, is_array_role, IsTableRole}
+use Rattle.toml_edit_model.specs.Paths.{at_key, at_element, Path, same_path, to_key, Mention, Source}
+use Rattle.toml_edit_model.specs.TreeOf.{Form, IsTableRole}
 use Rattle.toml_edit_laws.proofs.common.Tests.{true-false, false-by, same_text-refl, same_text-is}
 use Rattle.toml_edit_laws.proofs.common.Members.{Among, all-among}
 use Rattle.toml_edit_laws.proofs.mentions.GatherLaws.{first_of_key, first_of_key-is, AreDistinct}
@@ -23,6 +21,8 @@ use Rattle.toml_edit_laws.proofs.common.PathLaws.{same_path-is}
 use Rattle.toml_edit_laws.proofs.mentions.SomeAt.{some_at-under, among-test}
 use Rattle.toml_edit_laws.proofs.mentions.RoleTests.{is_through_role}
 use Rattle.toml_edit_laws.proofs.mentions.Named.{EndsIn, single-named}
+use Rattle.toml_edit_model.specs.Roles.{Role, dotted_role, implied_role, header_role, array_role, value_role, continued_role, is_header_role, is_value_role, is_array_role}
+use Rattle.toml_edit_model.specs.TableMentions.{under, kept, some_at}
 
 -- ---- what one table sees
 
@@ -252,13 +252,13 @@ module _ (ms : List (Mention Source)) (h : Readable ms) (j : Mention Source) (a 
       by_kind header_role e is = refl
       by_kind array_role e is = absurd is
       by_kind value_role e is = absurd is
-      by_kind through_role e is =
+      by_kind continued_role e is =
           elim kept-lead [
             | inl l ↦ let clash : false ≡ true = sym (ap is_header_role e) ∙ l.0 in absurd cc
             | inr l ↦
                 let first = h.statements.through (at_key j.segment.key ∷ []) (kept-stands is_through_role (ap is_through_role e)) in
                 let role : Some j.role ≡ Some array_role = sym (ap (option_map (λ (m : Mention Source). m.role)) l.1) ∙ first in
-                let clash : through_role ≡ array_role = cc in
+                let clash : continued_role ≡ array_role = cc in
                 absurd cc
           ]
 

@@ -1,19 +1,20 @@
 -- The facts that the mentions of a document tell, one by one, as each table sees them.
 use Rattle.std.proofs.Common.{◌≡◌, ◌⊎◌, ◌<◌, ℕ, refl, sym, ap, subst, ◌∙◌, arith, inl, inr, true, false, Bool, List, [], ◌∷◌, ◌++◌, append_assoc}
 use Rattle.toml_edit_model.specs.Syntax.{Statement, key_line, header}
-use Rattle.toml_edit_model.specs.Paths.{Step, Path, to_element, Role, dotted_role, implied_role, header_role, array_role, value_role, through_role, Mention, Source}
+use Rattle.toml_edit_model.specs.Paths.{Step, Path, to_element, Mention, Source}
 use Rattle.toml_edit_model.specs.Meaning.{Fact, fact, a_table, an_array, value_facts}
-use Rattle.toml_edit_model.specs.TreeOf.{under, some_at, is_array_role}
 use Rattle.toml_edit_laws.proofs.common.Members.{Among}
 use Rattle.toml_edit_laws.proofs.mentions.KeptMentions.{moved, under-has, under-is}
 use Rattle.toml_edit_laws.proofs.clashes.ClashCounts.{count_at, count-under, count-none}
+use Rattle.toml_edit_model.specs.Roles.{Role, dotted_role, implied_role, header_role, array_role, value_role, continued_role, is_array_role}
+use Rattle.toml_edit_model.specs.TableMentions.{under, some_at}
 
 -- what a statement tells of a path by a role
 abbrev pub role_told : Role → Statement → Path → List Fact
 role_told value_role (key_line f v end) p = value_facts v p
 role_told value_role (header h end) p = []
 role_told array_role s p = fact p an_array ∷ []
-role_told through_role s p = []
+role_told continued_role s p = []
 role_told dotted_role s p = fact p a_table ∷ []
 role_told implied_role s p = fact p a_table ∷ []
 role_told header_role s p = fact p a_table ∷ []

@@ -6,7 +6,7 @@ use Rattle.toml_edit_model.specs.Paths.{at_key, Path, Mention, Source, placed_fr
 use Rattle.toml_edit_model.specs.Accepted.{is_accepted}
 use Rattle.toml_edit_model.specs.Meaning.{Fact, fact, a_table, SameFacts, facts_from, meaning}
 use Rattle.toml_edit_model.specs.Tree.{Slots}
-use Rattle.toml_edit_model.specs.TreeOf.{Form, kept, AreSlotsOf}
+use Rattle.toml_edit_model.specs.TreeOf.{Form, AreSlotsOf}
 use Rattle.toml_edit_model.specs.Shown.{slots_facts, shown_meaning}
 use Rattle.toml_edit_laws.specs.OneByOne.{all_right_after}
 use Rattle.toml_edit_laws.specs.ReadTrees.{TreesMean, TakenRootsMean}
@@ -20,6 +20,7 @@ use Rattle.toml_edit_laws.proofs.read_trees.BelowKeys.{Readable, way-begins}
 use Rattle.toml_edit_laws.proofs.read_trees.TreeFacts.{Same, root-tells}
 use Rattle.toml_edit_laws.proofs.read_trees.TextFacts.{facts-forth, told-back, number-back}
 use Rattle.toml_edit_laws.proofs.one_by_one.Together.{accepted-right}
+use Rattle.toml_edit_model.specs.TableMentions.{kept}
 
 module _ (d : Document) (grammar : IsDocument d) (accepted : is_accepted d ≡ true) where
   each-right : all_right_after [] (placed_from (start_context d) d.statements) ≡ true

@@ -4,8 +4,7 @@ use Rattle.std.specs.Prelude.{flat_map}
 use Rattle.std.proofs.lemmas.List.{length-append}
 use Rattle.toml_edit_model.specs.Text.{Text, joined, is_empty}
 use Rattle.toml_edit_model.specs.Syntax.{Segment, Header, Statement, key_line, header, Document, value_text, segment_text, path_text, frame_text, statement_text, brackets_text, opening_brackets, closing_brackets, mark_text, document_text}
-use Rattle.toml_edit_model.specs.Paths.{Step, Path, to_key, Role, Mention, Source, Placed, Context, header_mentions, next_start, elements_at, in_last, header_role_of, path_start, source_of, mentions_of, context_after, placed_from, start_context, all_mentions}
-use Rattle.toml_edit_model.specs.TreeOf.{under, own, arrays, is_array_role}
+use Rattle.toml_edit_model.specs.Paths.{Step, Path, to_key, Mention, Source, Placed, Context, header_mentions, next_start, elements_at, in_last, header_role_of, path_start, source_of, mentions_of, context_after, placed_from, start_context, all_mentions}
 use Rattle.toml_edit_laws.specs.Standing.{Stands}
 use Rattle.toml_edit_laws.proofs.common.StandingLaws.{stands-left, stands-right, stands-whole}
 use Rattle.toml_edit_laws.proofs.common.Members.{Among, among-cases, of-filtered}
@@ -13,6 +12,8 @@ use Rattle.toml_edit_laws.proofs.mentions.KeyMentions.{line-source}
 use Rattle.toml_edit_laws.proofs.mentions.KeptMentions.{under-is}
 use Rattle.toml_edit_laws.proofs.values.ValueOwned.{stands-at, SegmentStands, segment-stands, path-stands}
 use Rattle.toml_edit_laws.proofs.mentions.Placed.{header-source, after-start}
+use Rattle.toml_edit_model.specs.Roles.{Role, is_array_role}
+use Rattle.toml_edit_model.specs.TableMentions.{under, own, array_headers}
 
 -- ---- what holds of mentions by their segments, places and sources
 
@@ -25,7 +26,7 @@ holds-under P s ms h m a =
     let up = under-is s m ms a in
     subst (λ k. P k.start k.segment k.source) (sym up.same) (h up.mention up.among)
 
-pub arrays-among : (m : Mention Source) (ns : List (Mention Source)) → Among m (arrays ns) → Among m ns
+pub arrays-among : (m : Mention Source) (ns : List (Mention Source)) → Among m (array_headers ns) → Among m ns
 arrays-among m ns h =
     of-filtered (λ (k : Mention Source). is_empty k.path) m ns
     (of-filtered (λ (k : Mention Source). is_array_role k.role) m (own ns) h)

@@ -2,10 +2,12 @@
 use Rattle.std.proofs.Common.{◌≡◌, refl, sym, ◌∙◌, ap, subst, ℕ, suc, ◌+◌, List, [], ◌∷◌}
 use Rattle.toml_edit_model.specs.Mode.{with_return}
 use Rattle.toml_edit_model.specs.Syntax.{Statement, key_line, header, Document}
-use Rattle.toml_edit_model.specs.Paths.{at_key, at_element, Role, array_role, value_role, Mention, Source, all_mentions}
+use Rattle.toml_edit_model.specs.Paths.{at_key, at_element, Mention, Source, all_mentions}
 use Rattle.toml_edit_model.specs.Tree.{Node, nothing, leaf, list, inline, table, tables, Items, no_items, item, Slots, no_slots, slot, Tree}
-use Rattle.toml_edit_model.specs.TreeOf.{Form, under, kept, arrays, value_start, IsLineNode, IsTableRole, IsNodeOf, AreElementsOf, AreSlotsOf, IsTreeOf}
+use Rattle.toml_edit_model.specs.TreeOf.{Form, value_start, IsLineNode, IsTableRole, IsNodeOf, AreElementsOf, AreSlotsOf, IsTreeOf}
 use Rattle.toml_edit_laws.proofs.values.OneNode.{one-node}
+use Rattle.toml_edit_model.specs.Roles.{Role, array_role, value_role}
+use Rattle.toml_edit_model.specs.TableMentions.{under, kept, array_headers}
 
 -- a table has the role of a table
 not-value : (form : Form) (r : Role) → IsTableRole form r → r ≡ value_role → ⊥
@@ -30,7 +32,7 @@ module _ (form : Form) where
         cc
     one-slot-node (tables e xs) (tables f ys) ns m h i =
         let extents : e ≡ f = h.1 ∙ sym i.1 in
-        let items = one-elements xs ys ns 0 (arrays ns) h.2 i.2 in
+        let items = one-elements xs ys ns 0 (array_headers ns) h.2 i.2 in
         cc
     one-slot-node (leaf s r d) (leaf t q c) ns m h i = one-line m.source m.source.statement (leaf s r d) (leaf t q c) h.1 i.1
     one-slot-node (leaf s r d) (list f xs) ns m h i = one-line m.source m.source.statement (leaf s r d) (list f xs) h.1 i.1

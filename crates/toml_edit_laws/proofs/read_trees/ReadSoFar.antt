@@ -4,9 +4,8 @@ use Rattle.std.specs.Prelude.{if◌then◌else◌, filter}
 use Rattle.std.specs.List.{AllByRecursion}
 use Rattle.std.proofs.lemmas.Grind.{flat_map-append}
 use Rattle.toml_edit_model.specs.Syntax.{Segment, Statement, key_line, header, Document, IsDocument}
-use Rattle.toml_edit_model.specs.Paths.{Step, at_key, Path, same_path, to_key, to_element, Role, dotted_role, implied_role, header_role, array_role, through_role, may_meet, Mention, Source, Placed, Context, line_mentions, header_mentions, header_path, next_start, elements_at, in_last, passing_role, header_role_of, path_start, source_of, mentions_of, context_after, placed_from, start_context, all_mentions}
+use Rattle.toml_edit_model.specs.Paths.{Step, at_key, Path, same_path, to_key, to_element, Mention, Source, Placed, Context, line_mentions, header_mentions, header_path, next_start, elements_at, in_last, passing_role, header_role_of, path_start, source_of, mentions_of, context_after, placed_from, start_context, all_mentions}
 use Rattle.toml_edit_model.specs.Accepted.{agree, is_accepted}
-use Rattle.toml_edit_model.specs.TreeOf.{under, some_at, is_array_role}
 use Rattle.toml_edit_laws.specs.OneByOne.{is_right_after, all_right_after}
 use Rattle.toml_edit_laws.proofs.common.Tests.{and_left, and_right, true-false}
 use Rattle.toml_edit_laws.proofs.common.Members.{Among, among-left, among-right, among-cases}
@@ -20,6 +19,8 @@ use Rattle.toml_edit_laws.proofs.mentions.Placed.{mentions_in, right-agrees}
 use Rattle.toml_edit_laws.proofs.common.PathLaws.{same_path-refl}
 use Rattle.toml_edit_laws.proofs.mentions.SomeAt.{among-test}
 use Rattle.toml_edit_laws.proofs.one_by_one.Together.{accepted-right}
+use Rattle.toml_edit_model.specs.Roles.{Role, dotted_role, implied_role, header_role, array_role, continued_role, may_meet, is_array_role}
+use Rattle.toml_edit_model.specs.TableMentions.{under, some_at}
 
 -- ---- what is made by keys on a path has something below it
 
@@ -86,7 +87,7 @@ header-more source arrays role start p (s ∷ r ∷ rest) plain m (inl e) made =
           path = first.2 ∙ ap (λ n. to_key (in_last n here) r.key) g ∙ ap (λ (n : Mention Source). n.path ++ (at_key r.key ∷ [])) (sym e);
         }
     by_count (suc n) g =
-        let role : m.role ≡ through_role = ap (λ (k : Mention Source). k.role) e ∙ ap passing_role g in
+        let role : m.role ≡ continued_role = ap (λ (k : Mention Source). k.role) e ∙ ap passing_role g in
         true-false (is_made_role m.role) made (ap is_made_role role)
 header-more source arrays role start p (s ∷ r ∷ rest) plain m (inr a) made =
     let here : Path = to_key p s.key in

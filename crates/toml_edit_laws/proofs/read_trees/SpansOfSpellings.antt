@@ -7,10 +7,13 @@ use Rattle.toml_edit_model.specs.Spelling.{Sign, plus, minus, unsigned, hexadeci
 use Rattle.toml_edit_model.specs.Syntax.{Value, scalar, array, inline_table, Elements, no_elements, element, value_text, Statement, key_line, header}
 use Rattle.toml_edit_model.specs.Paths.{at_key, at_element, Mention, Source}
 use Rattle.toml_edit_model.specs.Tree.{Raw, owned, span, Key, Node, nothing, leaf, list, inline, table, tables, Items, no_items, item, Slots, no_slots, slot, HasTrueSpelling, IsWellMade, ItemsAreWellMade, SlotsAreWellMade}
-use Rattle.toml_edit_model.specs.TreeOf.{spanned_in, span_of, Entry, entries, under, kept, arrays, ends_path, value_start, IsValueNode, AreElementNodes, AreEntrySlots, IsLineNode, IsNodeOf, AreElementsOf, AreSlotsOf, OptionFits, NodeFits, ItemsFit, SlotsFit, owned_raw, owned_node, owned_items, owned_slots}
+use Rattle.toml_edit_model.specs.TreeOf.{spanned_in, span_of, Entry, entries, value_start, IsValueNode, AreElementNodes, AreEntrySlots, IsLineNode, IsNodeOf, AreElementsOf, AreSlotsOf}
 use Rattle.toml_edit_laws.specs.ReadTrees.{IsCutAs, HasCutSpellings, ItemsHaveCutSpellings, HaveCutSpellings}
 use Rattle.toml_edit_laws.proofs.inline_tables.SlotsOfEntries.{IsMadeByKey, slot-key, slot-node, slot-rest, either-way}
 use Rattle.toml_edit_laws.proofs.values.ValueKinds.{not-value}
+use Rattle.toml_edit_model.specs.TableMentions.{under, kept, array_headers}
+use Rattle.toml_edit_model.specs.Roles.{ends_path}
+use Rattle.toml_edit_model.specs.OwnedForm.{OptionFits, NodeFits, ItemsFit, SlotsFit, owned_raw, owned_node, owned_items, owned_slots}
 
 -- ---- no spelling is empty
 
@@ -146,7 +149,7 @@ module _ (mode : Mode) where
   mutual
     node-spans : (n : Node) (ns : List (Mention Source)) (m : Mention Source) → IsNodeOf (spanned_in mode) ns m n → HasSpans n
     node-spans (table f ss) ns m is = slots-spans ss ns (kept ns) is.2
-    node-spans (tables e xs) ns m is = elements-spans xs ns 0 (arrays ns) is.2
+    node-spans (tables e xs) ns m is = elements-spans xs ns 0 (array_headers ns) is.2
     node-spans (leaf s r d) ns m is = line-spans m.source m.source.statement (leaf s r d) is.1
     node-spans (list f xs) ns m is = line-spans m.source m.source.statement (list f xs) is.1
     node-spans (inline f ss) ns m is = line-spans m.source m.source.statement (inline f ss) is.1

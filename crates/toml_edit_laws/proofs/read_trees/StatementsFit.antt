@@ -10,8 +10,8 @@ use Rattle.toml_edit_model.specs.Mode.{Mode, with_return}
 use Rattle.toml_edit_model.specs.Text.{Text, joined}
 use Rattle.toml_edit_model.specs.Trivia.{IsNewline, lf, crlf}
 use Rattle.toml_edit_model.specs.Syntax.{Segment, Frame, Header, Value, Statement, key_line, header, Document, IsSpacedSegment, IsFrame, IsHeader, IsValue, IsStatement, AreStatements, IsDocument, value_text, path_text, frame_text, statement_text, brackets_text, opening_brackets, closing_brackets, mark_text, document_text}
-use Rattle.toml_edit_model.specs.Paths.{Path, to_key, Role, Mention, Source, Placed, Context, header_mentions, next_start, elements_at, in_last, header_role_of, path_start, source_of, mentions_of, context_after, placed_from, start_context, all_mentions}
-use Rattle.toml_edit_model.specs.TreeOf.{spanned_in, value_start, frame_leaf, header_leaf, headed_by, bracket_end, DecorFits}
+use Rattle.toml_edit_model.specs.Paths.{Path, to_key, Mention, Source, Placed, Context, header_mentions, next_start, elements_at, in_last, header_role_of, path_start, source_of, mentions_of, context_after, placed_from, start_context, all_mentions}
+use Rattle.toml_edit_model.specs.TreeOf.{spanned_in, value_start, frame_leaf, header_leaf, headed_by, bracket_end}
 use Rattle.toml_edit_laws.specs.Standing.{Stands}
 use Rattle.toml_edit_laws.proofs.common.StandingLaws.{stands-left, stands-right}
 use Rattle.toml_edit_laws.proofs.common.LineEnds.{IsEnd}
@@ -24,6 +24,8 @@ use Rattle.toml_edit_laws.proofs.common.Edges.{edge-before, edge-after, StartsAs
 use Rattle.toml_edit_laws.proofs.read_trees.MentionsStand.{Holds, statements-stand}
 use Rattle.toml_edit_laws.proofs.values.TextsLie.{frame-fits, SegmentFits, Lies, lies-at, raw-fits, edge-at, segment-fits, first-fits, line-fits}
 use Rattle.toml_edit_laws.proofs.mentions.Placed.{header-source, after-start}
+use Rattle.toml_edit_model.specs.Roles.{Role}
+use Rattle.toml_edit_model.specs.OwnedForm.{DecorFits}
 
 -- ---- segments
 

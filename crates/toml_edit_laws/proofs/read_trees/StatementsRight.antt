@@ -5,7 +5,7 @@ use Rattle.std.specs.List.{AllByRecursion}
 use Rattle.toml_edit_model.specs.Text.{Text, one}
 use Rattle.toml_edit_model.specs.Trivia.{IsLineEnd}
 use Rattle.toml_edit_model.specs.Syntax.{Segment, Statement, key_line, header, Document, IsSpelledSegment, IsFrame, IsValue, IsHeader, AreStatements, IsDocument, keeps_ranges, keeps_limits}
-use Rattle.toml_edit_model.specs.Paths.{Path, to_key, Role, Mention, Source, Placed, Context, header_mentions, next_start, elements_at, in_last, header_role_of, path_start, source_of, mentions_of, context_after, placed_from, start_context, all_mentions}
+use Rattle.toml_edit_model.specs.Paths.{Path, to_key, Mention, Source, Placed, Context, header_mentions, next_start, elements_at, in_last, header_role_of, path_start, source_of, mentions_of, context_after, placed_from, start_context, all_mentions}
 use Rattle.toml_edit_model.specs.Accepted.{has_agreeing_pairs, is_sound, is_accepted}
 use Rattle.toml_edit_laws.specs.OneByOne.{is_right_after, all_right_after}
 use Rattle.toml_edit_laws.proofs.common.Tests.{and_left, and_right}
@@ -15,6 +15,7 @@ use Rattle.toml_edit_laws.proofs.values.ValueMade.{IsRight}
 use Rattle.toml_edit_laws.proofs.read_trees.MentionsStand.{Holds}
 use Rattle.toml_edit_laws.proofs.mentions.Placed.{source-statement, header-source, line-spelled}
 use Rattle.toml_edit_laws.proofs.one_by_one.Together.{accepted-right}
+use Rattle.toml_edit_model.specs.Roles.{Role}
 
 -- ---- in the grammar
 

@@ -4,9 +4,8 @@ use Rattle.std.specs.Prelude.{flat_map, if◌then◌else◌, filter}
 use Rattle.std.specs.List.{AllByRecursion}
 use Rattle.toml_edit_model.specs.Text.{Text, is_empty}
 use Rattle.toml_edit_model.specs.Syntax.{Segment, Frame, Header, Value, Statement, key_line, header}
-use Rattle.toml_edit_model.specs.Paths.{at_key, Path, same_path, to_key, to_element, Role, header_role, array_role, Mention, Source, Placed, Context, mention_of, line_mentions, header_mentions, header_path, next_start, elements_at, in_last, passing_role, path_start, source_of, mentions_of, context_after, placed_from}
+use Rattle.toml_edit_model.specs.Paths.{at_key, Path, same_path, to_key, to_element, Mention, Source, Placed, Context, mention_of, line_mentions, header_mentions, header_path, next_start, elements_at, in_last, passing_role, path_start, source_of, mentions_of, context_after, placed_from}
 use Rattle.toml_edit_model.specs.Meaning.{Fact, fact, a_table, an_array, below_keys, value_facts, tables_along, parent, element_header_facts, header_facts, statement_facts, facts_from}
-use Rattle.toml_edit_model.specs.TreeOf.{is_array_role}
 use Rattle.toml_edit_laws.specs.OneByOne.{is_right_after, all_right_after}
 use Rattle.toml_edit_laws.proofs.common.Tests.{and_left, and_right}
 use Rattle.toml_edit_laws.proofs.common.Members.{Among, among-left, among-right, among-cases}
@@ -18,6 +17,7 @@ use Rattle.toml_edit_laws.proofs.read_trees.ReadSoFar.{with-one}
 use Rattle.toml_edit_laws.proofs.mentions.Placed.{mentions_in, right-agrees, path-ends}
 use Rattle.toml_edit_laws.proofs.common.PathLaws.{parent-last, same_path-refl, same_path-is}
 use Rattle.toml_edit_laws.proofs.common.TablesAlong.{tables-key, tables-element}
+use Rattle.toml_edit_model.specs.Roles.{Role, header_role, array_role, is_array_role}
 
 -- what mentions tell
 abbrev pub all_told : List (Mention Source) → List Fact

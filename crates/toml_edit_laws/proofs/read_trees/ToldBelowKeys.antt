@@ -1,18 +1,18 @@
 -- What mentions below a key tell, by their roles.
-use Rattle.toml_edit_model.specs.Paths.{Source, Path, Mention, to_key, at_key, Step, to_element, Role, through_role, dotted_role, array_role, header_role, value_role, implied_role, at_element, may_meet}
+use Rattle.toml_edit_model.specs.Paths.{Source, Path, Mention, to_key, at_key, Step, to_element, at_element}
 use Rattle.toml_edit_laws.proofs.read_trees.BelowKeys.{numbered-among, Readable, slot-for, table-below, apart-at, array-below, way-begins, element-begins, StandsAt, own-apart}
 use Rattle.toml_edit_laws.proofs.read_trees.FactsTold.{Tells, rise, mention_told, sink-told, sink-numbered, Numbered, role_told, count-some}
 use Rattle.toml_edit_laws.proofs.common.Members.{Among}
 use Rattle.std.proofs.Common.{inr, List, inl, subst, ◌≡◌, ◌∷◌, ◌<◌, ◌++◌, sym, ◌∙◌, false, ℕ, ◌⊎◌, append-nil, ap, refl, true, []}
 use Rattle.toml_edit_model.specs.Meaning.{Fact, fact, a_table, an_array}
 use Rattle.toml_edit_model.specs.Text.{Text}
-use Rattle.toml_edit_model.specs.TreeOf.{under, kept, is_array_role, some_at}
 use Rattle.toml_edit_laws.proofs.clashes.ClashCounts.{count_at, count-under}
-use Rattle.toml_edit_model.specs.Faults.{is_value_role}
 use Rattle.toml_edit_model.specs.Syntax.{Statement}
 use Rattle.toml_edit_laws.proofs.clashes.ClashMentions.{is_table_role, HaveMeetingRoles}
 use Rattle.toml_edit_laws.proofs.mentions.SomeAt.{among-test}
 use Rattle.toml_edit_laws.proofs.common.Tests.{true-false}
+use Rattle.toml_edit_model.specs.Roles.{Role, continued_role, dotted_role, array_role, header_role, value_role, implied_role, may_meet, is_array_role, is_value_role}
+use Rattle.toml_edit_model.specs.TableMentions.{under, kept, some_at}
 use Rattle.std.specs.Prelude.{not}
 
 pub tells-among : (p : Path) (ms : List (Mention Source)) (f : Fact) → Tells p ms f → (m : Mention Source) × Among m ms
@@ -62,7 +62,7 @@ table-told header_role st q f a v (inl e) = e
 table-told header_role st q f a v (inr x) = absurd x
 table-told array_role st q f a v t = absurd cc
 table-told value_role st q f a v t = absurd cc
-table-told through_role st q f a v t = absurd t
+table-told continued_role st q f a v t = absurd t
 
 pub array-told : (r : Role) (st : Statement) (q : Path) (f : Fact) → is_table_role r ≡ false → is_value_role r ≡ false → Among f (role_told r st q) → f ≡ fact q an_array
 array-told array_role st q f a v (inl e) = e
@@ -71,7 +71,7 @@ array-told dotted_role st q f a v t = absurd cc
 array-told implied_role st q f a v t = absurd cc
 array-told header_role st q f a v t = absurd cc
 array-told value_role st q f a v t = absurd cc
-array-told through_role st q f a v t = absurd t
+array-told continued_role st q f a v t = absurd t
 
 -- the table of an element, and what is below it
 abbrev pub ElementTells : Path → List (Mention Source) → ℕ → Fact → Type 0

@@ -4,9 +4,9 @@ use Rattle.std.specs.Prelude.{fold}
 use Rattle.toml_edit_model.specs.Mode.{Mode, with_return}
 use Rattle.toml_edit_model.specs.Text.{Text}
 use Rattle.toml_edit_model.specs.Syntax.{Header, Statement, key_line, header, value_text, brackets_text, statement_text, document_text}
-use Rattle.toml_edit_model.specs.Paths.{at_key, at_element, Role, dotted_role, implied_role, header_role, array_role, value_role, through_role, Mention, Source, all_mentions}
+use Rattle.toml_edit_model.specs.Paths.{at_key, at_element, Mention, Source, all_mentions}
 use Rattle.toml_edit_model.specs.Tree.{Node, nothing, leaf, list, inline, table, tables, Items, no_items, item, Slots, no_slots, slot}
-use Rattle.toml_edit_model.specs.TreeOf.{spanned_in, under, kept, arrays, value_start, brackets_from, brackets_to, header_fields, fields_of, tables_extent, IsLineNode, IsNodeOf, AreElementsOf, AreSlotsOf}
+use Rattle.toml_edit_model.specs.TreeOf.{spanned_in, value_start, brackets_from, brackets_to, header_fields, fields_of, tables_extent, IsLineNode, IsNodeOf, AreElementsOf, AreSlotsOf}
 use Rattle.toml_edit_laws.specs.Standing.{Stands}
 use Rattle.toml_edit_laws.specs.Extents.{ExtentLies, NodeLies, ItemsLie, SlotsLie, ExtentsLie}
 use Rattle.toml_edit_laws.proofs.common.Returns.{returned-frame, frame-returned}
@@ -15,6 +15,8 @@ use Rattle.toml_edit_laws.proofs.mentions.KeptMentions.{kept-is}
 use Rattle.toml_edit_laws.proofs.values.ValueOwned.{pair-stands}
 use Rattle.toml_edit_laws.proofs.values.ValueExtents.{ends-lie, value_lies}
 use Rattle.toml_edit_laws.proofs.read_trees.MentionsStand.{Holds, MentionStands, holds-under, arrays-among, document-mentions}
+use Rattle.toml_edit_model.specs.Roles.{Role, dotted_role, implied_role, header_role, array_role, value_role, continued_role}
+use Rattle.toml_edit_model.specs.TableMentions.{under, kept, array_headers}
 
 module _ (mode : Mode) where
   module _ (text : Text) where
@@ -54,7 +56,7 @@ module _ (mode : Mode) where
     fields-lie ns m implied_role h = ends-lie text m.start m.segment.spelled h.segment.spelled
     fields-lie ns m array_role h = ends-lie text m.start m.segment.spelled h.segment.spelled
     fields-lie ns m value_role h = ends-lie text m.start m.segment.spelled h.segment.spelled
-    fields-lie ns m through_role h = ends-lie text m.start m.segment.spelled h.segment.spelled
+    fields-lie ns m continued_role h = ends-lie text m.start m.segment.spelled h.segment.spelled
 
     line-lies : (s : Source) (st : Statement) (n : Node) → Stands text s.start (statement_text st) → IsLineNode (spanned_in mode) s st n → NodeLies text n
     line-lies s (key_line f v end) n h is =
@@ -70,8 +72,8 @@ module _ (mode : Mode) where
         slots-lie ss ns (kept ns) h (λ k a. h k (kept-is [] k ns a).among) is.2,
       )
       node-lies (tables e xs) ns m h at is = (
-        subst (ExtentLies text) (sym is.1) (tables-lie (arrays ns) (λ k a. h k (arrays-among k ns a))),
-        elements-lie xs ns 0 (arrays ns) h (λ k a. h k (arrays-among k ns a)) is.2,
+        subst (ExtentLies text) (sym is.1) (tables-lie (array_headers ns) (λ k a. h k (arrays-among k ns a))),
+        elements-lie xs ns 0 (array_headers ns) h (λ k a. h k (arrays-among k ns a)) is.2,
       )
       node-lies (leaf s r d) ns m h at is = line-lies m.source m.source.statement (leaf s r d) at.statement is.1
       node-lies (list f xs) ns m h at is = line-lies m.source m.source.statement (list f xs) at.statement is.1

@@ -4,12 +4,10 @@ use Rattle.std.specs.Prelude.{◌||◌, not, if◌then◌else◌}
 use Rattle.toml_edit_model.specs.Mode.{with_return}
 use Rattle.toml_edit_model.specs.Text.{Text}
 use Rattle.toml_edit_model.specs.Syntax.{Statement, key_line, header}
-use Rattle.toml_edit_model.specs.Paths.{at_key, at_element, Path, to_key, to_element, Role, dotted_role, implied_role, header_role, array_role, value_role, through_role, Mention, Source}
-use Rattle.toml_edit_model.specs.Normal.{is_header_role}
-use Rattle.toml_edit_model.specs.Faults.{is_value_role}
+use Rattle.toml_edit_model.specs.Paths.{at_key, at_element, Path, to_key, to_element, Mention, Source}
 use Rattle.toml_edit_model.specs.Meaning.{Fact, fact, a_table, an_array}
 use Rattle.toml_edit_model.specs.Tree.{Key, TableFields, Node, nothing, leaf, list, inline, table, tables, Items, no_items, item, Slots, no_slots, slot}
-use Rattle.toml_edit_model.specs.TreeOf.{Form, under, kept, arrays, some_at, is_array_role, value_start, header_fields, fields_of, IsLineNode, IsNodeOf, AreElementsOf, AreSlotsOf}
+use Rattle.toml_edit_model.specs.TreeOf.{Form, value_start, header_fields, fields_of, IsLineNode, IsNodeOf, AreElementsOf, AreSlotsOf}
 use Rattle.toml_edit_model.specs.Shown.{is_shown, shows, has_table, inside_facts, node_facts, tables_facts, slots_facts}
 use Rattle.toml_edit_laws.proofs.common.Tests.{or-true, true-false}
 use Rattle.toml_edit_laws.proofs.common.Members.{Among, among-left, among-right, among-cases, from-contained, to-contained}
@@ -23,6 +21,8 @@ use Rattle.toml_edit_laws.proofs.read_trees.ReadSoFar.{is_made_role}
 use Rattle.toml_edit_laws.proofs.read_trees.BelowKeys.{Readable, StandsAt, apart-at, numbered-among, way-begins, table-below, element-below, value-below, own-apart, kept-in, kept-path, kept-stands, kept-table, kept-under, slot-for}
 use Rattle.toml_edit_laws.proofs.mentions.Placed.{is_header}
 use Rattle.toml_edit_laws.proofs.read_trees.ToldBelowKeys.{Below, KeptBelow, below-kept, below-tells, strict-below, ElementTells, table-split, array-split, element-rise, value-one}
+use Rattle.toml_edit_model.specs.Roles.{Role, dotted_role, implied_role, header_role, array_role, value_role, continued_role, is_header_role, is_value_role, is_array_role}
+use Rattle.toml_edit_model.specs.TableMentions.{under, kept, array_headers, some_at}
 
 abbrev pub Same : Type 0 → Type 0 → Type 0
 Same A B = (A → B) × (B → A)
@@ -49,7 +49,7 @@ value-told array_role st q f a v t = absurd cc
 value-told dotted_role st q f a v t = absurd cc
 value-told implied_role st q f a v t = absurd cc
 value-told header_role st q f a v t = absurd cc
-value-told through_role st q f a v t = absurd t
+value-told continued_role st q f a v t = absurd t
 
 module _ (ms : List (Mention Source)) (h : Readable ms) (j : Mention Source) (a : Among j (kept ms)) (p : Path) (f : Fact) where
   ns : List (Mention Source)
@@ -107,7 +107,7 @@ module _ (ms : List (Mention Source)) (h : Readable ms) (j : Mention Source) (a 
   table-role-told header_role e = refl
   table-role-told array_role e = absurd cc
   table-role-told value_role e = absurd cc
-  table-role-told through_role e = absurd cc
+  table-role-told continued_role e = absurd cc
 
   table-tells : is_table_role j.role ≡ true → (fs : List Fact)
       → Same (Among f fs) (KeptBelow p (under (at_key j.segment.key) ms) (kept (under (at_key j.segment.key) ms)) f)
@@ -133,12 +133,12 @@ module _ (ms : List (Mention Source)) (h : Readable ms) (j : Mention Source) (a 
 
   -- ---- arrays
 
-  as-many : length (arrays (under (at_key j.segment.key) ms)) ≡ count_at is_array_role (at_key j.segment.key ∷ []) ms
+  as-many : length (array_headers (under (at_key j.segment.key) ms)) ≡ count_at is_array_role (at_key j.segment.key ∷ []) ms
   as-many = count-own (under (at_key j.segment.key) ms) ∙ count-under is_array_role (at_key j.segment.key) [] ms
 
   array-tells : j.role ≡ array_role → (fs : List Fact)
-      → (Among f fs → (i : ℕ) × (i < length (arrays (under (at_key j.segment.key) ms))) × ElementTells p (under (at_key j.segment.key) ms) i f)
-      → ((i : ℕ) → i < length (arrays (under (at_key j.segment.key) ms)) → ElementTells p (under (at_key j.segment.key) ms) i f → Among f fs)
+      → (Among f fs → (i : ℕ) × (i < length (array_headers (under (at_key j.segment.key) ms))) × ElementTells p (under (at_key j.segment.key) ms) i f)
+      → ((i : ℕ) → i < length (array_headers (under (at_key j.segment.key) ms)) → ElementTells p (under (at_key j.segment.key) ms) i f → Among f fs)
       → Same (Among f (fact p an_array ∷ fs)) (Tells p (under (at_key j.segment.key) ms) f)
   array-tells is fs first second = (forth, back)
     where
@@ -175,7 +175,7 @@ table-shown form ns j f ss dotted_role is headed e made = ap (λ b. not (f.is_do
 table-shown form ns j f ss implied_role is headed e made = ap (λ b. not (f.is_dotted || f.is_implicit) || b) (made refl) ∙ or-true (not (f.is_dotted || f.is_implicit))
 table-shown form ns j f ss array_role is headed e made = absurd cc
 table-shown form ns j f ss value_role is headed e made = absurd cc
-table-shown form ns j f ss through_role is headed e made = absurd cc
+table-shown form ns j f ss continued_role is headed e made = absurd cc
 
 -- a table that keys on a path made has a slot
 made-slot : (ms : List (Mention Source)) (h : Readable ms) (j : Mention Source) (a : Among j (kept ms)) → is_table_role j.role ≡ true → is_made_role j.role ≡ true
@@ -302,12 +302,12 @@ elements-shown form ns i n (a ∷ more) (item x xs) less is = absurd is
 
 -- an array of tables has a table
 array-shown : (form : Form) (ms : List (Mention Source)) (h : Readable ms) (j : Mention Source) (a : Among j (kept ms)) → j.role ≡ array_role → (xs : Items)
-    → AreElementsOf form (under (at_key j.segment.key) ms) 0 (arrays (under (at_key j.segment.key) ms)) xs → has_table xs ≡ true
+    → AreElementsOf form (under (at_key j.segment.key) ms) 0 (array_headers (under (at_key j.segment.key) ms)) xs → has_table xs ≡ true
 array-shown form ms h j a is xs are =
     let k = j.segment.key in
     let stands = kept-stands ms h j a is_array_role (ap is_array_role is) in
-    let many : length (arrays (under (at_key k) ms)) ≡ count_at is_array_role (at_key k ∷ []) ms = count-own (under (at_key k) ms) ∙ count-under is_array_role (at_key k) [] ms in
-    elements-shown form (under (at_key k) ms) 0 0 (arrays (under (at_key k) ms)) xs
+    let many : length (array_headers (under (at_key k) ms)) ≡ count_at is_array_role (at_key k ∷ []) ms = count-own (under (at_key k) ms) ∙ count-under is_array_role (at_key k) [] ms in
+    elements-shown form (under (at_key k) ms) 0 0 (array_headers (under (at_key k) ms)) xs
     (subst (λ n. 0 < n) (sym many) (some-count (at_key k ∷ []) ms stands)) are
 
 array-forth : (p : Path) (ns : List (Mention Source)) (size : ℕ) (f : Fact) → ElementsTell p ns 0 size f → (i : ℕ) × (i < size) × ElementTells p ns i f
@@ -332,11 +332,11 @@ module _ (form : Form) where
     node-tells (tables e xs) ms h j a is =
         let ns = under (at_key j.segment.key) ms in
         let stands = kept-stands ms h j a is_array_role (ap is_array_role is.0) in
-        let inner = elements-tell xs ms h j.segment.key stands 0 (arrays ns) is.2 in (
+        let inner = elements-tell xs ms h j.segment.key stands 0 (array_headers ns) is.2 in (
           array-shown form ms h j a is.0 xs is.2,
           λ p f.
-              array-tells ms h j a p f is.0 (tables_facts xs p 0) (λ b. array-forth p ns (length (arrays ns)) f ((inner p f).0 b))
-              (λ i less t. (inner p f).1 (i, (let low : 0 ≤ i = omega arith in low), (let high : i < 0 + length (arrays ns) = omega (arith, less) in high), t)),
+              array-tells ms h j a p f is.0 (tables_facts xs p 0) (λ b. array-forth p ns (length (array_headers ns)) f ((inner p f).0 b))
+              (λ i less t. (inner p f).1 (i, (let low : 0 ≤ i = omega arith in low), (let high : i < 0 + length (array_headers ns) = omega (arith, less) in high), t)),
         )
     node-tells (leaf s r d) ms h j a is = (line-shown form j.source j.source.statement (leaf s r d) is.1, λ p f. line-tells ms h j a p f form (leaf s r d) is.0 is.1)
     node-tells (list g xs) ms h j a is = (line-shown form j.source j.source.statement (list g xs) is.1, λ p f. line-tells ms h j a p f form (list g xs) is.0 is.1)

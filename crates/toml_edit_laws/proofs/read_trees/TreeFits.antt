@@ -5,14 +5,17 @@ use Rattle.std.specs.Str.{IsUtf8}
 use Rattle.toml_edit_model.specs.Mode.{Mode, with_return}
 use Rattle.toml_edit_model.specs.Text.{Text}
 use Rattle.toml_edit_model.specs.Syntax.{Statement, key_line, header, Document, IsDocument, document_text}
-use Rattle.toml_edit_model.specs.Paths.{at_key, at_element, Role, dotted_role, implied_role, header_role, array_role, value_role, through_role, Mention, Source, all_mentions}
+use Rattle.toml_edit_model.specs.Paths.{at_key, at_element, Mention, Source, all_mentions}
 use Rattle.toml_edit_model.specs.Tree.{unset, Node, nothing, leaf, list, inline, table, tables, Items, no_items, item, Slots, no_slots, slot, Tree}
-use Rattle.toml_edit_model.specs.TreeOf.{spanned_in, under, kept, arrays, ends_path, value_start, key_at, statement_leaf, header_fields, fields_of, IsLineNode, IsNodeOf, AreElementsOf, AreSlotsOf, IsTreeOf, RawFits, DecorFits, KeyFits, NodeFits, ItemsFit, SlotsFit}
+use Rattle.toml_edit_model.specs.TreeOf.{spanned_in, value_start, key_at, statement_leaf, header_fields, fields_of, IsLineNode, IsNodeOf, AreElementsOf, AreSlotsOf, IsTreeOf}
 use Rattle.toml_edit_laws.proofs.mentions.KeptMentions.{kept-is}
 use Rattle.toml_edit_laws.proofs.values.ValueFits.{value_fits}
 use Rattle.toml_edit_laws.proofs.read_trees.MentionsStand.{Holds, holds-under, arrays-among}
 use Rattle.toml_edit_laws.proofs.read_trees.StatementsFit.{StatementFits, MentionFits, document-fits}
 use Rattle.toml_edit_laws.proofs.values.TextsLie.{raw-fits}
+use Rattle.toml_edit_model.specs.Roles.{Role, dotted_role, implied_role, header_role, array_role, value_role, continued_role, ends_path}
+use Rattle.toml_edit_model.specs.TableMentions.{under, kept, array_headers}
+use Rattle.toml_edit_model.specs.OwnedForm.{RawFits, DecorFits, KeyFits, NodeFits, ItemsFit, SlotsFit}
 
 -- What fits of the tree of a document.
 pub record TreeFits (text : Text) (t : Tree) : Type 0 where
@@ -48,7 +51,7 @@ module _ (mode : Mode) where
     fields-fit ns m implied_role h = (tt, tt)
     fields-fit ns m array_role h = (tt, tt)
     fields-fit ns m value_role h = (tt, tt)
-    fields-fit ns m through_role h = (tt, tt)
+    fields-fit ns m continued_role h = (tt, tt)
 
     line-node-fits : (s : Source) (st : Statement) (n : Node) → StatementFits mode text s st → IsLineNode (spanned_in mode) s st n → NodeFits text n
     line-node-fits s (key_line f v end) n h is =
@@ -62,7 +65,7 @@ module _ (mode : Mode) where
         subst (λ g. DecorFits text g.decor) (sym is.1) (fields-fit ns m m.role at.statement),
         slots-fit ss ns (kept ns) h (λ k a. h k (kept-is [] k ns a).among) is.2,
       )
-      node-fits (tables e xs) ns m h at is = elements-fit xs ns 0 (arrays ns) h (λ k a. h k (arrays-among k ns a)) is.2
+      node-fits (tables e xs) ns m h at is = elements-fit xs ns 0 (array_headers ns) h (λ k a. h k (arrays-among k ns a)) is.2
       node-fits (leaf s r d) ns m h at is = line-node-fits m.source m.source.statement (leaf s r d) at.statement is.1
       node-fits (list f xs) ns m h at is = line-node-fits m.source m.source.statement (list f xs) at.statement is.1
       node-fits (inline f ss) ns m h at is = line-node-fits m.source m.source.statement (inline f ss) at.statement is.1

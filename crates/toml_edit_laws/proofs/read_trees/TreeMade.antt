@@ -8,7 +8,7 @@ use Rattle.toml_edit_model.specs.Syntax.{Statement, key_line, header, Document, 
 use Rattle.toml_edit_model.specs.Paths.{at_key, at_element, Mention, Source, all_mentions}
 use Rattle.toml_edit_model.specs.Accepted.{is_accepted}
 use Rattle.toml_edit_model.specs.Tree.{Key, Node, nothing, leaf, list, inline, table, tables, Items, no_items, item, Slots, no_slots, slot, Tree, has_key, HasTrueSpelling, IsWellMade, ItemsAreWellMade, SlotsAreWellMade}
-use Rattle.toml_edit_model.specs.TreeOf.{Form, owned_in, under, kept, arrays, value_start, IsLineNode, IsNodeOf, AreElementsOf, AreSlotsOf, IsTreeOf}
+use Rattle.toml_edit_model.specs.TreeOf.{Form, owned_in, value_start, IsLineNode, IsNodeOf, AreElementsOf, AreSlotsOf, IsTreeOf}
 use Rattle.toml_edit_laws.proofs.mentions.GatherLaws.{first_of_key, AreDistinct, first-none}
 use Rattle.toml_edit_laws.proofs.mentions.KeptMentions.{kept-is}
 use Rattle.toml_edit_laws.proofs.adding.TableMentions.{AreOfTable, of_step, one_slot}
@@ -16,6 +16,7 @@ use Rattle.toml_edit_laws.proofs.adding.StatementMentions.{document_table}
 use Rattle.toml_edit_laws.proofs.values.ValueMade.{made_well}
 use Rattle.toml_edit_laws.proofs.read_trees.MentionsStand.{holds-under}
 use Rattle.toml_edit_laws.proofs.read_trees.StatementsRight.{HasRightValue, IsRightMention, AreRight, document-right}
+use Rattle.toml_edit_model.specs.TableMentions.{under, kept, array_headers}
 
 -- a key that no kept mention has isn't among the slots
 pub key-absent : (form : Form) (k : Text) (ms ks : List (Mention Source)) (ss : Slots) → first_of_key k ks ≡ None → AreSlotsOf form ms ks ss → has_key k ss ≡ false
@@ -41,7 +42,7 @@ module _ (mode : Mode) where
         → IsNodeOf (owned_in mode) ns m n → IsWellMade n
     node-well (table f ss) ns m are right at is =
         slots-well ss ns (kept ns) are right (λ k a. right k (kept-is [] k ns a).among) (one_slot ns are.named are.one_header) is.2
-    node-well (tables e xs) ns m are right at is = elements-well xs ns 0 (arrays ns) are right is.2
+    node-well (tables e xs) ns m are right at is = elements-well xs ns 0 (array_headers ns) are right is.2
     node-well (leaf s r d) ns m are right at is = line-well m.source m.source.statement (leaf s r d) at.value is.1
     node-well (list f xs) ns m are right at is = line-well m.source m.source.statement (list f xs) at.value is.1
     node-well (inline f ss) ns m are right at is = line-well m.source m.source.statement (inline f ss) at.value is.1

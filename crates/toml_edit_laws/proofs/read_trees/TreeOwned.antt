@@ -4,15 +4,18 @@ use Rattle.std.specs.Prelude.{if◌then◌else◌}
 use Rattle.toml_edit_model.specs.Mode.{Mode, with_return}
 use Rattle.toml_edit_model.specs.Text.{Text}
 use Rattle.toml_edit_model.specs.Syntax.{Statement, key_line, header, Document, value_text, path_text, frame_text, statement_text, opening_brackets, document_text}
-use Rattle.toml_edit_model.specs.Paths.{at_key, at_element, Role, dotted_role, implied_role, header_role, array_role, value_role, through_role, Mention, Source, path_start, all_mentions}
+use Rattle.toml_edit_model.specs.Paths.{at_key, at_element, Mention, Source, path_start, all_mentions}
 use Rattle.toml_edit_model.specs.Tree.{unset, Node, nothing, leaf, list, inline, table, tables, Items, no_items, item, Slots, no_slots, slot, Tree}
-use Rattle.toml_edit_model.specs.TreeOf.{spanned_in, owned_in, under, kept, arrays, ends_path, value_start, key_at, statement_leaf, bracket_end, header_fields, fields_of, tables_extent, IsLineNode, IsNodeOf, AreElementsOf, AreSlotsOf, IsTreeOf, owned_raw, owned_decor, owned_key, owned_fields, owned_node, owned_items, owned_slots, owned_tree}
+use Rattle.toml_edit_model.specs.TreeOf.{spanned_in, owned_in, value_start, key_at, statement_leaf, bracket_end, header_fields, fields_of, tables_extent, IsLineNode, IsNodeOf, AreElementsOf, AreSlotsOf, IsTreeOf}
 use Rattle.toml_edit_laws.specs.Standing.{Stands}
 use Rattle.toml_edit_laws.proofs.common.StandingLaws.{stands-left, cut-is}
 use Rattle.toml_edit_laws.proofs.common.Returns.{after-return, returned-frame, returned-header, frame-returned, header-returned}
 use Rattle.toml_edit_laws.proofs.mentions.KeptMentions.{kept-is}
 use Rattle.toml_edit_laws.proofs.values.ValueOwned.{stands-at, decor-cut, pair-stands, value_owned}
 use Rattle.toml_edit_laws.proofs.read_trees.MentionsStand.{Holds, holds-under, arrays-among, header-stands, MentionStands, document-mentions, final-stands}
+use Rattle.toml_edit_model.specs.Roles.{Role, dotted_role, implied_role, header_role, array_role, value_role, continued_role, ends_path}
+use Rattle.toml_edit_model.specs.TableMentions.{under, kept, array_headers}
+use Rattle.toml_edit_model.specs.OwnedForm.{owned_raw, owned_decor, owned_key, owned_fields, owned_node, owned_items, owned_slots, owned_tree}
 
 module _ (mode : Mode) where
   module _ (text : Text) where
@@ -62,7 +65,7 @@ module _ (mode : Mode) where
     fields-owned ns m implied_role h = refl
     fields-owned ns m array_role h = refl
     fields-owned ns m value_role h = refl
-    fields-owned ns m through_role h = refl
+    fields-owned ns m continued_role h = refl
 
     no-extent : (ms : List (Mention Source)) → None ≡ tables_extent (owned_in mode) ms
     no-extent [] = refl
@@ -87,8 +90,8 @@ module _ (mode : Mode) where
       )
       node-owned (tables e xs) ns m h at is = (
         is.0,
-        no-extent (arrays ns),
-        elements-owned xs ns 0 (arrays ns) h (λ k a. h k (arrays-among k ns a)) is.2,
+        no-extent (array_headers ns),
+        elements-owned xs ns 0 (array_headers ns) h (λ k a. h k (arrays-among k ns a)) is.2,
       )
       node-owned (leaf s r d) ns m h at is = (is.0, line-owned m.source m.source.statement (leaf s r d) at.statement is.1)
       node-owned (list f xs) ns m h at is = (is.0, line-owned m.source m.source.statement (list f xs) at.statement is.1)

@@ -3,13 +3,14 @@ use Rattle.std.proofs.Common.{◌≡◌, ◌<◌, ◌≤◌, ℕ, zero, suc, ref
 use Rattle.std.specs.Prelude.{◌||◌}
 use Rattle.toml_edit_model.specs.Text.{Text, is_empty}
 use Rattle.toml_edit_model.specs.Syntax.{Segment}
-use Rattle.toml_edit_model.specs.Paths.{at_key, at_element, Path, to_key, to_element, Role, dotted_role, implied_role, Mention, Source, mention_of, line_mentions, header_mentions, header_path, next_start, elements_at, in_last, passing_role}
-use Rattle.toml_edit_model.specs.TreeOf.{under, some_at, is_array_role}
+use Rattle.toml_edit_model.specs.Paths.{at_key, at_element, Path, to_key, to_element, Mention, Source, mention_of, line_mentions, header_mentions, header_path, next_start, elements_at, in_last, passing_role}
 use Rattle.toml_edit_laws.proofs.common.Members.{Among}
 use Rattle.toml_edit_laws.proofs.clashes.ClashMentions.{is_table_role}
 use Rattle.toml_edit_laws.proofs.clashes.ClashCounts.{count_at, count-under}
 use Rattle.toml_edit_laws.proofs.clashes.ClashContext.{count-both}
 use Rattle.toml_edit_laws.proofs.mentions.SomeAt.{some_at-append, under-append, some_at-under, among-test}
+use Rattle.toml_edit_model.specs.Roles.{Role, dotted_role, implied_role, is_array_role}
+use Rattle.toml_edit_model.specs.TableMentions.{under, some_at}
 
 -- ---- ways
 

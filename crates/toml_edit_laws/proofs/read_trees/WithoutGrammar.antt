@@ -30,6 +30,6 @@ module _ (mode : Mode) where
   odd-differs h =
       let f : Fact = fact [] (a_scalar (boolean true)) in
       elim (from-contained f (fact [] a_table ∷ []) ((h f).1 (to-contained f (fact [] a_table ∷ f ∷ []) (inr (inl refl))))) [
-        | inl e ↦ let t : a_scalar (boolean true) ≡ a_table = ap (λ (x : Fact). x.thing) e in cc
+        | inl e ↦ let t : a_scalar (boolean true) ≡ a_table = ap (λ (x : Fact). x.kind) e in cc
         | inr g ↦ elim g [ ]
       ]

@@ -5,7 +5,7 @@ use Rattle.std.proofs.lemmas.Bool.Decides.{nat_tests}
 use Rattle.std.proofs.lemmas.List.{take-append-drop}
 use Rattle.toml_edit_model.specs.Text.{Text, has_byte}
 use Rattle.toml_edit_model.specs.Trivia.{is_blank, lf, crlf}
-use Rattle.toml_edit_model.specs.Spelling.{Part, plain, letter, numbered, part_text, part_value, IsPart, short_escape, hex_digits, is_plain, is_literal, one_quote, two_quotes, BlockPart, in_line, next_line, quotes, joint, block_text, block_value, IsJoint, IsBlockPart, is_gap_part, may_follow}
+use Rattle.toml_edit_model.specs.Spelling.{Part, plain, letter, numbered, part_text, part_value, IsPart, short_escape, hex_digits, is_plain, is_literal, one_quote, two_quotes, BlockPart, in_line, next_line, quotes, joint, block_text, block_value, IsJoint, IsBlockPart, is_dropped_part, may_follow}
 use Rattle.toml_edit_laws.specs.reading.Runs.{first}
 use Rattle.toml_edit_laws.specs.reading.Tokens.{escape_at}
 use Rattle.toml_edit_laws.specs.reading.BlockReading.{newline_len, is_gap_byte, gap_len, literal_part_at, escaped_at, basic_part_at}
@@ -57,7 +57,7 @@ pub plain_apart : (x : ℕ) → is_plain x ≡ true → ((x == 34) ≡ false) ×
 plain_apart x h = (grind (arith, nat_tests), grind (arith, nat_tests), grind (arith, nat_tests))
 
 -- behind what a joint dropped stands nothing that it would drop
-joint_leaves : (rest : Text) → gap_len rest ≡ 0 → (q : BlockPart Part) (u : Text) → IsBlockPart IsPart IsJoint q → rest ≡ block_text part_text 34 q ++ u → not (is_gap_part q) ≡ true
+joint_leaves : (rest : Text) → gap_len rest ≡ 0 → (q : BlockPart Part) (u : Text) → IsBlockPart IsPart IsJoint q → rest ≡ block_text part_text 34 q ++ u → not (is_dropped_part q) ≡ true
 joint_leaves rest none (in_line (plain x)) u is e =
     elim (cases_Bool (is_blank x)) [
       | inl blank ↦
@@ -75,7 +75,7 @@ joint_leaves rest none (joint t) u is e = refl
 -- what reads as a part of a basic string is one
 basic_part_takes : (t v rest : Text) → basic_part_at t ≡ Some (v, rest)
     → (p : BlockPart Part) × IsBlockPart IsPart IsJoint p × (v ≡ block_value part_value 34 p) × (t ≡ block_text part_text 34 p ++ rest)
-    × ((q : BlockPart Part) (u : Text) → IsBlockPart IsPart IsJoint q → rest ≡ block_text part_text 34 q ++ u → may_follow is_gap_part p q ≡ true)
+    × ((q : BlockPart Part) (u : Text) → IsBlockPart IsPart IsJoint q → rest ≡ block_text part_text 34 q ++ u → may_follow is_dropped_part p q ≡ true)
 unfolding basic_part_at escaped_at
 basic_part_takes [] v rest e = absurd cc
 basic_part_takes (x ∷ t) v rest e =
@@ -153,7 +153,7 @@ basic_longer (letter x) is = omega arith
 basic_longer (numbered x digits) is = omega arith
 
 -- what is not dropped begins with no gap
-basic_stops : (t : Text) → IsJoint t → (q : BlockPart Part) (u : Text) → IsBlockPart IsPart IsJoint q → not (is_gap_part q) ≡ true → gap_len (block_text part_text 34 q ++ u) ≡ 0
+basic_stops : (t : Text) → IsJoint t → (q : BlockPart Part) (u : Text) → IsBlockPart IsPart IsJoint q → not (is_dropped_part q) ≡ true → gap_len (block_text part_text 34 q ++ u) ≡ 0
 basic_stops t join (in_line (plain x)) u is dropped = gap_off x u (plain_no_gap x (first u) is dropped)
 basic_stops t join (in_line (letter x)) u is dropped = gap_off 92 (x ∷ u) refl
 basic_stops t join (in_line (numbered x digits)) u is dropped = gap_off 92 (x ∷ (digits ++ u)) refl
@@ -163,7 +163,7 @@ basic_stops t join (quotes two_quotes) u is dropped = gap_off 34 (34 ∷ u) refl
 basic_stops t join (joint s) u is dropped = gap_off 92 (s ++ u) refl
 
 -- the basic form is read by its parts
-pub basic_law : PartLaw IsPart IsJoint is_gap_part part_value part_text 34 basic_part_at
+pub basic_law : PartLaw IsPart IsJoint is_dropped_part part_value part_text 34 basic_part_at
 basic_law =
     record {
       some = omega arith;

@@ -5,7 +5,7 @@ use Rattle.std.proofs.lemmas.Bool.{and_parts, ne_eqb, false≢true}
 use Rattle.std.proofs.lemmas.Bool.Decides.{nat_tests}
 use Rattle.toml_edit_model.specs.Text.{Text}
 use Rattle.toml_edit_model.specs.Trivia.{Each}
-use Rattle.toml_edit_model.specs.Spelling.{Part, plain, letter, numbered, part_text, part_value, IsPart, is_literal, IsJoint, is_gap_part, SpellsMultilineBasic, SpellsMultilineLiteral, SpellsBasic, SpellsLiteral}
+use Rattle.toml_edit_model.specs.Spelling.{Part, plain, letter, numbered, part_text, part_value, IsPart, is_literal, IsJoint, is_dropped_part, SpellsMultilineBasic, SpellsMultilineLiteral, SpellsBasic, SpellsLiteral}
 use Rattle.toml_edit_laws.specs.reading.Runs.{first}
 use Rattle.toml_edit_laws.specs.reading.BlockReading.{has_three, opens_block, ends_block, literal_part_at, basic_part_at, parts_at, inside, block_at}
 use Rattle.toml_edit_laws.proofs.reading.Steps.{chosen}
@@ -21,7 +21,7 @@ unfolding block_at
 block_takes t rest v e =
     elim (chosen (has_three 34 t) (parts_at basic_part_at 34 (length t) (inside t)) _ (Some (v, rest)) e) [
       | inl (basic, h) ↦
-          let (spelled, is, whole) = form_takes Part IsPart IsJoint is_gap_part part_value part_text 34 basic_part_at basic_law (length t) t v rest basic h in
+          let (spelled, is, whole) = form_takes Part IsPart IsJoint is_dropped_part part_value part_text 34 basic_part_at basic_law (length t) t v rest basic h in
           (spelled, inl is, whole)
       | inr (other, h) ↦
           let (literal, g) = guard_read (has_three 39 t) (parts_at literal_part_at 39 (length t) (inside t)) (v, rest) h in
@@ -48,7 +48,7 @@ one_kind t h =
 -- such a string opens with three quotes
 pub block-opens_before : (v spelled rest : Text) → SpellsMultilineBasic v spelled ⊎ SpellsMultilineLiteral v spelled → opens_block (spelled ++ rest) ≡ true
 block-opens_before v spelled rest (inl is) =
-    rw (form_opens Part IsPart IsJoint is_gap_part part_value part_text 34 basic_part_at basic_law v spelled rest is) refl
+    rw (form_opens Part IsPart IsJoint is_dropped_part part_value part_text 34 basic_part_at basic_law v spelled rest is) refl
 block-opens_before v spelled rest (inr is) =
     let e = form_opens ℕ (λ x. is_literal x ≡ true) (λ j. ⊥) (λ p. false) (λ x. x ∷ []) (λ x. x ∷ []) 39 literal_part_at literal_law v spelled rest is in
     rw (one_kind (spelled ++ rest) e, e) refl
@@ -61,8 +61,8 @@ block-opens v spelled is = ap opens_block (sym (append-nil spelled)) ∙ block-o
 pub block_again : (v spelled rest : Text) → SpellsMultilineBasic v spelled ⊎ SpellsMultilineLiteral v spelled → ends_block rest ≡ true → block_at (spelled ++ rest) ≡ Some (v, rest)
 unfolding block_at
 block_again v spelled rest (inl is) stop =
-    rw (form_opens Part IsPart IsJoint is_gap_part part_value part_text 34 basic_part_at basic_law v spelled rest is)
-    (form_again Part IsPart IsJoint is_gap_part part_value part_text 34 basic_part_at basic_law v spelled rest is (no_quotes rest stop).0)
+    rw (form_opens Part IsPart IsJoint is_dropped_part part_value part_text 34 basic_part_at basic_law v spelled rest is)
+    (form_again Part IsPart IsJoint is_dropped_part part_value part_text 34 basic_part_at basic_law v spelled rest is (no_quotes rest stop).0)
 block_again v spelled rest (inr is) stop =
     let e = form_opens ℕ (λ x. is_literal x ≡ true) (λ j. ⊥) (λ p. false) (λ x. x ∷ []) (λ x. x ∷ []) 39 literal_part_at literal_law v spelled rest is in
     rw (one_kind (spelled ++ rest) e, e)

@@ -5,7 +5,7 @@ use Rattle.std.proofs.lemmas.Bool.{cases_Bool, and_parts, ne_eqb, eq-eqb, false�
 use Rattle.std.proofs.lemmas.Bool.Decides.{nat_tests}
 use Rattle.toml_edit_model.specs.Text.{Text}
 use Rattle.toml_edit_model.specs.Trivia.{is_blank, Newline, lf, crlf, newline_text}
-use Rattle.toml_edit_model.specs.Spelling.{Quotes, one_quote, two_quotes, quotes_text, Gap, white, line_break, gap_text, IsGap, three}
+use Rattle.toml_edit_model.specs.Spelling.{Quotes, one_quote, two_quotes, quotes_text, JointPiece, white, line_break, joint_piece_text, IsJointPiece, three}
 use Rattle.toml_edit_laws.specs.reading.Runs.{first, Read}
 use Rattle.toml_edit_laws.specs.reading.Tokens.{prepend}
 use Rattle.toml_edit_laws.specs.reading.BlockReading.{run_of, newline_len, is_gap_byte, gap_len, parts_at}
@@ -86,7 +86,7 @@ no_newline x t feed return = rw (feed, return) refl
 
 -- the gaps at the front
 abbrev pub TakesGaps : Text → Type 0
-TakesGaps t = (gaps : List Gap) × AllByRecursion IsGap gaps × (take (gap_len t) t ≡ flat_map gap_text gaps)
+TakesGaps t = (gaps : List JointPiece) × AllByRecursion IsJointPiece gaps × (take (gap_len t) t ≡ flat_map joint_piece_text gaps)
 
 -- a byte of a gap
 pub gap_on : (x : ℕ) (t : Text) → is_gap_byte x (first t) ≡ true → gap_len (x ∷ t) ≡ suc (gap_len t)
@@ -113,7 +113,7 @@ gap_cases x y h = elim (cases_Bool (is_blank x)) [
 
 -- one byte of a gap more
 gap_step : (x : ℕ) (t : Text) → is_gap_byte x (first t) ≡ true → TakesGaps t → TakesGaps (drop 1 t)
-    → (gaps : List Gap) × AllByRecursion IsGap gaps × (x ∷ take (gap_len t) t ≡ flat_map gap_text gaps)
+    → (gaps : List JointPiece) × AllByRecursion IsJointPiece gaps × (x ∷ take (gap_len t) t ≡ flat_map joint_piece_text gaps)
 gap_step x t on (gaps, each, whole) (later, valid, rest) =
     elim (gap_cases x (first t) on) [
       | inl blank ↦ (white x ∷ gaps, (blank, each), ap (λ (u : Text). x ∷ u) whole)
@@ -154,14 +154,14 @@ gap_rest (x ∷ t) =
     ]
 
 -- gaps are found again
-pub gap_again : (gaps : List Gap) (u : Text) → AllByRecursion IsGap gaps → gap_len u ≡ 0 → gap_len (flat_map gap_text gaps ++ u) ≡ length (flat_map gap_text gaps)
+pub gap_again : (gaps : List JointPiece) (u : Text) → AllByRecursion IsJointPiece gaps → gap_len u ≡ 0 → gap_len (flat_map joint_piece_text gaps ++ u) ≡ length (flat_map joint_piece_text gaps)
 gap_again [] u each stop = stop
 gap_again (white x ∷ gaps) u each stop =
-    let on : is_gap_byte x (first (flat_map gap_text gaps ++ u)) ≡ true = rw each.0 refl in
-    gap_on x (flat_map gap_text gaps ++ u) on ∙ ap suc (gap_again gaps u each.1 stop)
-gap_again (line_break lf ∷ gaps) u each stop = gap_on 10 (flat_map gap_text gaps ++ u) refl ∙ ap suc (gap_again gaps u each.1 stop)
+    let on : is_gap_byte x (first (flat_map joint_piece_text gaps ++ u)) ≡ true = rw each.0 refl in
+    gap_on x (flat_map joint_piece_text gaps ++ u) on ∙ ap suc (gap_again gaps u each.1 stop)
+gap_again (line_break lf ∷ gaps) u each stop = gap_on 10 (flat_map joint_piece_text gaps ++ u) refl ∙ ap suc (gap_again gaps u each.1 stop)
 gap_again (line_break crlf ∷ gaps) u each stop =
-    gap_on 13 (10 ∷ (flat_map gap_text gaps ++ u)) refl ∙ ap suc (gap_on 10 (flat_map gap_text gaps ++ u) refl ∙ ap suc (gap_again gaps u each.1 stop))
+    gap_on 13 (10 ∷ (flat_map joint_piece_text gaps ++ u)) refl ∙ ap suc (gap_on 10 (flat_map joint_piece_text gaps ++ u) refl ∙ ap suc (gap_again gaps u each.1 stop))
 
 -- ---- small steps
 

@@ -9,7 +9,7 @@ use Rattle.std.proofs.lemmas.Bool.Decides.{nat_tests}
 use Rattle.std.proofs.lemmas.Str.{encode_ascii}
 use Rattle.toml_edit_model.specs.Text.{Text, line_feed, quote, apostrophe, backslash, is_empty, one, has_byte, newline}
 use Rattle.toml_edit_model.specs.Trivia.{is_visible, lf}
-use Rattle.toml_edit_model.specs.Spelling.{is_plain, is_scalar_value, Part, plain, letter, numbered, part_text, part_value, IsPart, SpellsBasic, SpellsLiteral, BlockPart, in_line, next_line, quotes, joint, block_text, block_value, IsBlockPart, IsJoint, is_gap_part, each_may_follow, three, SpellsMultilineBasic, SpellsString, SpellsKey}
+use Rattle.toml_edit_model.specs.Spelling.{is_plain, is_scalar_value, Part, plain, letter, numbered, part_text, part_value, IsPart, SpellsBasic, SpellsLiteral, BlockPart, in_line, next_line, quotes, joint, block_text, block_value, IsBlockPart, IsJoint, is_dropped_part, each_may_follow, three, SpellsMultilineBasic, SpellsString, SpellsKey}
 use Rattle.toml_edit_model.specs.DefaultSpelling.{capital_digit, numbered_escape, escaped_byte, escaped, is_plain_in_basic, is_plain_in_literal, is_bare_key, between, string_spelling, key_spelling}
 use Rattle.toml_edit_laws.proofs.common.Tests.{and_left, and_right, and_both, not-true}
 
@@ -166,13 +166,13 @@ block-escapes c = by_test (c == line_feed) refl
 record BlockParts (v t : Text) : Type 0 where
   parts : List (BlockPart Part)
   each : AllByRecursion (IsBlockPart IsPart IsJoint) parts
-  follow : each_may_follow is_gap_part parts ≡ true
+  follow : each_may_follow is_dropped_part parts ≡ true
   value : v ≡ flat_map (block_value part_value quote) parts
   text : t ≡ flat_map (block_text part_text quote) parts
 
 -- a part before others
-steady-follows : (p : BlockPart Part) (ps : List (BlockPart Part)) → is_steady p ≡ true → each_may_follow is_gap_part ps ≡ true
-    → each_may_follow is_gap_part (p ∷ ps) ≡ true
+steady-follows : (p : BlockPart Part) (ps : List (BlockPart Part)) → is_steady p ≡ true → each_may_follow is_dropped_part ps ≡ true
+    → each_may_follow is_dropped_part (p ∷ ps) ≡ true
 steady-follows p [] h g = refl
 steady-follows (in_line p) (q ∷ ps) h g = g
 steady-follows (next_line n) (q ∷ ps) h g = g

@@ -5,11 +5,13 @@ use Rattle.toml_edit_model.specs.Text.{Text, same_text}
 use Rattle.toml_edit_model.specs.Syntax.{Value, scalar, array, inline_table, Elements, no_elements, element, Pairs, no_pairs, pair, value_text}
 use Rattle.toml_edit_model.specs.Paths.{at_key, Mention}
 use Rattle.toml_edit_model.specs.Tree.{Key, Node, nothing, leaf, list, inline, table, tables, Items, no_items, item, Slots, no_slots, slot, has_key}
-use Rattle.toml_edit_model.specs.TreeOf.{Form, Entry, under, kept, ends_path, entry_of, entries, IsValueNode, AreElementNodes, AreEntrySlots}
+use Rattle.toml_edit_model.specs.TreeOf.{Form, Entry, entry_of, entries, IsValueNode, AreElementNodes, AreEntrySlots}
 use Rattle.toml_edit_laws.specs.InlineTree.{next_pair, pair_path}
 use Rattle.toml_edit_laws.proofs.mentions.GatherLaws.{first_of_key, AreDistinct, kept-distinct, first-none}
 use Rattle.toml_edit_laws.proofs.inline_tables.PairMentions.{AreOfPairs, of_none, of_both, of_under, of_line}
 use Rattle.toml_edit_laws.proofs.common.Tests.{either}
+use Rattle.toml_edit_model.specs.TableMentions.{under, kept}
+use Rattle.toml_edit_model.specs.Roles.{ends_path}
 
 -- each key is another than those after it, at each level
 abbrev mutual

@@ -5,12 +5,13 @@ use Rattle.std.specs.List.{AllByRecursion}
 use Rattle.toml_edit_model.specs.Text.{Text}
 use Rattle.toml_edit_model.specs.Scalars.{Scalar, string, integer, float, boolean, datetime}
 use Rattle.toml_edit_model.specs.Spelling.{is_in_range}
-use Rattle.toml_edit_model.specs.Syntax.{Segment, Value, scalar, array, inline_table, Elements, no_elements, element, Pairs, no_pairs, pair, value_text, frame_text, path_text, is_short, most}
-use Rattle.toml_edit_model.specs.Paths.{may_meet_inline, Mention, PairSource, pair_mentions}
-use Rattle.toml_edit_model.specs.Faults.{Fault, fault, type_name, first_clash, duplicate_key, cannot_extend, extends, is_value_role, clash_message, is_inline, pair_clash, pair_clashes, recursion_limit, long_path, deep_bracket, range_message, value_faults, elements_faults, pairs_faults}
+use Rattle.toml_edit_model.specs.Syntax.{Segment, Value, scalar, array, inline_table, Elements, no_elements, element, Pairs, no_pairs, pair, value_text, frame_text, path_text, is_short, nesting_limit}
+use Rattle.toml_edit_model.specs.Paths.{Mention, PairSource, pair_mentions}
+use Rattle.toml_edit_model.specs.Faults.{Fault, fault, type_name, first_clash, duplicate_key, cannot_extend, clash_message, is_inline, pair_clash, pair_clashes, recursion_limit, long_path, deep_bracket, range_message, value_faults, elements_faults, pairs_faults}
 use Rattle.toml_edit_model.specs.Messages.{fault_messages}
 use Rattle.toml_edit_laws.proofs.common.Each.{all-append}
 use Rattle.toml_edit_laws.proofs.common.Members.{Among, to-contained}
+use Rattle.toml_edit_model.specs.Roles.{may_meet_inline, extends, is_value_role}
 
 abbrev pub IsFaultMessage : Fault → Type 0
 IsFaultMessage f = Contains fault_messages f.message
@@ -68,7 +69,7 @@ clashes-known earlier (m ∷ rest) =
     (clash-known (first_clash may_meet_inline earlier m)) (clashes-known (earlier ++ m) rest)
 
 bracket-known : (level start : ℕ) → AllByRecursion IsFaultMessage (deep_bracket level start)
-bracket-known level start = some-known (level == most) (fault recursion_limit start 1) limit-known
+bracket-known level start = some-known (level == nesting_limit) (fault recursion_limit start 1) limit-known
 
 path-known : (p : List Segment) → AllByRecursion IsFaultMessage (long_path p)
 path-known p = one-known (is_short p) (record { message = recursion_limit; span = None }) limit-known

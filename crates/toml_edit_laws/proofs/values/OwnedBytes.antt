@@ -4,12 +4,14 @@ use Rattle.std.proofs.lemmas.List.{map-append}
 use Rattle.toml_edit_model.specs.Mode.{Mode}
 use Rattle.toml_edit_model.specs.Text.{Text}
 use Rattle.toml_edit_model.specs.Syntax.{Segment, Value, scalar, array, inline_table, Elements, no_elements, element, Pairs, no_pairs, pair, value_text, frame_text}
-use Rattle.toml_edit_model.specs.Paths.{at_key, Path, to_key, Mention, line_mentions, mention_of, next_start, dotted_role, value_role}
+use Rattle.toml_edit_model.specs.Paths.{at_key, Path, to_key, Mention, line_mentions, mention_of, next_start}
 use Rattle.toml_edit_model.specs.Tree.{Node, nothing, leaf, list, inline, table, tables, Items, no_items, item, Slots, no_slots, slot}
-use Rattle.toml_edit_model.specs.TreeOf.{owned_in, Entry, entry_of, entries, ends_path, under, kept, IsValueNode, AreElementNodes, AreEntrySlots}
+use Rattle.toml_edit_model.specs.TreeOf.{owned_in, Entry, entry_of, entries, IsValueNode, AreElementNodes, AreEntrySlots}
 use Rattle.toml_edit_laws.proofs.inline_tables.SlotsOfEntries.{IsMadeByKey, slot-key, slot-node, slot-rest, slot-all, each-way}
 use Rattle.toml_edit_laws.proofs.mentions.TurnedMentions.{turned, under-turned, kept-turned}
 use Rattle.toml_edit_laws.proofs.values.ValueKinds.{not-value}
+use Rattle.toml_edit_model.specs.Roles.{dotted_role, value_role, ends_path}
+use Rattle.toml_edit_model.specs.TableMentions.{under, kept}
 
 -- the same from the first byte
 abbrev from_start : Entry → Entry

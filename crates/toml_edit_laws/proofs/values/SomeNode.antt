@@ -5,14 +5,15 @@ use Rattle.std.specs.List.{AllByRecursion}
 use Rattle.toml_edit_model.specs.Text.{Text}
 use Rattle.toml_edit_model.specs.Syntax.{Segment, Value, scalar, array, inline_table, Elements, no_elements, element, Pairs, no_pairs, pair, value_text}
 use Rattle.toml_edit_model.specs.Paths.{Step, at_key, Path, same_step, to_key, Mention, line_mentions, next_start}
-use Rattle.toml_edit_model.specs.Normal.{is_header_role}
 use Rattle.toml_edit_model.specs.Tree.{Node, leaf, list, inline, Items, no_items, item, Slots, no_slots, slot}
-use Rattle.toml_edit_model.specs.TreeOf.{Form, Entry, inside, under, some_at, any_role, is_single, kept_from, kept, ends_path, decor_at, key_of, key_extent, entry_of, value_start, entries, IsValueNode, AreElementNodes, AreEntrySlots}
+use Rattle.toml_edit_model.specs.TreeOf.{Form, Entry, decor_at, key_of, key_extent, entry_of, value_start, entries, IsValueNode, AreElementNodes, AreEntrySlots}
 use Rattle.toml_edit_laws.specs.InlineTree.{path_fields, pair_path, next_pair}
 use Rattle.toml_edit_laws.proofs.inline_tables.EntrySlots.{IsEntryNode, dotted-node}
 use Rattle.toml_edit_laws.proofs.values.OneNode.{one-node}
 use Rattle.toml_edit_laws.proofs.mentions.KeptOrder.{kept-all}
 use Rattle.toml_edit_laws.proofs.common.Each.{all-append}
+use Rattle.toml_edit_model.specs.Roles.{is_header_role, any_role, ends_path}
+use Rattle.toml_edit_model.specs.TableMentions.{inside, under, some_at, is_single, kept_from, kept}
 
 -- ---- what holds of all mentions
 

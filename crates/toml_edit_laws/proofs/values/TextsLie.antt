@@ -4,7 +4,7 @@ use Rattle.toml_edit_model.specs.Mode.{Mode}
 use Rattle.toml_edit_model.specs.Syntax.{Frame, Value, IsFrame, frame_text, value_text, Segment, segment_text, IsSpacedSegment, path_text}
 use Rattle.toml_edit_model.specs.Text.{Text}
 use Rattle.std.specs.Str.{IsCharBoundary, IsUtf8}
-use Rattle.toml_edit_model.specs.TreeOf.{spanned_in, value_start, frame_leaf, DecorFits, RawFits, span_of}
+use Rattle.toml_edit_model.specs.TreeOf.{spanned_in, value_start, frame_leaf, span_of}
 use Rattle.toml_edit_laws.proofs.values.ValueOwned.{stands-at, around-stands}
 use Rattle.toml_edit_laws.specs.Standing.{Stands}
 use Rattle.std.proofs.lemmas.List.{length-append}
@@ -13,6 +13,7 @@ use Rattle.toml_edit_model.specs.Paths.{next_start, line_mentions, to_key, Menti
 use Rattle.toml_edit_laws.proofs.common.StandingLaws.{stands-right, stands-left}
 use Rattle.std.specs.List.{AllByRecursion}
 use Rattle.toml_edit_laws.proofs.common.Members.{Among}
+use Rattle.toml_edit_model.specs.OwnedForm.{DecorFits, RawFits}
 
 -- the source may be cut at both ends of the text
 pub record Lies (source : Text) (i : ℕ) (t : Text) : Type 0 where

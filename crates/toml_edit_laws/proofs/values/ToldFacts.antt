@@ -2,14 +2,16 @@
 use Rattle.std.proofs.Common.{◌≡◌, ℕ, ◌+◌, refl, sym, ap, subst, ◌∙◌, inl, inr, true, List, [], ◌∷◌, ◌++◌, append_assoc, append-nil, length}
 use Rattle.std.specs.Prelude.{flat_map}
 use Rattle.std.proofs.lemmas.Grind.{flat_map-append}
-use Rattle.toml_edit_model.specs.Syntax.{Segment, Value, Pairs, no_pairs, pair, value_text, frame_text, begins_bare, ArePairs}
-use Rattle.toml_edit_model.specs.Paths.{Step, at_key, Path, to_key, Role, value_role, Mention, line_mentions, next_start}
+use Rattle.toml_edit_model.specs.Syntax.{Segment, Value, Pairs, no_pairs, pair, value_text, frame_text, begins_unspaced, ArePairs}
+use Rattle.toml_edit_model.specs.Paths.{Step, at_key, Path, to_key, Mention, line_mentions, next_start}
 use Rattle.toml_edit_model.specs.Meaning.{Fact, fact, a_table, below_keys, value_facts, pairs_facts}
-use Rattle.toml_edit_model.specs.TreeOf.{Form, Entry, entry_of, entries, under, kept}
+use Rattle.toml_edit_model.specs.TreeOf.{Form, Entry, entry_of, entries}
 use Rattle.toml_edit_laws.proofs.common.Members.{Among, among-left, among-right, among-cases}
 use Rattle.toml_edit_laws.proofs.mentions.KeptMentions.{moved, under-has, under-is}
 use Rattle.toml_edit_laws.proofs.inline_tables.EntryMentions.{AgreeingMentions}
 use Rattle.toml_edit_laws.proofs.values.ValueShown.{slot-for}
+use Rattle.toml_edit_model.specs.Roles.{Role, value_role}
+use Rattle.toml_edit_model.specs.TableMentions.{under, kept}
 
 -- what a mention of a value tells, and any other
 abbrev pub role_facts : Role → Value → Path → List Fact
@@ -30,7 +32,7 @@ line-facts e i p q s (r ∷ rest) =
     ap (λ x. fact x a_table ∷ below_keys x (r ∷ rest) (value_facts e.value)) (append_assoc p q (at_key s.key ∷ []))
     ∙ ap (λ fs. fact (p ++ to_key q s.key) a_table ∷ fs) (line-facts e (next_start i s) p (to_key q s.key) r rest)
 
-key-facts : (e : Entry) (i : ℕ) (p : Path) (ss : List Segment) → begins_bare ss ≡ true
+key-facts : (e : Entry) (i : ℕ) (p : Path) (ss : List Segment) → begins_unspaced ss ≡ true
     → below_keys p ss (value_facts e.value) ≡ flat_map (mention_facts p) (line_mentions e i [] ss)
 key-facts e i p [] h = absurd cc
 key-facts e i p (s ∷ rest) h = ap (λ x. below_keys x (s ∷ rest) (value_facts e.value)) (sym (append-nil p)) ∙ line-facts e i p [] s rest

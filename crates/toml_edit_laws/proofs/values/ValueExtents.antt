@@ -7,7 +7,7 @@ use Rattle.toml_edit_model.specs.Text.{Text}
 use Rattle.toml_edit_model.specs.Syntax.{Value, scalar, array, inline_table, Elements, no_elements, element, value_text, elements_text, pairs_text, comma_text}
 use Rattle.toml_edit_model.specs.Paths.{at_key, Mention}
 use Rattle.toml_edit_model.specs.Tree.{Node, nothing, leaf, list, inline, table, tables, Items, no_items, item, Slots, no_slots, slot}
-use Rattle.toml_edit_model.specs.TreeOf.{spanned_in, Entry, entries, ends_path, under, kept, IsValueNode, AreElementNodes, AreEntrySlots}
+use Rattle.toml_edit_model.specs.TreeOf.{spanned_in, Entry, entries, IsValueNode, AreElementNodes, AreEntrySlots}
 use Rattle.toml_edit_laws.specs.Standing.{Stands}
 use Rattle.toml_edit_laws.specs.Extents.{ExtentLies, NodeLies, ItemsLie, SlotsLie}
 use Rattle.toml_edit_laws.proofs.common.Members.{Among}
@@ -15,6 +15,8 @@ use Rattle.toml_edit_laws.proofs.mentions.KeptMentions.{under-is, kept-is}
 use Rattle.toml_edit_laws.proofs.inline_tables.SlotsOfEntries.{IsMadeByKey, slot-node, slot-rest}
 use Rattle.toml_edit_laws.proofs.values.ValueKinds.{not-value}
 use Rattle.toml_edit_laws.proofs.values.ValueOwned.{MentionStands, around-stands, inner-stands, element-stands, elements-after, pairs-stand}
+use Rattle.toml_edit_model.specs.Roles.{ends_path}
+use Rattle.toml_edit_model.specs.TableMentions.{under, kept}
 
 -- what stands in the source begins and ends there
 pub ends-lie : (source : Text) (j : ℕ) (t : Text) → Stands source j t → (j ≤ length source) × (j + length t ≤ length source)

@@ -7,14 +7,15 @@ use Rattle.std.proofs.lemmas.Bool.{le-leb, lt-leb, leb-true, leb-false}
 use Rattle.std.proofs.lemmas.Bool.Decides.{Decides-eqb}
 use Rattle.toml_edit_model.specs.Text.{is_empty}
 use Rattle.toml_edit_model.specs.Spelling.{is_in_range}
-use Rattle.toml_edit_model.specs.Syntax.{Segment, Value, scalar, array, inline_table, Elements, no_elements, element, Pairs, no_pairs, pair, value_text, frame_text, path_text, depth, elements_depth, pairs_depth, most, is_short, has_short_keys, elements_have_short_keys, pairs_have_short_keys, keeps_ranges, elements_keep_ranges, pairs_keep_ranges}
-use Rattle.toml_edit_model.specs.Paths.{to_key, Path, Role, dotted_role, same_path, may_meet_inline, Mention, PairSource, next_start, line_mentions, pair_mentions}
+use Rattle.toml_edit_model.specs.Syntax.{Segment, Value, scalar, array, inline_table, Elements, no_elements, element, Pairs, no_pairs, pair, value_text, frame_text, path_text, depth, elements_depth, pairs_depth, nesting_limit, is_short, has_short_keys, elements_have_short_keys, pairs_have_short_keys, keeps_ranges, elements_keep_ranges, pairs_keep_ranges}
+use Rattle.toml_edit_model.specs.Paths.{to_key, Path, same_path, Mention, PairSource, next_start, line_mentions, pair_mentions}
 use Rattle.toml_edit_model.specs.Accepted.{agree, all_agree, has_agreeing_pairs, elements_have_agreeing_pairs, pairs_have_agreeing_pairs}
 use Rattle.toml_edit_model.specs.Faults.{Fault, fault, recursion_limit, range_message, clash, first_clash, pair_clash, pair_clashes, long_path, deep_bracket, value_faults, elements_faults, pairs_faults}
 use Rattle.toml_edit_laws.specs.FlatTree.{is_right_value}
 use Rattle.toml_edit_laws.proofs.common.Tests.{and_left, and_right, and_both, and-assoc, true-false}
 use Rattle.toml_edit_laws.proofs.common.Cores.{Core, core, cores}
 use Rattle.toml_edit_laws.proofs.common.Agreement.{and-swap-inner, agree-all}
+use Rattle.toml_edit_model.specs.Roles.{Role, dotted_role, may_meet_inline}
 
 -- ---- lists that are empty
 
@@ -146,32 +147,32 @@ is_empty-clashes start ps =
 
 -- ---- limits
 
-deep-or : (a b c : ℕ) → nat_le (a + max b c) most ≡ (nat_le (a + b) most && nat_le (a + c) most)
-deep-or a b c = by_test (nat_le (a + b) most) (nat_le (a + c) most) refl refl
+deep-or : (a b c : ℕ) → nat_le (a + max b c) nesting_limit ≡ (nat_le (a + b) nesting_limit && nat_le (a + c) nesting_limit)
+deep-or a b c = by_test (nat_le (a + b) nesting_limit) (nat_le (a + c) nesting_limit) refl refl
   where
-    by_test : (x y : Bool) → nat_le (a + b) most ≡ x → nat_le (a + c) most ≡ y → nat_le (a + max b c) most ≡ (x && y)
+    by_test : (x y : Bool) → nat_le (a + b) nesting_limit ≡ x → nat_le (a + c) nesting_limit ≡ y → nat_le (a + max b c) nesting_limit ≡ (x && y)
     by_test true true e g =
-        let p = leb-true (a + b) most e in
-        let q = leb-true (a + c) most g in
-        le-leb (a + max b c) most (omega arith)
+        let p = leb-true (a + b) nesting_limit e in
+        let q = leb-true (a + c) nesting_limit g in
+        le-leb (a + max b c) nesting_limit (omega arith)
     by_test true false e g =
-        let q = leb-false (a + c) most g in
-        lt-leb (a + max b c) most (omega arith)
+        let q = leb-false (a + c) nesting_limit g in
+        lt-leb (a + max b c) nesting_limit (omega arith)
     by_test false y e g =
-        let q = leb-false (a + b) most e in
-        lt-leb (a + max b c) most (omega arith)
+        let q = leb-false (a + b) nesting_limit e in
+        lt-leb (a + max b c) nesting_limit (omega arith)
 
 -- the value is right inside so many brackets, and so are the elements and the pairs
 abbrev right_at : ℕ → Value → Bool
-right_at level v = nat_le (level + depth v) most && (has_short_keys v && (keeps_ranges v && has_agreeing_pairs v))
+right_at level v = nat_le (level + depth v) nesting_limit && (has_short_keys v && (keeps_ranges v && has_agreeing_pairs v))
 
 abbrev elements_right_at : ℕ → Elements → Bool
 elements_right_at level es =
-    nat_le (level + elements_depth es) most && (elements_have_short_keys es && (elements_keep_ranges es && elements_have_agreeing_pairs es))
+    nat_le (level + elements_depth es) nesting_limit && (elements_have_short_keys es && (elements_keep_ranges es && elements_have_agreeing_pairs es))
 
 abbrev pairs_right_at : ℕ → Pairs → Bool
 pairs_right_at level ps =
-    nat_le (level + pairs_depth ps) most && (pairs_have_short_keys ps && (pairs_keep_ranges ps && pairs_have_agreeing_pairs ps))
+    nat_le (level + pairs_depth ps) nesting_limit && (pairs_have_short_keys ps && (pairs_keep_ranges ps && pairs_have_agreeing_pairs ps))
 
 -- four tests of two things
 and-four : (n m k j r q p o : Bool)
@@ -191,33 +192,33 @@ and-last c n k r p =
     and-second c n (k && (r && p)) ∙ ap (λ b. n && b) (and-second c k (r && p) ∙ ap (λ b. k && b) (and-second c r p))
 
 -- what stands inside one more bracket
-inside-bracket : (level start d : ℕ) (fs : List Fault) (b : Bool) → level ≤ most
-    → (suc level ≤ most → is_empty fs ≡ (nat_le (suc level + d) most && b))
-    → is_empty (deep_bracket level start ++ fs) ≡ (nat_le (level + suc d) most && b)
-inside-bracket level start d fs b h inside = by_test (level == most) refl (fault recursion_limit start 1)
+inside-bracket : (level start d : ℕ) (fs : List Fault) (b : Bool) → level ≤ nesting_limit
+    → (suc level ≤ nesting_limit → is_empty fs ≡ (nat_le (suc level + d) nesting_limit && b))
+    → is_empty (deep_bracket level start ++ fs) ≡ (nat_le (level + suc d) nesting_limit && b)
+inside-bracket level start d fs b h inside = by_test (level == nesting_limit) refl (fault recursion_limit start 1)
   where
-    by_test : (x : Bool) → (level == most) ≡ x → (f : Fault)
-        → is_empty ((if x then f ∷ [] else []) ++ fs) ≡ (nat_le (level + suc d) most && b)
+    by_test : (x : Bool) → (level == nesting_limit) ≡ x → (f : Fault)
+        → is_empty ((if x then f ∷ [] else []) ++ fs) ≡ (nat_le (level + suc d) nesting_limit && b)
     by_test true e f =
-        let same : level ≡ most = (Decides-eqb level most).0 e in
-        ap (λ x. x && b) (sym (lt-leb (level + suc d) most (omega arith)))
+        let same : level ≡ nesting_limit = (Decides-eqb level nesting_limit).0 e in
+        ap (λ x. x && b) (sym (lt-leb (level + suc d) nesting_limit (omega arith)))
     by_test false e f =
-        let less : suc level ≤ most = omega (arith, λ (same : level ≡ most). true-false {A = ⊥} (level == most) ((Decides-eqb level most).1 same) e) in
-        inside less ∙ ap (λ n. nat_le n most && b) (let here : suc level + d ≡ level + suc d = omega arith in here)
+        let less : suc level ≤ nesting_limit = omega (arith, λ (same : level ≡ nesting_limit). true-false {A = ⊥} (level == nesting_limit) ((Decides-eqb level nesting_limit).1 same) e) in
+        inside less ∙ ap (λ n. nat_le n nesting_limit && b) (let here : suc level + d ≡ level + suc d = omega arith in here)
 
 both-right : (level d e : ℕ) (k j r q p o : Bool)
-    → ((nat_le (level + d) most && (k && (r && p))) && (nat_le (level + e) most && (j && (q && o))))
-    ≡ (nat_le (level + max d e) most && ((k && j) && ((r && q) && (p && o))))
+    → ((nat_le (level + d) nesting_limit && (k && (r && p))) && (nat_le (level + e) nesting_limit && (j && (q && o))))
+    ≡ (nat_le (level + max d e) nesting_limit && ((k && j) && ((r && q) && (p && o))))
 both-right level d e k j r q p o =
-    and-four (nat_le (level + d) most) (nat_le (level + e) most) k j r q p o
+    and-four (nat_le (level + d) nesting_limit) (nat_le (level + e) nesting_limit) k j r q p o
     ∙ ap (λ b. b && ((k && j) && ((r && q) && (p && o)))) (sym (deep-or level d e))
 
 mutual
   -- inside so many brackets a value has no faults exactly where it is right there
-  right-value : (v : Value) (start level : ℕ) → level ≤ most → is_empty (value_faults v start level) ≡ right_at level v
+  right-value : (v : Value) (start level : ℕ) → level ≤ nesting_limit → is_empty (value_faults v start level) ≡ right_at level v
   right-value (scalar s t) start level h =
       in-range (is_in_range s t) (fault (range_message s) start (length t))
-      ∙ ap (λ b. b && (is_in_range s t && true)) (sym (le-leb (level + 0) most (omega arith)))
+      ∙ ap (λ b. b && (is_in_range s t && true)) (sym (le-leb (level + 0) nesting_limit (omega arith)))
     where
       in-range : (b : Bool) (f : Fault) → is_empty (if b then [] else f ∷ []) ≡ (b && true)
       in-range true f = refl
@@ -234,10 +235,10 @@ mutual
       (λ less. is_empty-append clashes (pairs_faults ps (start + 1) (suc level))
       ∙ ap (λ b. b && is_empty (pairs_faults ps (start + 1) (suc level))) (is_empty-clashes (start + 1) ps)
       ∙ ap (λ b. apart && b) (right-pairs ps (start + 1) (suc level) less)
-      ∙ and-last apart (nat_le (suc level + pairs_depth ps) most) (pairs_have_short_keys ps) (pairs_keep_ranges ps) (pairs_have_agreeing_pairs ps))
+      ∙ and-last apart (nat_le (suc level + pairs_depth ps) nesting_limit) (pairs_have_short_keys ps) (pairs_keep_ranges ps) (pairs_have_agreeing_pairs ps))
 
-  right-elements : (es : Elements) (start level : ℕ) → level ≤ most → is_empty (elements_faults es start level) ≡ elements_right_at level es
-  right-elements no_elements start level h = ap (λ b. b && true) (sym (le-leb (level + 0) most (omega arith)))
+  right-elements : (es : Elements) (start level : ℕ) → level ≤ nesting_limit → is_empty (elements_faults es start level) ≡ elements_right_at level es
+  right-elements no_elements start level h = ap (λ b. b && true) (sym (le-leb (level + 0) nesting_limit (omega arith)))
   right-elements (element a v es) start level h =
       let next : ℕ = start + length a.before + length (value_text v) + length a.after + 1 in
       is_empty-append (value_faults v (start + length a.before) level) (elements_faults es next level)
@@ -246,8 +247,8 @@ mutual
       ∙ both-right level (depth v) (elements_depth es) (has_short_keys v) (elements_have_short_keys es)
       (keeps_ranges v) (elements_keep_ranges es) (has_agreeing_pairs v) (elements_have_agreeing_pairs es)
 
-  right-pairs : (ps : Pairs) (start level : ℕ) → level ≤ most → is_empty (pairs_faults ps start level) ≡ pairs_right_at level ps
-  right-pairs no_pairs start level h = ap (λ b. b && true) (sym (le-leb (level + 0) most (omega arith)))
+  right-pairs : (ps : Pairs) (start level : ℕ) → level ≤ nesting_limit → is_empty (pairs_faults ps start level) ≡ pairs_right_at level ps
+  right-pairs no_pairs start level h = ap (λ b. b && true) (sym (le-leb (level + 0) nesting_limit (omega arith)))
   right-pairs (pair f v ps) start level h =
       let here : ℕ = start + length f.leading + length (path_text f.path) + length f.before_equals + 1 + length f.after_equals in
       let next : ℕ = start + length (frame_text f (value_text v)) + 1 in
@@ -260,9 +261,9 @@ mutual
       ∙ ap (λ b. b && is_empty (pairs_faults ps next level)) (right-value v here level h)
       ∙ ap (λ b. right_at level v && b) (right-pairs ps next level h)
       ∙ both)
-      ∙ and-second (is_short f.path) (nat_le (level + max (depth v) (pairs_depth ps)) most)
+      ∙ and-second (is_short f.path) (nat_le (level + max (depth v) (pairs_depth ps)) nesting_limit)
       ((has_short_keys v && pairs_have_short_keys ps) && ((keeps_ranges v && pairs_keep_ranges ps) && (has_agreeing_pairs v && pairs_have_agreeing_pairs ps)))
-      ∙ ap (λ b. nat_le (level + max (depth v) (pairs_depth ps)) most && b)
+      ∙ ap (λ b. nat_le (level + max (depth v) (pairs_depth ps)) nesting_limit && b)
       (sym (and-assoc (is_short f.path) (has_short_keys v && pairs_have_short_keys ps)
       ((keeps_ranges v && pairs_keep_ranges ps) && (has_agreeing_pairs v && pairs_have_agreeing_pairs ps))))
     where
@@ -273,38 +274,38 @@ mutual
 -- ---- right values
 
 -- Inside so many brackets a value has no faults exactly where it is right there.
-pub value_faults_right : (v : Value) (start level : ℕ) → level ≤ most
+pub value_faults_right : (v : Value) (start level : ℕ) → level ≤ nesting_limit
     → (value_faults v start level ≡ [])
-    ↔ (((level + depth v ≤ most) × (has_short_keys v ≡ true)) × (keeps_ranges v ≡ true) × (has_agreeing_pairs v ≡ true))
+    ↔ (((level + depth v ≤ nesting_limit) × (has_short_keys v ≡ true)) × (keeps_ranges v ≡ true) × (has_agreeing_pairs v ≡ true))
 value_faults_right v start level h = (
   λ none. apart (sym (right-value v start level h) ∙ ap is_empty none),
   λ right. is_empty-nil (value_faults v start level) (right-value v start level h ∙ together right.0.0 right.0.1 right.1 right.2),
 )
   where
-    apart : right_at level v ≡ true → (((level + depth v ≤ most) × (has_short_keys v ≡ true)) × (keeps_ranges v ≡ true) × (has_agreeing_pairs v ≡ true))
+    apart : right_at level v ≡ true → (((level + depth v ≤ nesting_limit) × (has_short_keys v ≡ true)) × (keeps_ranges v ≡ true) × (has_agreeing_pairs v ≡ true))
     apart e =
-        let others = and_right (nat_le (level + depth v) most) (has_short_keys v && (keeps_ranges v && has_agreeing_pairs v)) e in
+        let others = and_right (nat_le (level + depth v) nesting_limit) (has_short_keys v && (keeps_ranges v && has_agreeing_pairs v)) e in
         let last = and_right (has_short_keys v) (keeps_ranges v && has_agreeing_pairs v) others in (
           (
-            leb-true (level + depth v) most (and_left (nat_le (level + depth v) most) (has_short_keys v && (keeps_ranges v && has_agreeing_pairs v)) e),
+            leb-true (level + depth v) nesting_limit (and_left (nat_le (level + depth v) nesting_limit) (has_short_keys v && (keeps_ranges v && has_agreeing_pairs v)) e),
             and_left (has_short_keys v) (keeps_ranges v && has_agreeing_pairs v) others,
           ),
           and_left (keeps_ranges v) (has_agreeing_pairs v) last,
           and_right (keeps_ranges v) (has_agreeing_pairs v) last,
         )
 
-    together : level + depth v ≤ most → has_short_keys v ≡ true → keeps_ranges v ≡ true → has_agreeing_pairs v ≡ true → right_at level v ≡ true
+    together : level + depth v ≤ nesting_limit → has_short_keys v ≡ true → keeps_ranges v ≡ true → has_agreeing_pairs v ≡ true → right_at level v ≡ true
     together d k r p =
-        and_both (nat_le (level + depth v) most) (has_short_keys v && (keeps_ranges v && has_agreeing_pairs v)) (le-leb (level + depth v) most d)
+        and_both (nat_le (level + depth v) nesting_limit) (has_short_keys v && (keeps_ranges v && has_agreeing_pairs v)) (le-leb (level + depth v) nesting_limit d)
         (and_both (has_short_keys v) (keeps_ranges v && has_agreeing_pairs v) k (and_both (keeps_ranges v) (has_agreeing_pairs v) r p))
 
 -- The value of a line is right exactly where it has no faults.
 pub is_right_value-faults : (v : Value) (start : ℕ) → is_empty (value_faults v start 0) ≡ is_right_value v
 is_right_value-faults v start =
     right-value v start 0 (omega arith)
-    ∙ ap (λ n. nat_le n most && (has_short_keys v && (keeps_ranges v && has_agreeing_pairs v))) (let here : 0 + depth v ≡ depth v = omega arith in here)
-    ∙ sym (and-assoc (nat_le (depth v) most) (has_short_keys v) (keeps_ranges v && has_agreeing_pairs v))
-    ∙ sym (and-assoc (nat_le (depth v) most && has_short_keys v) (keeps_ranges v) (has_agreeing_pairs v))
+    ∙ ap (λ n. nat_le n nesting_limit && (has_short_keys v && (keeps_ranges v && has_agreeing_pairs v))) (let here : 0 + depth v ≡ depth v = omega arith in here)
+    ∙ sym (and-assoc (nat_le (depth v) nesting_limit) (has_short_keys v) (keeps_ranges v && has_agreeing_pairs v))
+    ∙ sym (and-assoc (nat_le (depth v) nesting_limit && has_short_keys v) (keeps_ranges v) (has_agreeing_pairs v))
 
 -- A value with a fault is not.
 pub wrong_by-fault : (v : Value) (start : ℕ) (f : Fault) → Contains (value_faults v start 0) f → is_right_value v ≡ false

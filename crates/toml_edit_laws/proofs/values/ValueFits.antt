@@ -10,7 +10,7 @@ use Rattle.toml_edit_model.specs.Syntax.{Frame, Value, scalar, array, inline_tab
 use Rattle.toml_edit_model.specs.Paths.{at_key, Mention, line_mentions}
 use Rattle.toml_edit_model.specs.Accepted.{has_agreeing_pairs}
 use Rattle.toml_edit_model.specs.Tree.{Decor, unset, Node, nothing, leaf, list, inline, table, tables, Items, no_items, item, Slots, no_slots, slot, IsWellMade}
-use Rattle.toml_edit_model.specs.TreeOf.{spanned_in, span_of, Entry, entry_of, entries, value_start, key_of, ends_path, under, kept, IsValueNode, AreElementNodes, AreEntrySlots, RawFits, OptionFits, DecorFits, KeyFits, NodeFits, ItemsFit, SlotsFit, owned_node}
+use Rattle.toml_edit_model.specs.TreeOf.{spanned_in, span_of, Entry, entry_of, entries, value_start, key_of, IsValueNode, AreElementNodes, AreEntrySlots}
 use Rattle.toml_edit_laws.specs.Standing.{Stands}
 use Rattle.toml_edit_laws.proofs.common.StandingLaws.{stands-left, stands-right}
 use Rattle.toml_edit_laws.proofs.common.Members.{Among, among-cases}
@@ -23,6 +23,9 @@ use Rattle.toml_edit_laws.proofs.common.Edges.{edge-before, edge-after, StartsAs
 use Rattle.toml_edit_laws.proofs.common.Trivia.{close-trivia}
 use Rattle.toml_edit_laws.proofs.values.TextsLie.{frame-fits, SegmentFits, Lies, lies-at, raw-fits, line-fits}
 use Rattle.toml_edit_laws.proofs.values.ValueKinds.{not-value}
+use Rattle.toml_edit_model.specs.Roles.{ends_path}
+use Rattle.toml_edit_model.specs.TableMentions.{under, kept}
+use Rattle.toml_edit_model.specs.OwnedForm.{RawFits, OptionFits, DecorFits, KeyFits, NodeFits, ItemsFit, SlotsFit, owned_node}
 
 -- at both ends of a value and of the texts around it
 pub record AroundFits (source : Text) (i : ℕ) (before value after : Text) : Type 0 where

@@ -5,11 +5,12 @@ use Rattle.toml_edit_model.specs.Text.{Text}
 use Rattle.toml_edit_model.specs.Syntax.{Value, value_text, IsValue, keeps_ranges}
 use Rattle.toml_edit_model.specs.Accepted.{has_agreeing_pairs}
 use Rattle.toml_edit_model.specs.Tree.{Node, IsWellMade}
-use Rattle.toml_edit_model.specs.TreeOf.{Form, spanned_in, owned_in, IsValueNode, owned_node}
+use Rattle.toml_edit_model.specs.TreeOf.{Form, spanned_in, owned_in, IsValueNode}
 use Rattle.toml_edit_laws.specs.Standing.{Stands}
 use Rattle.toml_edit_laws.proofs.values.SomeNode.{one_item}
 use Rattle.toml_edit_laws.proofs.values.ValueOwned as owned
 use Rattle.toml_edit_laws.proofs.values.ValueMade.{made_well}
+use Rattle.toml_edit_model.specs.OwnedForm.{owned_node}
 
 -- In each form a value has one item.
 pub one_node : (v : Value) (form : Form) (i : ℕ) (before after : Text)

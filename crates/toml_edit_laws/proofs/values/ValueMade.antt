@@ -6,10 +6,10 @@ use Rattle.toml_edit_model.specs.Mode.{Mode}
 use Rattle.toml_edit_model.specs.Text.{Text, same_text}
 use Rattle.toml_edit_model.specs.Spelling.{SpellsKey, SpellsInRange}
 use Rattle.toml_edit_model.specs.Syntax.{Value, scalar, array, inline_table, Elements, no_elements, element, Pairs, no_pairs, pair, IsSpelledSegment, IsValue, AreElements, ArePairs, keeps_ranges, elements_keep_ranges, pairs_keep_ranges, value_text, frame_text}
-use Rattle.toml_edit_model.specs.Paths.{at_key, same_path, may_meet_inline, Mention, line_mentions, pair_mentions}
+use Rattle.toml_edit_model.specs.Paths.{at_key, same_path, Mention, line_mentions, pair_mentions}
 use Rattle.toml_edit_model.specs.Accepted.{has_agreeing_pairs, elements_have_agreeing_pairs, pairs_have_agreeing_pairs, all_agree}
 use Rattle.toml_edit_model.specs.Tree.{Key, Node, nothing, leaf, list, inline, table, tables, Items, no_items, item, Slots, no_slots, slot, has_key, IsRealScalar, HasTrueSpelling, IsWellMade, ItemsAreWellMade, SlotsAreWellMade}
-use Rattle.toml_edit_model.specs.TreeOf.{Form, owned_in, Entry, entry_of, entries, under, is_slot, some_at, any_role, kept_from, kept, IsValueNode, AreElementNodes, AreEntrySlots}
+use Rattle.toml_edit_model.specs.TreeOf.{Form, owned_in, Entry, entry_of, entries, IsValueNode, AreElementNodes, AreEntrySlots}
 use Rattle.toml_edit_laws.proofs.common.Tests.{and_left, and_right, or-left, or-right, false-by, true-false, same_text-is}
 use Rattle.toml_edit_laws.proofs.common.Members.{Among, among-cases}
 use Rattle.toml_edit_laws.proofs.mentions.KeptMentions.{under-is, HaveNoHeaders, Kept, kept-is}
@@ -20,6 +20,8 @@ use Rattle.toml_edit_laws.proofs.spellings.RealLaws.{is-real}
 use Rattle.toml_edit_laws.proofs.common.PathLaws.{same_path-refl}
 use Rattle.toml_edit_laws.proofs.mentions.Placed.{line-spelled}
 use Rattle.toml_edit_laws.proofs.values.ValueKinds.{not-value}
+use Rattle.toml_edit_model.specs.Roles.{may_meet_inline, any_role}
+use Rattle.toml_edit_model.specs.TableMentions.{under, is_slot, some_at, kept_from, kept}
 
 -- ---- distinct keys
 

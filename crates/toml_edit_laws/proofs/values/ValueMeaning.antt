@@ -3,11 +3,11 @@ use Rattle.std.proofs.Common.{◌≡◌, ℕ, ◌+◌, suc, refl, sym, ap, subst
 use Rattle.std.specs.Prelude.{if◌then◌else◌}
 use Rattle.toml_edit_model.specs.Text.{Text}
 use Rattle.toml_edit_model.specs.Syntax.{Value, scalar, array, inline_table, Elements, no_elements, element, Pairs, no_pairs, pair, IsValue, AreElements, ArePairs, value_text}
-use Rattle.toml_edit_model.specs.Paths.{at_key, Path, to_key, to_element, dotted_role, value_role, may_meet_inline, Mention, pair_mentions}
+use Rattle.toml_edit_model.specs.Paths.{at_key, Path, to_key, to_element, Mention, pair_mentions}
 use Rattle.toml_edit_model.specs.Accepted.{has_agreeing_pairs, elements_have_agreeing_pairs, pairs_have_agreeing_pairs, all_agree}
 use Rattle.toml_edit_model.specs.Meaning.{Fact, fact, a_table, an_array, a_scalar, SameFacts, value_facts, elements_facts, pairs_facts}
 use Rattle.toml_edit_model.specs.Tree.{Node, nothing, leaf, list, inline, table, tables, Items, no_items, item, Slots, no_slots, slot, is_value_node}
-use Rattle.toml_edit_model.specs.TreeOf.{Form, Entry, entries, under, kept, IsValueNode, AreElementNodes, AreEntrySlots}
+use Rattle.toml_edit_model.specs.TreeOf.{Form, Entry, entries, IsValueNode, AreElementNodes, AreEntrySlots}
 use Rattle.toml_edit_model.specs.Shown.{is_shown, is_shown_inside, inside_facts, list_facts, inside_slots_facts}
 use Rattle.toml_edit_laws.proofs.common.Tests.{and_left, and_right}
 use Rattle.toml_edit_laws.proofs.common.Members.{Among, among-left, among-right, among-cases, from-contained, to-contained}
@@ -17,6 +17,8 @@ use Rattle.toml_edit_laws.proofs.inline_tables.SlotsOfEntries.{IsMadeByKey, slot
 use Rattle.toml_edit_laws.proofs.values.ValueShown.{kept-path, value-slot, dotted-slot, value-shown, value-shown_inside, slot-shown}
 use Rattle.toml_edit_laws.proofs.values.ToldFacts.{role_facts, mention_facts, pairs-told, Told, told-of, of-told, ToldBelow, rise, sink}
 use Rattle.toml_edit_laws.proofs.values.ValueKinds.{not-value, value-node}
+use Rattle.toml_edit_model.specs.Roles.{dotted_role, value_role, may_meet_inline}
+use Rattle.toml_edit_model.specs.TableMentions.{under, kept}
 
 -- the same facts, one by one
 abbrev Alike : List Fact → List Fact → Type 0

@@ -8,12 +8,12 @@ use Rattle.toml_edit_model.specs.Mode.{Mode, shown_text}
 use Rattle.toml_edit_model.specs.Text.{Text, is_empty}
 use Rattle.toml_edit_model.specs.Trivia.{IsWholeTrivia}
 use Rattle.toml_edit_model.specs.Syntax.{Segment, Around, Frame, Value, scalar, array, inline_table, Elements, no_elements, element, Pairs, no_pairs, pair, value_text, frame_text, IsFrame, IsClose, has_pairs, IsValue, AreElements, ArePairs}
-use Rattle.toml_edit_model.specs.Paths.{Path, may_meet_inline, Mention, PairSource, line_mentions, pair_mentions}
+use Rattle.toml_edit_model.specs.Paths.{Path, Mention, PairSource, line_mentions, pair_mentions}
 use Rattle.toml_edit_model.specs.Accepted.{all_agree, has_agreeing_pairs, elements_have_agreeing_pairs, pairs_have_agreeing_pairs}
-use Rattle.toml_edit_model.specs.Normal.{stands_before, rank, kept_path, kept_segment, bare_ends, Pair, pairs_of, pair_before, kept_pair, some_of, ordered_pairs, lean_frame, lean_around, normal_value, normal_elements, normal_pairs}
+use Rattle.toml_edit_model.specs.Normal.{Pair, pairs_of, pair_before, kept_pair, some_of, ordered_pairs, shown_frame, shown_around, normal_value, normal_elements, normal_pairs}
 use Rattle.toml_edit_model.specs.Tree.{Decor, shown_prefix, shown_suffix, shown_raw, scalar_text, Node, leaf, list, inline, Items, no_items, item, Slots, node_decor, is_value_node}
-use Rattle.toml_edit_model.specs.TreeOf.{owned_in, decor_at, kept, Entry, entries, IsValueNode, AreElementNodes, AreEntrySlots}
-use Rattle.toml_edit_model.specs.Print.{blank, Line, frame_of, segments, close_array, close_inline, around_of, pairs_of_lines, value_of, elements_of, inside_lines}
+use Rattle.toml_edit_model.specs.TreeOf.{owned_in, decor_at, Entry, entries, IsValueNode, AreElementNodes, AreEntrySlots}
+use Rattle.toml_edit_model.specs.Print.{one_space, Line, frame_of, segments, close_array, close_inline, around_of, pairs_of_lines, value_of, elements_of, inside_lines}
 use Rattle.toml_edit_laws.proofs.common.Tests.{and_left, and_right}
 use Rattle.toml_edit_laws.proofs.common.WhiteSpace.{white-shown}
 use Rattle.toml_edit_laws.proofs.common.OrderLaws.{all-sorted}
@@ -27,6 +27,9 @@ use Rattle.toml_edit_laws.proofs.values.ClosingLaws.{close-elements, close-pairs
 use Rattle.toml_edit_laws.proofs.inline_tables.PairPlaces.{PairAt, pairs_at, pair_path, pair_entry, entry_start, normal_source, normal_start, normal_line, entries-are, mentions-are, pairs-filled, pairs-spaced, pairs-part}
 use Rattle.toml_edit_laws.proofs.common.Each.{all-map}
 use Rattle.toml_edit_model.specs.Order.{insert_by, sorted_by}
+use Rattle.toml_edit_model.specs.Roles.{may_meet_inline}
+use Rattle.toml_edit_model.specs.Kept.{stands_before, rank, kept_path, kept_segment, unspaced_ends}
+use Rattle.toml_edit_model.specs.TableMentions.{kept}
 
 kept-pair : (all : List (Mention PairSource)) (source : PairSource) (start : ℕ) (p : Path) (ss : List Segment) → is_empty ss ≡ false
     → kept_pair all (line_mentions source start p ss) ≡ Some (record source.frame { path = kept_path all (line_mentions source start p ss) }, source.value)
@@ -48,8 +51,8 @@ module _ (mode : Mode) where
       record {
         leading = shown_prefix mode key_default key;
         path = path;
-        before_equals = shown_suffix mode blank key;
-        after_equals = shown_prefix mode blank value;
+        before_equals = shown_suffix mode one_space key;
+        after_equals = shown_prefix mode one_space value;
         trailing = shown_suffix mode suffix_default value;
       }
 
@@ -58,7 +61,7 @@ module _ (mode : Mode) where
   kept_of all x = map (kept_segment all) (normal_line mode x)
 
   abbrev pub normal_pair : List (Mention PairSource) → PairAt → Pair
-  normal_pair all x = (record (lean_frame mode x.frame) { path = kept_path all (normal_line mode x) }, normal_value mode x.value)
+  normal_pair all x = (record (shown_frame mode x.frame) { path = kept_path all (normal_line mode x) }, normal_value mode x.value)
 
   -- the line is printed as the normal pair, whatever the defaults
   abbrev PrintsNormal : List (Mention PairSource) → Line → PairAt → Type 0
@@ -81,10 +84,10 @@ module _ (mode : Mode) where
           λ a b.
               ap (λ d. framed a b d (segments mode ks) (node_decor n)) leaf_is
               ∙ ap (λ p. framed a b e.leaf p (node_decor n)) path_is
-              ∙ ap (λ d. framed a b e.leaf (bare_ends (kept_of all x)) d) decor_is
-              ∙ ap (λ t. record (lean_frame mode f) { path = bare_ends (kept_of all x); before_equals = t; after_equals = shown_text mode f.after_equals })
+              ∙ ap (λ d. framed a b e.leaf (unspaced_ends (kept_of all x)) d) decor_is
+              ∙ ap (λ t. record (shown_frame mode f) { path = unspaced_ends (kept_of all x); before_equals = t; after_equals = shown_text mode f.after_equals })
               (white-shown mode f.before_equals h.0.0.before_equals)
-              ∙ ap (λ t. record (lean_frame mode f) { path = bare_ends (kept_of all x); after_equals = t }) (white-shown mode f.after_equals h.0.0.after_equals),
+              ∙ ap (λ t. record (shown_frame mode f) { path = unspaced_ends (kept_of all x); after_equals = t }) (white-shown mode f.after_equals h.0.0.after_equals),
         ),
       )
 
@@ -93,10 +96,10 @@ module _ (mode : Mode) where
   printed-pairs all [] [] h = refl
   printed-pairs all [] (x ∷ xs) h = absurd h
   printed-pairs all (l ∷ ls) [] h = absurd h
-  printed-pairs all (l ∷ []) (x ∷ []) h = ap (λ f. pair f l.value no_pairs) (h.0.1 blank blank) ∙ ap (λ v. pair (normal_pair all x).0 v no_pairs) h.0.0
+  printed-pairs all (l ∷ []) (x ∷ []) h = ap (λ f. pair f l.value no_pairs) (h.0.1 one_space one_space) ∙ ap (λ v. pair (normal_pair all x).0 v no_pairs) h.0.0
   printed-pairs all (l ∷ []) (x ∷ y ∷ xs) h = absurd h.1
   printed-pairs all (l ∷ m ∷ ls) (x ∷ xs) h =
-      ap (λ f. pair f l.value (pairs_of_lines mode (m ∷ ls))) (h.0.1 blank [])
+      ap (λ f. pair f l.value (pairs_of_lines mode (m ∷ ls))) (h.0.1 one_space [])
       ∙ ap (λ v. pair (normal_pair all x).0 v (pairs_of_lines mode (m ∷ ls))) h.0.0
       ∙ ap (pair (normal_pair all x).0 (normal_pair all x).1) (printed-pairs all (m ∷ ls) xs h.1)
 
@@ -134,7 +137,7 @@ module _ (mode : Mode) where
   has-ordered no_pairs i f before = refl
   has-ordered (pair e v ps) i f before =
       has-inserted f before (record { frame = e; value = v; place = i; number = 0; start = 0 })
-      (sorted_by before (pairs_at mode ps (i + length (frame_text e (value_text v)) + 1) (0 + length (frame_text (lean_frame mode e) (value_text (normal_value mode v))) + 1) 1))
+      (sorted_by before (pairs_at mode ps (i + length (frame_text e (value_text v)) + 1) (0 + length (frame_text (shown_frame mode e) (value_text (normal_value mode v))) + 1) 1))
 
   -- The lines inside an inline table are printed as its ordered normal pairs.
   inside-normal : (ps : Pairs) (i : ℕ) (ss : Slots) → ArePairs ps → all_agree may_meet_inline (pair_mentions 0 ps) ≡ true
@@ -164,7 +167,7 @@ module _ (mode : Mode) where
 
   -- an element with the item of its value
   element-around : (a : Around) (v : Value) (i : ℕ) (n : Node) (is_first : Bool) → IsValueNode (owned_in mode) v i a.before a.after n
-      → around_of mode is_first (node_decor n) ≡ lean_around mode a
+      → around_of mode is_first (node_decor n) ≡ shown_around mode a
   element-around a v i n is_first h = ap (around_of mode is_first) (owned-decor mode v i 0 0 a.before a.after n h)
 
   element-first : (n : Node) (xs : Items) (is_first : Bool) → is_value_node n ≡ true
@@ -207,9 +210,9 @@ module _ (mode : Mode) where
     elements_normal (element a v es) i (item n xs) is_first is agrees h =
         element-first n xs is_first (value-item (owned_in mode) v i a.before a.after n h.0)
         ∙ ap (λ b. element b (value_of mode n) (elements_of mode xs false)) (element-around a v i n is_first h.0)
-        ∙ ap (λ w. element (lean_around mode a) w (elements_of mode xs false))
+        ∙ ap (λ w. element (shown_around mode a) w (elements_of mode xs false))
         (value_normal v i a.before a.after n is.2 (and_left (has_agreeing_pairs v) (elements_have_agreeing_pairs es) agrees) h.0)
-        ∙ ap (element (lean_around mode a) (normal_value mode v))
+        ∙ ap (element (shown_around mode a) (normal_value mode v))
         (elements_normal es (i + length a.before + length (value_text v) + length a.after + 1) xs false is.3
         (and_right (has_agreeing_pairs v) (elements_have_agreeing_pairs es) agrees) h.1)
     elements_normal es i xs is_first is agrees h = absurd h
@@ -219,6 +222,6 @@ module _ (mode : Mode) where
     pairs_normal no_pairs i start number is agrees = tt
     pairs_normal (pair f v ps) i start number is agrees = (
       (is.0, λ j before after n h. value_normal v j before after n is.1 (and_left (has_agreeing_pairs v) (pairs_have_agreeing_pairs ps) agrees) h),
-      pairs_normal ps (i + length (frame_text f (value_text v)) + 1) (start + length (frame_text (lean_frame mode f) (value_text (normal_value mode v))) + 1) (suc number)
+      pairs_normal ps (i + length (frame_text f (value_text v)) + 1) (start + length (frame_text (shown_frame mode f) (value_text (normal_value mode v))) + 1) (suc number)
           is.2 (and_right (has_agreeing_pairs v) (pairs_have_agreeing_pairs ps) agrees),
     )

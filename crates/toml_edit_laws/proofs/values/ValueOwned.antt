@@ -5,9 +5,9 @@ use Rattle.std.proofs.lemmas.List.{length-append, map-append}
 use Rattle.toml_edit_model.specs.Mode.{Mode}
 use Rattle.toml_edit_model.specs.Text.{Text}
 use Rattle.toml_edit_model.specs.Syntax.{Segment, Frame, Value, scalar, array, inline_table, Elements, no_elements, element, Pairs, no_pairs, pair, value_text, elements_text, pairs_text, frame_text, path_text, segment_text, comma_text}
-use Rattle.toml_edit_model.specs.Paths.{at_key, Path, to_key, Mention, line_mentions, mention_of, next_start, dotted_role}
+use Rattle.toml_edit_model.specs.Paths.{at_key, Path, to_key, Mention, line_mentions, mention_of, next_start}
 use Rattle.toml_edit_model.specs.Tree.{ArrayFields, InlineFields, unset, Node, nothing, leaf, list, inline, table, tables, Items, no_items, item, Slots, no_slots, slot}
-use Rattle.toml_edit_model.specs.TreeOf.{spanned_in, owned_in, Entry, entry_of, entries, value_start, decor_at, key_of, ends_path, under, kept, IsValueNode, AreElementNodes, AreEntrySlots, owned_raw, owned_decor, owned_key, owned_node, owned_items, owned_slots}
+use Rattle.toml_edit_model.specs.TreeOf.{spanned_in, owned_in, Entry, entry_of, entries, value_start, decor_at, key_of, IsValueNode, AreElementNodes, AreEntrySlots}
 use Rattle.toml_edit_laws.specs.Standing.{Stands}
 use Rattle.toml_edit_laws.proofs.common.StandingLaws.{stands-left, stands-right, cut-is}
 use Rattle.toml_edit_laws.proofs.common.Members.{Among, among-cases}
@@ -16,6 +16,9 @@ use Rattle.toml_edit_laws.proofs.mentions.KeptMentions.{under-is, kept-is}
 use Rattle.toml_edit_laws.proofs.inline_tables.SlotsOfEntries.{IsMadeByKey, slot-key, slot-node, slot-rest, slot-all, each-way}
 use Rattle.toml_edit_laws.proofs.mentions.TurnedMentions.{turned, under-turned, kept-turned}
 use Rattle.toml_edit_laws.proofs.values.ValueKinds.{not-value}
+use Rattle.toml_edit_model.specs.Roles.{dotted_role, ends_path}
+use Rattle.toml_edit_model.specs.TableMentions.{under, kept}
+use Rattle.toml_edit_model.specs.OwnedForm.{owned_raw, owned_decor, owned_key, owned_node, owned_items, owned_slots}
 
 -- the text stands from another byte, which is the same
 pub stands-at : (source : Text) (i j : ℕ) (t : Text) → Stands source i t → i ≡ j → Stands source j t

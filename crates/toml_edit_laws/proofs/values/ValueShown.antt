@@ -3,9 +3,9 @@ use Rattle.std.proofs.Common.{◌≡◌, ℕ, refl, sym, ap, subst, ◌∙◌, i
 use Rattle.std.specs.Prelude.{◌||◌, not}
 use Rattle.toml_edit_model.specs.Text.{Text}
 use Rattle.toml_edit_model.specs.Syntax.{Value, scalar, array, inline_table}
-use Rattle.toml_edit_model.specs.Paths.{Step, at_key, at_element, Path, Role, dotted_role, value_role, Mention}
+use Rattle.toml_edit_model.specs.Paths.{Step, at_key, at_element, Path, Mention}
 use Rattle.toml_edit_model.specs.Tree.{Node, nothing, leaf, list, inline, table, tables, Slots, no_slots, slot}
-use Rattle.toml_edit_model.specs.TreeOf.{Form, Entry, under, kept, is_single, ends_path, IsValueNode, AreEntrySlots}
+use Rattle.toml_edit_model.specs.TreeOf.{Form, Entry, IsValueNode, AreEntrySlots}
 use Rattle.toml_edit_model.specs.Shown.{is_shown_inside, shows_inside, is_shown}
 use Rattle.toml_edit_laws.proofs.common.Tests.{or-true}
 use Rattle.toml_edit_laws.proofs.common.Members.{Among}
@@ -13,6 +13,8 @@ use Rattle.toml_edit_laws.proofs.mentions.KeptMentions.{moved, under-has, Kept, 
 use Rattle.toml_edit_laws.proofs.inline_tables.EntryMentions.{AgreeingMentions, agreeing-headers, under-agrees}
 use Rattle.toml_edit_laws.proofs.inline_tables.SlotsOfEntries.{IsMadeByKey, IsSlotNode, slot-node}
 use Rattle.toml_edit_laws.proofs.values.ValueKinds.{not-value}
+use Rattle.toml_edit_model.specs.Roles.{Role, dotted_role, value_role, ends_path}
+use Rattle.toml_edit_model.specs.TableMentions.{under, kept, is_single}
 
 -- ---- slots among agreeing mentions
 

@@ -8,13 +8,15 @@ use Rattle.toml_edit_model.specs.Text.{Text, carriage_return, without_returns}
 use Rattle.toml_edit_model.specs.Mode.{Mode, plain, exact, shown_text}
 use Rattle.toml_edit_model.specs.Syntax.{Segment, Value, scalar, array, inline_table, Elements, no_elements, element, Pairs, no_pairs, pair, value_text, frame_text, Statement, key_line, header, Document, open_statements}
 use Rattle.toml_edit_model.specs.Version.{is_late_spelling, is_late_path, is_late_byte, is_late_trivia, is_late_value, are_late_elements, are_late_pairs, is_late_statement}
-use Rattle.toml_edit_model.specs.Paths.{Path, same_path, to_key, Mention, PairSource, line_mentions, next_start, pair_mentions, Role, Source, Placed, placed, placed_from, Context, start_context, context_after, source_of, mentions_of, header_mentions, header_role_of, path_start, elements_at, in_last}
-use Rattle.toml_edit_model.specs.Normal.{is_header_role, mentions_at, first_of_list, kept_mention, kept_segment, kept_path, bare_end, bare_ends, pairs_of, pair_before, kept_pair, some_of, ordered_pairs, normal_value, normal_elements, normal_pairs, ordered, normal_statement, has_open_end, normal_last, normal_in}
+use Rattle.toml_edit_model.specs.Paths.{Path, same_path, to_key, Mention, PairSource, line_mentions, next_start, pair_mentions, Source, Placed, placed, placed_from, Context, start_context, context_after, source_of, mentions_of, header_mentions, header_role_of, path_start, elements_at, in_last}
+use Rattle.toml_edit_model.specs.Normal.{pairs_of, pair_before, kept_pair, some_of, ordered_pairs, normal_value, normal_elements, normal_pairs, ordered, normal_statement, has_open_end, normal_last, normal_in}
 use Rattle.toml_edit_laws.proofs.common.Tests.{or-left, or-right}
 use Rattle.toml_edit_laws.proofs.common.OrderLaws.{all-sorted}
 use Rattle.toml_edit_laws.proofs.common.Each.{all-map, all-append, all-filter}
 use Rattle.toml_edit_laws.proofs.normal_texts.Agreeing.{all-ordered}
 use Rattle.toml_edit_laws.proofs.versions.Accepting.{AreEarly}
+use Rattle.toml_edit_model.specs.Roles.{Role, is_header_role}
+use Rattle.toml_edit_model.specs.Kept.{mentions_at, first_of_list, kept_mention, kept_segment, kept_path, unspaced_end, unspaced_ends}
 
 or-none : (a b : Bool) → a ≡ false → b ≡ false → (a || b) ≡ false
 or-none true b h g = h
@@ -73,12 +75,12 @@ kept-early all m h g =
     (either-early (find (λ k. is_header_role k.role) (mentions_at all m.path)) (first_of_list (mentions_at all m.path))
     (find-early (λ k. is_header_role k.role) (mentions_at all m.path) at) (first-early (mentions_at all m.path) at)) g
 
-bare-end-late : (ss : List Segment) → is_late_path (bare_end ss) ≡ is_late_path ss
+bare-end-late : (ss : List Segment) → is_late_path (unspaced_end ss) ≡ is_late_path ss
 bare-end-late [] = refl
 bare-end-late (s ∷ []) = refl
 bare-end-late (s ∷ r ∷ ss) = ap (λ b. is_late_spelling s.spelled || b) (bare-end-late (r ∷ ss))
 
-bare-late : (ss : List Segment) → is_late_path (bare_ends ss) ≡ is_late_path ss
+bare-late : (ss : List Segment) → is_late_path (unspaced_ends ss) ≡ is_late_path ss
 bare-late [] = refl
 bare-late (s ∷ ss) = bare-end-late (record s { before = [] } ∷ ss)
 

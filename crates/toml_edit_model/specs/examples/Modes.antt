@@ -6,7 +6,7 @@ use Rattle.toml_edit_model.specs.Mode.{plain, exact, line_end, line_newline, wit
 use Rattle.toml_edit_model.specs.Syntax.{Segment, Value, array, no_elements, element, Statement, key_line, header, Document, document_text}
 use Rattle.toml_edit_model.specs.Accepted.{is_accepted}
 use Rattle.toml_edit_model.specs.Meaning.{meaning}
-use Rattle.toml_edit_model.specs.Normal.{has_open_end, normal_in, normal_text_in, is_settled_in}
+use Rattle.toml_edit_model.specs.Normal.{has_open_end, normal_in, normal_text_in}
 use Rattle.toml_edit_model.specs.Tree.{Tree}
 use Rattle.toml_edit_model.specs.Shown.{shown_meaning}
 use Rattle.toml_edit_model.specs.Print.{print_in, document_in}
@@ -15,6 +15,7 @@ use Rattle.toml_edit_model.specs.TreeOf.{owned_in}
 use Rattle.toml_edit_model.specs.examples.ComputedTree.{tree_of, slots_of}
 use Rattle.toml_edit_model.specs.examples.Parts.{same_facts, document, a, b, c, d, plain_int, one_value, two_value, three_value}
 use Rattle.toml_edit_model.specs.examples.Texts.{marked_returns}
+use Rattle.toml_edit_model.specs.Settled.{is_settled_in}
 
 -- a line with another newline after it, and one with a comment before it
 abbrev pub line_to : Text → List Segment → Value → Text → Statement

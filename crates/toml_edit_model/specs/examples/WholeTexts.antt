@@ -9,15 +9,17 @@ use Rattle.toml_edit_model.specs.Spelling.{plain, quotes, one_quote, hexadecimal
 use Rattle.toml_edit_model.specs.Syntax.{scalar, array, inline_table, no_elements, element, no_pairs, pair, key_line, header, Document, IsCut}
 use Rattle.toml_edit_model.specs.Accepted.{is_accepted}
 use Rattle.toml_edit_model.specs.Meaning.{meaning}
-use Rattle.toml_edit_model.specs.Normal.{normal_text, normal, is_settled}
+use Rattle.toml_edit_model.specs.Normal.{normal_text, normal}
 use Rattle.toml_edit_model.specs.Shown.{shown_meaning}
 use Rattle.toml_edit_model.specs.Print.{print}
 use Rattle.toml_edit_model.specs.Tree.{span, leaf, list, inline, table, tables, no_items, item, no_slots, slot, Tree}
-use Rattle.toml_edit_model.specs.TreeOf.{spanned_form, owned_form, IsTreeOf, owned_tree}
+use Rattle.toml_edit_model.specs.TreeOf.{spanned_form, owned_form, IsTreeOf}
 use Rattle.toml_edit_model.specs.examples.Parts.{spelled_as, bare, int, line, head, document, a, b, c, d, x, one_value, two_value}
 use Rattle.toml_edit_model.specs.examples.Texts.{reads, all_hold, empty, open_end, apart, t_key}
 use Rattle.toml_edit_model.specs.examples.Cuts.{empty_trivia, empty_end, empty_final, lf_end, space_trivia, IsKey, is_bare, two_keys, bare_key, bare_keys, a_is, ab_is, t_is, one_is, two_is, frame_is, head_is, cut}
 use Rattle.toml_edit_model.specs.examples.TreesOfTexts.{none, decor, last, inner, number, by_path, by_header, spanned_tree}
+use Rattle.toml_edit_model.specs.Settled.{is_settled}
+use Rattle.toml_edit_model.specs.OwnedForm.{owned_tree}
 
 -- a tree with spans is of the text with this cut, and the texts that these cut make the tree with texts
 abbrev pub HasTree : Document → Text → Tree → Type 0

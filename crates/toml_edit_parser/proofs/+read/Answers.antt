@@ -10,7 +10,6 @@ use Rattle.toml_edit_syntax.specs.ValueEvents.{event, elements_events, close_eve
 use Rattle.toml_edit_parser.specs.ValueRead.{split_close, AddsElement, EndsArray, IsRead, NamesOne, ReadsValue}
 use Rattle.toml_edit_tree.specs.View.{items_view, value_view, slots_view}
 use Rattle.toml_edit_model.specs.Tree.{Node}
-use Rattle.toml_edit_model.specs.TreeOf.{NodeFits, SlotsFit}
 use Rattle.toml_edit_parser.specs.PairRead.{FrameParts, parts_of}
 use Rattle.toml_edit_parser.proofs.ReadLaws.{head_of, mapped, no_event, too_deep, named}
 use Rattle.toml_edit_parser.proofs.HeadLaws.{scalar_read, scalar_refused, array_opened, inline_opened}
@@ -24,6 +23,7 @@ use Rattle.toml_edit_parser.proofs.ElementsLaws as elements
 use Rattle.toml_edit_parser.proofs.PairsLaws as pairs
 use Rattle.toml_edit_parser.proofs.ViewLaws.{view-Value}
 use Rattle.toml_edit_parser.proofs.+read.Goals as goal
+use Rattle.toml_edit_model.specs.OwnedForm.{NodeFits, SlotsFit}
 
 -- ---- a value
 

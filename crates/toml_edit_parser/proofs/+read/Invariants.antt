@@ -1,13 +1,13 @@
 -- The items or slots are those of what is done, and the events those of what is left. Each call has fewer events, or does less with them.
 use Rattle.std.proofs.Common.{ℕ, ◌+◌, ◌*◌, ◌≤◌, List, length}
 use Rattle.toml_edit_model.specs.Syntax.{Elements, Pairs}
-use Rattle.toml_edit_model.specs.TreeOf.{ItemsFit, SlotsFit}
 use Rattle.toml_edit_syntax.specs.declared.event.Event.{Event}
 use Rattle.toml_edit_parser.specs.ValueRead.{AreIn}
 use Rattle.toml_edit_tree.specs.View.{items_view, slots_view}
 use Rattle.toml_edit_parser.proofs.ElementsLaws as elements
 use Rattle.toml_edit_parser.proofs.PairsLaws as pairs
 use Rattle.toml_edit_parser.proofs.+read.Given as goal
+use Rattle.toml_edit_model.specs.OwnedForm.{ItemsFit, SlotsFit}
 
 abbrev pub invariant-reader::read_elements-elements : goal.invariant-reader::read_elements-elements
 invariant-reader::read_elements-elements l =

@@ -1,11 +1,11 @@
 -- A value that was read, in owned form.
 use Rattle.std.proofs.Common.{sym, ap, ◌∙◌, subst}
 use Rattle.toml_edit_model.specs.Tree.{Node, unset, IsWellMade}
-use Rattle.toml_edit_model.specs.TreeOf.{NodeFits, owned_node}
 use Rattle.toml_edit_tree.specs.View.{value_view}
 use Rattle.toml_edit_parser.proofs.LoneValueLaws.{lone_made, lone_read, no_value, refused_whole}
 use Rattle.toml_edit_parser.proofs.ReadFits.{fits-with_decor}
 use Rattle.toml_edit_parser.proofs.from_str.end_lone.Goals as goal
+use Rattle.toml_edit_model.specs.OwnedForm.{NodeFits, owned_node}
 
 pub returns-then-are_cut_short-clause-every : goal.returns-then-are_cut_short-clause-every
 returns-then-are_cut_short-clause-every c =

@@ -2,10 +2,9 @@
 use Rattle.std.proofs.Common.{List, refl, ap, sym, subst, ◌∙◌, arith, rules, Some, string_bytes}
 use Rattle.std.proofs.lemmas.Result.{err_from_is_err_and}
 use Rattle.toml_edit_model.specs.Faults.{duplicate_key}
-use Rattle.toml_edit_model.specs.Paths.{dotted_role, line_mentions}
+use Rattle.toml_edit_model.specs.Paths.{line_mentions}
 use Rattle.toml_edit_model.specs.Text.{Text}
 use Rattle.toml_edit_model.specs.Tree.{Key, Slots}
-use Rattle.toml_edit_model.specs.TreeOf.{SlotsFit}
 use Rattle.toml_edit_laws.specs.InlineTree.{way_message}
 use Rattle.toml_edit_slots.specs.declared.slots.Slot as repr
 use Rattle.toml_edit_slots.specs.Slots.{place}
@@ -17,6 +16,8 @@ use Rattle.toml_edit_parser.proofs.EntryLaws.{below-added, inside-added, last-ad
 use Rattle.toml_edit_parser.proofs.SplitLaws.{first_in}
 use Rattle.toml_edit_parser.proofs.ViewLaws.{view-None, view-Value}
 use Rattle.toml_edit_parser.proofs.pairs.+add.Goals as goal
+use Rattle.toml_edit_model.specs.Roles.{dotted_role}
+use Rattle.toml_edit_model.specs.OwnedForm.{SlotsFit}
 
 pub add_entry-returns-in_default-clause-entry : goal.add_entry-returns-in_default-clause-entry
 add_entry-returns-in_default-clause-entry t c = λ e p start above are stands at. some-key p start c.args.path.events.now _ are at.2 c.in_default.ensures

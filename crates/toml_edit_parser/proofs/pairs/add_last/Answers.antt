@@ -1,11 +1,11 @@
 use Rattle.std.proofs.Common.{sym, ap, subst, ◌∙◌}
 use Rattle.toml_edit_model.specs.Tree.{Slots}
-use Rattle.toml_edit_model.specs.TreeOf.{SlotsFit}
 use Rattle.toml_edit_laws.specs.FlatTree.{with_slot}
 use Rattle.toml_edit_tree.specs.View.{item_view, slots_view}
 use Rattle.toml_edit_parser.proofs.EntryLaws.{last-put, last-refused}
 use Rattle.toml_edit_parser.proofs.SlotLaws.{fits-with_slot}
 use Rattle.toml_edit_parser.proofs.pairs.add_last.Goals as goal
+use Rattle.toml_edit_model.specs.OwnedForm.{SlotsFit}
 
 pub returns-then-is_some-clause-last : goal.returns-then-is_some-clause-last
 returns-then-is_some-clause-last c =

@@ -2,7 +2,7 @@ use Rattle.std.proofs.Common.{◌≡◌, ◌+◌, [], length, Some, sym, ap, sub
 use Rattle.std.proofs.lemmas.Result.{err_from_is_err_and}
 use Rattle.toml_edit_model.specs.Conversions.{with_decor}
 use Rattle.toml_edit_model.specs.Tree.{Node}
-use Rattle.toml_edit_model.specs.TreeOf.{NodeFits, spanned_form, entry_of}
+use Rattle.toml_edit_model.specs.TreeOf.{spanned_form, entry_of}
 use Rattle.toml_edit_laws.specs.InlineTree.{add_entry, pair_path}
 use Rattle.toml_edit_syntax.specs.declared.event.Event.{Event}
 use Rattle.toml_edit_parser.specs.PairRead.{FrameParts}
@@ -13,6 +13,7 @@ use Rattle.toml_edit_parser.proofs.ReadFits.{fits-with_decor}
 use Rattle.toml_edit_parser.proofs.ReadLaws.{same_parts}
 use Rattle.toml_edit_parser.proofs.SplitLaws.{first_in}
 use Rattle.toml_edit_parser.proofs.pairs.end_pair.Goals as goal
+use Rattle.toml_edit_model.specs.OwnedForm.{NodeFits}
 
 pub returns-clause-pair : goal.returns-clause-pair
 returns-clause-pair c =

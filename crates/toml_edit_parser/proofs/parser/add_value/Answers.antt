@@ -2,7 +2,6 @@
 use Rattle.std.proofs.Common.{sym, ap, subst, ◌∙◌}
 use Rattle.std.proofs.lemmas.Result.{err_from_is_err_and}
 use Rattle.toml_edit_model.specs.Tree.{Slots}
-use Rattle.toml_edit_model.specs.TreeOf.{SlotsFit}
 use Rattle.toml_edit_laws.specs.FlatTree.{with_slot}
 use Rattle.toml_edit_tree.specs.View.{item_view, slots_view}
 use Rattle.toml_edit_parser.proofs.LineLaws.{names_key, key_spelled, found_key}
@@ -10,6 +9,7 @@ use Rattle.toml_edit_parser.proofs.ReadLaws.{mapped}
 use Rattle.toml_edit_parser.proofs.SlotLaws.{fits-with_slot}
 use Rattle.toml_edit_parser.proofs.SpellingLaws.{spelled-some}
 use Rattle.toml_edit_parser.proofs.parser.add_value.Goals as goal
+use Rattle.toml_edit_model.specs.OwnedForm.{SlotsFit}
 
 pub returns-in_err-name-clause-line : goal.returns-in_err-name-clause-line
 returns-in_err-name-clause-line c =

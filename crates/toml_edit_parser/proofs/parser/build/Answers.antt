@@ -2,7 +2,7 @@ use Rattle.std.proofs.Common.{◌≡◌, ◌+◌, ◌-◌, List, length, slice_g
 use Rattle.std.proofs.lemmas.Result.{err_from_is_err_and}
 use Rattle.toml_edit_model.specs.Flat.{flat_document}
 use Rattle.toml_edit_model.specs.Tree.{Raw}
-use Rattle.toml_edit_model.specs.TreeOf.{RawFits, span_of}
+use Rattle.toml_edit_model.specs.TreeOf.{span_of}
 use Rattle.toml_edit_laws.specs.FlatTree.{end_of}
 use Rattle.toml_edit_syntax.specs.declared.event.Event.{Event}
 use Rattle.toml_edit_syntax.specs.declared.event.EventKind.TheVariants.{Final}
@@ -16,6 +16,7 @@ use Rattle.toml_edit_parser.proofs.BuildLaws.{next, after_next, added, refused, 
 use Rattle.toml_edit_parser.proofs.ReadLaws.{mapped}
 use Rattle.toml_edit_parser.proofs.parser.build.Goals as goal
 use Rattle.toml_edit_parser.proofs.parser.build.Goals.{in-Some-first, in-None}
+use Rattle.toml_edit_model.specs.OwnedForm.{RawFits}
 
 pub returns-in_err-rest-clause-built : goal.returns-in_err-rest-clause-built
 returns-in_err-rest-clause-built c =

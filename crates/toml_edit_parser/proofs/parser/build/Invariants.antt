@@ -1,12 +1,12 @@
 use Rattle.std.proofs.Common.{List, Bool, length}
 use Rattle.toml_edit_model.specs.Text.{Text}
 use Rattle.toml_edit_model.specs.Flat.{Line}
-use Rattle.toml_edit_model.specs.TreeOf.{SlotsFit}
 use Rattle.toml_edit_parser.specs.Parsed.{AreEventsIn}
 use Rattle.toml_edit_parser.specs.ValueRead.{AreIn}
 use Rattle.toml_edit_tree.specs.View.{slots_view}
 use Rattle.toml_edit_parser.proofs.BuildLaws.{Progress}
 use Rattle.toml_edit_parser.proofs.parser.build.Given as goal
+use Rattle.toml_edit_model.specs.OwnedForm.{SlotsFit}
 
 -- The slots are those of the lines done, and the events those of the lines left.
 abbrev pub invariant-lines : goal.invariant-lines

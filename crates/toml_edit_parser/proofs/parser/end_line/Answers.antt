@@ -3,7 +3,7 @@ use Rattle.std.proofs.Common.{sym, ap, subst, ◌∙◌}
 use Rattle.std.proofs.lemmas.Result.{err_from_is_err_and}
 use Rattle.toml_edit_model.specs.Conversions.{with_decor}
 use Rattle.toml_edit_model.specs.Tree.{Node}
-use Rattle.toml_edit_model.specs.TreeOf.{NodeFits, spanned_form}
+use Rattle.toml_edit_model.specs.TreeOf.{spanned_form}
 use Rattle.toml_edit_laws.specs.FlatTree.{line_key, with_slot}
 use Rattle.toml_edit_parser.specs.ValueRead.{split_first}
 use Rattle.toml_edit_tree.specs.View.{item_view, slots_view}
@@ -12,6 +12,7 @@ use Rattle.toml_edit_parser.proofs.ReadFits.{fits-with_decor}
 use Rattle.toml_edit_parser.proofs.ReadLaws.{same_parts}
 use Rattle.toml_edit_parser.proofs.SplitLaws.{first_in}
 use Rattle.toml_edit_parser.proofs.parser.end_line.Goals as goal
+use Rattle.toml_edit_model.specs.OwnedForm.{NodeFits}
 
 pub returns-in_default-clause-line : goal.returns-in_default-clause-line
 returns-in_default-clause-line c =

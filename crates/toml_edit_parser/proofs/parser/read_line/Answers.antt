@@ -2,7 +2,6 @@
 use Rattle.std.proofs.Common.{◌∷◌, sym, subst, arith}
 use Rattle.std.proofs.lemmas.Result.{err_from_is_err_and}
 use Rattle.toml_edit_model.specs.Tree.{Node}
-use Rattle.toml_edit_model.specs.TreeOf.{NodeFits}
 use Rattle.toml_edit_laws.specs.FlatTree.{value_at, value_end}
 use Rattle.toml_edit_laws.proofs.flat.LineLaws.{line-stands}
 use Rattle.toml_edit_syntax.specs.declared.event.EventKind.TheVariants.{LineEnd}
@@ -12,6 +11,7 @@ use Rattle.toml_edit_tree.specs.View.{slots_view}
 use Rattle.toml_edit_parser.proofs.LineLaws.{line_read, names_value}
 use Rattle.toml_edit_parser.proofs.ViewLaws.{view-Value}
 use Rattle.toml_edit_parser.proofs.parser.read_line.Goals as goal
+use Rattle.toml_edit_model.specs.OwnedForm.{NodeFits}
 
 pub returns-in_err-value-clause-line : goal.returns-in_err-value-clause-line
 returns-in_err-value-clause-line c =

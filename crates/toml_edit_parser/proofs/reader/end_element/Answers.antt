@@ -1,12 +1,12 @@
 use Rattle.std.proofs.Common.{List, sym, subst, ◌∙◌}
 use Rattle.toml_edit_model.specs.Tree.{Node}
-use Rattle.toml_edit_model.specs.TreeOf.{ItemsFit, NodeFits}
 use Rattle.toml_edit_tree.specs.declared.item.Item.{Item}
 use Rattle.toml_edit_tree.specs.View.{items_view, value_view}
 use Rattle.toml_edit_parser.proofs.ReadFits.{fits-item, fits-with_decor}
 use Rattle.toml_edit_parser.proofs.SplitLaws.{first_in}
 use Rattle.toml_edit_parser.proofs.ViewLaws.{view-Value}
 use Rattle.toml_edit_parser.proofs.reader.end_element.Goals as goal
+use Rattle.toml_edit_model.specs.OwnedForm.{ItemsFit, NodeFits}
 
 pub returns-clause-fits : goal.returns-clause-fits
 returns-clause-fits c =

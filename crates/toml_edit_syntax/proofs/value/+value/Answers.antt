@@ -2,7 +2,7 @@
 use Rattle.std.proofs.Common.{◌≡◌, ◌≢◌, ℕ, ◌+◌, ◌-◌, ◌≤◌, List, [], ◌∷◌, ◌++◌, length, drop, refl, sym, ap, subst, ◌∙◌, rules, arith, le_refl, true, false, suc}
 use Rattle.std.proofs.lemmas.Grind.{common_steps}
 use Rattle.toml_edit_model.specs.Text.{Text}
-use Rattle.toml_edit_model.specs.Syntax.{most}
+use Rattle.toml_edit_model.specs.Syntax.{nesting_limit}
 use Rattle.toml_edit_syntax.specs.declared.event.EventKind.{EventKind}
 use Rattle.toml_edit_syntax.specs.declared.event.EventKind.TheVariants.{TooDeep}
 use Rattle.toml_edit_syntax.specs.declared.event.Event.{Event}
@@ -22,7 +22,7 @@ items-items-init t c = record { utf8 = search rules; shorter = le_refl _; behind
 pub items-returns-in_err-before-clause-adds : goal.items-returns-in_err-before-clause-adds
 items-returns-in_err-before-clause-adds t c n h =
     let l = c.items in
-    let room : c.args.level ≤ most = omega arith in
+    let room : c.args.level ≤ nesting_limit = omega arith in
     let fits : length l.rest.now ≤ c.args.whole = omega (arith, l.invariant.shorter) in
     let (k, fuel, read) = l.invariant.read n h in
     loop.leaves_err _ c.from_residual.result _ c.in_err-before.field-0.0 _ c.from_residual.ensures.1 (λ y e. e)
@@ -31,7 +31,7 @@ items-returns-in_err-before-clause-adds t c n h =
 pub items-returns-then-first-closing_byte-clause-adds : goal.items-returns-then-first-closing_byte-clause-adds
 items-returns-then-first-closing_byte-clause-adds t c n h =
     let l = c.items in
-    let room : c.args.level ≤ most = omega arith in
+    let room : c.args.level ≤ nesting_limit = omega arith in
     let fits : length l.rest.now ≤ c.args.whole = omega (arith, l.invariant.shorter) in
     let (k, fuel, read) = l.invariant.read n h in
     let here : first c.in_ok-before.start.now ≡ closing_byte c.args.brackets = grind (arith, common_steps) in
@@ -42,7 +42,7 @@ items-returns-then-first-closing_byte-clause-adds t c n h =
 pub items-returns-in_err-start-clause-adds : goal.items-returns-in_err-start-clause-adds
 items-returns-in_err-start-clause-adds t c n h =
     let l = c.items in
-    let room : c.args.level ≤ most = omega arith in
+    let room : c.args.level ≤ nesting_limit = omega arith in
     let fits : length l.rest.now ≤ c.args.whole = omega (arith, l.invariant.shorter) in
     let (k, fuel, read) = l.invariant.read n h in
     let other : first c.in_ok-before.start.now ≢ closing_byte c.args.brackets = grind (arith, common_steps) in
@@ -52,7 +52,7 @@ items-returns-in_err-start-clause-adds t c n h =
 pub items-returns-in_err-end-clause-adds : goal.items-returns-in_err-end-clause-adds
 items-returns-in_err-end-clause-adds t c n h =
     let l = c.items in
-    let room : c.args.level ≤ most = omega arith in
+    let room : c.args.level ≤ nesting_limit = omega arith in
     let fits : length l.rest.now ≤ c.args.whole = omega (arith, l.invariant.shorter) in
     let (k, fuel, read) = l.invariant.read n h in
     let other : first c.in_ok-before.start.now ≢ closing_byte c.args.brackets = grind (arith, common_steps) in
@@ -62,7 +62,7 @@ items-returns-in_err-end-clause-adds t c n h =
 pub items-returns-in_err-after-clause-adds : goal.items-returns-in_err-after-clause-adds
 items-returns-in_err-after-clause-adds t c n h =
     let l = c.items in
-    let room : c.args.level ≤ most = omega arith in
+    let room : c.args.level ≤ nesting_limit = omega arith in
     let fits : length l.rest.now ≤ c.args.whole = omega (arith, l.invariant.shorter) in
     let (k, fuel, read) = l.invariant.read n h in
     let other : first c.in_ok-before.start.now ≢ closing_byte c.args.brackets = grind (arith, common_steps) in
@@ -72,7 +72,7 @@ items-returns-in_err-after-clause-adds t c n h =
 pub items-returns-then-first-closing_byte-2-clause-adds : goal.items-returns-then-first-closing_byte-2-clause-adds
 items-returns-then-first-closing_byte-2-clause-adds t c n h =
     let l = c.items in
-    let room : c.args.level ≤ most = omega arith in
+    let room : c.args.level ≤ nesting_limit = omega arith in
     let fits : length l.rest.now ≤ c.args.whole = omega (arith, l.invariant.shorter) in
     let (k, fuel, read) = l.invariant.read n h in
     let other : first c.in_ok-before.start.now ≢ closing_byte c.args.brackets = grind (arith, common_steps) in
@@ -89,7 +89,7 @@ items-returns-then-first-closing_byte-2-clause-adds t c n h =
 pub items-returns-then-first-ne44-clause-adds : goal.items-returns-then-first-ne44-clause-adds
 items-returns-then-first-ne44-clause-adds t c n h =
     let l = c.items in
-    let room : c.args.level ≤ most = omega arith in
+    let room : c.args.level ≤ nesting_limit = omega arith in
     let fits : length l.rest.now ≤ c.args.whole = omega (arith, l.invariant.shorter) in
     let (k, fuel, read) = l.invariant.read n h in
     let other : first c.in_ok-before.start.now ≢ closing_byte c.args.brackets = grind (arith, common_steps) in
@@ -118,7 +118,7 @@ items-items-preserved t c =
       shorter = omega (arith, l.invariant.shorter);
       behind = λ _. omega (arith, l.invariant.shorter);
       read = λ n h.
-          let room : c.args.level ≤ most = omega arith in
+          let room : c.args.level ≤ nesting_limit = omega arith in
           let fits : length l.rest.now ≤ c.args.whole = omega (arith, l.invariant.shorter) in
           let (k, fuel, read) = l.invariant.read n h in
           let other : first c.in_ok-before.start.now ≢ closing_byte c.args.brackets = grind (arith, common_steps) in

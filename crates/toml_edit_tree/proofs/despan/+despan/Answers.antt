@@ -7,7 +7,6 @@ use Rattle.toml_edit_model.specs.Scalars.{Scalar, string, integer, float, boolea
 use Rattle.toml_edit_model.specs.Spelling.{SpellsInRange, SpellsKey}
 use Rattle.toml_edit_model.specs.Text.{Text}
 use Rattle.toml_edit_model.specs.Tree.{Raw, Decor, leaf, IsWellMade, HasTrueSpelling}
-use Rattle.toml_edit_model.specs.TreeOf.{KeyFits, NodeFits, owned_key, owned_node, owned_raw}
 use Rattle.toml_edit_datetime.specs.DatetimeView.{datetime_view}
 use Rattle.toml_edit_datetime.specs.declared.datetime.Datetime as code
 use Rattle.toml_edit_repr.specs.Views.{FormattedView}
@@ -20,6 +19,7 @@ use Rattle.toml_edit_tree.proofs.DespanLaws.{both-changed, deepest, deepest_item
 use Rattle.toml_edit_tree.proofs.InPlace.{Done, finish, long_as, none_done, same, step}
 use Rattle.toml_edit_tree.proofs.ViewLaws.{view-Boolean, view-Datetime, view-Float, view-Integer, view-String}
 use Rattle.toml_edit_tree.proofs.despan.+despan.Goals as goal
+use Rattle.toml_edit_model.specs.OwnedForm.{KeyFits, NodeFits, owned_key, owned_node, owned_raw}
 
 -- ---- items
 

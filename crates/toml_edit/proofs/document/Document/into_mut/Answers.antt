@@ -1,10 +1,10 @@
 -- A document that was read, in owned form.
 use Rattle.std.proofs.Common.{sym, ap, ◌∙◌}
-use Rattle.toml_edit_model.specs.TreeOf.{owned_raw}
 use Rattle.toml_edit.specs.DocumentView.{source, tree_read}
 use Rattle.toml_edit_tree.specs.View.{tree_view}
 use Rattle.toml_edit.proofs.OwnLaws.{over-root, over-slots, over-trailing, over-true, owned-parts, stays-tree}
 use Rattle.toml_edit.proofs.document.Document.into_mut.Goals as goal
+use Rattle.toml_edit_model.specs.OwnedForm.{owned_raw}
 
 pub despan-requires-clause-decor : goal.despan-requires-clause-decor
 despan-requires-clause-decor g c = over-root (source c.args.self) c.text.result.now (tree_read c.args.self) c.args.self.over c.text.ensures

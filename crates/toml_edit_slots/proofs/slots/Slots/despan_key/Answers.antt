@@ -1,9 +1,9 @@
 -- A key in owned form.
 use Rattle.std.proofs.Common.{ap, ◌∙◌}
-use Rattle.toml_edit_model.specs.TreeOf.{owned_key}
 use Rattle.toml_edit_slots.specs.Slots.{names, items_of, on_key}
 use Rattle.toml_edit_slots.proofs.SlotLaws.{on_key-is, names-set, items-set, apart-set, on_ok}
 use Rattle.toml_edit_slots.proofs.slots.Slots.despan_key.Goals as goal
+use Rattle.toml_edit_model.specs.OwnedForm.{owned_key}
 
 pub invariant_of-self : goal.invariant_of-self
 invariant_of-self g c =
