@@ -1,8 +1,7 @@
 -- Copies of slots are apart, as the slots are.
-use Rattle.std.proofs.Common.{◌≡◌, List, Some, None, ◌∙◌, sym, ap, map, subst, refl, arith, length, slice_get, take}
+use Rattle.std.proofs.Common.{◌≡◌, List, Some, None, ◌∙◌, sym, ap, map, refl, arith, length, slice_get, take}
 use Rattle.std.proofs.lemmas.Option.{slice_get_read}
 use Rattle.std.proofs.lemmas.Simd.{map-map}
-use Rattle.toml_edit_model.specs.Text.{Text}
 use Rattle.toml_edit_slots.specs.declared.slots.Slot.{Slot}
 use Rattle.toml_edit_slots.specs.Slots.{names, on_item, place, place_in}
 use Rattle.toml_edit_tree.specs.View.{item_view}

@@ -1,11 +1,10 @@
 -- Each turn goes on as the path is read.
 use Rattle.std.proofs.Common.{◌≡◌, ◌<◌, length, Some, None, ap, rules, arith, length-append}
 use Rattle.std.proofs.lemmas.Grind.{common_steps}
-use Rattle.toml_edit_model.specs.Text.{Text}
 use Rattle.toml_edit_model.specs.Trivia.{is_blank}
 use Rattle.toml_edit_laws.specs.reading.Runs.{split_while}
 use Rattle.toml_edit_laws.proofs.reading.Steps.{split_parts}
-use Rattle.toml_edit_key.specs.PathReading.{front, front_key, after_dot}
+use Rattle.toml_edit_key.specs.PathReading.{front, after_dot}
 use Rattle.toml_edit_key.proofs.PartLaws.{found, front_key-found, front_key-none}
 use Rattle.toml_edit_key.proofs.PathLoop.{reaches_itself, tail_no_key, tail_ends, tail_no_dot, tail_more}
 use Rattle.toml_edit_key.proofs.key.read.tail_fault.Goals as goal
