@@ -1,5 +1,5 @@
 -- From the events of a text to what parsing it answers.
-use Rattle.std.proofs.Common.{◌≡◌, ℕ, ◌⊎◌, Result, Ok, Err, IsOk, IsErrOf, inl, inr, map, Bool, true, false, List, [], ◌∷◌, ◌++◌, Option, refl, sym, ap, ◌∙◌, subst, arith, length, codes, Some, None, IfSome}
+use Rattle.std.proofs.Common.{◌≡◌, ◌⊎◌, Result, Ok, Err, IsOk, IsErrOf, inl, inr, map, Bool, true, false, List, [], ◌∷◌, ◌++◌, Option, refl, sym, ap, ◌∙◌, subst, length, codes, Some, None, IfSome}
 use Rattle.std.proofs.lemmas.Bool.{false≢true, leb-true, cases_Bool}
 use Rattle.toml_edit_model.specs.Text.{Text, one}
 use Rattle.toml_edit_model.specs.Syntax.{Document, mark_text, document_text, IsCut, depth, nesting_limit, has_short_keys, keeps_ranges}
@@ -25,7 +25,7 @@ use Rattle.toml_edit_syntax.specs.Events.{IsSpanOf, AreEventsOf, events_of, exce
 use Rattle.toml_edit_syntax.specs.ValueEvents.{are_deep, shortened}
 use Rattle.toml_edit_parser.proofs.ReadLaws.{within_depth}
 use Rattle.toml_edit_error.specs.Report.{Report}
-use Rattle.toml_edit_parser.specs.Parsed.{AreEventsIn, SlotsParsed, IsParsed, MarksMistake, IsRefusal, Refuses}
+use Rattle.toml_edit_parser.specs.Parsed.{AreEventsIn, SlotsParsed, IsParsed, IsRefusal, Refuses}
 use Rattle.toml_edit_parser.specs.Unread.{unread, first_unread, IsInside, IsNotYet}
 use Rattle.toml_edit_parser.proofs.UnreadLaws.{flat_of, not_flat, stands_unread, all_read}
 

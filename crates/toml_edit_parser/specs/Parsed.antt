@@ -1,5 +1,5 @@
 -- What parsing gives.
-use Rattle.std.specs.Prelude.{◌≡◌, ◌-◌, Bool, true, false, List, [], length, Result, Ok, Err, ◌⊎◌, Contains, Some, IfSome}
+use Rattle.std.specs.Prelude.{◌≡◌, ◌-◌, Bool, true, false, List, [], length, Result, Ok, Err, ◌⊎◌, Some, IfSome}
 use Rattle.std.specs.List.{AllByRecursion, list_any}
 use Rattle.toml_edit_model.specs.Text.{Text}
 use Rattle.toml_edit_model.specs.Accepted.{is_accepted}

@@ -4,7 +4,7 @@ use Rattle.std.specs.Prelude.{IfSome, MatchOption}
 use Rattle.toml_edit_model.specs.Text.{Text}
 use Rattle.toml_edit_model.specs.Scalars as scalars
 use Rattle.toml_edit_model.specs.Spelling.{Spells, is_in_range}
-use Rattle.toml_edit_model.specs.Tree.{Decor, Raw, span, leaf}
+use Rattle.toml_edit_model.specs.Tree.{Raw, span, leaf}
 use Rattle.toml_edit_repr.specs.Views.{FormattedView}
 use Rattle.toml_edit_token.specs.Decoded.{IsSpelling, scalar_view}
 use Rattle.toml_edit_token.specs.declared.decode.Scalar as code
