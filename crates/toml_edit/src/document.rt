@@ -55,6 +55,7 @@ impl<S: SourceText> Document<S> {
     ghost use Rattle.toml_edit_model.specs.Normal.{normal_text};
     ghost use Rattle.toml_edit_model.specs.Print.{print as printed};
     ghost use Rattle.toml_edit_model.specs.TreeOf.{owned_form, spanned_form, IsTreeOf};
+    ghost use Rattle.toml_edit_model.specs.OwnedForm.{owned_tree};
     ghost use Rattle.toml_edit_error.specs.Fault.{IfToml};
     ghost use Rattle.toml_edit.specs.DocumentView.{source, tree_read, tree_owned};
     ghost use Rattle.toml_edit.specs.Documents.{IsReading};
@@ -140,7 +141,6 @@ impl DocumentMut {
     ghost use Rattle.toml_edit_model.specs.Print.{print as printed};
     ghost use Rattle.toml_edit.specs.DocumentView.{tree_owned};
     ghost use Rattle.toml_edit_tree.specs.View.{table_slots, fields_view};
-    ghost use Rattle.toml_edit_model.specs.OwnedForm.{owned_tree};
 
     /// The root table.
     pub fn as_table(&self) -> &Table
