@@ -1,6 +1,7 @@
 pub mod SlotLaws
 pub mod SpellingLaws
 pub mod ReadLaws
+pub mod ListedLaws
 pub mod SplitLaws
 pub mod ReadFits
 pub mod HeadLaws

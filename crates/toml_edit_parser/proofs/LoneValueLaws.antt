@@ -23,7 +23,7 @@ use Rattle.toml_edit_syntax.specs.LoneEvents.{AreLoneEvents}
 use Rattle.toml_edit_syntax.specs.ValueEvents.{value_events, are_deep, shortened}
 use Rattle.toml_edit_parser.proofs.ReadLaws.{within_depth}
 use Rattle.toml_edit_parser.specs.LoneValue.{IsLoneReading, IsLoneRefusal}
-use Rattle.toml_edit_parser.specs.ValueRead.{IsRead, NamesOne}
+use Rattle.toml_edit_parser.specs.ValueRead.{IsListed, IsRead, NamesOne}
 use Rattle.toml_edit_model.specs.OwnedForm.{owned_node}
 
 -- ---- with its decor unset
@@ -117,19 +117,25 @@ lone_every t v lone (Toml r) ok h = absurd (false≢true (sym (wrong_by-fault v 
 lone_every t v lone Memory ok h = refl
 
 pub lone_refused : (t : Text) (e : ParseFault) → ((v : Value) (lone : IsLoneValue t v) → IfToml e (NamesOne t (value_faults v (length lone.before) 0)))
-    → IfToml e (λ r. r.input ≡ t) → IfToml e (IsLoneRefusal t)
-lone_refused t (Toml r) told input =
+    → IfToml e (λ r. r.input ≡ t) → IfToml e IsListed → IfToml e (IsLoneRefusal t)
+lone_refused t (Toml r) told input allowed =
     record {
       input = input;
-      names = λ v lone. record { names = (told v lone).1; refused = wrong_by-fault v (length lone.before) (fault_of r) (told v lone).1 };
+      names = record { names = λ v lone. (told v lone).1; allowed = allowed.listed };
+      refused = λ v lone. wrong_by-fault v (length lone.before) (fault_of r) (told v lone).1;
     }
-lone_refused t Memory told input = tt
+lone_refused t Memory told input allowed = tt
 
 -- a report on a text that is no lone value
 pub refused_whole : (t m : Text) (span : Option (ℕ × ℕ)) (e : ParseFault) → ((v : Value) → IsLoneValue t v → ⊥)
-    → IfToml e (λ r. r ≡ record { message = m; span = span; input = t }) → IfToml e (IsLoneRefusal t)
-refused_whole t m span (Toml r) none h = record { input = ap (λ x. x.input) h; names = λ v lone. absurd (none v lone) }
-refused_whole t m span Memory none h = tt
+    → IfToml e (λ r. r ≡ record { message = m; span = span; input = t }) → IfToml e IsListed → IfToml e (IsLoneRefusal t)
+refused_whole t m span (Toml r) none h allowed =
+    record {
+      input = ap (λ x. x.input) h;
+      names = record { names = λ v lone. absurd (none v lone); allowed = allowed.listed };
+      refused = λ v lone. absurd (none v lone);
+    }
+refused_whole t m span Memory none h allowed = tt
 
 -- want of memory in one answer is want of memory in another
 pub still_memory : {A B : Type 0} (e : ParseFault) → IsOk {T = A} {E = ParseFault} (Err e) ⊎ IsErrOf {T = A} {E = ParseFault} (Err e) Memory

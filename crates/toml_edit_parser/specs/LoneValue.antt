@@ -1,8 +1,7 @@
 -- What reading a lone value gives.
-use Rattle.std.specs.Prelude.{◌≡◌, ◌⊎◌, true, false, length, Contains, Result, IfErr, IfOk, IsErrOf, IsOk}
+use Rattle.std.specs.Prelude.{◌≡◌, ◌⊎◌, true, false, Result, IfErr, IfOk, IsErrOf, IsOk}
 use Rattle.toml_edit_model.specs.Text.{Text}
-use Rattle.toml_edit_model.specs.Faults.{value_faults}
-use Rattle.toml_edit_model.specs.Lone.{IsLoneValue, IsLoneItem, is_accepted_value}
+use Rattle.toml_edit_model.specs.Lone.{IsLoneValue, IsLoneItem, MayRefuseValue, is_accepted_value}
 use Rattle.toml_edit_model.specs.Syntax.{Value}
 use Rattle.toml_edit_model.specs.Tree.{Node}
 use Rattle.toml_edit_error.specs.Report.{Report, fault_of}
@@ -19,15 +18,11 @@ pub record IsLoneReading (t : Text) (n : Node) : Type 0 where
   pub only : (other : Value) → IsLoneValue t other → other ≡ value
   pub item : IsLoneItem value n
 
--- the report names a fault of the value that the text is
-pub record NamesLone (t : Text) (v : Value) (lone : IsLoneValue t v) (r : Report) : Type 0 where
-  pub names : Contains (value_faults v (length lone.before) 0) (fault_of r)
-  pub refused : is_accepted_value v ≡ false
-
--- The report is of the text. If the text is a value with white space around it, the report names a fault of the value.
+-- The report is of the text, and names what a text may be refused with that was to be one value. If it is one, that isn't accepted.
 pub record IsLoneRefusal (t : Text) (r : Report) : Type 0 where
   pub input : r.input ≡ t
-  pub names : (v : Value) (lone : IsLoneValue t v) → NamesLone t v lone r
+  pub names : MayRefuseValue t (fault_of r)
+  pub refused : (v : Value) → IsLoneValue t v → is_accepted_value v ≡ false
 
 -- What reading a lone value answers: a reading of the text; nothing but want of memory where the text is an accepted value; a report.
 pub record ReadsLone (t : Text) (r : Result code.Value ParseFault) : Type 0 where

@@ -1,6 +1,7 @@
 //! The pairs of inline tables, from their events to slots.
-ghost use Rattle.std.specs.Prelude.{◌≡◌, ◌+◌, ◌≤◌, ◌<◌, ◌++◌, ◌∷◌, ◌-◌, List, ℕ, suc, [], Bool, codes, length, None, Some, OnOk, IfErr, IfOk, IfSome, option_map, position, string_bytes};
+ghost use Rattle.std.specs.Prelude.{◌≡◌, ◌+◌, ◌≤◌, ◌<◌, ◌++◌, ◌∷◌, ◌-◌, List, ℕ, suc, [], Bool, codes, length, None, Some, OnOk, IfErr, IfOk, IfSome, option_map, position, string_bytes, Contains};
 ghost use Rattle.toml_edit_model.specs.Text.{Text};
+ghost use Rattle.toml_edit_model.specs.Messages.{fault_messages};
 ghost use Rattle.toml_edit_model.specs.Spelling.{SpellsKey};
 ghost use Rattle.toml_edit_model.specs.Syntax as syntax;
 ghost use Rattle.toml_edit_model.specs.Syntax.{Frame, Pairs, Segment, ArePairs, IsFrame, IsValue, path_text, frame_text, value_text, nesting_limit};
@@ -21,13 +22,13 @@ ghost use Rattle.toml_edit_tree.specs.Containers.{inline_node};
 ghost use Rattle.toml_edit_parser.specs.ScalarRead.{ReadsName};
 ghost use Rattle.toml_edit_parser.specs.PairRead as spec;
 ghost use Rattle.toml_edit_parser.specs.PairRead.{AddsBelow, AddsEntry, AddsInside, AddsLast, EndsInline, EndsPair, IsEndOfPath, IsPassed, IsPathAt, PairsStand, ReadsPair, ReadsPairs, key_with};
-ghost use Rattle.toml_edit_parser.specs.ValueRead.{split_close, split_leading, span_at, spanned_raw, AreIn, ReadsValue};
+ghost use Rattle.toml_edit_parser.specs.ValueRead.{split_close, split_leading, span_at, spanned_raw, AreIn, IsListed, ReadsValue};
 ghost use Rattle.toml_edit_tree.specs.View.{inline_view, item_view, slots_view, value_view};
 ghost use Rattle.toml_edit_model.specs.Roles.{dotted_role};
 ghost use Rattle.toml_edit_model.specs.OwnedForm.{KeyFits, NodeFits, SlotsFit, cut_out};
 
 use crate::reader::{
-    Close, cut, raw, read_value, refusal, refusal_of_all, split_close, split_first,
+    Close, cut, raw, read_value, refusal, refusal_at_end, refusal_of_all, split_close, split_first,
 };
 use std::alloc::Global;
 use std::mem;
@@ -76,6 +77,7 @@ pub(crate) fn read_inline<'a>(
         ++ (close_events InlineTableClose (codes "}") (start + length (value_text (syntax.inline_table ps comma t)) - 1) comma t ++ more))
         → ReadsValue source.now (syntax.inline_table ps comma t) start level more result }
     ensures input { IfErr result (λ e. IfToml e (λ r. r.input ≡ source.now)) }
+    ensures listed { IfErr result (λ e. IfToml e IsListed) }
     ensures fits { IfOk result (λ r. NodeFits source.now (value_view r.0)) }
     ensures rest { IfOk result (λ r. AreIn source.now r.1.now × (length r.1.now < length events.now)) }
 {
@@ -99,6 +101,7 @@ fn read_pairs<'a>(
         → events.now ≡ shortened level (pairs_events start ps ++ more)
         → ReadsPairs source.now ps start level more (slots_view slots.new) result }
     ensures input { IfErr result (λ e. IfToml e (λ r. r.input ≡ source.now)) }
+    ensures listed { IfErr result (λ e. IfToml e IsListed) }
     ensures fits { OnOk result (SlotsFit source.now (slots_view slots.new)) }
     ensures rest { IfOk result (λ r. AreIn source.now r.now × (length r.now ≤ length events.now)) }
 {
@@ -126,11 +129,12 @@ fn read_pair<'a>(
         ++ (event After (value_at_byte start f + length (value_text v)) f.trailing ∷ more))
         → ReadsPair source.now f v start level more (slots_view slots.old) (slots_view slots.new) result }
     ensures input { IfErr result (λ e. IfToml e (λ r. r.input ≡ source.now)) }
+    ensures listed { IfErr result (λ e. IfToml e IsListed) }
     ensures fits { SlotsFit source.now (slots_view slots.old) → OnOk result (SlotsFit source.now (slots_view slots.new)) }
     ensures rest { IfOk result (λ r. AreIn source.now r.now × (length r.now < length events.now)) }
 {
     let Some((frame, rest)) = split_frame(leading, events) else {
-        return Err(refusal_of_all(alloc, source, "expected a key"));
+        return Err(refusal_at_end(alloc, source, "expected a key"));
     };
     if MOST_PATH_EVENTS < frame.path.len() {
         return Err(refusal_of_all(alloc, source, "recursion limit"));
@@ -204,12 +208,13 @@ fn end_pair<'a>(
         (with_decor (decor_at spanned_form (start + value_start spanned_form f) f.after_equals end f.trailing) (item_view item.old))
         more (slots_view slots.old) (slots_view slots.new) result }
     ensures input { IfErr result (λ e. IfToml e (λ r. r.input ≡ source.now)) }
+    ensures listed { IfErr result (λ e. IfToml e IsListed) }
     ensures fits { NodeFits source.now (item_view item.old) → SlotsFit source.now (slots_view slots.old)
         → OnOk result (SlotsFit source.now (slots_view slots.new)) }
     ensures rest { IfOk result (λ r. AreIn source.now r.now × (length r.now < length events.now)) }
 {
     let Some((after, rest)) = split_first(events) else {
-        return Err(refusal_of_all(alloc, source, "expected a comma"));
+        return Err(refusal_at_end(alloc, source, "unclosed inline table"));
     };
     item.decorate(raw(frame.after_equals), raw(after.span));
     let start = frame.leading.end;
@@ -242,9 +247,10 @@ fn add_entry(
     ensures fits { NodeFits source.now (item_view item.old) → SlotsFit source.now (slots_view slots.old)
         → OnOk result (SlotsFit source.now (slots_view slots.new)) }
     ensures input { IfErr result (λ e. IfToml e (λ r. r.input ≡ source.now)) }
+    ensures listed { IfErr result (λ e. IfToml e IsListed) }
 {
     let Some((first, rest)) = split_first(path.events) else {
-        return Err(refusal_of_all(alloc, source, "expected a key"));
+        return Err(refusal_at_end(alloc, source, "expected a key"));
     };
     let name = read_name(alloc, source, first.span)?;
     match split_dot(path, rest) {
@@ -288,6 +294,7 @@ fn add_below(
     ensures fits { KeyFits source.now key → NodeFits source.now (item_view item.old) → SlotsFit source.now (slots_view slots.old)
         → OnOk result (SlotsFit source.now (slots_view slots.new)) }
     ensures input { IfErr result (λ e. IfToml e (λ r. r.input ≡ source.now)) }
+    ensures listed { IfErr result (λ e. IfToml e IsListed) }
 {
     let mut inner = Slots::new(alloc);
     add_entry(alloc, source, path, item, &mut inner)?;
@@ -316,6 +323,7 @@ fn add_inside(
     ensures fits { NodeFits source.now (item_view item.old) → NodeFits source.now (item_view holder.old)
         → OnOk result (NodeFits source.now (item_view holder.new)) }
     ensures input { IfErr result (λ e. IfToml e (λ r. r.input ≡ source.now)) }
+    ensures listed { IfErr result (λ e. IfToml e IsListed) }
 {
     match holder {
         Item::None => Err(refusal(alloc, source, "duplicate key", key)),
@@ -344,6 +352,7 @@ fn add_in_value(
     ensures fits { NodeFits source.now (item_view item.old) → NodeFits source.now (value_view holder.old)
         → OnOk result (NodeFits source.now (value_view holder.new)) }
     ensures input { IfErr result (λ e. IfToml e (λ r. r.input ≡ source.now)) }
+    ensures listed { IfErr result (λ e. IfToml e IsListed) }
 {
     let message = extend_message(holder);
     match holder {
@@ -373,6 +382,7 @@ fn add_in_table(
     ensures fits { NodeFits source.now (item_view item.old) → NodeFits source.now (inline_node (inline_view table.old))
         → OnOk result (NodeFits source.now (inline_node (inline_view table.new))) }
     ensures input { IfErr result (λ e. IfToml e (λ r. r.input ≡ source.now)) }
+    ensures listed { IfErr result (λ e. IfToml e IsListed) }
 {
     if table.is_dotted() {
         add_entry(alloc, source, path, item, table.slots_mut())
@@ -383,7 +393,8 @@ fn add_in_table(
 
 /// What to say of a key of a path that goes on, where this value stands, if that is no dotted inline table.
 fn extend_message(value: &Value) -> &'static str
-    ensures { result.now ≡ way_message dotted_role (value_view value.now) }
+    ensures message { result.now ≡ way_message dotted_role (value_view value.now) }
+    ensures listed { Contains fault_messages result.now }
 {
     match value {
         Value::String(_) => "cannot extend value of type string with a dotted key",
@@ -410,6 +421,7 @@ fn add_last(
     ensures fits { KeyFits source.now key → NodeFits source.now (item_view item.old) → SlotsFit source.now (slots_view slots.old)
         → OnOk result (SlotsFit source.now (slots_view slots.new)) }
     ensures input { IfErr result (λ e. IfToml e (λ r. r.input ≡ source.now)) }
+    ensures listed { IfErr result (λ e. IfToml e IsListed) }
 {
     if slots.find(key.get()).is_some() {
         return Err(refusal(alloc, source, "duplicate key", span));
@@ -432,6 +444,7 @@ fn read_name(alloc: Global, source: &str, span: Span) -> Result<String, ParseFau
     requires { IsSpanOf source.now span }
     ensures name { (k : Text) → SpellsKey k (cut_out source.now span.start span.end) → ReadsName k result }
     ensures input { IfErr result (λ e. IfToml e (λ r. r.input ≡ source.now)) }
+    ensures listed { IfErr result (λ e. IfToml e IsListed) }
 {
     match decode_key(alloc, cut(source, span))? {
         Some(name) => Ok(name),
@@ -498,11 +511,12 @@ fn close_inline<'a>(
     ensures value { (close : Close) (more : List Event) → split_close events.now ≡ Some (close, more)
         → EndsInline opening.start close (slots_view slots) more result }
     ensures input { IfErr result (λ e. IfToml e (λ r. r.input ≡ source.now)) }
+    ensures listed { IfErr result (λ e. IfToml e IsListed) }
     ensures fits { SlotsFit source.now (slots_view slots) → IfOk result (λ r. NodeFits source.now (value_view r.0)) }
     ensures rest { IfOk result (λ r. AreIn source.now r.1.now × (length r.1.now < length events.now)) }
 {
     let Some((close, rest)) = split_close(events) else {
-        return Err(refusal_of_all(alloc, source, "expected a brace"));
+        return Err(refusal_at_end(alloc, source, "unclosed inline table"));
     };
     Ok((inline_value(opening, close, slots), rest))
 }

@@ -15,7 +15,7 @@ ghost use Rattle.toml_edit_parser.specs.ScalarRead.{ReadsScalar};
 ghost use Rattle.toml_edit_syntax.specs.declared.event.EventKind.TheVariants.{After, ArrayClose};
 ghost use Rattle.toml_edit_tree.specs.Containers.{array_node};
 ghost use Rattle.toml_edit_parser.specs.ValueRead as spec;
-ghost use Rattle.toml_edit_parser.specs.ValueRead.{ElementsStand, span_at, AreIn, ReadsElement, ReadsElements, ReadsValue};
+ghost use Rattle.toml_edit_parser.specs.ValueRead.{ElementsStand, span_at, AreIn, IsListed, ReadsElement, ReadsElements, ReadsValue};
 ghost use Rattle.toml_edit_tree.specs.View.{array_view, items_view, value_view};
 ghost use Rattle.toml_edit_model.specs.OwnedForm.{ItemsFit, RawFits, NodeFits, cut_out};
 
@@ -73,6 +73,16 @@ pub(crate) fn refusal_of_all(alloc: Global, source: &str, message: &str) -> Pars
     ensures { IfToml result (λ r. r ≡ record { message = message.now; span = None; input = source.now }) }
 {
     toml_edit_error::refusal(alloc, source, message, None)
+}
+
+/// The error with this message about the end of the text.
+#[cold]
+#[inline(never)]
+pub(crate) fn refusal_at_end(alloc: Global, source: &str, message: &str) -> ParseFault
+    ensures { IfToml result (λ r. r ≡ record { message = message.now; span = Some (length source.now, length source.now); input = source.now }) }
+{
+    let end = source.len();
+    toml_edit_error::refusal(alloc, source, message, Some((end, end)))
 }
 
 /// The first event, and those behind it.
@@ -140,6 +150,7 @@ pub(crate) fn read_scalar(alloc: Global, source: &str, span: Span) -> Result<Val
     ensures value { (s : Scalar) (t : Text) → cut_out source.now span.start span.end ≡ t → span.end ≡ span.start + length t
         → Spells s t → ReadsScalar source.now span.start s t result }
     ensures input { IfErr result (λ e. IfToml e (λ r. r.input ≡ source.now)) }
+    ensures listed { IfErr result (λ e. IfToml e IsListed) }
     ensures fits { IfOk result (λ v. NodeFits source.now (value_view v)) }
 {
     match decode_scalar(alloc, cut(source, span))? {
@@ -159,11 +170,12 @@ pub(crate) fn read_value<'a>(
     ensures value { (v : syntax.Value) (start level : ℕ) (more : List Event) → IsValue v → Stands source.now start (value_text v)
         → level ≤ nesting_limit → events.now ≡ shortened level (value_events start v ++ more) → ReadsValue source.now v start level more result }
     ensures input { IfErr result (λ e. IfToml e (λ r. r.input ≡ source.now)) }
+    ensures listed { IfErr result (λ e. IfToml e IsListed) }
     ensures fits { IfOk result (λ r. NodeFits source.now (value_view r.0)) }
     ensures rest { IfOk result (λ r. AreIn source.now r.1.now × (length r.1.now < length events.now)) }
 {
     let Some((first, rest)) = split_first(events) else {
-        return Err(refusal_of_all(alloc, source, "expected a value"));
+        return Err(refusal_at_end(alloc, source, "expected a value"));
     };
     match first.kind {
         EventKind::Scalar => Ok((read_scalar(alloc, source, first.span)?, rest)),
@@ -204,6 +216,7 @@ fn read_array<'a>(
         ++ (close_events ArrayClose (codes "]") (start + length (value_text (syntax.array es comma t)) - 1) comma t ++ more))
         → ReadsValue source.now (syntax.array es comma t) start level more result }
     ensures input { IfErr result (λ e. IfToml e (λ r. r.input ≡ source.now)) }
+    ensures listed { IfErr result (λ e. IfToml e IsListed) }
     ensures fits { IfOk result (λ r. NodeFits source.now (value_view r.0)) }
     ensures rest { IfOk result (λ r. AreIn source.now r.1.now × (length r.1.now < length events.now)) }
 {
@@ -227,6 +240,7 @@ fn read_elements<'a>(
         → events.now ≡ shortened level (elements_events start es ++ more)
         → ReadsElements source.now es start level more values.new.items result }
     ensures input { IfErr result (λ e. IfToml e (λ r. r.input ≡ source.now)) }
+    ensures listed { IfErr result (λ e. IfToml e IsListed) }
     ensures fits { OnOk result (ItemsFit source.now (items_view values.new.items)) }
     ensures rest { IfOk result (λ r. AreIn source.now r.now × (length r.now ≤ length events.now)) }
 {
@@ -260,11 +274,12 @@ fn read_scalar_element<'a>(
         → events.now ≡ shortened level (event After (start + length a.before + length t) a.after ∷ more)
         → ReadsElement source.now a (syntax.scalar s t) start level more values.old.items values.new.items result }
     ensures input { IfErr result (λ e. IfToml e (λ r. r.input ≡ source.now)) }
+    ensures listed { IfErr result (λ e. IfToml e IsListed) }
     ensures fits { ItemsFit source.now (items_view values.old.items) → OnOk result (ItemsFit source.now (items_view values.new.items)) }
     ensures rest { IfOk result (λ r. AreIn source.now r.now × (length r.now < length events.now)) }
 {
     let Some((after, rest)) = split_first(events) else {
-        return Err(refusal_of_all(alloc, source, "expected a comma"));
+        return Err(refusal_at_end(alloc, source, "unclosed array"));
     };
     let text = cut(source, span);
     let decor = Decor::new(raw(before), raw(after.span));
@@ -302,6 +317,7 @@ fn read_element<'a>(
         ++ (event After (start + length a.before + length (value_text v)) a.after ∷ more))
         → ReadsElement source.now a v start level more values.old.items values.new.items result }
     ensures input { IfErr result (λ e. IfToml e (λ r. r.input ≡ source.now)) }
+    ensures listed { IfErr result (λ e. IfToml e IsListed) }
     ensures fits { ItemsFit source.now (items_view values.old.items) → OnOk result (ItemsFit source.now (items_view values.new.items)) }
     ensures rest { IfOk result (λ r. AreIn source.now r.now × (length r.now < length events.now)) }
 {
@@ -324,12 +340,13 @@ fn end_element<'a>(
         → events.now ≡ event After end c ∷ more
         → spec.EndsElement (with_decor (decor_at spanned_form start b end c) (value_view value)) more values.old.items values.new.items result }
     ensures input { IfErr result (λ e. IfToml e (λ r. r.input ≡ source.now)) }
+    ensures listed { IfErr result (λ e. IfToml e IsListed) }
     ensures fits { NodeFits source.now (value_view value) → ItemsFit source.now (items_view values.old.items)
         → OnOk result (ItemsFit source.now (items_view values.new.items)) }
     ensures rest { IfOk result (λ r. AreIn source.now r.now × (length r.now < length events.now)) }
 {
     let Some((after, rest)) = split_first(events) else {
-        return Err(refusal_of_all(alloc, source, "expected a comma"));
+        return Err(refusal_at_end(alloc, source, "unclosed array"));
     };
     put_value(values, value.decorated(raw(before), raw(after.span)))?;
     Ok(rest)
@@ -355,11 +372,12 @@ fn close_array<'a>(
     ensures value { (close : Close) (more : List Event) → spec.split_close events.now ≡ Some (close, more)
         → spec.EndsArray opening.start close (items_view values.items) more result }
     ensures input { IfErr result (λ e. IfToml e (λ r. r.input ≡ source.now)) }
+    ensures listed { IfErr result (λ e. IfToml e IsListed) }
     ensures fits { ItemsFit source.now (items_view values.items) → IfOk result (λ r. NodeFits source.now (value_view r.0)) }
     ensures rest { IfOk result (λ r. AreIn source.now r.1.now × (length r.1.now < length events.now)) }
 {
     let Some((close, rest)) = split_close(events) else {
-        return Err(refusal_of_all(alloc, source, "expected a bracket"));
+        return Err(refusal_at_end(alloc, source, "unclosed array"));
     };
     Ok((array_value(opening, close, values), rest))
 }

@@ -1,5 +1,5 @@
 -- Each exit of the functions that read values.
-use Rattle.std.proofs.Common.{suc, ◌+◌, ◌*◌, ◌-◌, ◌∷◌, ◌++◌, length, ap, subst, ◌∙◌, arith, codes, ◌≡◌, ◌<◌, ◌≤◌, sym}
+use Rattle.std.proofs.Common.{suc, ◌+◌, ◌*◌, ◌-◌, ◌∷◌, ◌++◌, length, ap, subst, ◌∙◌, arith, codes, ◌≡◌, ◌<◌, ◌≤◌, sym, lit<, refl}
 use Rattle.std.proofs.lemmas.Result.{err_from_is_err_and}
 use Rattle.toml_edit_model.specs.Syntax.{array, value_text, inline_table}
 use Rattle.toml_edit_model.specs.Faults.{value_faults, elements_faults}
@@ -22,6 +22,7 @@ use Rattle.toml_edit_parser.proofs.PairLaws.{fewer-still, frame-in, frame-some, 
 use Rattle.toml_edit_parser.proofs.ElementsLaws as elements
 use Rattle.toml_edit_parser.proofs.PairsLaws as pairs
 use Rattle.toml_edit_parser.proofs.ViewLaws.{view-Value}
+use Rattle.toml_edit_parser.proofs.ListedLaws.{listed_fault, listed_syntax}
 use Rattle.toml_edit_parser.proofs.+read.Goals as goal
 use Rattle.toml_edit_model.specs.OwnedForm.{NodeFits, SlotsFit}
 
@@ -82,6 +83,7 @@ reader::read_value-returns-in_default-kind t c =
           too_deep c.args.source.now v start level more first rest c.refusal.result other.not-Scalar other.not-ArrayOpen other.not-InlineTableOpen
           head c.refusal.ensures;
       input = mapped c.refusal.result _ _ (λ r is. ap (λ (x : Report). x.input) is) c.refusal.ensures;
+      listed = listed_fault _ _ _ c.refusal.result (3, lit< tt, refl) c.refusal.ensures;
       fits = tt;
       rest = tt;
     }
@@ -301,8 +303,8 @@ pub pairs::read_pair-returns-then-frame-gt-MOST_PATH_EVENTS-clause-pair : goal.p
 pairs::read_pair-returns-then-frame-gt-MOST_PATH_EVENTS-clause-pair t c =
     λ f v start level more is value stands below same e.
     let parts = the-frame start f c.args.leading c.args.events.now _ (parts_of c.in-Some.frame) c.in-Some.rest.now same e c.in-Some.ensures in
-    too-long c.args.source.now f v start level (slots_view c.args.slots.now) c.refusal_of_all-then-frame-gt-MOST_PATH_EVENTS.result is
-    (subst (λ (q : FrameParts). 238 < length q.path) parts.0 c.if-frame-gt-MOST_PATH_EVENTS.true) c.refusal_of_all-then-frame-gt-MOST_PATH_EVENTS.ensures
+    too-long c.args.source.now f v start level (slots_view c.args.slots.now) c.refusal_of_all.result is
+    (subst (λ (q : FrameParts). 238 < length q.path) parts.0 c.if-frame-gt-MOST_PATH_EVENTS.true) c.refusal_of_all.ensures
 
 pub pairs::read_pair-returns-clause-pair : goal.pairs::read_pair-returns-clause-pair
 pairs::read_pair-returns-clause-pair t c =
@@ -345,3 +347,12 @@ pairs::read_pair-returns-clause-rest t c =
     let s = c.args.source.now in
     let parts = frame-in s c.args.leading c.args.events.now (parts_of c.in-Some.frame) c.in-Some.rest.now c.in-Some.ensures c.requires.1.1.1 in
     fewer-still s c.in-Some.rest.now c.in_ok-value.rest.now c.args.events.now c.end_pair.result parts.fewer c.in_ok-value.ensures.rest.1 c.end_pair.ensures.rest
+
+pub reader::read_value-returns-in_default-clause-listed : goal.reader::read_value-returns-in_default-clause-listed
+reader::read_value-returns-in_default-clause-listed t c = listed_syntax _ _ _ c.refusal_at_end.result (3, lit< tt, refl) c.refusal_at_end.ensures
+
+pub pairs::read_pair-returns-in_default-clause-listed : goal.pairs::read_pair-returns-in_default-clause-listed
+pairs::read_pair-returns-in_default-clause-listed t c = listed_syntax _ _ _ c.refusal_at_end.result (1, lit< tt, refl) c.refusal_at_end.ensures
+
+pub pairs::read_pair-returns-then-frame-gt-MOST_PATH_EVENTS-clause-listed : goal.pairs::read_pair-returns-then-frame-gt-MOST_PATH_EVENTS-clause-listed
+pairs::read_pair-returns-then-frame-gt-MOST_PATH_EVENTS-clause-listed t c = listed_fault _ _ _ c.refusal_of_all.result (3, lit< tt, refl) c.refusal_of_all.ensures

@@ -1,5 +1,5 @@
 -- Each exit of the descent along a path.
-use Rattle.std.proofs.Common.{List, refl, ap, sym, subst, ◌∙◌, arith, rules, Some, string_bytes}
+use Rattle.std.proofs.Common.{List, refl, ap, sym, subst, ◌∙◌, arith, rules, Some, string_bytes, lit<}
 use Rattle.std.proofs.lemmas.Result.{err_from_is_err_and}
 use Rattle.toml_edit_model.specs.Faults.{duplicate_key}
 use Rattle.toml_edit_model.specs.Paths.{line_mentions}
@@ -15,6 +15,7 @@ use Rattle.toml_edit_parser.proofs.DescentLaws.{below-refused, dot_in, fits-belo
 use Rattle.toml_edit_parser.proofs.EntryLaws.{below-added, inside-added, last-added, some-key, stopped, Stops}
 use Rattle.toml_edit_parser.proofs.SplitLaws.{first_in}
 use Rattle.toml_edit_parser.proofs.ViewLaws.{view-None, view-Value}
+use Rattle.toml_edit_parser.proofs.ListedLaws.{listed_fault, listed_syntax}
 use Rattle.toml_edit_parser.proofs.pairs.+add.Goals as goal
 use Rattle.toml_edit_model.specs.Roles.{dotted_role}
 use Rattle.toml_edit_model.specs.OwnedForm.{SlotsFit}
@@ -154,7 +155,7 @@ pub add_in_value-returns-in_default-clause-entry : goal.add_in_value-returns-in_
 add_in_value-returns-in_default-clause-entry t c =
     λ m e p start above passed are stands at.
     stopped c.args.source.now c.args.key m (line_mentions e start above p) (value_view c.args.holder.now) c.extend_message-message.result.now c.refusal.result passed
-    (stops-other c.args.holder.now c.in_default.not-InlineTable) c.extend_message-message.ensures c.refusal.ensures
+    (stops-other c.args.holder.now c.in_default.not-InlineTable) c.extend_message-message.ensures.message c.refusal.ensures
 
 pub add_inside-returns-in-None-clause-entry : goal.add_inside-returns-in-None-clause-entry
 add_inside-returns-in-None-clause-entry t c =
@@ -169,3 +170,15 @@ add_inside-returns-in-Value-clause-entry t c =
     same-inside c.args.source.now m (line_mentions e start above p) (item_view c.args.item.now) _ _ _ _ c.add_in_value.result
     (c.add_in_value.ensures.entry m e p start above passed are stands at)
     (ap item_view c.in-Value.is ∙ view-Value c.in-Value.value) (view-Value c.add_in_value.new.holder)
+
+pub add_entry-returns-in_default-clause-listed : goal.add_entry-returns-in_default-clause-listed
+add_entry-returns-in_default-clause-listed t c = listed_syntax _ _ _ c.refusal_at_end.result (1, lit< tt, refl) c.refusal_at_end.ensures
+
+pub add_inside-returns-in-None-clause-listed : goal.add_inside-returns-in-None-clause-listed
+add_inside-returns-in-None-clause-listed t c = listed_fault _ _ _ c.refusal.result (0, lit< tt, refl) c.refusal.ensures
+
+pub add_in_value-returns-in_default-clause-listed : goal.add_in_value-returns-in_default-clause-listed
+add_in_value-returns-in_default-clause-listed t c = listed_fault _ _ _ c.refusal.result c.extend_message-message.ensures.listed c.refusal.ensures
+
+pub add_in_table-returns-else-is_dotted-clause-listed : goal.add_in_table-returns-else-is_dotted-clause-listed
+add_in_table-returns-else-is_dotted-clause-listed t c = listed_fault _ _ _ c.refusal.result (0, lit< tt, refl) c.refusal.ensures

@@ -1,9 +1,10 @@
-use Rattle.std.proofs.Common.{sym, ap, subst, ◌∙◌}
+use Rattle.std.proofs.Common.{sym, ap, subst, ◌∙◌, lit<, refl}
 use Rattle.toml_edit_model.specs.Tree.{Slots}
 use Rattle.toml_edit_laws.specs.FlatTree.{with_slot}
 use Rattle.toml_edit_tree.specs.View.{item_view, slots_view}
 use Rattle.toml_edit_parser.proofs.EntryLaws.{last-put, last-refused}
 use Rattle.toml_edit_parser.proofs.SlotLaws.{fits-with_slot}
+use Rattle.toml_edit_parser.proofs.ListedLaws.{listed_fault}
 use Rattle.toml_edit_parser.proofs.pairs.add_last.Goals as goal
 use Rattle.toml_edit_model.specs.OwnedForm.{SlotsFit}
 
@@ -25,3 +26,6 @@ returns-clause-fits c =
     subst (λ (ss : Slots). SlotsFit t ss)
     (sym (c.in_ok-push_item.ensures ∙ ap (λ x. with_slot (slots_view c.args.slots.now) c.args.key (item_view x)) c.replace.ensures.value))
     (fits-with_slot t (slots_view c.args.slots.now) c.args.key (item_view c.args.item.now) slots key item)
+
+pub returns-then-is_some-clause-listed : goal.returns-then-is_some-clause-listed
+returns-then-is_some-clause-listed c = listed_fault _ _ _ c.refusal.result (0, lit< tt, refl) c.refusal.ensures

@@ -1,4 +1,4 @@
-use Rattle.std.proofs.Common.{◌≡◌, ◌+◌, [], length, Some, sym, ap, subst, ◌∙◌}
+use Rattle.std.proofs.Common.{◌≡◌, ◌+◌, [], length, Some, sym, ap, subst, ◌∙◌, lit<, refl}
 use Rattle.std.proofs.lemmas.Result.{err_from_is_err_and}
 use Rattle.toml_edit_model.specs.Conversions.{with_decor}
 use Rattle.toml_edit_model.specs.Tree.{Node}
@@ -12,6 +12,7 @@ use Rattle.toml_edit_parser.proofs.PairLaws.{frame-ends, key-decor, path-begins,
 use Rattle.toml_edit_parser.proofs.ReadFits.{fits-with_decor}
 use Rattle.toml_edit_parser.proofs.ReadLaws.{same_parts}
 use Rattle.toml_edit_parser.proofs.SplitLaws.{first_in}
+use Rattle.toml_edit_parser.proofs.ListedLaws.{listed_syntax}
 use Rattle.toml_edit_parser.proofs.pairs.end_pair.Goals as goal
 use Rattle.toml_edit_model.specs.OwnedForm.{NodeFits}
 
@@ -52,3 +53,6 @@ pub returns-clause-rest : goal.returns-clause-rest
 returns-clause-rest c =
     let behind = first_in c.args.source.now c.args.events.now c.in-Some.after c.in-Some.rest.now c.in-Some.ensures c.requires.spans in
     (behind.1, behind.2)
+
+pub returns-in_default-clause-listed : goal.returns-in_default-clause-listed
+returns-in_default-clause-listed c = listed_syntax _ _ _ c.refusal_at_end.result (7, lit< tt, refl) c.refusal_at_end.ensures

@@ -1,5 +1,6 @@
-use Rattle.std.proofs.Common.{◌≡◌, IsSomeAnd, string_bytes, sym, subst}
+use Rattle.std.proofs.Common.{◌≡◌, IsSomeAnd, string_bytes, sym, subst, lit<, refl}
 use Rattle.toml_edit_model.specs.Spelling.{SpellsKey}
+use Rattle.toml_edit_parser.proofs.ListedLaws.{listed_syntax}
 use Rattle.toml_edit_parser.proofs.pairs.read_name.Goals as goal
 
 pub returns-in-Some-clause-name : goal.returns-in-Some-clause-name
@@ -11,3 +12,6 @@ pub returns-in-None-clause-name : goal.returns-in-None-clause-name
 returns-in-None-clause-name c =
     λ k h. let told = c.in_ok-name.ensures.only k (subst (SpellsKey k) (sym c.cut.ensures) h) in
     absurd (subst (λ o. IsSomeAnd o (λ s. k ≡ string_bytes s)) c.in-None.is told)
+
+pub returns-in-None-clause-listed : goal.returns-in-None-clause-listed
+returns-in-None-clause-listed c = listed_syntax _ _ _ c.refusal.result (1, lit< tt, refl) c.refusal.ensures
