@@ -1,6 +1,6 @@
 -- A lone value, read as a value over its text and then given its own texts.
-use Rattle.std.proofs.Common.{◌≡◌, ◌⊎◌, inl, inr, refl, sym, ap, ◌∙◌, subst, ℕ, ◌+◌, arith, true, false, List, [], ◌++◌, length, append-nil, Option}
-use Rattle.std.specs.Prelude.{Err, IsErrOf, IsOk}
+use Rattle.std.proofs.Common.{◌≡◌, ◌⊎◌, inl, inr, refl, sym, ap, ◌∙◌, subst, ℕ, ◌+◌, arith, true, false, List, [], ◌++◌, length, append-nil, Option, Some, Bool, rules}
+use Rattle.std.specs.Prelude.{Contains, Err, IsErrOf, IsOk}
 use Rattle.std.proofs.lemmas.Bool.{false≢true}
 use Rattle.toml_edit_model.specs.Mode.{plain}
 use Rattle.toml_edit_model.specs.Text.{Text, is_empty}
@@ -14,12 +14,13 @@ use Rattle.toml_edit_laws.specs.Standing.{Stands}
 use Rattle.toml_edit_laws.proofs.values.OwnedBytes.{owned_byte}
 use Rattle.toml_edit_laws.proofs.values.ValueFaults.{value_faults_right, is_right_value-faults, wrong_by-fault}
 use Rattle.toml_edit_laws.proofs.values.ValueLaws.{value_owned, value_well_made}
-use Rattle.toml_edit_error.specs.Report.{fault_of}
+use Rattle.toml_edit_model.specs.Messages.{IsSyntaxFault, syntax_messages}
+use Rattle.toml_edit_error.specs.Report.{Report, fault_of}
 use Rattle.toml_edit_error.specs.Fault.{IfToml}
 use Rattle.toml_edit_error.specs.declared.toml_error.ParseFault.{ParseFault}
 use Rattle.toml_edit_error.specs.declared.toml_error.ParseFault.TheVariants.{Toml, Memory}
 use Rattle.toml_edit_syntax.specs.declared.event.Event.{Event}
-use Rattle.toml_edit_syntax.specs.LoneEvents.{AreLoneEvents}
+use Rattle.toml_edit_syntax.specs.LoneEvents.{AreLoneEvents, ValueOpensTooMany}
 use Rattle.toml_edit_syntax.specs.ValueEvents.{value_events, are_deep, shortened}
 use Rattle.toml_edit_parser.proofs.ReadLaws.{within_depth}
 use Rattle.toml_edit_parser.specs.LoneValue.{IsLoneReading, IsLoneRefusal}
@@ -111,31 +112,55 @@ module _ (t : Text) (es : List Event) (h : AreLoneEvents t es) where
 
 -- ---- where it is refused
 
+either : (b : Bool) → (b ≡ true) ⊎ (b ≡ false)
+either true = inl refl
+either false = inr refl
+
 pub lone_every : (t : Text) (v : Value) (lone : IsLoneValue t v) (e : ParseFault) → is_accepted_value v ≡ true
     → IfToml e (NamesOne t (value_faults v (length lone.before) 0)) → e ≡ Memory
 lone_every t v lone (Toml r) ok h = absurd (false≢true (sym (wrong_by-fault v (length lone.before) (fault_of r) h.1) ∙ ok))
 lone_every t v lone Memory ok h = refl
 
-pub lone_refused : (t : Text) (e : ParseFault) → ((v : Value) (lone : IsLoneValue t v) → IfToml e (NamesOne t (value_faults v (length lone.before) 0)))
+pub lone_refused : (t : Text) (es : List Event) (e : ParseFault) → AreLoneEvents t es
+    → ((v : Value) (lone : IsLoneValue t v) → IfToml e (NamesOne t (value_faults v (length lone.before) 0)))
     → IfToml e (λ r. r.input ≡ t) → IfToml e IsListed → IfToml e (IsLoneRefusal t)
-lone_refused t (Toml r) told input allowed =
+lone_refused t es (Toml r) are told input allowed =
     record {
       input = input;
       names = record { names = λ v lone. (told v lone).1; allowed = allowed.listed };
+      syntax = λ none. elim (either (are_deep es)) [
+        | inl short ↦ inr (are.brackets short)
+        | inr whole ↦ absurd (let found = are.has_value whole in none found.0 found.1)
+      ];
       refused = λ v lone. wrong_by-fault v (length lone.before) (fault_of r) (told v lone).1;
     }
-lone_refused t Memory told input allowed = tt
+lone_refused t es Memory are told input allowed = tt
 
 -- a report on a text that is no lone value
 pub refused_whole : (t m : Text) (span : Option (ℕ × ℕ)) (e : ParseFault) → ((v : Value) → IsLoneValue t v → ⊥)
-    → IfToml e (λ r. r ≡ record { message = m; span = span; input = t }) → IfToml e IsListed → IfToml e (IsLoneRefusal t)
-refused_whole t m span (Toml r) none h allowed =
+    → IfToml e (λ r. r ≡ record { message = m; span = span; input = t }) → IfToml e IsListed
+    → IfToml e (λ r. IsSyntaxFault (fault_of r) ⊎ ValueOpensTooMany t) → IfToml e (IsLoneRefusal t)
+refused_whole t m span (Toml r) none h allowed syntax =
     record {
       input = ap (λ x. x.input) h;
       names = record { names = λ v lone. absurd (none v lone); allowed = allowed.listed };
+      syntax = λ _. syntax;
       refused = λ v lone. absurd (none v lone);
     }
-refused_whole t m span Memory none h allowed = tt
+refused_whole t m span Memory none h allowed syntax = tt
+
+-- the syntax of a text without events
+pub syntax_refused : (t m : Text) (s : ℕ × ℕ) (e : ParseFault) → Contains syntax_messages m
+    → IfToml e (λ r. r ≡ record { message = m; span = Some s; input = t }) → IfToml e (λ r. IsSyntaxFault (fault_of r) ⊎ ValueOpensTooMany t)
+syntax_refused t m s (Toml r) is h =
+    inl (subst (λ (x : Report). IsSyntaxFault (fault_of x)) (sym h) (record { message = is; span = search rules }))
+syntax_refused t m s Memory is h = tt
+
+-- events that are cut short
+pub brackets_refused : (t : Text) (es : List Event) (e : ParseFault) → AreLoneEvents t es → are_deep es ≡ true
+    → IfToml e (λ r. IsSyntaxFault (fault_of r) ⊎ ValueOpensTooMany t)
+brackets_refused t es (Toml r) are short = inr (are.brackets short)
+brackets_refused t es Memory are short = tt
 
 -- want of memory in one answer is want of memory in another
 pub still_memory : {A B : Type 0} (e : ParseFault) → IsOk {T = A} {E = ParseFault} (Err e) ⊎ IsErrOf {T = A} {E = ParseFault} (Err e) Memory

@@ -4,6 +4,8 @@ use Rattle.toml_edit_model.specs.Text.{Text}
 use Rattle.toml_edit_model.specs.Lone.{IsLoneValue, IsLoneItem, MayRefuseValue, is_accepted_value}
 use Rattle.toml_edit_model.specs.Syntax.{Value}
 use Rattle.toml_edit_model.specs.Tree.{Node}
+use Rattle.toml_edit_model.specs.Messages.{IsSyntaxFault}
+use Rattle.toml_edit_syntax.specs.LoneEvents.{ValueOpensTooMany}
 use Rattle.toml_edit_error.specs.Report.{Report, fault_of}
 use Rattle.toml_edit_error.specs.Fault.{IfToml}
 use Rattle.toml_edit_error.specs.declared.toml_error.ParseFault.{ParseFault}
@@ -18,10 +20,12 @@ pub record IsLoneReading (t : Text) (n : Node) : Type 0 where
   pub only : (other : Value) → IsLoneValue t other → other ≡ value
   pub item : IsLoneItem value n
 
--- The report is of the text, and names what a text may be refused with that was to be one value. If it is one, that isn't accepted.
+-- The report is of the text, and names what a text may be refused with that was to be one value: if it is one, that isn't accepted; if
+-- it is none, what is wrong with its syntax, unless too many brackets are open before that.
 pub record IsLoneRefusal (t : Text) (r : Report) : Type 0 where
   pub input : r.input ≡ t
   pub names : MayRefuseValue t (fault_of r)
+  pub syntax : ((v : Value) → IsLoneValue t v → ⊥) → IsSyntaxFault (fault_of r) ⊎ ValueOpensTooMany t
   pub refused : (v : Value) → IsLoneValue t v → is_accepted_value v ≡ false
 
 -- What reading a lone value answers: a reading of the text; nothing but want of memory where the text is an accepted value; a report.

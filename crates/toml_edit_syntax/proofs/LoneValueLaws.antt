@@ -1,5 +1,5 @@
 -- A lone value: what reads as one is one, and one is read again, up to a bracket that is one too many.
-use Rattle.std.proofs.Common.{◌≡◌, ℕ, ◌+◌, ◌*◌, Bool, true, cond, ◌==◌, List, [], ◌++◌, ◌⊎◌, length, IsUtf8, Some, None, refl, sym, ap, subst, ◌∙◌, inl, inr, arith, append-nil, eqb-true}
+use Rattle.std.proofs.Common.{◌≡◌, ℕ, ◌+◌, ◌*◌, Bool, true, cond, ◌==◌, List, [], ◌++◌, ◌⊎◌, length, IsUtf8, Some, None, refl, sym, ap, subst, ◌∙◌, inl, inr, arith, append-nil, append_assoc, eqb-true}
 use Rattle.std.proofs.lemmas.Bool.{false≢true}
 use Rattle.std.proofs.lemmas.Bool.Decides.{nat_tests}
 use Rattle.std.proofs.lemmas.List.{nil_from_length}
@@ -14,7 +14,7 @@ use Rattle.toml_edit_laws.specs.reading.ScalarReading.{ends_scalar}
 use Rattle.toml_edit_syntax.specs.ValueEvents.{value_events, shortened, are_deep}
 use Rattle.toml_edit_syntax.specs.ValueReading.{Reading, got, deep, wrong, follow, value_at}
 use Rattle.toml_edit_syntax.specs.Reading.{events_seen, lone_at, lone_read}
-use Rattle.toml_edit_syntax.specs.LoneEvents.{AreLoneEvents}
+use Rattle.toml_edit_syntax.specs.LoneEvents.{AreLoneEvents, ValueOpensTooMany}
 use Rattle.toml_edit_laws.proofs.reading.Steps.{chosen, split_parts}
 use Rattle.toml_edit_laws.proofs.reading.RunLaws.{Each-run, split_while-run}
 use Rattle.toml_edit_laws.proofs.reading.Begins.{StartsAscii, ascii_blank}
@@ -26,6 +26,8 @@ use Rattle.toml_edit_syntax.proofs.ValueAgain.{value_begins, value_begins_not, o
 use Rattle.toml_edit_syntax.proofs.ValueLaws.{one_value}
 use Rattle.toml_edit_syntax.proofs.SpanLaws.{Cut, AreSpans, value_spans}
 use Rattle.toml_edit_syntax.proofs.DeepEvents.{value_is_deep}
+use Rattle.toml_edit_syntax.specs.Events.{exceeds_depth}
+use Rattle.toml_edit_syntax.proofs.TooManyLaws.{ValueOpens, exceeding, value_opens}
 use Rattle.toml_edit_syntax.proofs.DeepLaws.{follow_deep, not_deep, wrong_deep, DeepIn, value_stops_in}
 
 -- ---- what is read
@@ -122,6 +124,55 @@ lone_stops_in t es utf8 e =
       ]
     ]
 
+-- closing brackets behind a front make it a lone value
+lone_opens : (t : Text) → ValueOpens 0 (split_while is_blank t).1 → ValueOpensTooMany t
+lone_opens t o =
+    let white = (split_while is_blank t).0 in
+    record {
+      front = white ++ o.front;
+      behind_it = o.behind_it;
+      closing = o.closing;
+      value = o.value;
+      parts = split_parts is_blank t ∙ ap (λ (x : Text). white ++ x) o.parts ∙ sym (append_assoc white o.front o.behind_it);
+      closes = o.closes;
+      lone = record {
+        before = white;
+        after = [];
+        parts = append_assoc white o.front o.closing ∙ ap (λ (x : Text). white ++ x) (o.text ∙ sym (append-nil (value_text o.value)));
+        white_before = Each-run is_blank t;
+        white_after = refl;
+        value = o.is;
+      };
+      deep = exceeding o.value o.deep;
+    }
+
+-- a lone value that is too deep is such a front itself
+deep_alone : (t : Text) (v : Value) → IsLoneValue t v → exceeds_depth v ≡ true → ValueOpensTooMany t
+deep_alone t v lone exceeds =
+    record {
+      front = t;
+      behind_it = [];
+      closing = [];
+      value = v;
+      parts = sym (append-nil t);
+      closes = refl;
+      lone = subst (λ (x : Text). IsLoneValue x v) (sym (append-nil t)) lone;
+      deep = exceeds;
+    }
+
+stops_open : (t : Text) (es : List Event) → lone_at t ≡ deep es → ValueOpensTooMany t
+unfolding lone_at
+stops_open t es e =
+    let white = split_while is_blank t in
+    let n = 2 * length white.1 + 2 in
+    elim (follow_deep (value_at n 0 (length white.0) white.1) _ es e) [
+      | inl h ↦ lone_opens t (value_opens n 0 (length white.0) white.1 (omega arith) es h)
+      | inr (v, rest, found, h) ↦ elim (chosen (length (split_while is_blank rest).1 == 0) (got v rest) wrong (deep es) h) [
+        | inl (nothing, g) ↦ absurd (not_deep v rest es g)
+        | inr (some, g) ↦ absurd (wrong_deep es g)
+      ]
+    ]
+
 pub are_lone_events : (t : Text) (es : List Event) → IsUtf8 t → lone_read t ≡ Some es → AreLoneEvents t es
 are_lone_events t es utf8 h =
     let every : (v : Value) (lone : IsLoneValue t v) → es ≡ shortened 0 (value_events (length lone.before) v) =
@@ -134,6 +185,12 @@ are_lone_events t es utf8 h =
         | inr stops ↦ absurd (false≢true (sym shallow ∙ (lone_stops_in t es utf8 stops).0))
       ];
       only = λ v other lone also. one_lone_value t v other lone also;
+      brackets = λ short. elim (cases_read (λ v _. value_events (length (split_while is_blank t).0) v) (lone_at t) es h) [
+        | inl (v, rest, read, same) ↦
+            let lone = (lone_takes t rest v read).0 in
+            deep_alone t v lone (sym (ap are_deep (every v lone) ∙ value_is_deep v (length lone.before)) ∙ short)
+        | inr stops ↦ stops_open t es stops
+      ];
     }
 
 -- each lies on the boundaries of characters

@@ -374,7 +374,7 @@ record StatementsOpen (t : Text) : Type 0 where
   some : 0 < length front
   deep : list_any has_deep_value (here ∷ others) ≡ true
 
-exceeding : (v : Value) → nesting_limit < 0 + depth v → exceeds_depth v ≡ true
+pub exceeding : (v : Value) → nesting_limit < 0 + depth v → exceeds_depth v ≡ true
 exceeding v big = let more : nesting_limit < depth v = omega (arith, big) in grind (arith, nat_tests)
 
 some_head : (f : Frame) (front : Text) → 0 < length (head_text f ++ front)

@@ -2,7 +2,7 @@
 use Rattle.std.proofs.Common.{sym, ap, ◌∙◌, subst, lit<, refl}
 use Rattle.toml_edit_model.specs.Tree.{Node, unset, IsWellMade}
 use Rattle.toml_edit_tree.specs.View.{value_view}
-use Rattle.toml_edit_parser.proofs.LoneValueLaws.{lone_made, lone_read, no_value, refused_whole}
+use Rattle.toml_edit_parser.proofs.LoneValueLaws.{brackets_refused, lone_made, lone_read, no_value, refused_whole}
 use Rattle.toml_edit_parser.proofs.ListedLaws.{listed_fault}
 use Rattle.toml_edit_parser.proofs.ReadFits.{fits-with_decor}
 use Rattle.toml_edit_parser.proofs.from_str.end_lone.Goals as goal
@@ -20,6 +20,7 @@ returns-then-are_cut_short-clause-refused c =
     (no_value c.args.text.now c.args.events.now c.requires.cut (value_view c.args.value.now) c.requires.read.0 c.requires.read.1
     (sym c.are_cut_short.ensures ∙ c.if-are_cut_short.true)) c.refusal_of_all.ensures
     (listed_fault _ _ _ c.refusal_of_all.result (3, lit< tt, refl) c.refusal_of_all.ensures)
+    (brackets_refused c.args.text.now c.args.events.now c.refusal_of_all.result c.requires.cut (sym c.are_cut_short.ensures ∙ c.if-are_cut_short.true))
 
 pub despan-requires-clause-fits : goal.despan-requires-clause-fits
 despan-requires-clause-fits c =

@@ -16,7 +16,7 @@ returns-in_err-value-clause-every c =
 pub returns-in_err-value-clause-refused : goal.returns-in_err-value-clause-refused
 returns-in_err-value-clause-refused c =
     let p = err_from_is_err_and c.from_residual.result c.from_residual.ensures.1 in
-    rw (p.1, p.2) (lone_refused c.args.text.now c.in_err-value.field-0.0
+    rw (p.1, p.2) (lone_refused c.args.text.now c.args.events.now c.in_err-value.field-0.0 c.requires.cut
     (λ v lone. c.in_err-value.ensures.value v (length lone.before) 0 [] lone.value (stands c.args.text.now v lone) (omega arith)
     (events_are c.args.text.now c.args.events.now c.requires.cut v lone)) c.in_err-value.ensures.input c.in_err-value.ensures.listed)
 
