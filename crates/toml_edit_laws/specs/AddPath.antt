@@ -1,10 +1,11 @@
 -- One function for key lines, headers and headers in double brackets: what is added at the end of a path of keys, key by key. The laws
 -- of building don't cite it: it is for code that goes down a path one key at a time.
-use Rattle.std.specs.Prelude.{Bool, true, false, if◌then◌else◌, List, [], Option, Some, None, option_map}
+use Rattle.std.specs.Prelude.{◌≡◌, ℕ, ◌+◌, Bool, true, false, if◌then◌else◌, List, [], ◌∷◌, length, Option, Some, None, option_map}
 use Rattle.toml_edit_model.specs.Mode.{Mode}
 use Rattle.toml_edit_model.specs.Text.{Text}
-use Rattle.toml_edit_model.specs.Syntax.{Statement, key_line, header}
-use Rattle.toml_edit_model.specs.Paths.{Mention, Source}
+use Rattle.toml_edit_model.specs.Roles.{ends_path, extends}
+use Rattle.toml_edit_model.specs.Syntax.{Segment, Statement, key_line, header}
+use Rattle.toml_edit_model.specs.Paths.{Mention, Source, next_start}
 use Rattle.toml_edit_model.specs.Tree.{Node, table, Items, no_items, item, Slots}
 use Rattle.toml_edit_model.specs.TreeOf.{spanned_in, key_at}
 use Rattle.toml_edit_laws.specs.InlineTree.{add_last}
@@ -87,3 +88,17 @@ addition_of (header h end) n = if h.is_array then an_element else a_table
 abbrev pub block_for : Builder → Statement → List Text
 block_for b (key_line f v end) = b.block
 block_for b (header h end) = []
+
+-- ---- a path
+
+-- the mention is of this segment of the statement, which begins at this byte
+abbrev pub IsMentionOf : Source → ℕ → Segment → Mention Source → Type 0
+IsMentionOf s start g m = (m.source ≡ s) × (m.segment ≡ g) × (m.start ≡ start + length g.before)
+
+-- The mentions are of these segments of the statement, the first of which begins at this byte: all but the last pass on.
+abbrev pub AreMentionsOf : Source → ℕ → List Segment → List (Mention Source) → Type 0
+AreMentionsOf s start [] [] = Unit {0}
+AreMentionsOf s start (g ∷ []) (m ∷ []) = IsMentionOf s start g m × (ends_path m.role ≡ true) × (extends m.role ≡ false)
+AreMentionsOf s start (g ∷ h ∷ p) (m ∷ ms) =
+    IsMentionOf s start g m × (ends_path m.role ≡ false) × (extends m.role ≡ true) × AreMentionsOf s (next_start start g) (h ∷ p) ms
+AreMentionsOf s start _ _ = ⊥
