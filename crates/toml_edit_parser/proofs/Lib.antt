@@ -10,6 +10,7 @@ pub mod ArrayLaws
 pub mod ScalarElements
 pub mod DescentLaws
 pub mod EntryLaws
+pub mod KeyPathLaws
 pub mod PairLaws
 pub mod PairsLaws
 pub mod InlineLaws

@@ -6,3 +6,4 @@ pub mod Unread
 pub mod Parsed
 pub mod Split
 pub mod LoneValue
+pub mod PathRead

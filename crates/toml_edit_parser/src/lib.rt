@@ -3,10 +3,17 @@
 
 mod flat;
 pub mod from_str;
+mod key_path;
 mod pairs;
 mod parser;
 mod reader;
 
 pub use from_str::FromStr;
 #[doc(hidden)]
+pub use key_path::{PathKey, next_key};
+#[doc(hidden)]
+pub use pairs::KeyPath;
+#[doc(hidden)]
 pub use parser::parse;
+#[doc(hidden)]
+pub use reader::{refusal, refusal_of_all};

@@ -54,12 +54,13 @@ struct FrameSpans<'a> {
 
 /// A path, or what is left of one: where the texts around its pair's key stand, where the white space behind the dot before it does, and
 /// its events.
+#[doc(hidden)]
 #[derive(Clone, Copy)]
-struct KeyPath<'a> {
-    prefix: Span,
-    suffix: Span,
-    before: Span,
-    events: &'a [Event],
+pub struct KeyPath<'a> {
+    pub prefix: Span,
+    pub suffix: Span,
+    pub before: Span,
+    pub events: &'a [Event],
 }
 
 /// The inline table behind its opening brace, and the events behind the inline table.
@@ -440,7 +441,7 @@ fn push_item(slots: &mut Slots<Item>, key: Key, item: Item) -> Mem<()>
 }
 
 /// The text of the key that is spelled at the span.
-fn read_name(alloc: Global, source: &str, span: Span) -> Result<String, ParseFault>
+pub(crate) fn read_name(alloc: Global, source: &str, span: Span) -> Result<String, ParseFault>
     requires { IsSpanOf source.now span }
     ensures name { (k : Text) → SpellsKey k (cut_out source.now span.start span.end) → ReadsName k result }
     ensures input { IfErr result (λ e. IfToml e (λ r. r.input ≡ source.now)) }
@@ -453,7 +454,7 @@ fn read_name(alloc: Global, source: &str, span: Span) -> Result<String, ParseFau
 }
 
 /// The text before a dot, and the path behind it.
-fn split_dot<'a>(path: KeyPath<'a>, events: &'a [Event]) -> Option<(Span, KeyPath<'a>)>
+pub(crate) fn split_dot<'a>(path: KeyPath<'a>, events: &'a [Event]) -> Option<(Span, KeyPath<'a>)>
     ensures { option_map (λ p. (p.0, spec.path_of p.1)) result ≡ spec.split_dot path.entry events.now }
 {
     let (after, behind) = split_first(events)?;
@@ -467,7 +468,7 @@ fn split_dot<'a>(path: KeyPath<'a>, events: &'a [Event]) -> Option<(Span, KeyPat
 }
 
 /// The last key of a path, with this name, which is spelled at the span.
-fn last_key(name: String, span: Span, path: KeyPath<'_>) -> Key
+pub(crate) fn last_key(name: String, span: Span, path: KeyPath<'_>) -> Key
     ensures key { result ≡ key_with (string_bytes name) span (spec.leaf_of path.entry) (spanned_raw path.entry.before) (owned []) }
     ensures fits { (t : Text) → IsSpanOf t span → IsSpanOf t path.entry.prefix → IsSpanOf t path.entry.suffix → IsSpanOf t path.entry.before → KeyFits t result }
 {
@@ -477,7 +478,7 @@ fn last_key(name: String, span: Span, path: KeyPath<'_>) -> Key
 }
 
 /// A key that a path passes through, with this name, which is spelled at the span, between these texts.
-fn passed_key(name: String, span: Span, before: Span, after: Span) -> Key
+pub(crate) fn passed_key(name: String, span: Span, before: Span, after: Span) -> Key
     ensures key { result ≡ key_with (string_bytes name) span unset (spanned_raw before) (spanned_raw after) }
     ensures fits { (t : Text) → IsSpanOf t span → IsSpanOf t before → IsSpanOf t after → KeyFits t result }
 {

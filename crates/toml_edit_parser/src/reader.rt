@@ -57,9 +57,10 @@ pub(crate) fn raw(span: Span) -> RawString
 }
 
 /// The error with this message about the span.
+#[doc(hidden)]
 #[cold]
 #[inline(never)]
-pub(crate) fn refusal(alloc: Global, source: &str, message: &str, span: Span) -> ParseFault
+pub fn refusal(alloc: Global, source: &str, message: &str, span: Span) -> ParseFault
     requires { IsSpanOf source.now span }
     ensures { IfToml result (λ r. r ≡ record { message = message.now; span = Some (span.start, span.end); input = source.now }) }
 {
@@ -67,9 +68,10 @@ pub(crate) fn refusal(alloc: Global, source: &str, message: &str, span: Span) ->
 }
 
 /// The error with this message, about no part of the text.
+#[doc(hidden)]
 #[cold]
 #[inline(never)]
-pub(crate) fn refusal_of_all(alloc: Global, source: &str, message: &str) -> ParseFault
+pub fn refusal_of_all(alloc: Global, source: &str, message: &str) -> ParseFault
     ensures { IfToml result (λ r. r ≡ record { message = message.now; span = None; input = source.now }) }
 {
     toml_edit_error::refusal(alloc, source, message, None)

@@ -1,0 +1,66 @@
+//! The keys of a path, one after another.
+ghost use Rattle.std.specs.Prelude.{◌≡◌, ◌<◌, List, ℕ, length, IfErr, IfOk, IfSome};
+ghost use Rattle.toml_edit_model.specs.OwnedForm.{cut_out};
+ghost use Rattle.toml_edit_model.specs.Syntax.{Segment, path_text};
+ghost use Rattle.toml_edit_model.specs.Tree.{Decor};
+ghost use Rattle.toml_edit_laws.specs.Standing.{Stands};
+ghost use Rattle.toml_edit_error.specs.Fault.{IfToml};
+ghost use Rattle.toml_edit_syntax.specs.Events.{IsSpanOf};
+ghost use Rattle.toml_edit_parser.specs.PairRead.{IsEndOfPath};
+ghost use Rattle.toml_edit_parser.specs.PathRead.{IsPathFrom, ReadsKey};
+ghost use Rattle.toml_edit_parser.specs.ValueRead.{AreIn};
+
+use crate::pairs::{KeyPath, last_key, passed_key, read_name, split_dot};
+use crate::reader::{refusal_of_all, split_first};
+use std::alloc::Global;
+use toml_edit_error::ParseFault;
+use toml_edit_key::Key;
+use toml_edit_syntax::Span;
+
+/// The first key of a path, where it is spelled, and the path behind its dot, if it isn't the last.
+#[doc(hidden)]
+#[derive(Drop)]
+pub struct PathKey<'a> {
+    pub key: Key,
+    pub span: Span,
+    pub rest: Option<KeyPath<'a>>,
+}
+
+/// The first key of a path.
+#[doc(hidden)]
+pub fn next_key<'a>(
+    alloc: Global,
+    source: &str,
+    path: KeyPath<'a>,
+) -> Result<PathKey<'a>, ParseFault>
+    requires { AreIn source.now path.events.now }
+    ensures key { (own : Decor) (p : List Segment) (start : ℕ) → IsEndOfPath p → Stands source.now start (path_text p)
+        → IsPathFrom own start p path.entry → ReadsKey own start p result }
+    ensures input { IfErr result (λ e. IfToml e (λ r. r.input ≡ source.now)) }
+    ensures span { IfOk result (λ r. IsSpanOf source.now r.span) }
+    ensures rest { IfOk result (λ r. IfSome r.rest (λ inside. AreIn source.now inside.events.now × (length inside.events.now < length path.entry.events.now))) }
+{
+    let Some((first, rest)) = split_first(path.events) else {
+        return Err(refusal_of_all(alloc, source, "expected a key"));
+    };
+    let span = first.span;
+    let name = read_name(alloc, source, span)?;
+    match split_dot(path, rest) {
+        None => {
+            let key = last_key(name, span, path);
+            Ok(PathKey {
+                key,
+                span,
+                rest: None,
+            })
+        }
+        Some((after, inside)) => {
+            let key = passed_key(name, span, path.before, after);
+            Ok(PathKey {
+                key,
+                span,
+                rest: Some(inside),
+            })
+        }
+    }
+}
