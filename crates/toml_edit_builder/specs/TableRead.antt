@@ -1,0 +1,82 @@
+-- What a statement adds at the end of its path, and what adding it does to the tables of a document (TOML 1.1.0, "Keys", "Table" and
+-- "Array of Tables").
+use Rattle.std.specs.Prelude.{◌≡◌, ◌&&◌, not, Bool, true, false, ℕ, List, Option, Some, None, option_map, if◌then◌else◌, Result, Ok, Err}
+use Rattle.toml_edit_model.specs.Mode.{plain}
+use Rattle.toml_edit_model.specs.Roles.{extends}
+use Rattle.toml_edit_model.specs.Text.{Text}
+use Rattle.toml_edit_model.specs.Syntax.{Segment, path_text}
+use Rattle.toml_edit_model.specs.Paths.{Mention, Source}
+use Rattle.toml_edit_model.specs.Tree.{Key, TableFields, Node, table, tables, no_slots}
+use Rattle.toml_edit_model.specs.TreeOf.{spanned_form, header_fields, statement_leaf, key_at, brackets_from, brackets_to}
+use Rattle.toml_edit_laws.specs.Standing.{Stands}
+use Rattle.toml_edit_laws.specs.TableTree.{reaching, with_item}
+use Rattle.toml_edit_laws.specs.TableClash.{table_way_fault}
+use Rattle.toml_edit_laws.specs.AddPath.{Addition, a_value, a_table, an_element, AreMentionsOf}
+use Rattle.toml_edit_error.specs.Report.{fault_of}
+use Rattle.toml_edit_error.specs.Fault.{IfToml}
+use Rattle.toml_edit_error.specs.declared.toml_error.ParseFault.{ParseFault}
+use Rattle.toml_edit_syntax.specs.declared.event.Span.{Span}
+use Rattle.toml_edit_parser.specs.declared.pairs.KeyPath.{KeyPath}
+use Rattle.toml_edit_parser.specs.PairRead.{IsEndOfPath}
+use Rattle.toml_edit_parser.specs.PathRead.{IsPathFrom}
+use Rattle.toml_edit_parser.specs.ValueRead.{span_at}
+use Rattle.toml_edit_builder.specs.declared.path.Kind.{Kind}
+use Rattle.toml_edit_builder.specs.declared.path.Kind.TheVariants as kinds
+
+-- ---- what is added
+
+-- what a statement of this kind adds, if this is its item
+abbrev pub addition_for : Kind → Node → Addition
+addition_for kinds.Line n = a_value n
+addition_for kinds.Table n = a_table
+addition_for (kinds.Element brackets) n = an_element
+
+abbrev pub is_line : Kind → Bool
+is_line kinds.Line = true
+is_line _ = false
+
+-- the table of a header, as yet without slots
+abbrev pub IsHeaded : Source → Node → Type 0
+IsHeaded s n = n ≡ table (header_fields spanned_form s s.statement) no_slots
+
+-- The item is that of the statement, if this is a header: its table, where an element has the place of the header's brackets.
+abbrev pub IsItemFor : Kind → Source → Node → Type 0
+IsItemFor kinds.Line s n = Unit {0}
+IsItemFor kinds.Table s n = IsHeaded s n
+IsItemFor (kinds.Element brackets) s n =
+    IsHeaded s n × (brackets ≡ record { start = brackets_from spanned_form s s.statement; end = brackets_to spanned_form s s.statement })
+
+-- ---- a path
+
+-- The path is the end of that of a statement of the text, from one of its keys on, and these are its mentions.
+pub record IsPathOf (t : Text) (s : Source) (ms : List (Mention Source)) (path : KeyPath) : Type 0 where
+  pub start : ℕ
+  pub segments : List Segment
+  pub ends : IsEndOfPath segments
+  pub stands : Stands t start (path_text segments)
+  pub mentions : AreMentionsOf s start segments ms
+  pub read : IsPathFrom (statement_leaf spanned_form s s.statement) start segments path
+
+-- the key of a mention, and where it is spelled; its path goes on behind it, or ends there
+pub record IsKeyOf (s : Source) (passes : Bool) (m : Mention Source) (k : Key) (at : Span) : Type 0 where
+  pub key : k ≡ key_at spanned_form m
+  pub source : m.source ≡ s
+  pub role : extends m.role ≡ passes
+  pub spelled : at ≡ span_at m.start m.segment.spelled
+
+-- ---- what is done
+
+-- What was to be done is done, or the report is of the text and names what stands in the way; want of memory may come at any time.
+abbrev pub Goes : {A X : Type 0} → Text → Option X → Option (Mention Source × Node) → X → Result A ParseFault → Type 0
+Goes t want way new (Ok x) = want ≡ Some new
+Goes t want way new (Err e) = IfToml e (λ r. (r.input ≡ t) × (option_map table_way_fault way ≡ Some (fault_of r)))
+
+-- the table of a header, with the slots of the table that is there, if that was only passed through so far
+abbrev pub headed : TableFields → Node → Option Node
+headed g (table f inner) = if f.is_implicit && not f.is_dotted then Some (table g inner) else None
+headed g n = None
+
+-- the array of tables of a header in double brackets that ends at this byte, with its table as one more element
+abbrev pub with_element : ℕ → Node → Node → Option Node
+with_element end n (tables e xs) = Some (tables (reaching e end) (with_item xs n))
+with_element end n other = None
