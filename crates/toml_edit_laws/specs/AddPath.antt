@@ -6,9 +6,9 @@ use Rattle.toml_edit_model.specs.Text.{Text}
 use Rattle.toml_edit_model.specs.Roles.{ends_path, extends}
 use Rattle.toml_edit_model.specs.Syntax.{Segment, Statement, key_line, header}
 use Rattle.toml_edit_model.specs.Paths.{Mention, Source, next_start}
-use Rattle.toml_edit_model.specs.Tree.{Node, table, Items, no_items, item, Slots}
+use Rattle.toml_edit_model.specs.Tree.{Node, table, tables, Items, no_items, item, Slots}
 use Rattle.toml_edit_model.specs.TreeOf.{spanned_in, key_at}
-use Rattle.toml_edit_laws.specs.InlineTree.{add_last}
+use Rattle.toml_edit_laws.specs.InlineTree.{node_at, with_node, add_last}
 use Rattle.toml_edit_laws.specs.TableTree.{open_table, open_element, add_line, add_header}
 use Rattle.toml_edit_laws.specs.TableClash.{extend_clash, pass_clash, table_clash, element_clash, line_clash, header_clash}
 use Rattle.toml_edit_laws.specs.Building.{Builder, change_in}
@@ -88,6 +88,30 @@ addition_of (header h end) n = if h.is_array then an_element else a_table
 abbrev pub block_for : Builder → Statement → List Text
 block_for b (key_line f v end) = b.block
 block_for b (header h end) = []
+
+-- ---- the table of a block
+
+-- with other slots for those of the last element
+abbrev pub put_last : (Slots → Slots) → Items → Items
+put_last put no_items = no_items
+put_last put (item (table f inner) no_items) = item (table f (put inner)) no_items
+put_last put (item n no_items) = item n no_items
+put_last put (item n (item m xs)) = item n (put_last put (item m xs))
+
+-- of a table, or of the last element of an array of tables
+abbrev pub put_in : (Slots → Slots) → Node → Node
+put_in put (table f inner) = table f (put inner)
+put_in put (tables e xs) = tables e (put_last put xs)
+put_in put n = n
+
+abbrev pub put_under : Text → (Slots → Slots) → Slots → Option Node → Slots
+put_under k put ss None = ss
+put_under k put ss (Some n) = with_node k (put_in put n) ss
+
+-- of the table at these keys, where it is there
+abbrev pub put_along : List Text → Slots → Slots → Slots
+put_along [] new ss = new
+put_along (k ∷ ks) new ss = put_under k (put_along ks new) ss (node_at k ss)
 
 -- ---- a path
 

@@ -6,27 +6,8 @@ use Rattle.toml_edit_model.specs.Tree.{Node, nothing, leaf, list, inline, table,
 use Rattle.toml_edit_laws.specs.InlineTree.{node_at, with_node}
 use Rattle.toml_edit_laws.specs.TableTree.{change_last}
 use Rattle.toml_edit_laws.specs.Building.{last_slots, slots_in, slots_along, change_in, change_along}
+use Rattle.toml_edit_laws.specs.AddPath.{put_last, put_in, put_under, put_along}
 use Rattle.toml_edit_laws.proofs.common.OptionSteps.{bind_some, some-is, is_some-map}
-
--- other slots put where a change along some keys changes them
-abbrev pub put_last : (Slots → Slots) → Items → Items
-put_last put no_items = no_items
-put_last put (item (table f inner) no_items) = item (table f (put inner)) no_items
-put_last put (item n no_items) = item n no_items
-put_last put (item n (item m xs)) = item n (put_last put (item m xs))
-
-abbrev pub put_in : (Slots → Slots) → Node → Node
-put_in put (table f inner) = table f (put inner)
-put_in put (tables e xs) = tables e (put_last put xs)
-put_in put n = n
-
-abbrev pub put_under : Text → (Slots → Slots) → Slots → Option Node → Slots
-put_under k put ss None = ss
-put_under k put ss (Some n) = with_node k (put_in put n) ss
-
-abbrev pub put_along : List Text → Slots → Slots → Slots
-put_along [] new ss = new
-put_along (k ∷ ks) new ss = put_under k (put_along ks new) ss (node_at k ss)
 
 -- ---- the last element
 

@@ -32,7 +32,7 @@ use Rattle.toml_edit_model.specs.Roles.{may_meet}
 
 -- ---- keys
 
-keyed-front : (xs ys : List Statement) → AllByRecursion HasKey (xs ++ ys) → AllByRecursion HasKey xs
+pub keyed-front : (xs ys : List Statement) → AllByRecursion HasKey (xs ++ ys) → AllByRecursion HasKey xs
 keyed-front [] ys h = tt
 keyed-front (x ∷ xs) ys h = (h.0, keyed-front xs ys h.1)
 

@@ -11,14 +11,17 @@ use Rattle.toml_edit_model.specs.Tree.{Node, Slots}
 use Rattle.toml_edit_model.specs.TreeOf.{spanned_in, IsTreeOf}
 use Rattle.toml_edit_laws.specs.OneByOne.{is_right_after}
 use Rattle.toml_edit_laws.specs.TableClash.{table_way_fault, table_way_faults}
-use Rattle.toml_edit_laws.specs.Building.{slots_along, done_places, next_place, Builder, first_builder, added, clash_at, faults_at, behind, built_tree, IsStatementNode, IsBehind, Stops, StandsBefore, IsRefusedBy, run_on, run, AreStatementNodes, EndsAt, Ends, Runs}
+use Rattle.toml_edit_laws.specs.Building.{slots_along, context_behind, done_places, next_place, Builder, first_builder, added, clash_at, faults_at, behind, built_tree, IsStatementNode, IsBehind, Stops, StandsBefore, IsRefusedBy, run_on, run, AreStatementNodes, EndsAt, Ends, Runs}
 use Rattle.toml_edit_laws.proofs.common.Tests.{append-nil}
 use Rattle.toml_edit_laws.proofs.common.Members.{Among}
 use Rattle.toml_edit_laws.proofs.values.ValueFaults.{is_empty-nil}
-use Rattle.toml_edit_laws.proofs.clashes.ClashContext.{keyed_statements}
+use Rattle.toml_edit_laws.proofs.clashes.ClashContext.{HasKey, keyed_statements}
 use Rattle.toml_edit_laws.proofs.clashes.ClashFirst.{right-none, stops}
-use Rattle.toml_edit_laws.proofs.building.Places.{first_wrong}
-use Rattle.toml_edit_laws.proofs.building.Loop.{here-faults, building_laws}
+use Rattle.toml_edit_laws.proofs.building.Places.{done_all, first_wrong}
+use Rattle.toml_edit_laws.proofs.building.Loop.{keyed-front, here-faults, building_laws}
+use Rattle.toml_edit_laws.proofs.clashes.BlockClash.{block_found}
+use Rattle.toml_edit_laws.proofs.mentions.Placed.{mentions_in}
+use Rattle.std.specs.List.{AllByRecursion}
 
 -- A statement that has a fault of its own, or that can't be added, makes the document faulty by that fault.
 refused-by : (d : Document) (done : List Statement) (s : Statement) (f : Fault) → Stops d done s f → IsRefusedBy d f
@@ -65,6 +68,15 @@ module _ (mode : Mode) where
   pub stands_there : (d : Document) (s : Statement) (rest : List Statement) (b : Builder) → IsDocument d → StandsBefore mode d (s ∷ rest) b
       → (inner : Slots) × (slots_along b.block b.slots ≡ Some inner)
   stands_there d s rest b h at = ((building_laws mode d h).step at.done s rest b at.split at.behind).there
+
+  -- So is that of the last block, whatever is left.
+  pub stands_block : (d : Document) (rest : List Statement) (b : Builder) → IsDocument d → StandsBefore mode d rest b
+      → (inner : Slots) × (slots_along b.block b.slots ≡ Some inner)
+  stands_block d rest b h at =
+      let keyed = keyed-front at.done rest (subst (AllByRecursion HasKey) at.split (keyed_statements d.final d.statements h.0)) in
+      let are = done_all d at.done keyed at.behind.right in
+      let block = block_found mode (context_behind d at.done).block (mentions_in (done_places d at.done)) b.slots are.clash.statements at.behind.slots are.block in
+      (block.inner, ap (λ ks. slots_along ks b.slots) at.behind.block ∙ block.found)
 
   -- ---- the run
 

@@ -11,7 +11,8 @@ use Rattle.toml_edit_laws.specs.TableClash.{line_clash, header_clash, table_way_
 use Rattle.toml_edit_laws.specs.Building.{keys_in, slots_along, change_along, Builder, mentions_at, added, clash_at, behind, IsStatementNode}
 use Rattle.toml_edit_laws.proofs.clashes.HeaderClash.{header_clashes}
 use Rattle.toml_edit_laws.proofs.clashes.BlockClash.{block_found}
-use Rattle.toml_edit_laws.proofs.building.Descent.{put_along, along_lens}
+use Rattle.toml_edit_laws.specs.AddPath.{put_along}
+use Rattle.toml_edit_laws.proofs.building.Descent.{along_lens}
 use Rattle.toml_edit_laws.proofs.building.Conditions.{AreDone}
 use Rattle.toml_edit_laws.proofs.building.Statement.{IsNodeOfStatement, statement_clash}
 use Rattle.toml_edit_laws.proofs.building.Alike.{line_alike, line_fault_alike, header_alike, header_clash_alike, like_fault}
