@@ -29,7 +29,7 @@ empty_is [] h = refl
 empty_is (x ∷ xs) h = absurd cc
 
 -- a whole text leaves nothing
-whole_some : {A : Type 0} (r : Read A) (a : A) → whole r ≡ Some a → r ≡ Some (a, [])
+pub whole_some : {A : Type 0} (r : Read A) (a : A) → whole r ≡ Some a → r ≡ Some (a, [])
 whole_some {A} r a e =
     let (p, found, rest) = bind_some r (λ (p : A × Text). cond (is_empty p.1) (Some p.0) None) a e in
     let (none, same) = guard_some (is_empty p.1) p.0 a rest in

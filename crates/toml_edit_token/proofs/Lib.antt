@@ -7,3 +7,4 @@ pub mod Decoding
 pub mod Escaping
 pub mod LoneLaws
 pub mod Ends
+pub mod WordReading

@@ -11,10 +11,9 @@ ghost use Rattle.toml_edit_laws.specs.reading.Tokens as spec;
 
 use crate::block_string::read_block;
 use crate::number;
-use crate::number::is_integer;
 use crate::run::{Class, first, is_bare, is_word, split_run};
 use crate::string::decode_string;
-use crate::token::{opens_block, split_word};
+use crate::token::opens_block;
 use std::alloc::{AllocError, Global};
 use std::str::FromStr;
 use toml_edit_datetime::{Datetime, FloatText};
@@ -80,12 +79,7 @@ fn read_scalar(alloc: Global, text: &str) -> Result<Option<Scalar>, AllocError>
     ensures { IfOk result (λ o. option_map scalar_view o ≡ spec.ranged text.now (spec.whole (scalar.scalar_at text.now))) }
 {
     if is_word(first(text)) {
-        let (word, rest) = split_word(text);
-        return if rest.is_empty() {
-            read_word(alloc, word)
-        } else {
-            Ok(None)
-        };
+        return read_word(alloc, text);
     }
     let value = if opens_block(text) {
         read_block(alloc, text)?
@@ -107,8 +101,8 @@ fn read_word(alloc: Global, word: &str) -> Result<Option<Scalar>, AllocError>
         Ok(Some(Scalar::Boolean(true)))
     } else if word == "false" {
         Ok(Some(Scalar::Boolean(false)))
-    } else if is_integer(word.as_bytes()) {
-        Ok(number::decode_integer(word.as_bytes()).map(Scalar::Integer))
+    } else if let Some(integer) = number::decode_integer(word.as_bytes()) {
+        Ok(Some(Scalar::Integer(integer)))
     } else if let Some(float) = FloatText::from_text(alloc, word)? {
         Ok(Some(Scalar::Float(float)))
     } else {

@@ -1,13 +1,9 @@
 //! Integers, as whole words.
-ghost use Rattle.std.specs.Prelude.{◌≡◌, ◌+◌, ◌<◌, ◌≤◌, ◌^◌, slice_index, is_some, option_map, pos, IfSome};
+ghost use Rattle.std.specs.Prelude.{◌≡◌, ◌+◌, ◌<◌, ◌≤◌, ◌^◌, is_some, option_map, pos, IfSome};
 ghost use Rattle.toml_edit_laws.specs.reading.Tokens as spec;
 ghost use Rattle.toml_edit_model.specs.Spelling.{plus, minus, unsigned};
 
-fn byte_at(bytes: &[u8], index: usize) -> u8
-    ensures { result ≡ slice_index bytes.now index }
-{
-    bytes.get(index).copied().unwrap_or(0)
-}
+use crate::run::byte_of;
 
 /// Whether these are digits of the base, with single underscores between them.
 fn is_natural(digits: &[u8], base: u32) -> bool
@@ -31,7 +27,7 @@ fn is_natural(digits: &[u8], base: u32) -> bool
 fn leads_with_zero(digits: &[u8]) -> bool
     ensures { result ≡ spec.leads_with_zero digits.now }
 {
-    byte_at(digits, 0) == b'0' && digits.len() > 1
+    byte_of(digits, 0) == b'0' && digits.len() > 1
 }
 
 /// Whether these are decimal digits, of which no 0 stands before another.
@@ -49,7 +45,7 @@ fn is_decimal(digits: &[u8]) -> bool
 pub(crate) fn is_integer(word: &[u8]) -> bool
     ensures { result ≡ is_some (spec.integer_of word.now) }
 {
-    match (byte_at(word, 0), byte_at(word, 1)) {
+    match (byte_of(word, 0), byte_of(word, 1)) {
         (b'0', b'x') => is_natural(&word[2..], 16),
         (b'0', b'o') => is_natural(&word[2..], 8),
         (b'0', b'b') => is_natural(&word[2..], 2),
@@ -137,7 +133,7 @@ fn prefixed(digits: &[u8], base: u32) -> Option<i64>
 pub(crate) fn decode_integer(word: &[u8]) -> Option<i64>
     ensures { result ≡ spec.fitting (spec.integer_of word.now) }
 {
-    match (byte_at(word, 0), byte_at(word, 1)) {
+    match (byte_of(word, 0), byte_of(word, 1)) {
         (b'0', b'x') => prefixed(&word[2..], 16),
         (b'0', b'o') => prefixed(&word[2..], 8),
         (b'0', b'b') => prefixed(&word[2..], 2),

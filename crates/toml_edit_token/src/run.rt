@@ -8,10 +8,17 @@ ghost use Rattle.toml_edit_laws.specs.reading.Runs.{is_word_byte, split_while};
 ghost use Rattle.toml_edit_token.specs.Classes.{class_test};
 
 /// The byte at `index`, or 0 past the end.
+pub(crate) fn byte_of(bytes: &[u8], index: usize) -> u8
+    ensures { result ≡ slice_index bytes.now index }
+{
+    bytes.get(index).copied().unwrap_or(0)
+}
+
+/// The byte at `index`, or 0 past the end.
 pub fn byte_at(s: &str, index: usize) -> u8
     ensures { result ≡ slice_index s.now index }
 {
-    s.as_bytes().get(index).copied().unwrap_or(0)
+    byte_of(s.as_bytes(), index)
 }
 
 /// The first byte, or 0.

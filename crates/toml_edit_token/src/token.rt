@@ -54,7 +54,7 @@ fn word_len(s: &str) -> usize
 }
 
 /// The word at the front, and the rest.
-pub(crate) fn split_word(s: &str) -> (&str, &str)
+fn split_word(s: &str) -> (&str, &str)
     ensures word { result.0.now ≡ take (scalar.word_len s.now) s.now }
     ensures rest { result.1.now ≡ drop (scalar.word_len s.now) s.now }
     ensures within { length result.1.now ≤ length s.now }

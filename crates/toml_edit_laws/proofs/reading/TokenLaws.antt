@@ -110,7 +110,7 @@ no_float : (word : Text) → (IsFloat word → ⊥) → is_float_text word ≡ f
 no_float word none = false_from_ne_true (is_float_text word) (λ h. none (float_takes word h))
 
 -- what reads as a word of a scalar spells it
-word_takes : (word : Text) (s : Scalar) → word_scalar word ≡ Some s → Spells s word
+pub word_takes : (word : Text) (s : Scalar) → word_scalar word ≡ Some s → Spells s word
 unfolding word_scalar
 word_takes word s e =
     elim (chosen (bytes_eq word (codes "true")) (Some (boolean true)) _ (Some s) e) [
@@ -149,14 +149,14 @@ number_word word z is =
     rw (none true, none false, integer_again word z is) refl
 
 -- a float too
-float_word : (word : Text) → IsFloat word → word_scalar word ≡ Some (float word)
+pub float_word : (word : Text) → IsFloat word → word_scalar word ≡ Some (float word)
 unfolding word_scalar
 float_word word is =
     let none = no_truth word (λ b same. float-no_truth word b is same) in
     rw (none true, none false, no_integer word (λ z number. float-no_integer word z is number), float_again word is) refl
 
 -- and a date or a time
-date_word : (word : Text) (d : Datetime) → SpellsDatetime d word → word_scalar word ≡ Some (datetime d)
+pub date_word : (word : Text) (d : Datetime) → SpellsDatetime d word → word_scalar word ≡ Some (datetime d)
 unfolding word_scalar
 date_word word d is =
     let none = no_truth word (λ b same. datetime-no_truth word d b is same) in
