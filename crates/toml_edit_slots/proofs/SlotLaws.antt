@@ -1,5 +1,5 @@
 -- What a place says of the slots: its slot, and the slots once that one is another or gone.
-use Rattle.std.proofs.Common.{◌≡◌, Result, Ok, Err, OnOk, ℕ, zero, suc, ◌+◌, ◌<◌, false, cond, nat_lt, List, [], ◌∷◌, ◌++◌, Option, Some, None, option_map, length, get_or, set, remove, refl, sym, ap, subst, ◌∙◌, inl, inr, arith, rules, position, slice_get, take, option_and_then}
+use Rattle.std.proofs.Common.{◌≡◌, Result, Ok, Err, OnOk, ℕ, zero, suc, ◌+◌, ◌<◌, true, false, cond, nat_lt, List, [], ◌∷◌, ◌++◌, Option, Some, None, option_map, length, get_or, set, remove, refl, sym, ap, subst, ◌∙◌, inl, inr, arith, rules, position, slice_get, take, option_and_then}
 use Rattle.std.proofs.lemmas.Bool.{cases_Bool}
 use Rattle.std.proofs.lemmas.Cmp.{nat_list_eq_equiv}
 use Rattle.std.proofs.lemmas.Option.{none-some, same_Some, slice_get_cases, slice_get-get_or, slice_get_within, get_or_from_slice_get}
@@ -152,6 +152,24 @@ module _ {T : Type 0} where
   items_of-get [] i d h = absurd (omega arith)
   items_of-get (s ∷ es) zero d h = refl
   items_of-get (s ∷ es) (suc i) d h = items_of-get es i d (omega arith)
+
+none_named : {T : Type 0} (t k : Text) (es : List (Slot T)) → same_text t k ≡ true → AllByRecursion (λ y. same_text k y ≡ false) (names es) → place t es ≡ None
+none_named t k [] same all = refl
+none_named t k (s ∷ es) same all =
+    elim (cases_Bool (is_at t s)) [
+      | inl here ↦ absurd (let e = sym all.0 ∙ (sym (nat_list_eq_equiv.congr t k s.key.name same) ∙ here) in cc)
+      | inr other ↦ rw other (ap (option_map suc) (none_named t k es same all.1))
+    ]
+
+-- what is taken out has no place any more
+pub place-without : {T : Type 0} (t : Text) (es : List (Slot T)) → AreApart es → place t (without t es) ≡ None
+unfolding IsDistinct
+place-without t [] a = refl
+place-without t (s ∷ es) a =
+    elim (cases_Bool (is_at t s)) [
+      | inl same ↦ rw same (none_named t s.key.name es same a.0)
+      | inr other ↦ rw (other, other) (ap (option_map suc) (place-without t es a.1))
+    ]
 
 -- slots stay apart when one with a new name comes last
 pub apart-push : {T : Type 0} (es : List (Slot T)) (n : Slot T) → place n.key.name es ≡ None → AreApart es → AreApart (es ++ n ∷ [])

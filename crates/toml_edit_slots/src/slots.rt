@@ -188,6 +188,7 @@ impl<T> Slots<T> {
     pub fn remove(&mut self, text: &str) -> Option<Slot<T>>
         ensures slot { result ≡ lookup_slot text.now self.old }
         ensures slots { self.new ≡ without text.now self.old }
+        ensures absent { place text.now self.new ≡ None }
     {
         let at = self.find(text)?;
         Some(self.entries.remove(at))

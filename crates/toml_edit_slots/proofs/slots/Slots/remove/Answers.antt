@@ -1,6 +1,6 @@
 -- A slot taken out.
 use Rattle.std.proofs.Common.{rules, sym}
-use Rattle.toml_edit_slots.proofs.SlotLaws.{lookup_slot-absent, lookup_slot-present, without-absent, without-present, apart-without}
+use Rattle.toml_edit_slots.proofs.SlotLaws.{lookup_slot-absent, lookup_slot-present, without-absent, without-present, apart-without, place-without}
 use Rattle.toml_edit_slots.proofs.slots.Slots.remove.Goals as goal
 
 pub returns-in_err-at-clause-slot : goal.returns-in_err-at-clause-slot
@@ -20,3 +20,9 @@ invariant_of-self g c =
     let t = c.args.text.now in
     let es = c.self.inside.entries.items in
     rw (c.remove.ensures.items, ← without-present t es c.in_ok-at.at (rw c.self.view_is (sym c.in_ok-at.ensures.place))) (apart-without t es c.self.invariant)
+
+pub returns-clause-absent : goal.returns-clause-absent
+returns-clause-absent g c =
+    let t = c.args.text.now in
+    let es = c.self.inside.entries.items in
+    rw (c.remove.ensures.items, ← without-present t es c.in_ok-at.at (rw c.self.view_is (sym c.in_ok-at.ensures.place))) (place-without t es c.self.invariant)
