@@ -1,7 +1,8 @@
 -- What the calls of arrays and inline tables answer, by their lists.
-use Rattle.std.proofs.Common.{◌≡◌, ℕ, zero, suc, Bool, true, false, List, [], ◌∷◌, Option, Some, None, cond, ◌<◌, ◌≤◌, length, get_or, is_some, option_map, refl, ap, arith}
+use Rattle.std.proofs.Common.{◌≡◌, ℕ, zero, suc, Bool, true, false, List, [], ◌∷◌, ◌++◌, Option, Some, None, cond, ◌<◌, ◌≤◌, length, get_or, is_some, option_map, refl, ap, arith}
 use Rattle.toml_edit_model.specs.Text.{Text}
 use Rattle.toml_edit_model.specs.Tree.{Key, Node, nothing, leaf, list, inline, table, tables, Items, no_items, item, is_value_node}
+use Rattle.toml_edit_laws.specs.TableTree.{with_item}
 use Rattle.toml_edit_slots.specs.declared.slots.Slot.{Slot}
 use Rattle.toml_edit_slots.specs.Slots.{is_at, lookup, lookup_slot}
 use Rattle.toml_edit_tree.specs.Containers.{count_of, key_under, value_at, value_in, value_under}
@@ -13,6 +14,11 @@ use Rattle.toml_edit_tree.specs.View.{item_view, items_view, slots_view}
 pub count-items : (xs : List Item) → count_of (items_view xs) ≡ length xs
 count-items [] = refl
 count-items (x ∷ xs) = ap suc (count-items xs)
+
+-- one more at the end
+pub items-more : (xs : List Item) (x : Item) → items_view (xs ++ x ∷ []) ≡ with_item (items_view xs) (item_view x)
+items-more [] x = refl
+items-more (y ∷ xs) x = ap (item (item_view y)) (items-more xs x)
 
 -- there are none where none are counted
 pub none-counted : (xs : Items) → count_of xs ≡ 0 → xs ≡ no_items

@@ -2,11 +2,12 @@
 use mathlib.Core.Logic.{∥∥₁_map}
 use denote.Param.Weighed.{most, at_most}
 use Rattle.std.proofs.Common.{◌≡◌, ℕ, zero, suc, ◌<◌, ◌≤◌, max, List, [], ◌∷◌, length, map, Some, get_or, set, slice_get, option_map, refl, sym, ap, arith}
+use Rattle.std.specs.Prelude.{Result, Ok, Err, OnOk}
 use Rattle.std.proofs.lemmas.Option.{same_Some}
 use Rattle.toml_edit_model.specs.SlotLists.{new_key}
 use Rattle.toml_edit_model.specs.Spelling.{SpellsKey}
 use Rattle.toml_edit_model.specs.Text.{Text}
-use Rattle.toml_edit_model.specs.Tree.{Key, Node, HasTrueSpelling, IsWellMade, ItemsAreWellMade, SlotsAreWellMade, item, slot}
+use Rattle.toml_edit_model.specs.Tree.{Key, Node, Slots, TableFields, HasTrueSpelling, IsWellMade, ItemsAreWellMade, SlotsAreWellMade, item, slot, table}
 use Rattle.toml_edit_slots.specs.declared.slots.Slot.{Slot}
 use Rattle.toml_edit_slots.specs.Slots.{items_of, on_key, with_item}
 use Rattle.toml_edit_tree.specs.Containers.{items_from, slots_from}
@@ -110,3 +111,14 @@ item_depth x = size-Item x
 
 pub deepest_item : (xs : List Item) (i : ℕ) (d : Item) → i < length xs → size-Item (get_or xs i d) ≤ most item_depth xs
 deepest_item xs i d h = omega (arith, at_most item_depth xs i d h)
+
+-- ---- tables
+
+-- tables that are one have one set of fields and slots
+pub same_table : (f g : TableFields) (ss us : Slots) → table f ss ≡ table g us → (f ≡ g) × (ss ≡ us)
+same_table f g ss us e = (cc, cc)
+
+-- what follows from what a call ensures, where it is done
+pub if_done : {A E : Type 0} {P Q : Type 0} → (r : Result A E) → OnOk r P → (P → Q) → OnOk r Q
+if_done (Ok a) p h = h p
+if_done (Err e) p h = tt

@@ -9,11 +9,13 @@ use Rattle.toml_edit_model.specs.Print.{Line, inside_lines}
 use Rattle.toml_edit_slots.specs.declared.slots.Slot.{Slot}
 use Rattle.toml_edit_tree.specs.Printing.{element_text, items_text, last_comma, last_shown, lines_of_item, lines_text, pairs_shown}
 use Rattle.toml_edit_tree.specs.declared.array.Array.{Array}
+use Rattle.toml_edit_tree.specs.declared.array_of_tables.ArrayOfTables.{ArrayOfTables}
 use Rattle.toml_edit_tree.specs.declared.inline_table.InlineTable.{InlineTable}
 use Rattle.toml_edit_tree.specs.declared.item.Item.{Item, out-Item, the_lemmas}
 use Rattle.toml_edit_tree.specs.declared.item.Item.TheOpen.{Item-F, Value-F}
 use Rattle.toml_edit_tree.specs.declared.item.Item.TheVariants as items
 use Rattle.toml_edit_tree.specs.declared.item.Item.TheViews.{roll-Item, roll-Value}
+use Rattle.toml_edit_tree.specs.declared.table.Table.{Table}
 use Rattle.toml_edit_tree.specs.declared.value.Value.{Value, out-Value}
 use Rattle.toml_edit_tree.specs.View.{item_view, items_view, slots_view, value_view}
 use Rattle.toml_edit_tree.proofs.PairTextLaws.{last_shown-append, lines_text-append, pairs_shown-append}
@@ -22,7 +24,7 @@ use Rattle.toml_edit_tree.proofs.ViewLaws.{view-Value}
 -- ---- items
 
 -- the node of an item that holds a value is one
-value-open : (o : Value-F Item Value Array InlineTable) → is_value_node (value_view (roll-Value o)) ≡ true
+value-open : (o : Value-F Item Value Array ArrayOfTables InlineTable Table) → is_value_node (value_view (roll-Value o)) ≡ true
 value-open (Value-F.String f) = search (rules, the_lemmas)
 value-open (Value-F.Integer f) = search (rules, the_lemmas)
 value-open (Value-F.Float f) = search (rules, the_lemmas)
@@ -39,11 +41,13 @@ value-node x v is =
     ap (λ y. is_value_node (item_view y)) is ∙ ap is_value_node (view-Value v)
     ∙ ap (λ w. is_value_node (value_view w)) (rolled v) ∙ value-open (out-Value v)
 
--- a placeholder is none
-other-open : (o : Item-F Item Value Array InlineTable) → ((v : Value) → roll-Item o ≡ items.Value v → ⊥)
+-- that of another is none
+other-open : (o : Item-F Item Value Array ArrayOfTables InlineTable Table) → ((v : Value) → roll-Item o ≡ items.Value v → ⊥)
     → is_value_node (item_view (roll-Item o)) ≡ false
 other-open (Item-F.Value v) h = absurd (h v (search (rules, the_lemmas)))
 other-open Item-F.None h = search (rules, the_lemmas)
+other-open (Item-F.Table t) h = search (rules, the_lemmas)
+other-open (Item-F.ArrayOfTables a) h = search (rules, the_lemmas)
 
 rolled-item : (x : Item) → x ≡ roll-Item (out-Item x)
 rolled-item x = search (rules, the_lemmas)

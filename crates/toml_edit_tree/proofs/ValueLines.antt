@@ -8,10 +8,12 @@ use Rattle.toml_edit_model.specs.Print.{Line, inside_lines, is_line_node}
 use Rattle.toml_edit_tree.specs.Containers.{array_node, inline_node}
 use Rattle.toml_edit_tree.specs.Printing.{after_pairs, items_text, last_shown, lines_of_item, node_text, pairs_shown}
 use Rattle.toml_edit_tree.specs.declared.array.Array.{Array, out-Array}
+use Rattle.toml_edit_tree.specs.declared.array_of_tables.ArrayOfTables.{ArrayOfTables}
 use Rattle.toml_edit_tree.specs.declared.inline_table.InlineTable.{InlineTable, out-InlineTable}
 use Rattle.toml_edit_tree.specs.declared.item.Item.{Item, the_lemmas}
 use Rattle.toml_edit_tree.specs.declared.item.Item.TheOpen.{Value-F}
 use Rattle.toml_edit_tree.specs.declared.item.Item.TheViews.{roll-Value}
+use Rattle.toml_edit_tree.specs.declared.table.Table.{Table}
 use Rattle.toml_edit_tree.specs.declared.value.Value.{Value, out-Value}
 use Rattle.toml_edit_tree.specs.declared.value.Value.TheVariants as values
 use Rattle.toml_edit_tree.specs.View.{array_view, inline_view, items_view, slots_view, value_view}
@@ -35,7 +37,7 @@ pub inline-dotted : (t : InlineTable) → (inline_view t).fields.is_dotted ≡ (
 inline-dotted t = search (rules, the_lemmas)
 
 -- a value that is no inline table is a line
-other-open : (o : Value-F Item Value Array InlineTable) → ((t : InlineTable) → roll-Value o ≡ values.InlineTable t → ⊥)
+other-open : (o : Value-F Item Value Array ArrayOfTables InlineTable Table) → ((t : InlineTable) → roll-Value o ≡ values.InlineTable t → ⊥)
     → is_line_node (value_view (roll-Value o)) ≡ true
 other-open (Value-F.InlineTable t) h = absurd (h t (search (rules, the_lemmas)))
 other-open (Value-F.String f) h = search (rules, the_lemmas)

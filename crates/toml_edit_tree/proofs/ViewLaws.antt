@@ -9,23 +9,31 @@ use Rattle.toml_edit_datetime.specs.DatetimeView.{datetime_view}
 use Rattle.toml_edit_datetime.specs.declared.datetime.Datetime as code
 use Rattle.toml_edit_repr.specs.Views.{FormattedView}
 use Rattle.toml_edit_tree.specs.Casts.{decorated, decorated_open}
-use Rattle.toml_edit_tree.specs.Containers.{array_node, inline_node}
+use Rattle.toml_edit_tree.specs.Containers.{array_node, inline_node, table_node, tables_node}
 use Rattle.toml_edit_tree.specs.declared.array.Array.{Array, out-Array}
+use Rattle.toml_edit_tree.specs.declared.array_of_tables.ArrayOfTables.{ArrayOfTables, out-ArrayOfTables}
 use Rattle.toml_edit_tree.specs.declared.inline_table.InlineTable.{InlineTable, out-InlineTable}
 use Rattle.toml_edit_tree.specs.declared.item.Item.{Item, the_lemmas}
 use Rattle.toml_edit_tree.specs.declared.item.Item.TheOpen.{Value-F}
 use Rattle.toml_edit_tree.specs.declared.item.Item.TheVariants as items
 use Rattle.toml_edit_tree.specs.declared.item.Item.TheViews.{roll-Value}
+use Rattle.toml_edit_tree.specs.declared.table.Table.{Table, out-Table}
 use Rattle.toml_edit_tree.specs.declared.value.Value.{Value, out-Value}
 use Rattle.toml_edit_tree.specs.declared.value.Value.TheVariants as values
-use Rattle.toml_edit_tree.specs.View.{array_view, inline_view, item_view, items_view, slots_view, value_view}
+use Rattle.toml_edit_tree.specs.View.{array_view, inline_view, item_view, items_view, slots_view, table_view, tables_view, value_view}
 
--- an item is a placeholder or what its value is
+-- an item is a placeholder, or what it holds is
 pub view-None : item_view items.None ≡ nothing
 view-None = search (rules, the_lemmas)
 
 pub view-Value : (v : Value) → item_view (items.Value v) ≡ value_view v
 view-Value v = search (rules, the_lemmas)
+
+pub view-Table : (t : Table) → item_view (items.Table t) ≡ table_node (table_view t)
+view-Table t = search (rules, the_lemmas)
+
+pub view-ArrayOfTables : (a : ArrayOfTables) → item_view (items.ArrayOfTables a) ≡ tables_node (tables_view a)
+view-ArrayOfTables a = search (rules, the_lemmas)
 
 -- an array and an inline table as values
 pub view-Array : (a : Array) → value_view (values.Array a) ≡ array_node (array_view a)
@@ -40,6 +48,12 @@ array_items a = search (rules, the_lemmas)
 
 pub inline_slots : (t : InlineTable) → (inline_view t).slots ≡ slots_view (out-InlineTable t).items
 inline_slots t = search (rules, the_lemmas)
+
+pub table_slots : (t : Table) → (table_view t).slots ≡ slots_view (out-Table t).slots
+table_slots t = search (rules, the_lemmas)
+
+pub tables_items : (a : ArrayOfTables) → (tables_view a).items ≡ items_view (out-ArrayOfTables a).values.items
+tables_items a = search (rules, the_lemmas)
 
 -- scalars as values
 pub view-String : (f : FormattedView (String Global)) → value_view (values.String f) ≡ leaf (string (string_bytes f.value)) f.repr f.decor
@@ -58,7 +72,7 @@ pub view-Datetime : (f : FormattedView code.Datetime) → value_view (values.Dat
 view-Datetime f = search (rules, the_lemmas)
 
 -- another decor is seen as one
-decorated-open : (d : Decor) (o : Value-F Item Value Array InlineTable) → value_view (decorated_open d o) ≡ with_decor d (value_view (roll-Value o))
+decorated-open : (d : Decor) (o : Value-F Item Value Array ArrayOfTables InlineTable Table) → value_view (decorated_open d o) ≡ with_decor d (value_view (roll-Value o))
 decorated-open d (Value-F.String f) = search (rules, the_lemmas)
 decorated-open d (Value-F.Integer f) = search (rules, the_lemmas)
 decorated-open d (Value-F.Float f) = search (rules, the_lemmas)

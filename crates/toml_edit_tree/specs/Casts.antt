@@ -1,16 +1,18 @@
--- What the calls of a value answer: its kind, what it holds, and itself with another decor.
-use Rattle.std.specs.Prelude.{ℕ, ℤ, [], Bool, codes, Option, None, Some, option_and_then}
+-- What the calls of a value or an item answer: its kind, what it holds, and the value with another decor.
+use Rattle.std.specs.Prelude.{ℕ, ℤ, Bool, codes, Option, None, Some, option_and_then}
 use Rattle.std.specs.declared.ops.Range.{Range}
 use Rattle.toml_edit_model.specs.Text.{Text}
 use Rattle.toml_edit_model.specs.Scalars.{Date, Time, Datetime, string, integer, float, boolean, datetime}
 use Rattle.toml_edit_model.specs.Faults.{scalar_type}
-use Rattle.toml_edit_model.specs.Tree.{Raw, Decor, Node, leaf, list, inline}
+use Rattle.toml_edit_model.specs.Tree.{Raw, Decor, Node, nothing, leaf, list, inline, table, tables}
 use Rattle.toml_edit_repr.specs.Views.{range_of}
 use Rattle.std.specs.Borrow.{Lends, MutBor, Fml}
 use Rattle.toml_edit_tree.specs.declared.array.Array.{Array}
+use Rattle.toml_edit_tree.specs.declared.array_of_tables.ArrayOfTables.{ArrayOfTables}
 use Rattle.toml_edit_tree.specs.declared.inline_table.InlineTable.{InlineTable}
 use Rattle.toml_edit_tree.specs.declared.item.Item.{Item}
 use Rattle.toml_edit_tree.specs.declared.item.Item.TheOpen.{Value-F}
+use Rattle.toml_edit_tree.specs.declared.table.Table.{Table}
 use Rattle.toml_edit_tree.specs.declared.value.Value.{Value, out-Value}
 use Rattle.toml_edit_tree.specs.declared.value.Value.TheVariants as values
 use Rattle.toml_edit_tree.specs.Containers.{ArrayView, InlineView, range_in}
@@ -66,13 +68,15 @@ abbrev pub type_of : Node → Text
 type_of (leaf s spelling d) = scalar_type s
 type_of (list f xs) = codes "array"
 type_of (inline f ss) = codes "inline table"
-type_of n = []
+type_of (table f ss) = codes "table"
+type_of (tables e xs) = codes "array of tables"
+type_of nothing = codes "none"
 
 abbrev pub both_sides : Raw → Raw → Decor
 both_sides p s = record { prefix = Some p; suffix = Some s }
 
 -- the value of the code with another decor
-abbrev pub decorated_open : Decor → Value-F Item Value Array InlineTable → Value
+abbrev pub decorated_open : Decor → Value-F Item Value Array ArrayOfTables InlineTable Table → Value
 decorated_open d (Value-F.String f) = values.String (record f { decor = d })
 decorated_open d (Value-F.Integer f) = values.Integer (record f { decor = d })
 decorated_open d (Value-F.Float f) = values.Float (record f { decor = d })

@@ -1,8 +1,8 @@
--- Arrays and inline tables as contracts see them, and what their calls answer.
-use Rattle.std.specs.Prelude.{ℕ, zero, suc, Bool, false, List, [], ◌∷◌, Option, Some, None, if◌then◌else◌}
+-- Arrays, inline tables, tables and arrays of tables as contracts see them, and what their calls answer.
+use Rattle.std.specs.Prelude.{ℕ, ℤ, zero, suc, Bool, false, List, [], ◌∷◌, Option, Some, None, if◌then◌else◌}
 use Rattle.std.specs.declared.ops.Range.{Range}
 use Rattle.toml_edit_model.specs.Text.{Text, same_text}
-use Rattle.toml_edit_model.specs.Tree.{Raw, Key, Extent, unset, ArrayFields, InlineFields, Node, list, inline, Items, no_items, item, Slots, no_slots, slot, is_value_node}
+use Rattle.toml_edit_model.specs.Tree.{Raw, Decor, Key, Extent, unset, ArrayFields, InlineFields, TableFields, Node, list, inline, table, tables, Items, no_items, item, Slots, no_slots, slot, is_value_node}
 use Rattle.toml_edit_slots.specs.declared.slots.Slot as repr
 
 -- an array, and an inline table: what they have beside their slots, and those
@@ -14,11 +14,26 @@ pub record InlineView : Type 0 where
   pub fields : InlineFields
   pub slots : Slots
 
+-- a table, and an array of tables
+pub record TableView : Type 0 where
+  pub fields : TableFields
+  pub slots : Slots
+
+pub record TablesView : Type 0 where
+  pub extent : Extent
+  pub items : Items
+
 abbrev pub array_node : ArrayView → Node
 array_node a = list a.fields a.items
 
 abbrev pub inline_node : InlineView → Node
 inline_node t = inline t.fields t.slots
+
+abbrev pub table_node : TableView → Node
+table_node t = table t.fields t.slots
+
+abbrev pub tables_node : TablesView → Node
+tables_node a = tables a.extent a.items
 
 -- items and slots that stand in a list
 abbrev pub items_from : List Node → Items
@@ -96,6 +111,45 @@ spanned_inline comma trailing start end ss =
       fields = record { decor = unset; is_dotted = false; comma = comma; trailing = trailing; extent = Some (start, end) };
       slots = ss;
     }
+
+-- ---- tables
+
+-- what is kept of a header: its decor, its place among the headers, and its brackets, from this byte of the source up to that one
+abbrev pub headed : Decor → ℤ → ℕ → ℕ → TableFields
+headed decor position start end =
+    record { decor = decor; is_implicit = false; is_dotted = false; position = Some position; extent = Some (start, end) }
+
+-- the table with another role, or another place among the headers
+abbrev pub table_with_implicit : Bool → TableView → TableView
+table_with_implicit implicit t = record t { fields = record t.fields { is_implicit = implicit } }
+
+abbrev pub table_with_dotted : Bool → TableView → TableView
+table_with_dotted dotted t = record t { fields = record t.fields { is_dotted = dotted } }
+
+abbrev pub table_with_position : Option ℤ → TableView → TableView
+table_with_position position t = record t { fields = record t.fields { position = position } }
+
+-- ---- arrays of tables
+
+-- the table, where the item is one
+abbrev pub table_in : Node → Option TableView
+table_in (table f ss) = Some (record { fields = f; slots = ss })
+table_in n = None
+
+abbrev pub tables_in : Node → Option TablesView
+tables_in (tables e xs) = Some (record { extent = e; items = xs })
+tables_in n = None
+
+abbrev pub add_some : {A : Type 0} → Option A → List A → List A
+add_some None xs = xs
+add_some (Some x) xs = x ∷ xs
+
+-- the tables in order
+abbrev pub elements_in : Items → List TableView
+elements_in no_items = []
+elements_in (item n xs) = add_some (table_in n) (elements_in xs)
+
+-- ---- places
 
 -- where it stands in the source
 abbrev pub range_in : Extent → Option (Range ℕ)

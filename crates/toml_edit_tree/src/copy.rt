@@ -1,10 +1,12 @@
 //! Equal copies of items, written out for each type that holds others.
 ghost use Rattle.std.specs.Prelude.{◌≡◌, IfOk};
-ghost use Rattle.toml_edit_tree.specs.View.{array_view, inline_view, item_view, items_view, slots_view, value_view};
+ghost use Rattle.toml_edit_tree.specs.View.{array_view, inline_view, item_view, items_view, slots_view, table_view, tables_view, value_view};
 
 use crate::array::Array;
+use crate::array_of_tables::ArrayOfTables;
 use crate::inline_table::InlineTable;
 use crate::item::Item;
+use crate::table::Table;
 use crate::value::Value;
 use std::alloc::Global;
 use toml_edit_repr::Mem;
@@ -17,6 +19,8 @@ pub(crate) fn copy_item(item: &Item, alloc: Global) -> Mem<Item>
     match item {
         Item::None => Ok(Item::None),
         Item::Value(value) => Ok(Item::Value(copy_value(value, alloc)?)),
+        Item::Table(table) => Ok(Item::Table(copy_table(table, alloc)?)),
+        Item::ArrayOfTables(tables) => Ok(Item::ArrayOfTables(copy_tables(tables, alloc)?)),
     }
 }
 
@@ -65,6 +69,33 @@ pub(crate) fn copy_inline(table: &InlineTable, alloc: Global) -> Mem<InlineTable
         trailing,
         trailing_comma: table.trailing_comma,
         span: table.span,
+    })
+}
+
+#[cycle(copy)]
+pub(crate) fn copy_table(table: &Table, alloc: Global) -> Mem<Table>
+    ensures { IfOk result (λ copy. table_view copy ≡ table_view table.now) }
+{
+    let slots = copy_slots(&table.slots, alloc)?;
+    let decor = table.decor.clone(alloc)?;
+    Ok(Table {
+        slots,
+        decor,
+        implicit: table.implicit,
+        dotted: table.dotted,
+        position: table.position,
+        span: table.span,
+    })
+}
+
+#[cycle(copy)]
+pub(crate) fn copy_tables(tables: &ArrayOfTables, alloc: Global) -> Mem<ArrayOfTables>
+    ensures { IfOk result (λ copy. tables_view copy ≡ tables_view tables.now) }
+{
+    let values = copy_items(&tables.values, alloc)?;
+    Ok(ArrayOfTables {
+        values,
+        span: tables.span,
     })
 }
 

@@ -1,13 +1,15 @@
 //! Items over their source, put in owned form in place: each span becomes the text that stands there.
 ghost use Rattle.std.specs.Prelude.{◌≡◌, OnOk};
 ghost use Rattle.toml_edit_model.specs.Tree.{IsWellMade, ItemsAreWellMade, SlotsAreWellMade};
-ghost use Rattle.toml_edit_tree.specs.Containers.{array_node, inline_node};
-ghost use Rattle.toml_edit_tree.specs.View.{array_view, inline_view, item_view, items_view, slots_view, value_view};
+ghost use Rattle.toml_edit_tree.specs.Containers.{array_node, inline_node, table_node, tables_node};
+ghost use Rattle.toml_edit_tree.specs.View.{array_view, inline_view, item_view, items_view, slots_view, table_view, tables_view, value_view};
 ghost use Rattle.toml_edit_model.specs.OwnedForm.{ItemsFit, NodeFits, SlotsFit, owned_items, owned_node, owned_slots};
 
 use crate::array::Array;
+use crate::array_of_tables::ArrayOfTables;
 use crate::inline_table::InlineTable;
 use crate::item::Item;
+use crate::table::Table;
 use crate::value::Value;
 use std::alloc::Global;
 use toml_edit_repr::Mem;
@@ -22,6 +24,8 @@ pub(crate) fn despan_item(item: &mut Item, alloc: Global, source: &str) -> Mem<(
     match item {
         Item::None => Ok(()),
         Item::Value(value) => despan_value(value, alloc, source),
+        Item::Table(table) => despan_table(table, alloc, source),
+        Item::ArrayOfTables(tables) => despan_tables(tables, alloc, source),
     }
 }
 
@@ -69,6 +73,29 @@ fn despan_inline(table: &mut InlineTable, alloc: Global, source: &str) -> Mem<()
 }
 
 #[cycle(despan)]
+pub(crate) fn despan_table(table: &mut Table, alloc: Global, source: &str) -> Mem<()>
+    requires fits { NodeFits source.now (table_node (table_view table.old)) }
+    requires spelled { ∥ IsWellMade (owned_node source.now (table_node (table_view table.old))) ∥₁ }
+    ensures { OnOk result (table_node (table_view table.new) ≡ owned_node source.now (table_node (table_view table.old))) }
+{
+    despan_slots(&mut table.slots, alloc, source)?;
+    table.decor.despan(alloc, source)?;
+    table.span = None;
+    Ok(())
+}
+
+#[cycle(despan)]
+fn despan_tables(tables: &mut ArrayOfTables, alloc: Global, source: &str) -> Mem<()>
+    requires fits { NodeFits source.now (tables_node (tables_view tables.old)) }
+    requires spelled { ∥ IsWellMade (owned_node source.now (tables_node (tables_view tables.old))) ∥₁ }
+    ensures { OnOk result (tables_node (tables_view tables.new) ≡ owned_node source.now (tables_node (tables_view tables.old))) }
+{
+    despan_items(&mut tables.values, alloc, source)?;
+    tables.span = None;
+    Ok(())
+}
+
+#[cycle(despan)]
 fn despan_items(items: &mut Vec<Item>, alloc: Global, source: &str) -> Mem<()>
     requires fits { ItemsFit source.now (items_view items.old.items) }
     requires spelled { ∥ ItemsAreWellMade (owned_items source.now (items_view items.old.items)) ∥₁ }
@@ -81,7 +108,7 @@ fn despan_items(items: &mut Vec<Item>, alloc: Global, source: &str) -> Mem<()>
 }
 
 #[cycle(despan)]
-pub(crate) fn despan_slots(slots: &mut Slots<Item>, alloc: Global, source: &str) -> Mem<()>
+fn despan_slots(slots: &mut Slots<Item>, alloc: Global, source: &str) -> Mem<()>
     requires fits { SlotsFit source.now (slots_view slots.old) }
     requires spelled { ∥ SlotsAreWellMade (owned_slots source.now (slots_view slots.old)) ∥₁ }
     ensures { OnOk result (slots_view slots.new ≡ owned_slots source.now (slots_view slots.old)) }

@@ -24,7 +24,7 @@ use toml_edit_repr::{Decor, spelling_text, write_raw, write_scalar, write_side};
 use toml_edit_slots::Slots;
 use toml_edit_token::write_key;
 
-/// The keys of the dotted inline tables around a slot, from the outermost in.
+/// The keys of the dotted tables around a slot, from the outermost in.
 #[derive(Clone, Copy)]
 enum Path<'p, 'k> {
     /// No keys.
@@ -62,7 +62,7 @@ fn write_lines<'p, 'a, W: Write>(
     Ok(())
 }
 
-/// The lines of a slot: none of a placeholder, those in a dotted inline table, and one of any other value.
+/// The lines of a slot of an inline table: those in a table, and those of a value.
 #[cycle(lines)]
 fn write_item_lines<'p, 'a, W: Write>(
     f: &mut Formatter<W>,
@@ -74,11 +74,13 @@ fn write_item_lines<'p, 'a, W: Write>(
         (lines_text (lines_of_item (item_view item.now) (keys_on path.now ++ (key.now ∷ [])))) f.new }
 {
     match item {
-        Item::None => Ok(()),
         Item::Value(value) => write_value_lines(f, value, key, path),
+        Item::Table(table) => write_lines(f, &table.slots, &Path::Under(path, key)),
+        Item::None | Item::ArrayOfTables(_) => Ok(()),
     }
 }
 
+/// The lines of a value: those in a dotted inline table, and one of any other value.
 #[cycle(lines)]
 fn write_value_lines<'p, 'a, W: Write>(
     f: &mut Formatter<W>,
@@ -282,7 +284,7 @@ fn write_pairs<'p, 'a, W: Write>(
     Ok(last)
 }
 
-/// The pairs of a slot: none of a placeholder, those in a dotted inline table, and one of any other value.
+/// The pairs of a slot: those in a table, and those of a value.
 #[cycle(print)]
 fn write_item_pairs<'p, 'a, W: Write>(
     f: &mut Formatter<W>,
@@ -297,11 +299,13 @@ fn write_item_pairs<'p, 'a, W: Write>(
         (pairs_shown (option_copied before.entry) (lines_of_item (item_view item.now) (keys_on path.now ++ (key.now ∷ [])))) f.new }
 {
     match item {
-        Item::None => Ok(before),
         Item::Value(value) => write_value_pairs(f, value, key, path, before),
+        Item::Table(table) => write_pairs(f, &table.slots, &Path::Under(path, key), before),
+        Item::None | Item::ArrayOfTables(_) => Ok(before),
     }
 }
 
+/// The pairs of a value: those in a dotted inline table, and one of any other value.
 #[cycle(print)]
 fn write_value_pairs<'p, 'a, W: Write>(
     f: &mut Formatter<W>,

@@ -1,15 +1,19 @@
 //! What the slots of a table hold.
-ghost use Rattle.std.specs.Prelude.{◌≡◌, ◌↔◌, IfOk, IsTrue, option_map};
+ghost use Rattle.std.specs.Prelude.{◌≡◌, ◌↔◌, IfOk, IsTrue, is_some, option_map};
+ghost use Rattle.std.specs.Borrow.{sem};
 ghost use Rattle.toml_edit_model.specs.Tree.{nothing, is_value_node};
 ghost use Rattle.toml_edit_model.specs.Conversions.{with_decor};
-ghost use Rattle.toml_edit_tree.specs.Casts.{both_sides};
-ghost use Rattle.toml_edit_tree.specs.Containers.{value_in};
-ghost use Rattle.toml_edit_tree.specs.View.{item_view, value_view};
+ghost use Rattle.toml_edit_tree.specs.Casts.{both_sides, type_of};
+ghost use Rattle.toml_edit_tree.specs.ContainerParts.{LendsTable, LendsTables};
+ghost use Rattle.toml_edit_tree.specs.Containers.{table_in, table_node, tables_in, tables_node, value_in};
+ghost use Rattle.toml_edit_tree.specs.View.{item_view, table_view, tables_view, value_view};
 
+use crate::array_of_tables::ArrayOfTables;
 use crate::copy::copy_item;
+use crate::table::Table;
 use crate::value::Value;
 use std::alloc::Global;
-use toml_edit_repr::{Decor, Mem, RawString};
+use toml_edit_repr::{Mem, RawString};
 
 /// What stands under a key, or in an array.
 #[cycle(tree)]
@@ -19,9 +23,25 @@ pub enum Item {
     None,
     /// A value.
     Value(Value),
+    /// A table.
+    Table(Table),
+    /// An array of tables.
+    ArrayOfTables(ArrayOfTables),
 }
 
 impl Item {
+    /// The name of its type in TOML's words, as error messages have it.
+    pub fn type_name(&self) -> &'static str
+        ensures { result.now ≡ type_of (item_view self.now) }
+    {
+        match self {
+            Item::None => "none",
+            Item::Value(value) => value.type_name(),
+            Item::Table(_) => "table",
+            Item::ArrayOfTables(_) => "array of tables",
+        }
+    }
+
     /// Whether it is a placeholder.
     pub fn is_none(&self) -> bool
         ensures { IsTrue result ↔ (item_view self.now ≡ nothing) }
@@ -34,8 +54,8 @@ impl Item {
         ensures { option_map (λ v. value_view v.now) result ≡ value_in (item_view self.now) }
     {
         match self {
-            Item::None => None,
             Item::Value(value) => Some(value),
+            _ => None,
         }
     }
 
@@ -46,13 +66,69 @@ impl Item {
         self.as_value().is_some()
     }
 
+    /// The table, if it is one.
+    pub fn as_table(&self) -> Option<&Table>
+        ensures { option_map (λ t. table_view t.now) result ≡ table_in (item_view self.now) }
+    {
+        match self {
+            Item::Table(table) => Some(table),
+            _ => None,
+        }
+    }
+
+    /// The table, to be changed, if it is one.
+    pub fn as_table_mut(&mut self) -> Option<&mut Table>
+        ensures* writes_back { sem 𝓛 (LendsTable self.entry result) }
+        ensures table { option_map (λ t. table_view t.now) result ≡ table_in (item_view self.old) }
+    {
+        match self {
+            Item::Table(lent) => Some(lent),
+            _ => None,
+        }
+    }
+
+    /// Whether it is a table.
+    pub fn is_table(&self) -> bool
+        ensures { result ≡ is_some (table_in (item_view self.now)) }
+    {
+        self.as_table().is_some()
+    }
+
+    /// The array of tables, if it is one.
+    pub fn as_array_of_tables(&self) -> Option<&ArrayOfTables>
+        ensures { option_map (λ a. tables_view a.now) result ≡ tables_in (item_view self.now) }
+    {
+        match self {
+            Item::ArrayOfTables(tables) => Some(tables),
+            _ => None,
+        }
+    }
+
+    /// The array of tables, to be changed, if it is one.
+    pub fn as_array_of_tables_mut(&mut self) -> Option<&mut ArrayOfTables>
+        ensures* writes_back { sem 𝓛 (LendsTables self.entry result) }
+        ensures tables { option_map (λ a. tables_view a.now) result ≡ tables_in (item_view self.old) }
+    {
+        match self {
+            Item::ArrayOfTables(lent) => Some(lent),
+            _ => None,
+        }
+    }
+
+    /// Whether it is an array of tables.
+    pub fn is_array_of_tables(&self) -> bool
+        ensures { result ≡ is_some (tables_in (item_view self.now)) }
+    {
+        self.as_array_of_tables().is_some()
+    }
+
     /// Puts these texts around its value, if it is one.
     #[doc(hidden)]
     pub fn decorate(&mut self, prefix: RawString, suffix: RawString)
         ensures { item_view self.new ≡ with_decor (both_sides prefix suffix) (item_view self.old) }
     {
         if let Item::Value(value) = self {
-            *value.decor_mut() = Decor::new(prefix, suffix);
+            value.surround(prefix, suffix);
         }
     }
 
@@ -61,5 +137,29 @@ impl Item {
         ensures { IfOk result (λ copy. item_view copy ≡ item_view self.now) }
     {
         copy_item(self, alloc)
+    }
+}
+
+impl From<Value> for Item {
+    ghost from_gives = { λ value x. item_view x ≡ value_view value };
+
+    fn from(value: Value) -> Item {
+        Item::Value(value)
+    }
+}
+
+impl From<Table> for Item {
+    ghost from_gives = { λ table x. item_view x ≡ table_node (table_view table) };
+
+    fn from(table: Table) -> Item {
+        Item::Table(table)
+    }
+}
+
+impl From<ArrayOfTables> for Item {
+    ghost from_gives = { λ array x. item_view x ≡ tables_node (tables_view array) };
+
+    fn from(array: ArrayOfTables) -> Item {
+        Item::ArrayOfTables(array)
     }
 }

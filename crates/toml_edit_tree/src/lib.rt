@@ -2,6 +2,7 @@
 #![tactic(auto)]
 
 pub mod array;
+pub mod array_of_tables;
 mod copy;
 mod despan;
 mod encode;
@@ -11,6 +12,7 @@ pub mod table;
 pub mod value;
 
 pub use array::{Array, ArrayIter};
+pub use array_of_tables::{ArrayOfTables, ArrayOfTablesIter};
 #[doc(hidden)]
 pub use encode::write_root;
 pub use inline_table::{InlineTable, InlineTableIter};

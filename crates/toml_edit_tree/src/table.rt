@@ -1,20 +1,26 @@
 //! Tables.
-ghost use Rattle.std.specs.Prelude.{◌≡◌, ◌<◌, OnOk, option_map};
+ghost use Rattle.std.specs.Prelude.{◌≡◌, ◌<◌, List, None, Some, IfOk, OnOk, option_map};
+ghost use Rattle.std.specs.Borrow.{sem};
 ghost use Rattle.std.specs.Iterator.{YieldsFirstBy, item_count};
 ghost use Rattle.toml_edit_model.specs.Tree.{SlotsAreWellMade};
-ghost use Rattle.toml_edit_model.specs.TreeOf.{root_fields, spanned_form};
+ghost use Rattle.toml_edit_model.specs.TreeOf.{made_by_path, root_fields, spanned_form};
+ghost use Rattle.toml_edit_tree.specs.ContainerParts.{LendsTableDecor, LendsTableSlots, table_holding};
+ghost use Rattle.toml_edit_tree.specs.Containers.{range_in, headed, table_with_dotted, table_with_implicit, table_with_position};
 ghost use Rattle.toml_edit_tree.specs.Held.{held, held_left, held_at, pair_read};
-ghost use Rattle.toml_edit_tree.specs.View.{item_view, slots_view, table_slots, fields_view};
+ghost use Rattle.toml_edit_tree.specs.View.{item_view, slots_view, table_slots, table_view, fields_view};
 ghost use Rattle.toml_edit_model.specs.OwnedForm.{DecorFits, SlotsFit, owned_slots, owned_fields};
 
-use crate::despan::despan_slots;
+use crate::copy::copy_table;
+use crate::despan::despan_table;
 use crate::item::Item;
 use std::alloc::Global;
+use std::ops::Range;
 use std::slice;
 use toml_edit_repr::{Decor, Mem};
 use toml_edit_slots::{Slot, Slots};
 
-/// A table: its slots in order, and what is kept of its header.
+/// A table: its slots in order, and what is kept of its header (TOML, "Table"). A slot may be a placeholder, which isn't printed.
+#[cycle(tree)]
 #[derive(Debug, Drop)]
 pub struct Table {
     pub(crate) slots: Slots<Item>,
@@ -42,6 +48,72 @@ impl Table {
         }
     }
 
+    /// The table of these slots that was read below a key of a path, which stands from the byte `start` of the source up to `end`: of a
+    /// dotted key, or of a header's key before the last.
+    #[doc(hidden)]
+    pub fn passed(slots: Slots<Item>, dotted: bool, start: usize, end: usize) -> Table
+        ensures { table_view result ≡ record { fields = made_by_path spanned_form dotted (Some (start, end)); slots = slots_view slots } }
+    {
+        Table {
+            slots,
+            decor: Decor::default(),
+            implicit: true,
+            dotted,
+            position: None,
+            span: Some((start, end)),
+        }
+    }
+
+    /// The table of these slots that was read with its header, the one of this number in the source, whose brackets stand from the byte
+    /// `start` up to `end`.
+    #[doc(hidden)]
+    pub fn headed(
+        slots: Slots<Item>,
+        decor: Decor,
+        position: isize,
+        start: usize,
+        end: usize,
+    ) -> Table
+        ensures { table_view result ≡ record { fields = headed decor position start end; slots = slots_view slots } }
+    {
+        Table {
+            slots,
+            decor,
+            implicit: false,
+            dotted: false,
+            position: Some(position),
+            span: Some((start, end)),
+        }
+    }
+
+    /// The slots.
+    #[doc(hidden)]
+    pub fn slots(&self) -> &Slots<Item>
+        ensures { slots_view result.now ≡ table_slots self.now }
+    {
+        &self.slots
+    }
+
+    /// The slots, to be changed.
+    #[doc(hidden)]
+    pub fn slots_mut(&mut self) -> &mut Slots<Item>
+        ensures* writes_back { sem 𝓛 (LendsTableSlots self.entry result) }
+        ensures slots { slots_view result.now ≡ table_slots self.old }
+        // Other slots are seen as such, and nothing else is.
+        ensures others { (slots : List (Slot Item)) → table_view (table_holding slots self.old)
+            ≡ record { fields = fields_view self.old; slots = slots_view slots } }
+    {
+        &mut self.slots
+    }
+
+    /// The slots, and nothing else of the table.
+    #[doc(hidden)]
+    pub fn into_slots(self) -> Slots<Item>
+        ensures { slots_view result ≡ table_slots self }
+    {
+        self.slots
+    }
+
     /// Turns spans of `source` into the texts that stand there. The only error is want of memory, and then spans may be left: the
     /// document is to be given up.
     #[doc(hidden)]
@@ -52,10 +124,50 @@ impl Table {
         ensures fields { OnOk result (fields_view self.new ≡ owned_fields source.now (fields_view self.old)) }
         ensures slots { OnOk result (table_slots self.new ≡ owned_slots source.now (table_slots self.old)) }
     {
-        despan_slots(&mut self.slots, alloc, source)?;
-        self.decor.despan(alloc, source)?;
-        self.span = None;
-        Ok(())
+        despan_table(self, alloc, source)
+    }
+
+    /// Whether it stands there only for the tables below it (TOML, "Table", on super-tables): it has no header where it has no lines.
+    pub fn is_implicit(&self) -> bool
+        ensures { result ≡ (fields_view self.now).is_implicit }
+    {
+        self.implicit
+    }
+
+    /// Says whether it stands there only for the tables below it.
+    pub fn set_implicit(&mut self, implicit: bool)
+        ensures { table_view self.new ≡ table_with_implicit implicit (table_view self.old) }
+    {
+        self.implicit = implicit;
+    }
+
+    /// Whether it stands for a dotted key (TOML, "Keys"): it has no header, and its lines are printed among those of the table around
+    /// it, after its key and a dot.
+    pub fn is_dotted(&self) -> bool
+        ensures { result ≡ (fields_view self.now).is_dotted }
+    {
+        self.dotted
+    }
+
+    /// Says whether it stands for a dotted key.
+    pub fn set_dotted(&mut self, dotted: bool)
+        ensures { table_view self.new ≡ table_with_dotted dotted (table_view self.old) }
+    {
+        self.dotted = dotted;
+    }
+
+    /// Its place among the headers of the document, where it was given one. Headers are printed by ascending position.
+    pub fn position(&self) -> Option<isize>
+        ensures { result ≡ (fields_view self.now).position }
+    {
+        self.position
+    }
+
+    /// Gives it a place among the headers, or takes it away. A table without one is printed behind the one before it in the tree.
+    pub fn set_position(&mut self, position: Option<isize>)
+        ensures { table_view self.new ≡ table_with_position position (table_view self.old) }
+    {
+        self.position = position;
     }
 
     /// What stands around its header; of a root, around the lines before the first header.
@@ -63,6 +175,23 @@ impl Table {
         ensures { result.now ≡ (fields_view self.now).decor }
     {
         &self.decor
+    }
+
+    /// What stands around its header, to be changed.
+    pub fn decor_mut(&mut self) -> &mut Decor
+        ensures* writes_back { sem 𝓛 (LendsTableDecor self.entry result) }
+        ensures decor { result.now ≡ (fields_view self.old).decor }
+    {
+        &mut self.decor
+    }
+
+    /// The bytes of the source from the opening bracket of its header to the closing one, if it was read and still is over its source. A
+    /// table without a header has the place of its key.
+    pub fn span(&self) -> Option<Range<usize>>
+        ensures { result ≡ range_in (fields_view self.now).extent }
+    {
+        let (start, end) = self.span?;
+        Some(start..end)
     }
 
     /// The item under the key, which is no placeholder.
@@ -80,6 +209,13 @@ impl Table {
         Iter {
             slots: self.slots.as_slice().iter(),
         }
+    }
+
+    /// An equal copy. The only error is want of memory.
+    pub fn clone(&self, alloc: Global) -> Mem<Table>
+        ensures { IfOk result (λ copy. table_view copy ≡ table_view self.now) }
+    {
+        copy_table(self, alloc)
     }
 }
 

@@ -270,6 +270,13 @@ impl Value {
         }
     }
 
+    /// Puts these texts around it.
+    pub(crate) fn surround(&mut self, prefix: RawString, suffix: RawString)
+        ensures { value_view self.new ≡ with_decor (both_sides prefix suffix) (value_view self.old) }
+    {
+        *self.decor_mut() = Decor::new(prefix, suffix);
+    }
+
     /// The value with these texts around it.
     pub fn decorated(self, prefix: RawString, suffix: RawString) -> Value
         ensures { value_view result ≡ with_decor (both_sides prefix suffix) (value_view self) }
