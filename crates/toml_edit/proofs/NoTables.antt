@@ -1,54 +1,59 @@
--- No slot of a document holds a table.
-use Rattle.std.proofs.Common.{◌≡◌, Bool, true, false, List, [], ◌∷◌, ap, ◌∙◌, rules}
-use Rattle.toml_edit_model.specs.Tree.{Node, nothing, leaf, list, inline, table, tables}
-use Rattle.toml_edit_slots.specs.declared.slots.Slot.{Slot}
-use Rattle.toml_edit_tree.specs.declared.array.Array.{Array}
-use Rattle.toml_edit_tree.specs.declared.inline_table.InlineTable.{InlineTable}
-use Rattle.toml_edit_tree.specs.declared.item.Item.{Item, out-Item, the_lemmas}
-use Rattle.toml_edit_tree.specs.declared.item.Item.TheOpen.{Item-F, Value-F}
-use Rattle.toml_edit_tree.specs.declared.item.Item.TheViews.{roll-Item, roll-Value}
-use Rattle.toml_edit_tree.specs.declared.value.Value.{Value, out-Value}
-use Rattle.toml_edit_tree.specs.View.{item_view, slots_view, value_view}
+-- No slot of a document that was read holds a table, and none does in owned form.
+use Rattle.std.proofs.Common.{◌≡◌, ℕ, Bool, true, false, List, [], ◌∷◌, refl, sym, ap, ◌∙◌}
+use Rattle.std.specs.Prelude.{not, ◌&&◌}
+use Rattle.toml_edit_model.specs.Text.{Text}
+use Rattle.toml_edit_model.specs.Syntax.{Value, scalar, array, inline_table}
+use Rattle.toml_edit_model.specs.Flat.{Line}
+use Rattle.toml_edit_model.specs.Tree.{Node, nothing, leaf, list, inline, table, tables, Slots, no_slots, slot}
+use Rattle.toml_edit_model.specs.TreeOf.{spanned_form, IsValueNode}
+use Rattle.toml_edit_model.specs.OwnedForm.{owned_node, owned_slots}
+use Rattle.toml_edit_laws.specs.FlatTree.{AreLineSlots, next_line}
+use Rattle.toml_edit.specs.NoTables.{has_no_tables, is_table_node}
 use Rattle.toml_edit.proofs.PrintingLaws.{HasNoTable, HaveNoTables}
 
--- a table, or an array of tables
-abbrev is_table : Node → Bool
-is_table (table f ss) = true
-is_table (tables e xs) = true
-is_table (leaf s spelling d) = false
-is_table (list f xs) = false
-is_table (inline f ss) = false
-is_table nothing = false
+-- ---- what is read
 
-of_value-open : (o : Value-F Item Value Array InlineTable) → is_table (value_view (roll-Value o)) ≡ false
-of_value-open (Value-F.String f) = search (rules, the_lemmas)
-of_value-open (Value-F.Integer f) = search (rules, the_lemmas)
-of_value-open (Value-F.Float f) = search (rules, the_lemmas)
-of_value-open (Value-F.Boolean f) = search (rules, the_lemmas)
-of_value-open (Value-F.Datetime f) = search (rules, the_lemmas)
-of_value-open (Value-F.Array a) = search (rules, the_lemmas)
-of_value-open (Value-F.InlineTable t) = search (rules, the_lemmas)
+value-node : (v : Value) (i : ℕ) (before after : Text) (n : Node) → IsValueNode spanned_form v i before after n → is_table_node n ≡ false
+value-node v i before after nothing h = refl
+value-node v i before after (leaf s spelling d) h = refl
+value-node v i before after (list f xs) h = refl
+value-node v i before after (inline f ss) h = refl
+value-node (scalar s t) i before after (table f ss) h = absurd h
+value-node (array es comma t) i before after (table f ss) h = absurd h
+value-node (inline_table ps comma t) i before after (table f ss) h = absurd h
+value-node (scalar s t) i before after (tables e xs) h = absurd h
+value-node (array es comma t) i before after (tables e xs) h = absurd h
+value-node (inline_table ps comma t) i before after (tables e xs) h = absurd h
 
-rolled : (v : Value) → v ≡ roll-Value (out-Value v)
-rolled v = search (rules, the_lemmas)
+pub lines-without : (start : ℕ) (ls : List Line) (ss : Slots) → AreLineSlots spanned_form start ls ss → has_no_tables ss ≡ true
+lines-without start [] no_slots h = refl
+lines-without start [] (slot k n ss) h = absurd h
+lines-without start (l ∷ ls) no_slots h = absurd h
+lines-without start (l ∷ ls) (slot k n ss) h =
+    ap (λ b. not b && has_no_tables ss) (value-node _ _ _ _ n h.1) ∙ lines-without (next_line start l) ls ss h.2
 
-of_value : (v : Value) → is_table (value_view v) ≡ false
-of_value v = ap (λ w. is_table (value_view w)) (rolled v) ∙ of_value-open (out-Value v)
+-- ---- in owned form
 
-item-value : (v : Value) → item_view (roll-Item (Item-F.Value v)) ≡ value_view v
-item-value v = search (rules, the_lemmas)
+owned-kind : (t : Text) (n : Node) → is_table_node (owned_node t n) ≡ is_table_node n
+owned-kind t nothing = refl
+owned-kind t (leaf s spelling d) = refl
+owned-kind t (list f xs) = refl
+owned-kind t (inline f ss) = refl
+owned-kind t (table f ss) = refl
+owned-kind t (tables e xs) = refl
 
-of_item-open : (o : Item-F Item Value Array InlineTable) → is_table (item_view (roll-Item o)) ≡ false
-of_item-open Item-F.None = search (rules, the_lemmas)
-of_item-open (Item-F.Value v) = ap is_table (item-value v) ∙ of_value v
+pub owned-without : (t : Text) (ss : Slots) → has_no_tables (owned_slots t ss) ≡ has_no_tables ss
+owned-without t no_slots = refl
+owned-without t (slot k n ss) =
+    ap (λ b. not b && has_no_tables (owned_slots t ss)) (owned-kind t n) ∙ ap (λ b. not (is_table_node n) && b) (owned-without t ss)
 
-rolled-item : (x : Item) → x ≡ roll-Item (out-Item x)
-rolled-item x = search (rules, the_lemmas)
+-- ---- one by one
 
-of_item : (x : Item) → is_table (item_view x) ≡ false
-of_item x = ap (λ y. is_table (item_view y)) (rolled-item x) ∙ of_item-open (out-Item x)
+split : (a b : Bool) → (not a && b) ≡ true → (a ≡ false) × (b ≡ true)
+split true b h = absurd cc
+split false b h = (refl, h)
 
-no_table : (n : Node) → is_table n ≡ false → HasNoTable n
+no_table : (n : Node) → is_table_node n ≡ false → HasNoTable n
 no_table (table f ss) h = absurd cc
 no_table (tables e xs) h = absurd cc
 no_table (leaf s spelling d) h = tt
@@ -56,6 +61,8 @@ no_table (list f xs) h = tt
 no_table (inline f ss) h = tt
 no_table nothing h = tt
 
-pub no_tables : (es : List (Slot Item)) → HaveNoTables (slots_view es)
-no_tables [] = tt
-no_tables (s ∷ es) = (no_table (item_view s.item) (of_item s.item), no_tables es)
+pub no_tables : (ss : Slots) → has_no_tables ss ≡ true → HaveNoTables ss
+no_tables no_slots h = tt
+no_tables (slot k n ss) h =
+    let both = split (is_table_node n) (has_no_tables ss) h in
+    (no_table n both.0, no_tables ss both.1)

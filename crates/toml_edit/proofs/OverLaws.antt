@@ -1,5 +1,5 @@
 -- What parsing gives is a tree over its text, and a reading of it.
-use Rattle.std.proofs.Common.{◌≡◌, ◌-◌, length, [], sym, ap, subst, ◌∙◌}
+use Rattle.std.proofs.Common.{◌≡◌, ◌-◌, length, [], true, sym, ap, subst, ◌∙◌}
 use Rattle.toml_edit_model.specs.Mode.{plain}
 use Rattle.toml_edit_model.specs.Text.{Text}
 use Rattle.toml_edit_model.specs.Syntax.{Document}
@@ -15,8 +15,10 @@ use Rattle.toml_edit_laws.proofs.read_trees.TreeMade.{tree-made}
 use Rattle.toml_edit_tree.specs.declared.table.Table.{Table}
 use Rattle.toml_edit.specs.Documents.{IsReading}
 use Rattle.toml_edit_parser.specs.Parsed.{IsParsed}
-use Rattle.toml_edit_tree.specs.View.{slots_view, fields_view, tree_view}
+use Rattle.toml_edit_tree.specs.View.{table_slots, fields_view, tree_view}
 use Rattle.toml_edit_model.specs.OwnedForm.{owned_tree, IsOver}
+use Rattle.toml_edit.specs.NoTables.{has_no_tables}
+use Rattle.toml_edit.proofs.NoTables.{lines-without}
 
 -- the tree of these slots and this trailing text
 abbrev pub read_tree : Slots → Raw → Tree
@@ -71,14 +73,14 @@ module _ (t : Text) (slots : Slots) (trailing : Raw) (h : IsParsed t slots trail
 -- ---- a root table of these slots
 
 -- the tree of the root that holds what was parsed
-pub root-tree : (root : Table) (slots : Slots) (trailing : Raw) → fields_view root ≡ root_fields spanned_form → slots_view root.slots ≡ slots
+pub root-tree : (root : Table) (slots : Slots) (trailing : Raw) → fields_view root ≡ root_fields spanned_form → table_slots root ≡ slots
     → read_tree slots trailing ≡ tree_view root trailing
 root-tree root slots trailing fields same =
     sym (ap (λ f. record (tree_view root trailing) { root = f }) fields ∙ ap (λ ss. read_tree ss trailing) same)
 
 -- what was parsed, of a text that is this one
 module _ (t u : Text) (root : Table) (slots : Slots) (trailing : Raw) (same : u ≡ t) (h : IsParsed u slots trailing)
-    (fields : fields_view root ≡ root_fields spanned_form) (held : slots_view root.slots ≡ slots) where
+    (fields : fields_view root ≡ root_fields spanned_form) (held : table_slots root ≡ slots) where
   -- The root's tree is over the text.
   pub root-over : IsOver t (tree_view root trailing)
   root-over = subst (IsOver t) (root-tree root slots trailing fields held) (subst (λ v. IsOver v (read_tree slots trailing)) same (over u slots trailing h))
@@ -87,3 +89,7 @@ module _ (t u : Text) (root : Table) (slots : Slots) (trailing : Raw) (same : u 
   pub root-reading : IsReading t (tree_view root trailing)
   root-reading =
       subst (IsReading t) (root-tree root slots trailing fields held) (subst (λ v. IsReading v (read_tree slots trailing)) same (reading u slots trailing h))
+
+  -- None of its slots holds a table.
+  pub root-flat : has_no_tables (table_slots root) ≡ true
+  root-flat = ap has_no_tables held ∙ lines-without _ h.lines slots h.parsed.slots_are

@@ -1,2 +1,3 @@
 pub mod DocumentView
 pub mod Documents
+pub mod NoTables

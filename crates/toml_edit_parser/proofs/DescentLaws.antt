@@ -1,16 +1,18 @@
 -- What the functions of the descent along a path ask of each other, and where their texts lie.
-use Rattle.std.proofs.Common.{◌≡◌, ◌<◌, ℕ, zero, suc, List, [], ◌∷◌, length, refl, sym, ap, ◌∙◌, subst, arith, true, Option, Some, slice_get}
+use Rattle.std.proofs.Common.{◌≡◌, ◌<◌, ℕ, zero, suc, List, [], ◌∷◌, length, refl, sym, ap, ◌∙◌, subst, arith, rules, true, false, Option, Some, slice_get}
 use Rattle.std.specs.Prelude.{Result, Ok, Err, OnOk}
 use Rattle.std.proofs.lemmas.Option.{same_Some}
 use Rattle.toml_edit_model.specs.Text.{Text}
 use Rattle.toml_edit_model.specs.Spelling.{SpellsKey}
 use Rattle.toml_edit_model.specs.Syntax.{Segment, path_text}
+use Rattle.toml_edit_model.specs.Faults.{duplicate_key}
 use Rattle.toml_edit_model.specs.Paths.{Path, Mention, line_mentions}
-use Rattle.toml_edit_model.specs.Tree.{Raw, Decor, Key, Extent, Node, Slots, leaf, inline}
+use Rattle.toml_edit_model.specs.Roles.{dotted_role}
+use Rattle.toml_edit_model.specs.Tree.{Raw, Decor, Key, Extent, Node, Slots, nothing, leaf, list, inline, table, tables, is_value_node}
 use Rattle.toml_edit_model.specs.Scalars.{Scalar}
 use Rattle.toml_edit_model.specs.TreeOf.{Entry}
 use Rattle.toml_edit_laws.specs.FlatTree.{with_slot}
-use Rattle.toml_edit_laws.specs.InlineTree.{entry_clash, path_fields}
+use Rattle.toml_edit_laws.specs.InlineTree.{entry_clash, path_fields, way_message}
 use Rattle.toml_edit_laws.specs.Standing.{Stands}
 use Rattle.toml_edit_error.specs.Fault.{IfToml}
 use Rattle.toml_edit_error.specs.declared.toml_error.ParseFault.{ParseFault}
@@ -19,10 +21,13 @@ use Rattle.toml_edit_slots.specs.Slots.{items_of, with_item}
 use Rattle.toml_edit_syntax.specs.declared.event.Event.{Event}
 use Rattle.toml_edit_syntax.specs.declared.event.Span.{Span}
 use Rattle.toml_edit_syntax.specs.Events.{IsSpanOf}
+use Rattle.toml_edit_tree.specs.declared.array_of_tables.ArrayOfTables.{ArrayOfTables}
 use Rattle.toml_edit_tree.specs.declared.inline_table.InlineTable.{InlineTable}
-use Rattle.toml_edit_tree.specs.declared.item.Item.{Item}
-use Rattle.toml_edit_tree.specs.declared.item.Item.TheOpen.{Value-F}
-use Rattle.toml_edit_tree.specs.declared.item.Item.TheViews.{roll-Value}
+use Rattle.toml_edit_tree.specs.declared.item.Item.{Item, out-Item, the_lemmas}
+use Rattle.toml_edit_tree.specs.declared.item.Item.TheOpen.{Item-F, Value-F}
+use Rattle.toml_edit_tree.specs.declared.item.Item.TheVariants as items
+use Rattle.toml_edit_tree.specs.declared.item.Item.TheViews.{roll-Item, roll-Value}
+use Rattle.toml_edit_tree.specs.declared.table.Table.{Table}
 use Rattle.toml_edit_tree.specs.declared.value.Value.{Value, out-Value}
 use Rattle.toml_edit_tree.specs.declared.value.Value.TheVariants as values
 use Rattle.toml_edit_tree.specs.declared.array.Array.{Array}
@@ -100,12 +105,6 @@ fits-below t es k extent inner holder new key slots fits held is =
 
 -- ---- the item at a key
 
--- what is said of an item is said of what it is
-pub same-inside : {A : Type 0} (source : Text) (m : Mention Entry) (ms : List (Mention Entry)) (n old new seen left : Node) (result : Result A ParseFault)
-    → AddsInside source m ms n old new result → seen ≡ old → left ≡ new → AddsInside source m ms n seen left result
-same-inside source m ms n old new seen left result h was is =
-    subst (λ (x : Node). AddsInside source m ms n x left result) (sym was) (subst (λ (x : Node). AddsInside source m ms n old x result) (sym is) h)
-
 -- it goes on in the slots of an inline table
 pub went-in : {A : Type 0} (source : Text) (m : Mention Entry) (ms : List (Mention Entry)) (n : Node) (held left : InlineView) (old new : Slots)
     (result : Result A ParseFault) → held.fields.is_dotted ≡ true → old ≡ held.slots → left ≡ record { fields = held.fields; slots = new }
@@ -125,7 +124,7 @@ stops_leaf n s spelling d e = subst Stops (sym e) tt
 stops_list : (n : Node) (a : ArrayView) → n ≡ array_node a → Stops n
 stops_list n a e = subst Stops (sym e) tt
 
-stops_open : (o : Value-F Item Value Array InlineTable) → ((t : InlineTable) → roll-Value o ≡ values.InlineTable t → ⊥) → Stops (value_view (roll-Value o))
+stops_open : (o : Value-F Item Value Array ArrayOfTables InlineTable Table) → ((t : InlineTable) → roll-Value o ≡ values.InlineTable t → ⊥) → Stops (value_view (roll-Value o))
 unfolding roll-Value denote.Hole.Carrier.roll
 stops_open (Value-F.String f) h = stops_leaf _ _ _ _ (view-String f)
 stops_open (Value-F.Integer f) h = stops_leaf _ _ _ _ (view-Integer f)
@@ -138,3 +137,26 @@ stops_open (Value-F.InlineTable t) h = absurd (h t refl)
 -- a value that is no inline table stops a path
 pub stops-other : (v : Value) → ((t : InlineTable) → v ≡ values.InlineTable t → ⊥) → Stops (value_view v)
 stops-other v h = subst (λ (w : Value). Stops (value_view w)) (rolled v) (stops_open (out-Value v) (λ t e. h t (sym (rolled v) ∙ e)))
+
+-- so does an item that is no value, where the key stands already
+pub stops-empty : (n : Node) → is_value_node n ≡ false → Stops n × (duplicate_key ≡ way_message dotted_role n)
+stops-empty nothing h = (tt, refl)
+stops-empty (table f ss) h = (tt, refl)
+stops-empty (tables e xs) h = (tt, refl)
+stops-empty (leaf s spelling d) h = absurd cc
+stops-empty (list f xs) h = absurd cc
+stops-empty (inline f ss) h = absurd cc
+
+stops_item : (o : Item-F Item Value Array ArrayOfTables InlineTable Table) → ((v : Value) → roll-Item o ≡ items.Value v → ⊥)
+    → is_value_node (item_view (roll-Item o)) ≡ false
+stops_item (Item-F.Value v) h = absurd (h v (search (rules, the_lemmas)))
+stops_item Item-F.None h = search (rules, the_lemmas)
+stops_item (Item-F.Table t) h = search (rules, the_lemmas)
+stops_item (Item-F.ArrayOfTables a) h = search (rules, the_lemmas)
+
+rolled-item : (x : Item) → x ≡ roll-Item (out-Item x)
+rolled-item x = search (rules, the_lemmas)
+
+pub no-value : (x : Item) → ((v : Value) → x ≡ items.Value v → ⊥) → is_value_node (item_view x) ≡ false
+no-value x h =
+    ap (λ y. is_value_node (item_view y)) (rolled-item x) ∙ stops_item (out-Item x) (λ v e. h v (rolled-item x ∙ e))

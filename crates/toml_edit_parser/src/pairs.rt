@@ -327,8 +327,8 @@ fn add_inside(
     ensures listed { IfErr result (λ e. IfToml e IsListed) }
 {
     match holder {
-        Item::None => Err(refusal(alloc, source, "duplicate key", key)),
         Item::Value(value) => add_in_value(alloc, source, key, path, item, value),
+        _ => Err(refusal(alloc, source, "duplicate key", key)),
     }
 }
 

@@ -5,19 +5,16 @@ use Rattle.toml_edit_model.specs.Faults.{duplicate_key}
 use Rattle.toml_edit_model.specs.Paths.{line_mentions}
 use Rattle.toml_edit_model.specs.Text.{Text}
 use Rattle.toml_edit_model.specs.Tree.{Key, Slots}
-use Rattle.toml_edit_laws.specs.InlineTree.{way_message}
 use Rattle.toml_edit_slots.specs.declared.slots.Slot as repr
 use Rattle.toml_edit_slots.specs.Slots.{place}
 use Rattle.toml_edit_tree.specs.declared.item.Item.{Item, the_lemmas}
 use Rattle.toml_edit_tree.specs.Containers.{inline_node}
 use Rattle.toml_edit_tree.specs.View.{inline_view, item_view, slots_view, value_view}
-use Rattle.toml_edit_parser.proofs.DescentLaws.{below-refused, dot_in, fits-below, fits-found, fits-in, fits-put, name-refused, on_ok, same-inside, stops-other, went-in}
-use Rattle.toml_edit_parser.proofs.EntryLaws.{below-added, inside-added, last-added, some-key, stopped, Stops}
+use Rattle.toml_edit_parser.proofs.DescentLaws.{below-refused, dot_in, fits-below, fits-found, fits-in, fits-put, name-refused, no-value, on_ok, stops-empty, stops-other, went-in}
+use Rattle.toml_edit_parser.proofs.EntryLaws.{below-added, inside-added, last-added, some-key, stopped}
 use Rattle.toml_edit_parser.proofs.SplitLaws.{first_in}
-use Rattle.toml_edit_parser.proofs.ViewLaws.{view-None, view-Value}
 use Rattle.toml_edit_parser.proofs.ListedLaws.{listed_fault, listed_syntax}
 use Rattle.toml_edit_parser.proofs.pairs.+add.Goals as goal
-use Rattle.toml_edit_model.specs.Roles.{dotted_role}
 use Rattle.toml_edit_model.specs.OwnedForm.{SlotsFit}
 
 pub add_entry-returns-in_default-clause-entry : goal.add_entry-returns-in_default-clause-entry
@@ -157,25 +154,24 @@ add_in_value-returns-in_default-clause-entry t c =
     stopped c.args.source.now c.args.key m (line_mentions e start above p) (value_view c.args.holder.now) c.extend_message-message.result.now c.refusal.result passed
     (stops-other c.args.holder.now c.in_default.not-InlineTable) c.extend_message-message.ensures.message c.refusal.ensures
 
-pub add_inside-returns-in-None-clause-entry : goal.add_inside-returns-in-None-clause-entry
-add_inside-returns-in-None-clause-entry t c =
+pub add_inside-returns-in_default-clause-entry : goal.add_inside-returns-in_default-clause-entry
+add_inside-returns-in_default-clause-entry t c =
     λ m e p start above passed are stands at.
-    let is = ap item_view c.in-None.is ∙ view-None in
-    stopped c.args.source.now c.args.key m (line_mentions e start above p) (item_view c.args.holder.now) duplicate_key c.refusal.result passed
-    (subst Stops (sym is) tt) (sym (ap (way_message dotted_role) is)) c.refusal.ensures
+    let n = item_view c.args.holder.now in
+    let stops = stops-empty n (no-value c.args.holder.now c.in_default.not-Value) in
+    stopped c.args.source.now c.args.key m (line_mentions e start above p) n duplicate_key c.refusal.result passed stops.0 stops.1 c.refusal.ensures
 
 pub add_inside-returns-in-Value-clause-entry : goal.add_inside-returns-in-Value-clause-entry
 add_inside-returns-in-Value-clause-entry t c =
     λ m e p start above passed are stands at.
-    same-inside c.args.source.now m (line_mentions e start above p) (item_view c.args.item.now) _ _ _ _ c.add_in_value.result
-    (c.add_in_value.ensures.entry m e p start above passed are stands at)
-    (ap item_view c.in-Value.is ∙ view-Value c.in-Value.value) (view-Value c.add_in_value.new.holder)
+    let told = c.add_in_value.ensures.entry m e p start above passed are stands at in
+    search (rules, the_lemmas)
 
 pub add_entry-returns-in_default-clause-listed : goal.add_entry-returns-in_default-clause-listed
 add_entry-returns-in_default-clause-listed t c = listed_syntax _ _ _ c.refusal_at_end.result (1, lit< tt, refl) c.refusal_at_end.ensures
 
-pub add_inside-returns-in-None-clause-listed : goal.add_inside-returns-in-None-clause-listed
-add_inside-returns-in-None-clause-listed t c = listed_fault _ _ _ c.refusal.result (0, lit< tt, refl) c.refusal.ensures
+pub add_inside-returns-in_default-clause-listed : goal.add_inside-returns-in_default-clause-listed
+add_inside-returns-in_default-clause-listed t c = listed_fault _ _ _ c.refusal.result (0, lit< tt, refl) c.refusal.ensures
 
 pub add_in_value-returns-in_default-clause-listed : goal.add_in_value-returns-in_default-clause-listed
 add_in_value-returns-in_default-clause-listed t c = listed_fault _ _ _ c.refusal.result c.extend_message-message.ensures.listed c.refusal.ensures

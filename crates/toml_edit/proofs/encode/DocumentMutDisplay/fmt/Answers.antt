@@ -23,5 +23,5 @@ returns-clause-writes g c all ok =
     let suffix : shown_side plain [] (option_copied c.suffix.result) ≡ shown_suffix plain [] (fields_view d.root).decor = ap (shown_side plain []) (c.suffix.ensures ∙ ap (λ (x : Decor). x.suffix) c.decor-2.ensures) in
     has_written_of_eq _ _ _ _ _
     (rw (prefix, suffix) (in_four (shown_prefix plain [] (fields_view d.root).decor) (if (fields_view d.root).is_dotted then [] else lines_text (inside_lines plain (table_slots d.root) [])) (shown_suffix plain [] (fields_view d.root).decor) (shown_raw plain d.trailing))
-    ∙ sym (print-parts (tree_owned d) (no_tables d.root.slots)))
+    ∙ sym (print-parts (tree_owned d) (no_tables (table_slots d.root) d.flat)))
     (has_written_append _ _ _ _ _ _ (has_written_append _ _ _ _ _ _ (has_written_append _ _ _ _ _ _ one two) three) four)
