@@ -1,7 +1,8 @@
 -- What a text is refused with that is not in the grammar, and which messages there are.
 use Rattle.std.specs.Prelude.{List, [], ◌∷◌, ◌++◌, map, codes, Contains, IsSome}
 use Rattle.toml_edit_model.specs.Text.{Text}
-use Rattle.toml_edit_model.specs.Faults.{Fault, duplicate_key, cannot_extend, recursion_limit}
+use Rattle.toml_edit_model.specs.Faults.{Fault, duplicate_key, cannot_extend, recursion_limit, needs_message}
+use Rattle.toml_edit_model.specs.Version.{Version, v1_0, v1_1}
 
 -- the messages for a text that is not in the grammar
 abbrev pub syntax_messages : List Text
@@ -26,3 +27,8 @@ abbrev pub fault_messages : List Text
 fault_messages =
     (duplicate_key ∷ codes "integer number overflowed" ∷ codes "invalid date-time" ∷ recursion_limit ∷ [])
     ++ map cannot_extend type_names
+
+-- the same in a version of the grammar
+abbrev pub fault_messages_in : Version → List Text
+fault_messages_in v1_0 = needs_message ∷ fault_messages
+fault_messages_in v1_1 = fault_messages

@@ -5,7 +5,7 @@ use Rattle.toml_edit_model.specs.Text.{Text, one}
 use Rattle.toml_edit_model.specs.Syntax.{mark_text, document_text}
 use Rattle.toml_edit_model.specs.Paths.{placed}
 use Rattle.toml_edit_model.specs.Faults.{Fault}
-use Rattle.toml_edit_model.specs.Flat.{Line, line_frame, line_statement, flat_document}
+use Rattle.toml_edit_model.specs.Flat.{FlatLine, line_frame, line_statement, flat_document}
 use Rattle.toml_edit_model.specs.Tree.{Slots, no_slots}
 use Rattle.toml_edit_model.specs.TreeOf.{spanned_form}
 use Rattle.toml_edit_laws.specs.FlatTree.{are_right, line_text, lines_text, value_at, value_end, next_line, end_of, IsSpelledLine, AreLineSlots}
@@ -29,19 +29,19 @@ use Rattle.toml_edit_parser.specs.Split.{split_line}
 use Rattle.toml_edit_parser.specs.ValueRead.{AreIn}
 
 -- the events of the lines that are left, from this byte on, and of what follows them
-abbrev pub events_left : Text → ℕ → List Line → Text → List Event
+abbrev pub events_left : Text → ℕ → List FlatLine → Text → List Event
 events_left source end left final = events_from end (map line_statement left) ++ event Final (length source - length final) final ∷ []
 
 -- some lines are done, and the events of the others are left
-pub record Progress (source : Text) (m : Bool) (lines : List Line) (final : Text) (rest : List Event) (slots : Slots) : Type 0 where
-  pub done : List Line
-  pub left : List Line
+pub record Progress (source : Text) (m : Bool) (lines : List FlatLine) (final : Text) (rest : List Event) (slots : Slots) : Type 0 where
+  pub done : List FlatLine
+  pub left : List FlatLine
   pub all : lines ≡ done ++ left
   pub right : are_right [] done ≡ true
   pub slots_are : AreLineSlots spanned_form (length (mark_text m)) done slots
   pub rest_is : rest ≡ shortened 0 (events_left source (end_of m done) left final)
 
-pub at_start : (source : Text) (m : Bool) (lines : List Line) (final : Text) (es : List Event) → AreEventsIn source m lines final es → Progress source m lines final es no_slots
+pub at_start : (source : Text) (m : Bool) (lines : List FlatLine) (final : Text) (es : List Event) → AreEventsIn source m lines final es → Progress source m lines final es no_slots
 at_start source m lines final es h =
     let none : length (mark_text m) ≡ length (mark_text m) + 0 = omega arith in
     record {
@@ -56,7 +56,7 @@ at_start source m lines final es h =
     }
 
 -- the events of a line come first
-line_first : (start : ℕ) (l : Line) (after : List Event)
+line_first : (start : ℕ) (l : FlatLine) (after : List Event)
     → split_line (shortened 0 (line_events start (line_frame l) l.value ++ after)) ≡ Some (line_spans start l, shortened 0 (from_value start l after))
 line_first start l after =
     let here : start + length l.leading + 0 ≡ start + length l.leading = omega arith in
@@ -64,7 +64,7 @@ line_first start l after =
     (ap (λ es. Some (line_spans start l, shortened 0 es))
     (append_assoc (value_events (value_at start l) l.value) (event LineEnd (value_end start l) l.trailing ∷ []) after))
 
-pub first_line : (start : ℕ) (l : Line) (more : List Line) (after : List Event)
+pub first_line : (start : ℕ) (l : FlatLine) (more : List FlatLine) (after : List Event)
     → split_line (shortened 0 (events_from start (map line_statement (l ∷ more)) ++ after))
     ≡ Some (line_spans start l, shortened 0 (from_value start l (events_from (next_line start l) (map line_statement more) ++ after)))
 first_line start l more after =
@@ -93,10 +93,10 @@ spans_split t (a ∷ b ∷ c ∷ d ∷ rest) line tail e h =
 -- ---- the next line
 
 -- the next line, with what stands before and after it
-pub record Next (source : Text) (m : Bool) (lines : List Line) (final : Text) (line : LineSpans) (tail : List Event) (slots : Slots) : Type 0 where
-  pub done : List Line
-  pub own : Line
-  pub more : List Line
+pub record Next (source : Text) (m : Bool) (lines : List FlatLine) (final : Text) (line : LineSpans) (tail : List Event) (slots : Slots) : Type 0 where
+  pub done : List FlatLine
+  pub own : FlatLine
+  pub more : List FlatLine
   pub all : lines ≡ done ++ (own ∷ more)
   pub right : are_right [] done ≡ true
   pub slots_are : AreLineSlots spanned_form (length (mark_text m)) done slots
@@ -105,12 +105,12 @@ pub record Next (source : Text) (m : Bool) (lines : List Line) (final : Text) (l
   pub spelled : IsSpelledLine own
   pub stands : Stands source (end_of m done) (line_text own)
 
-all-at : (P : Line → Type 0) (xs : List Line) (y : Line) (ys : List Line) → AllByRecursion P (xs ++ (y ∷ ys)) → P y
+all-at : (P : FlatLine → Type 0) (xs : List FlatLine) (y : FlatLine) (ys : List FlatLine) → AllByRecursion P (xs ++ (y ∷ ys)) → P y
 all-at P [] y ys h = h.0
 all-at P (x ∷ xs) y ys h = all-at P xs y ys h.1
 
 -- a line stands after those before it
-line-there : (m : Bool) (done : List Line) (l : Line) (more : List Line) (final source : Text)
+line-there : (m : Bool) (done : List FlatLine) (l : FlatLine) (more : List FlatLine) (final source : Text)
     → document_text (flat_document m (done ++ (l ∷ more)) final) ≡ source → Stands source (end_of m done) (line_text l)
 line-there m done l more final source e =
     record {
@@ -123,8 +123,8 @@ line-there m done l more final source e =
       place = sym (end_of-text m done);
     }
 
-next-of : (source : Text) (m : Bool) (lines : List Line) (final : Text) (es rest : List Event) (slots : Slots) (line : LineSpans) (tail : List Event)
-    (done left : List Line) → AreEventsIn source m lines final es → lines ≡ done ++ left → are_right [] done ≡ true
+next-of : (source : Text) (m : Bool) (lines : List FlatLine) (final : Text) (es rest : List Event) (slots : Slots) (line : LineSpans) (tail : List Event)
+    (done left : List FlatLine) → AreEventsIn source m lines final es → lines ≡ done ++ left → are_right [] done ≡ true
     → AreLineSlots spanned_form (length (mark_text m)) done slots
     → rest ≡ shortened 0 (events_left source (end_of m done) left final)
     → split_line rest ≡ Some (line, tail) → Next source m lines final line tail slots
@@ -150,19 +150,19 @@ next-of source m lines final es rest slots line tail done (l ∷ more) h all rig
       stands = line-there m done l more final source (ap (λ ls. document_text (flat_document m ls final)) (sym all) ∙ h.text);
     }
 
-pub next : (source : Text) (m : Bool) (lines : List Line) (final : Text) (es rest : List Event) (slots : Slots) (line : LineSpans) (tail : List Event)
+pub next : (source : Text) (m : Bool) (lines : List FlatLine) (final : Text) (es rest : List Event) (slots : Slots) (line : LineSpans) (tail : List Event)
     → AreEventsIn source m lines final es → Progress source m lines final rest slots
     → split_line rest ≡ Some (line, tail) → Next source m lines final line tail slots
 next source m lines final es rest slots line tail h p e =
     next-of source m lines final es rest slots line tail p.done p.left h p.all p.right p.slots_are p.rest_is e
 
 -- the events after it
-abbrev pub after_next : (source : Text) (m : Bool) (lines : List Line) (final : Text) (line : LineSpans) (tail : List Event) (slots : Slots)
+abbrev pub after_next : (source : Text) (m : Bool) (lines : List FlatLine) (final : Text) (line : LineSpans) (tail : List Event) (slots : Slots)
     → Next source m lines final line tail slots → List Event
 after_next source m lines final line tail slots n = events_left source (end_of m (n.done ++ one n.own)) n.more final
 
 -- once it is added
-pub added : (source : Text) (m : Bool) (lines : List Line) (final : Text) (line : LineSpans) (tail rest : List Event) (old new : Slots)
+pub added : (source : Text) (m : Bool) (lines : List FlatLine) (final : Text) (line : LineSpans) (tail rest : List Event) (old new : Slots)
     → (n : Next source m lines final line tail old) → AddsLine (end_of m n.done) n.own (after_next source m lines final line tail old n) old new rest
     → Progress source m lines final rest new
 added source m lines final line tail rest old new n adds =
@@ -177,11 +177,11 @@ added source m lines final line tail rest old new n adds =
     }
 
 -- where it is refused
-pub refused : (source : Text) (m : Bool) (lines : List Line) (final : Text) (line : LineSpans) (tail : List Event) (old : Slots)
+pub refused : (source : Text) (m : Bool) (lines : List FlatLine) (final : Text) (line : LineSpans) (tail : List Event) (old : Slots)
     → (n : Next source m lines final line tail old) (r : Report) → NamesFault source (end_of m n.done) n.own old r
     → Refuses source (flat_document m lines final) r
 refused source m lines final line tail old n r (inl (input, named)) =
-    let P : List Line → Type 0 = λ ls. Contains (first_faults [] (placed (flat_document m ls final))) (fault_of r) in
+    let P : List FlatLine → Type 0 = λ ls. Contains (first_faults [] (placed (flat_document m ls final))) (fault_of r) in
     record {
       input = input;
       names = ((faults_of_first (flat_document m lines final)).named (fault_of r)).0 (subst P (sym n.all) (fault_value m n.done n.own n.more final (fault_of r) n.right named));
@@ -189,7 +189,7 @@ refused source m lines final line tail old n r (inl (input, named)) =
     }
 refused source m lines final line tail old n r (inr named) =
     let among = sym (has_key-lines spanned_form (length (mark_text m)) n.own.key n.done old n.slots_are) ∙ named.stands in
-    let P : List Line → Type 0 = λ ls. Contains (first_faults [] (placed (flat_document m ls final))) (fault_of r) in
+    let P : List FlatLine → Type 0 = λ ls. Contains (first_faults [] (placed (flat_document m ls final))) (fault_of r) in
     let Q : Fault → Type 0 = λ f. Contains (first_faults [] (placed (flat_document m (n.done ++ (n.own ∷ n.more)) final))) f in
     record {
       input = named.input;
@@ -200,12 +200,12 @@ refused source m lines final line tail old n r (inr named) =
 -- ---- the end
 
 -- no line is left
-pub record Ended (source : Text) (m : Bool) (lines : List Line) (final : Text) (rest : List Event) (slots : Slots) : Type 0 where
+pub record Ended (source : Text) (m : Bool) (lines : List FlatLine) (final : Text) (rest : List Event) (slots : Slots) : Type 0 where
   pub right : are_right [] lines ≡ true
   pub slots_are : AreLineSlots spanned_form (length (mark_text m)) lines slots
   pub rest_is : rest ≡ event Final (length source - length final) final ∷ []
 
-ended-of : (source : Text) (m : Bool) (lines : List Line) (final : Text) (rest : List Event) (slots : Slots) (done left : List Line)
+ended-of : (source : Text) (m : Bool) (lines : List FlatLine) (final : Text) (rest : List Event) (slots : Slots) (done left : List FlatLine)
     → lines ≡ done ++ left → are_right [] done ≡ true → AreLineSlots spanned_form (length (mark_text m)) done slots
     → rest ≡ shortened 0 (events_left source (end_of m done) left final)
     → split_line rest ≡ None → Ended source m lines final rest slots
@@ -221,6 +221,6 @@ ended-of source m lines final rest slots done (l ∷ more) all right are is e =
     let same = sym (first_line (end_of m done) l more after) ∙ sym (ap split_line is) ∙ e in
     absurd cc
 
-pub ended : (source : Text) (m : Bool) (lines : List Line) (final : Text) (rest : List Event) (slots : Slots)
+pub ended : (source : Text) (m : Bool) (lines : List FlatLine) (final : Text) (rest : List Event) (slots : Slots)
     → Progress source m lines final rest slots → split_line rest ≡ None → Ended source m lines final rest slots
 ended source m lines final rest slots p e = ended-of source m lines final rest slots p.done p.left p.all p.right p.slots_are p.rest_is e

@@ -6,7 +6,7 @@ use Rattle.toml_edit_model.specs.Text.{Text, is_empty}
 use Rattle.toml_edit_model.specs.Spelling.{SpellsKey}
 use Rattle.toml_edit_model.specs.Conversions.{with_decor}
 use Rattle.toml_edit_model.specs.Faults.{Fault, duplicate_key, value_faults}
-use Rattle.toml_edit_model.specs.Flat.{Line}
+use Rattle.toml_edit_model.specs.Flat.{FlatLine}
 use Rattle.toml_edit_model.specs.Tree.{Raw, Node, Slots, has_key}
 use Rattle.toml_edit_model.specs.TreeOf.{decor_at, span_of, spanned_form}
 use Rattle.toml_edit_laws.specs.FlatTree.{line_text, key_start, after_equals_start, value_at, value_end, is_right_value, IsSpelledLine}
@@ -38,7 +38,7 @@ abbrev twice_at : LineSpans → Fault
 twice_at line = record { message = duplicate_key; span = Some (line.key.start, line.key.end) }
 
 -- what is said of it
-pub names_key : (t : Text) (start : ℕ) (l : Line) (old : Slots) (line : LineSpans) (e : ParseFault) → line ≡ line_spans start l → has_key l.key old ≡ true
+pub names_key : (t : Text) (start : ℕ) (l : FlatLine) (old : Slots) (line : LineSpans) (e : ParseFault) → line ≡ line_spans start l → has_key l.key old ≡ true
     → IfToml e (λ r. r ≡ record { message = duplicate_key; span = Some (line.key.start, line.key.end); input = t })
     → IfToml e (NamesKey t start l old)
 names_key t start l old line e is stands h =
@@ -49,7 +49,7 @@ names_key t start l old line e is stands h =
     }) h
 
 -- what stands at the span of its key
-pub key_spelled : (source : Text) (line : LineSpans) (start : ℕ) (l : Line) → IsSpelledLine l → Stands source start (line_text l) → line ≡ line_spans start l
+pub key_spelled : (source : Text) (line : LineSpans) (start : ℕ) (l : FlatLine) → IsSpelledLine l → Stands source start (line_text l) → line ≡ line_spans start l
     → SpellsKey l.key (cut_out source line.key.start line.key.end)
 key_spelled source line start l spelled stands e =
     subst (SpellsKey l.key)
@@ -65,7 +65,7 @@ found_key k name text es found b is e f g =
 -- ---- the value of a line, and what stands behind it
 
 -- what stands around its value
-pub line-decor : (start : ℕ) (l : Line) (line : LineSpans) (last : Event) (before after : Raw) → line ≡ line_spans start l
+pub line-decor : (start : ℕ) (l : FlatLine) (line : LineSpans) (last : Event) (before after : Raw) → line ≡ line_spans start l
     → last ≡ event LineEnd (value_end start l) l.trailing → before ≡ spanned_raw line.after_equals → after ≡ spanned_raw last.span
     → both_sides before after ≡ decor_at spanned_form (after_equals_start start l) l.after_equals (value_end start l) l.trailing
 line-decor start l line last before after e f left right =
@@ -74,22 +74,22 @@ line-decor start l line last before after e f left right =
     (right ∙ ap (λ (x : Event). spanned_raw x.span) f ∙ spanned_raw-is (value_end start l) l.trailing)
 
 -- it has no fault, so it is right
-pub value_right : (l : Line) (start : ℕ) → value_faults l.value (value_at start l) 0 ≡ [] → is_right_value l.value ≡ true
+pub value_right : (l : FlatLine) (start : ℕ) → value_faults l.value (value_at start l) 0 ≡ [] → is_right_value l.value ≡ true
 value_right l start none = sym (is_right_value-faults l.value (value_at start l)) ∙ ap is_empty none
 
 -- ---- reports
 
 -- what names a fault of its value names one of the line
-pub names_value : (t : Text) (start : ℕ) (l : Line) (old : Slots) (e : ParseFault) → IfToml e (NamesOne t (value_faults l.value (value_at start l) 0))
+pub names_value : (t : Text) (start : ℕ) (l : FlatLine) (old : Slots) (e : ParseFault) → IfToml e (NamesOne t (value_faults l.value (value_at start l) 0))
     → IfToml e (NamesFault t start l old)
 names_value t start l old e h = mapped e _ _ (λ r said. inl said) h
 
 -- and so does what names its key
-pub names_line : (t : Text) (start : ℕ) (l : Line) (old : Slots) (e : ParseFault) → IfToml e (NamesKey t start l old) → IfToml e (NamesFault t start l old)
+pub names_line : (t : Text) (start : ℕ) (l : FlatLine) (old : Slots) (e : ParseFault) → IfToml e (NamesKey t start l old) → IfToml e (NamesFault t start l old)
 names_line t start l old e h = mapped e _ _ (λ r said. inr said) h
 
 -- a line whose value was read, and ended with its item
-pub line_read : (t : Text) (start : ℕ) (l : Line) (more : List Event) (n : Node) (rest : List Event) (old new : Slots) (result : Result (Bor (List Event)) ParseFault)
+pub line_read : (t : Text) (start : ℕ) (l : FlatLine) (more : List Event) (n : Node) (rest : List Event) (old new : Slots) (result : Result (Bor (List Event)) ParseFault)
     → IsRead l.value (value_at start l) 0 (event LineEnd (value_end start l) l.trailing ∷ more) n rest
     → EndsLine t start l n (shortened 0 more) old new result → ReadsLine t start l more old new result
 line_read t start l more n rest old new (Ok r) read h =

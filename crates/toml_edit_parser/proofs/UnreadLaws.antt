@@ -6,7 +6,7 @@ use Rattle.std.proofs.lemmas.Option.{same_Some}
 use Rattle.std.proofs.lemmas.Bool.{cases_Bool, false≢true}
 use Rattle.toml_edit_model.specs.Text.{Text, is_empty}
 use Rattle.toml_edit_model.specs.Syntax.{Segment, Frame, Value, scalar, array, inline_table, Elements, no_elements, element, Pairs, no_pairs, pair, Header, segment_text, path_text, frame_text, value_text, opening_brackets, closing_brackets, brackets_text, statement_text, mark_text, nesting_limit, Statement, key_line, header, Document, document_text, IsPath, AreStatements, IsCut}
-use Rattle.toml_edit_model.specs.Flat.{Line, line_frame, line_statement, IsFlat, IsFlatCut}
+use Rattle.toml_edit_model.specs.Flat.{FlatLine, line_frame, line_statement, IsFlat, IsFlatCut}
 use Rattle.toml_edit_syntax.specs.declared.event.EventKind.TheVariants.{Leading, BeforeDot, BeforeEquals, AfterEquals, ArrayClose, InlineTableClose, After, LineEnd, Final}
 use Rattle.toml_edit_syntax.specs.declared.event.EventKind.{EventKind}
 use Rattle.toml_edit_syntax.specs.declared.event.Event.{Event}
@@ -179,10 +179,10 @@ plain_passes at f v more single =
     ∙ ap (unread true) (append_assoc (value_events value v) last more)
     ∙ passes_value v value (last ++ more)
 
-line_passes : (at : ℕ) (l : Line) (more : List Event) → unread false (line_events at (line_frame l) l.value ++ more) ≡ unread false more
+line_passes : (at : ℕ) (l : FlatLine) (more : List Event) → unread false (line_events at (line_frame l) l.value ++ more) ≡ unread false more
 line_passes at l more = plain_passes at (line_frame l) l.value more refl
 
-lines_pass : (at : ℕ) (ls : List Line) (more : List Event) → unread false (events_from at (map line_statement ls) ++ more) ≡ unread false more
+lines_pass : (at : ℕ) (ls : List FlatLine) (more : List Event) → unread false (events_from at (map line_statement ls) ++ more) ≡ unread false more
 lines_pass at [] more = refl
 lines_pass at (l ∷ ls) more =
     let next = at + length (statement_text (line_statement l)) in
@@ -260,7 +260,7 @@ first_of (header h end) [] final is = (tt, tt)
 first_of (header h end) (r ∷ rest) final is = (tt, is.1)
 
 -- a statement with none is a line with one simple key
-line_of : (at : ℕ) (s : Statement) (more : List Event) → HasPath s → unread false (statement_events at s ++ more) ≡ None → (l : Line) × (s ≡ line_statement l)
+line_of : (at : ℕ) (s : Statement) (more : List Event) → HasPath s → unread false (statement_events at s ++ more) ≡ None → (l : FlatLine) × (s ≡ line_statement l)
 line_of at (key_line f v end) more is none =
     let key = at + length f.leading in
     let before_equals = key + length (path_text f.path) in
@@ -283,7 +283,7 @@ line_of at (header h end) more is none =
     opens_header false = refl
 
 lines_of : (at : ℕ) (ss : List Statement) (final : Text) (more : List Event) → AreStatements final ss → unread false (events_from at ss ++ more) ≡ None
-    → (ls : List Line) × (ss ≡ map line_statement ls)
+    → (ls : List FlatLine) × (ss ≡ map line_statement ls)
 lines_of at [] final more is none = ([], refl)
 lines_of at (s ∷ rest) final more is none =
     let next = at + length (statement_text s) in
@@ -364,7 +364,7 @@ first_has at (s ∷ rest) more found e =
     ]
 
 -- lines of one segment have none
-none_unread : (at : ℕ) (ls : List Line) → first_unread at (map line_statement ls) ≡ None
+none_unread : (at : ℕ) (ls : List FlatLine) → first_unread at (map line_statement ls) ≡ None
 none_unread at [] = refl
 none_unread at (l ∷ ls) = none_unread (at + length (statement_text (line_statement l))) ls
 

@@ -6,7 +6,7 @@ use Rattle.toml_edit_model.specs.Syntax.{Document, mark_text, document_text, IsC
 use Rattle.toml_edit_model.specs.Accepted.{is_accepted, has_agreeing_pairs}
 use Rattle.std.specs.Prelude.{◌&&◌, nat_le}
 use Rattle.std.specs.List.{list_any}
-use Rattle.toml_edit_model.specs.Flat.{Line, line_statement, flat_document, IsFlatCut, FlatAs}
+use Rattle.toml_edit_model.specs.Flat.{FlatLine, line_statement, flat_document, IsFlatCut, FlatAs}
 use Rattle.toml_edit_model.specs.Tree.{Raw, Slots}
 use Rattle.toml_edit_laws.specs.FlatTree.{are_right, is_right_value}
 use Rattle.toml_edit_laws.proofs.flat.AcceptedLaws.{line-right, rest-right}
@@ -30,7 +30,7 @@ use Rattle.toml_edit_parser.specs.Unread.{unread, first_unread, IsInside, IsNotY
 use Rattle.toml_edit_parser.proofs.UnreadLaws.{flat_of, not_flat, stands_unread, all_read}
 
 -- a right value is not too deep
-right_depth : (l : Line) → is_right_value l.value ≡ true → exceeds_depth l.value ≡ false
+right_depth : (l : FlatLine) → is_right_value l.value ≡ true → exceeds_depth l.value ≡ false
 right_depth l h =
     within_depth l.value (leb-true (depth l.value) nesting_limit
     (and_left (nat_le (depth l.value) nesting_limit) (has_short_keys l.value)
@@ -38,7 +38,7 @@ right_depth l h =
     (and_left ((nat_le (depth l.value) nesting_limit && has_short_keys l.value) && keeps_ranges l.value) (has_agreeing_pairs l.value) h))))
 
 -- and no right line is
-right_fit : (keys : List Text) (lines : List Line) → are_right keys lines ≡ true → list_any has_deep_value (map line_statement lines) ≡ false
+right_fit : (keys : List Text) (lines : List FlatLine) → are_right keys lines ≡ true → list_any has_deep_value (map line_statement lines) ≡ false
 right_fit keys [] h = refl
 right_fit keys (l ∷ rest) h = rw (right_depth l (line-right keys l rest h)) (right_fit (keys ++ one l.key) rest (rest-right keys l rest h))
 
@@ -56,7 +56,7 @@ module _ (t : Text) (es : List Event) (h : AreEventsOf t es) where
 
   -- events that are not cut short are those of the text's one cut
   pub parsed : (slots : Slots) (trailing : Raw)
-      → ((m : Bool) (lines : List Line) (final : Text) → AreEventsIn t m lines final es → SlotsParsed t m lines final slots trailing)
+      → ((m : Bool) (lines : List FlatLine) (final : Text) → AreEventsIn t m lines final es → SlotsParsed t m lines final slots trailing)
       → unread false es ≡ None → are_deep es ≡ false → IsParsed t slots trailing
   parsed slots trailing built none whole =
       let (d, cut) = h.has_cut whole in
@@ -72,7 +72,7 @@ module _ (t : Text) (es : List Event) (h : AreEventsOf t es) where
 
   -- others are of a text with no cut
   pub no_cut : (slots : Slots) (trailing : Raw)
-      → ((m : Bool) (lines : List Line) (final : Text) → AreEventsIn t m lines final es → SlotsParsed t m lines final slots trailing)
+      → ((m : Bool) (lines : List FlatLine) (final : Text) → AreEventsIn t m lines final es → SlotsParsed t m lines final slots trailing)
       → are_deep es ≡ true → (d : Document) → IsFlatCut d t → ⊥
   no_cut slots trailing built short d is =
       let right = (built d.has_mark is.flat.lines d.final (events_in d is)).right in
@@ -82,7 +82,7 @@ module _ (t : Text) (es : List Event) (h : AreEventsOf t es) where
 
   -- an accepted text is not
   pub not_refused : (e : ParseFault)
-      → ((m : Bool) (lines : List Line) (final : Text) → AreEventsIn t m lines final es → IfToml e (Refuses t (flat_document m lines final)))
+      → ((m : Bool) (lines : List FlatLine) (final : Text) → AreEventsIn t m lines final es → IfToml e (Refuses t (flat_document m lines final)))
       → (d : Document) → FlatAs t d → e ≡ Memory
   not_refused (Toml r) told d f =
       let said = told d.has_mark f.cut.flat.lines d.final (events_in d f.cut) in
@@ -99,7 +99,7 @@ module _ (t : Text) (es : List Event) (h : AreEventsOf t es) where
 
   -- where all parts are read
   pub refusal_is : (e : ParseFault) → (unread false es ≡ None) ⊎ (are_deep es ≡ true)
-      → ((m : Bool) (lines : List Line) (final : Text) → AreEventsIn t m lines final es → IfToml e (Refuses t (flat_document m lines final)))
+      → ((m : Bool) (lines : List FlatLine) (final : Text) → AreEventsIn t m lines final es → IfToml e (Refuses t (flat_document m lines final)))
       → IfToml e (λ r. r.input ≡ t) → IfToml e (IsRefusal t)
   refusal_is (Toml r) all told input =
       record {

@@ -4,7 +4,7 @@ use Rattle.std.specs.Borrow.{Bor}
 use Rattle.toml_edit_model.specs.Text.{Text}
 use Rattle.toml_edit_model.specs.Conversions.{with_decor}
 use Rattle.toml_edit_model.specs.Faults.{fault, duplicate_key, value_faults}
-use Rattle.toml_edit_model.specs.Flat.{Line}
+use Rattle.toml_edit_model.specs.Flat.{FlatLine}
 use Rattle.toml_edit_model.specs.Tree.{Node, Slots, has_key}
 use Rattle.toml_edit_model.specs.TreeOf.{spanned_form, decor_at}
 use Rattle.toml_edit_laws.specs.FlatTree.{key_start, key_end, after_equals_start, value_at, value_end, line_key, is_right_value, IsNodeOfLine, with_slot}
@@ -19,7 +19,7 @@ use Rattle.toml_edit_parser.specs.declared.parser.LineSpans.{LineSpans}
 use Rattle.toml_edit_parser.specs.ValueRead.{span_at}
 
 -- the parts of a line that begins at this byte, up to its value
-abbrev pub line_spans : ℕ → Line → LineSpans
+abbrev pub line_spans : ℕ → FlatLine → LineSpans
 line_spans start l =
     record {
       leading = span_at start l.leading;
@@ -36,11 +36,11 @@ pub record AreSpansOf (t : Text) (s : LineSpans) : Type 0 where
   pub after_equals : IsSpanOf t s.after_equals
 
 -- the events of such a line from its value on, and those behind them
-abbrev pub from_value : ℕ → Line → List Event → List Event
+abbrev pub from_value : ℕ → FlatLine → List Event → List Event
 from_value start l more = value_events (value_at start l) l.value ++ (event LineEnd (value_end start l) l.trailing ∷ more)
 
 -- The slot of a line that begins at this byte is added: its value is right, and its key new. These events follow.
-pub record AddsLine (start : ℕ) (l : Line) (more : List Event) (old new : Slots) (rest : List Event) : Type 0 where
+pub record AddsLine (start : ℕ) (l : FlatLine) (more : List Event) (old new : Slots) (rest : List Event) : Type 0 where
   pub node : Node
   pub is_node : IsNodeOfLine spanned_form start l node
   pub slots : new ≡ with_slot old (line_key spanned_form start l) node
@@ -49,28 +49,28 @@ pub record AddsLine (start : ℕ) (l : Line) (more : List Event) (old new : Slot
   pub rest_is : rest ≡ shortened 0 more
 
 -- the report is of the text and says that the key of the line stands already
-pub record NamesKey (t : Text) (start : ℕ) (l : Line) (old : Slots) (r : Report) : Type 0 where
+pub record NamesKey (t : Text) (start : ℕ) (l : FlatLine) (old : Slots) (r : Report) : Type 0 where
   pub input : r.input ≡ t
   pub stands : has_key l.key old ≡ true
   pub fault_is : fault_of r ≡ fault duplicate_key (key_start start l) (length l.spelled)
 
 -- the report is of the text and names a fault of the line: one of its value, or its key
-abbrev pub NamesFault : Text → ℕ → Line → Slots → Report → Type 0
+abbrev pub NamesFault : Text → ℕ → FlatLine → Slots → Report → Type 0
 NamesFault t start l old r =
     ((r.input ≡ t) × Contains (value_faults l.value (value_at start l) 0) (fault_of r)) ⊎ NamesKey t start l old r
 
 -- what reading a line answers, where these events follow it
-abbrev pub ReadsLine : Text → ℕ → Line → List Event → Slots → Slots → Result (Bor (List Event)) ParseFault → Type 0
+abbrev pub ReadsLine : Text → ℕ → FlatLine → List Event → Slots → Slots → Result (Bor (List Event)) ParseFault → Type 0
 ReadsLine t start l more old new (Ok r) = AddsLine start l more old new r.now
 ReadsLine t start l more old new (Err e) = IfToml e (NamesFault t start l old)
 
 -- what adding this item under the key of a line answers
-abbrev pub AddsItem : {A : Type 0} → Text → ℕ → Line → Node → Slots → Slots → Result A ParseFault → Type 0
+abbrev pub AddsItem : {A : Type 0} → Text → ℕ → FlatLine → Node → Slots → Slots → Result A ParseFault → Type 0
 AddsItem t start l n old new (Ok _) = (new ≡ with_slot old (line_key spanned_form start l) n) × (has_key l.key old ≡ false)
 AddsItem t start l n old new (Err e) = IfToml e (NamesKey t start l old)
 
 -- the slot of a line that begins at this byte is added with this item, put between what stands around it, and its key is new
-pub record PutsLine (start : ℕ) (l : Line) (n : Node) (more : List Event) (old new : Slots) (rest : List Event) : Type 0 where
+pub record PutsLine (start : ℕ) (l : FlatLine) (n : Node) (more : List Event) (old new : Slots) (rest : List Event) : Type 0 where
   pub slots :
       new ≡ with_slot old (line_key spanned_form start l)
       (with_decor (decor_at spanned_form (after_equals_start start l) l.after_equals (value_end start l) l.trailing) n)
@@ -78,6 +78,6 @@ pub record PutsLine (start : ℕ) (l : Line) (n : Node) (more : List Event) (old
   pub rest_is : rest ≡ more
 
 -- what ending a line with this item answers, where these events follow it
-abbrev pub EndsLine : Text → ℕ → Line → Node → List Event → Slots → Slots → Result (Bor (List Event)) ParseFault → Type 0
+abbrev pub EndsLine : Text → ℕ → FlatLine → Node → List Event → Slots → Slots → Result (Bor (List Event)) ParseFault → Type 0
 EndsLine t start l n more old new (Ok r) = PutsLine start l n more old new r.now
 EndsLine t start l n more old new (Err e) = IfToml e (NamesKey t start l old)

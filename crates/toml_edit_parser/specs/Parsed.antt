@@ -4,7 +4,7 @@ use Rattle.std.specs.List.{AllByRecursion, list_any}
 use Rattle.toml_edit_model.specs.Text.{Text}
 use Rattle.toml_edit_model.specs.Accepted.{is_accepted}
 use Rattle.toml_edit_model.specs.Faults.{IsFirstFault}
-use Rattle.toml_edit_model.specs.Flat.{Line, flat_document, IsFlatCut}
+use Rattle.toml_edit_model.specs.Flat.{FlatLine, flat_document, IsFlatCut}
 use Rattle.toml_edit_model.specs.Syntax.{Document, mark_text, document_text, IsCut}
 use Rattle.toml_edit_model.specs.Tree.{Raw, Slots}
 use Rattle.toml_edit_model.specs.TreeOf.{spanned_form}
@@ -22,7 +22,7 @@ use Rattle.toml_edit_parser.specs.Unread.{first_unread, IsNotYet}
 use Rattle.toml_edit_model.specs.OwnedForm.{SlotsFit, RawFits}
 
 -- the slots and the trailing text of the flat document with these lines
-pub record SlotsParsed (source : Text) (has_mark : Bool) (lines : List Line) (final : Text) (slots : Slots) (trailing : Raw) : Type 0 where
+pub record SlotsParsed (source : Text) (has_mark : Bool) (lines : List FlatLine) (final : Text) (slots : Slots) (trailing : Raw) : Type 0 where
   pub spelled : AllByRecursion IsSpelledLine lines
   pub right : are_right [] lines ≡ true
   pub slots_are : AreLineSlots spanned_form (length (mark_text has_mark)) lines slots
@@ -37,20 +37,20 @@ pub record Refuses (t : Text) (d : Document) (r : Report) : Type 0 where
   pub refused : is_accepted d ≡ false
 
 -- the text joins from the parts of a flat document, and these are its events
-pub record AreEventsIn (t : Text) (has_mark : Bool) (lines : List Line) (final : Text) (es : List Event) : Type 0 where
+pub record AreEventsIn (t : Text) (has_mark : Bool) (lines : List FlatLine) (final : Text) (es : List Event) : Type 0 where
   pub spelled : AllByRecursion IsSpelledLine lines
   pub text : document_text (flat_document has_mark lines final) ≡ t
   pub events : es ≡ shortened 0 (events_of (flat_document has_mark lines final))
 
 -- what building the tree of a flat document answers
-abbrev pub Builds : {S : Type 0} → (S → Slots) → Text → Bool → List Line → Text → Result (S × Raw) ParseFault → Type 0
+abbrev pub Builds : {S : Type 0} → (S → Slots) → Text → Bool → List FlatLine → Text → Result (S × Raw) ParseFault → Type 0
 Builds view t has_mark lines final (Ok r) = SlotsParsed t has_mark lines final (view r.0) r.1
 Builds view t has_mark lines final (Err e) = IfToml e (Refuses t (flat_document has_mark lines final))
 
 -- The slots and the trailing text are those of the one flat document that the text is.
 pub record IsParsed (t : Text) (slots : Slots) (trailing : Raw) : Type 0 where
   pub has_mark : Bool
-  pub lines : List Line
+  pub lines : List FlatLine
   pub final : Text
   pub cut : IsFlatCut (flat_document has_mark lines final) t
   pub only : (other : Document) → IsFlatCut other t → other ≡ flat_document has_mark lines final

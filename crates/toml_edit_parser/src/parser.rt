@@ -3,7 +3,7 @@ ghost use Rattle.std.specs.Prelude.{◌≡◌, ◌⊎◌, ◌<◌, Bool, true, f
 ghost use Rattle.toml_edit_model.specs.Text.{Text};
 ghost use Rattle.toml_edit_model.specs.Spelling.{SpellsKey};
 ghost use Rattle.toml_edit_model.specs.Syntax.{Document};
-ghost use Rattle.toml_edit_model.specs.Flat.{Line, FlatAs};
+ghost use Rattle.toml_edit_model.specs.Flat.{FlatLine, FlatAs};
 ghost use Rattle.toml_edit_model.specs.TreeOf.{spanned_form};
 ghost use Rattle.toml_edit_laws.specs.FlatTree.{line_text, line_key, value_end, IsSpelledLine, with_slot};
 ghost use Rattle.toml_edit_laws.specs.Standing.{Stands};
@@ -73,7 +73,7 @@ fn read_name(alloc: Global, source: &str, span: Span) -> Result<String, ParseFau
 /// A key that was read, with this text.
 fn read_key(name: String, line: LineSpans) -> Key
     ensures name { result.name ≡ string_bytes name }
-    ensures key { (l : Line) (start : ℕ) → line ≡ line_spans start l → string_bytes name ≡ l.key → (l.spelled ≡ [] → ⊥)
+    ensures key { (l : FlatLine) (start : ℕ) → line ≡ line_spans start l → string_bytes name ≡ l.key → (l.spelled ≡ [] → ⊥)
         → result ≡ line_key spanned_form start l }
     ensures fits { (t : Text) → AreSpansOf t line → KeyFits t result }
 {
@@ -100,7 +100,7 @@ fn add_value(
     item: &mut Item,
 ) -> Result<(), ParseFault>
     requires { AreSpansOf source.now line }
-    ensures line { (l : Line) (start : ℕ) → IsSpelledLine l → Stands source.now start (line_text l) → line ≡ line_spans start l
+    ensures line { (l : FlatLine) (start : ℕ) → IsSpelledLine l → Stands source.now start (line_text l) → line ≡ line_spans start l
         → AddsItem source.now start l (item_view item.old) (slots_view slots.old) (slots_view slots.new) result }
     ensures input { IfErr result (λ e. IfToml e (λ r. r.input ≡ source.now)) }
     ensures fits { SlotsFit source.now (slots_view slots.old) → NodeFits source.now (item_view item.old)
@@ -125,7 +125,7 @@ fn read_line<'a>(
 ) -> Result<&'a [Event], ParseFault>
     requires line { AreSpansOf source.now line }
     requires spans { AreIn source.now events.now }
-    ensures line { (l : Line) (start : ℕ) (more : List Event) → IsSpelledLine l → Stands source.now start (line_text l)
+    ensures line { (l : FlatLine) (start : ℕ) (more : List Event) → IsSpelledLine l → Stands source.now start (line_text l)
         → line ≡ line_spans start l → events.now ≡ shortened 0 (from_value start l more)
         → ReadsLine source.now start l more (slots_view slots.old) (slots_view slots.new) result }
     ensures input { IfErr result (λ e. IfToml e (λ r. r.input ≡ source.now)) }
@@ -149,7 +149,7 @@ fn end_line<'a>(
 ) -> Result<&'a [Event], ParseFault>
     requires line { AreSpansOf source.now line }
     requires spans { AreIn source.now events.now }
-    ensures line { (l : Line) (start : ℕ) (more : List Event) → IsSpelledLine l → Stands source.now start (line_text l)
+    ensures line { (l : FlatLine) (start : ℕ) (more : List Event) → IsSpelledLine l → Stands source.now start (line_text l)
         → line ≡ line_spans start l → events.now ≡ event LineEnd (value_end start l) l.trailing ∷ more
         → EndsLine source.now start l (item_view item.old) more (slots_view slots.old) (slots_view slots.new) result }
     ensures input { IfErr result (λ e. IfToml e (λ r. r.input ≡ source.now)) }
@@ -172,7 +172,7 @@ fn build(
     events: &[Event],
 ) -> Result<(Slots<Item>, RawString), ParseFault>
     requires { AreIn source.now events.now }
-    ensures built { (m : Bool) (lines : List Line) (final : Text) → AreEventsIn source.now m lines final events.now
+    ensures built { (m : Bool) (lines : List FlatLine) (final : Text) → AreEventsIn source.now m lines final events.now
         → Builds slots_view source.now m lines final result }
     ensures input { IfErr result (λ e. IfToml e (λ r. r.input ≡ source.now)) }
 {

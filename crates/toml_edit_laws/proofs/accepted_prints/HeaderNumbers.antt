@@ -7,7 +7,7 @@ use Rattle.toml_edit_model.specs.Mode.{Mode}
 use Rattle.toml_edit_model.specs.Text.{is_empty}
 use Rattle.toml_edit_model.specs.Paths.{at_key, at_element, Path, to_element}
 use Rattle.toml_edit_model.specs.Tree.{Tree, SlotsAreWellMade}
-use Rattle.toml_edit_model.specs.HeaderOrder.{Visit, Placed, walk, place_of, places_from, comes_before, in_header_order}
+use Rattle.toml_edit_model.specs.HeaderOrder.{Visit, PlacedVisit, walk, place_of, places_from, comes_before, in_header_order}
 use Rattle.toml_edit_model.specs.Print.{has_header, lines_of}
 use Rattle.toml_edit_model.specs.Fits.{is_below, is_after_element, is_too_late, none_too_late, headed}
 use Rattle.toml_edit_laws.specs.AcceptedPrints.{IsFitting}
@@ -27,12 +27,12 @@ use Rattle.toml_edit_model.specs.Order.{sorted_by}
 
 -- ---- the order of headers
 
-pairs-places : (R : Visit → Visit → Type 0) (seen : ℤ) (vs : List Visit) → AllPairs R vs → AllPairs (λ (a b : Placed). R a.1 b.1) (places_from seen vs)
+pairs-places : (R : Visit → Visit → Type 0) (seen : ℤ) (vs : List Visit) → AllPairs R vs → AllPairs (λ (a b : PlacedVisit). R a.1 b.1) (places_from seen vs)
 pairs-places R seen [] h = tt
 pairs-places R seen (v ∷ vs) h = by_test v.fields.is_dotted (pairs-places R seen vs h.1) (pairs-places R (place_of seen v) vs h.1)
   where
-    by_test : (b : Bool) → AllPairs (λ (a b : Placed). R a.1 b.1) (places_from seen vs) → AllPairs (λ (a b : Placed). R a.1 b.1) (places_from (place_of seen v) vs)
-        → AllPairs (λ (a b : Placed). R a.1 b.1) (if b then places_from seen vs else (place_of seen v, v) ∷ places_from (place_of seen v) vs)
+    by_test : (b : Bool) → AllPairs (λ (a b : PlacedVisit). R a.1 b.1) (places_from seen vs) → AllPairs (λ (a b : PlacedVisit). R a.1 b.1) (places_from (place_of seen v) vs)
+        → AllPairs (λ (a b : PlacedVisit). R a.1 b.1) (if b then places_from seen vs else (place_of seen v, v) ∷ places_from (place_of seen v) vs)
     by_test true x y = x
     by_test false x y = (places-all (R v) (place_of seen v) vs h.0, y)
 
@@ -112,27 +112,27 @@ filter-weaker {A} test wider (x ∷ xs) h = by_test (wider x) refl (test x) refl
     by_test false e false g ih = ih
 
 placed-items : (P : Path) (seen : ℤ) (vs : List Visit) → AllByRecursion (λ v. v.is_element ≡ true → v.fields.is_dotted ≡ false) vs
-    → map (λ (v : Placed). v.1) (filter (λ (v : Placed). is_item_of P v.1) (places_from seen vs)) ≡ filter (is_item_of P) vs
+    → map (λ (v : PlacedVisit). v.1) (filter (λ (v : PlacedVisit). is_item_of P v.1) (places_from seen vs)) ≡ filter (is_item_of P) vs
 placed-items P seen [] h = refl
 placed-items P seen (v ∷ vs) h =
     by_test v.fields.is_dotted refl (is_item_of P v) refl (placed-items P seen vs h.1) (placed-items P (place_of seen v) vs h.1)
   where
     by_test : (b : Bool) → v.fields.is_dotted ≡ b → (c : Bool) → is_item_of P v ≡ c
-        → map (λ (v : Placed). v.1) (filter (λ (v : Placed). is_item_of P v.1) (places_from seen vs)) ≡ filter (is_item_of P) vs
-        → map (λ (v : Placed). v.1) (filter (λ (v : Placed). is_item_of P v.1) (places_from (place_of seen v) vs)) ≡ filter (is_item_of P) vs
-        → map (λ (v : Placed). v.1) (filter (λ (v : Placed). is_item_of P v.1) (if b then places_from seen vs else (place_of seen v, v) ∷ places_from (place_of seen v) vs))
+        → map (λ (v : PlacedVisit). v.1) (filter (λ (v : PlacedVisit). is_item_of P v.1) (places_from seen vs)) ≡ filter (is_item_of P) vs
+        → map (λ (v : PlacedVisit). v.1) (filter (λ (v : PlacedVisit). is_item_of P v.1) (places_from (place_of seen v) vs)) ≡ filter (is_item_of P) vs
+        → map (λ (v : PlacedVisit). v.1) (filter (λ (v : PlacedVisit). is_item_of P v.1) (if b then places_from seen vs else (place_of seen v, v) ∷ places_from (place_of seen v) vs))
         ≡ (if c then v ∷ filter (is_item_of P) vs else filter (is_item_of P) vs)
     by_test true e true g x y = true-false v.fields.is_dotted e (h.0 (item-element P v g))
     by_test true e false g x y = x
     by_test false e c g x y =
-        ap (λ d. map (λ (v : Placed). v.1)
-        (if d then (place_of seen v, v) ∷ filter (λ (v : Placed). is_item_of P v.1) (places_from (place_of seen v) vs) else filter (λ (v : Placed). is_item_of P v.1) (places_from (place_of seen v) vs))) g
+        ap (λ d. map (λ (v : PlacedVisit). v.1)
+        (if d then (place_of seen v, v) ∷ filter (λ (v : PlacedVisit). is_item_of P v.1) (places_from (place_of seen v) vs) else filter (λ (v : PlacedVisit). is_item_of P v.1) (places_from (place_of seen v) vs))) g
         ∙ kept c y
       where
         kept : (c : Bool)
-            → map (λ (v : Placed). v.1) (filter (λ (v : Placed). is_item_of P v.1) (places_from (place_of seen v) vs)) ≡ filter (is_item_of P) vs
-            → map (λ (v : Placed). v.1)
-            (if c then (place_of seen v, v) ∷ filter (λ (v : Placed). is_item_of P v.1) (places_from (place_of seen v) vs) else filter (λ (v : Placed). is_item_of P v.1) (places_from (place_of seen v) vs))
+            → map (λ (v : PlacedVisit). v.1) (filter (λ (v : PlacedVisit). is_item_of P v.1) (places_from (place_of seen v) vs)) ≡ filter (is_item_of P) vs
+            → map (λ (v : PlacedVisit). v.1)
+            (if c then (place_of seen v, v) ∷ filter (λ (v : PlacedVisit). is_item_of P v.1) (places_from (place_of seen v) vs) else filter (λ (v : PlacedVisit). is_item_of P v.1) (places_from (place_of seen v) vs))
             ≡ (if c then v ∷ filter (is_item_of P) vs else filter (is_item_of P) vs)
         kept true y = ap (λ ws. v ∷ ws) y
         kept false y = y
@@ -160,12 +160,12 @@ abbrev pub tree_at : Tree → Visit → Type 0
 tree_at t v = IsAt (tree_spot t.slots) (walk t) v
 
 -- each table in the order of headers, and each header
-pub order-at : (t : Tree) → SlotsAreWellMade t.slots → AllByRecursion (λ (v : Placed). tree_at t v.1 × (v.1.fields.is_dotted ≡ false)) (in_header_order t)
+pub order-at : (t : Tree) → SlotsAreWellMade t.slots → AllByRecursion (λ (v : PlacedVisit). tree_at t v.1 × (v.1.fields.is_dotted ≡ false)) (in_header_order t)
 order-at t made = order-all (tree_at t) t (walk-at t made)
 
-pub order-apart : (t : Tree) → SlotsAreWellMade t.slots → AllPairs (λ (v w : Placed). Apart v.1 w.1) (in_header_order t)
+pub order-apart : (t : Tree) → SlotsAreWellMade t.slots → AllPairs (λ (v w : PlacedVisit). Apart v.1 w.1) (in_header_order t)
 order-apart t made =
-    pairs-sorted (λ (v w : Placed). Apart v.1 w.1) comes_before (λ v w h e. h (sym e)) (places_from (pos 0) (walk t))
+    pairs-sorted (λ (v w : PlacedVisit). Apart v.1 w.1) comes_before (λ v w h e. h (sym e)) (places_from (pos 0) (walk t))
     (pairs-places Apart (pos 0) (walk t) (walk-apart t made))
 
 module _ (mode : Mode) where
@@ -186,21 +186,21 @@ module _ (mode : Mode) where
 
   pub headed-at : (t : Tree) → SlotsAreWellMade t.slots → AllByRecursion (λ v. (tree_at t v × (v.fields.is_dotted ≡ false)) × (has_header mode v ≡ true)) (headed mode t)
   headed-at t made =
-      all_pass (λ v. tree_at t v × (v.fields.is_dotted ≡ false)) (has_header mode) (map (λ (v : Placed). v.1) (in_header_order t))
-      (all-image (λ (v : Placed). v.1) (λ v. tree_at t v × (v.fields.is_dotted ≡ false)) (in_header_order t) (order-at t made))
+      all_pass (λ v. tree_at t v × (v.fields.is_dotted ≡ false)) (has_header mode) (map (λ (v : PlacedVisit). v.1) (in_header_order t))
+      (all-image (λ (v : PlacedVisit). v.1) (λ v. tree_at t v × (v.fields.is_dotted ≡ false)) (in_header_order t) (order-at t made))
 
   -- The elements of an array among the headers are those of the walk, in the same order.
   pub headed-items : (t : Tree) → IsFitting mode t → (P : Path) → filter (is_item_of P) (headed mode t) ≡ filter (is_item_of P) (walk t)
   headed-items t fitting P =
-      let f : Placed → Visit = λ v. v.1 in
-      let test : Placed → Bool = λ v. is_item_of P v.1 in
+      let f : PlacedVisit → Visit = λ v. v.1 in
+      let test : PlacedVisit → Bool = λ v. is_item_of P v.1 in
       let places = places_from (pos 0) (walk t) in
       let undotted = undotted-elements (walk t) (and_right (not t.root.is_dotted) (list_all (λ v. not (v.is_element && v.fields.is_dotted)) (walk t)) fitting.fits.undotted) in
       let items : map f (filter test places) ≡ filter (is_item_of P) (walk t) = placed-items P (pos 0) (walk t) undotted in
       let headers : filter (is_item_of P) (headed mode t) ≡ map f (filter test (in_header_order t)) =
       filter-weaker (is_item_of P) (has_header mode) (map f (in_header_order t))
       (all-image f (λ v. is_item_of P v ≡ true → has_header mode v ≡ true) (in_header_order t)
-      (all-map (λ (v : Placed). tree_at t v.1 × (v.1.fields.is_dotted ≡ false)) (λ (v : Placed). is_item_of P v.1 ≡ true → has_header mode v.1 ≡ true) (in_header_order t)
+      (all-map (λ (v : PlacedVisit). tree_at t v.1 × (v.1.fields.is_dotted ≡ false)) (λ (v : PlacedVisit). is_item_of P v.1 ≡ true → has_header mode v.1 ≡ true) (in_header_order t)
       (λ v h g. element-headed (tree_spot t.slots) (walk t) v.1 h.0 (item-element P v.1 g)) (order-at t fitting.made)))
       ∙ filter-image f (is_item_of P) (in_header_order t) in
       let sorted : filter test (in_header_order t) ≡ sorted_by comes_before (filter test places) = filter-sorted comes_before before-trans before-total test places in
@@ -215,6 +215,6 @@ module _ (mode : Mode) where
       headers ∙ ap (map f) (sorted
       ∙ sorted-stays comes_before (λ a b. is_after_element a.1.path b.1.path ≡ true) (filter test places)
       (pairs-unimage f (λ a b. is_after_element b.path a.path ≡ true) (filter test places) (counted-late 0 P (map f (filter test places)) counted))
-      (subst (AllPairs (λ (a b : Placed). is_after_element a.1.path b.1.path ≡ true → ⊥)) sorted
+      (subst (AllPairs (λ (a b : PlacedVisit). is_after_element a.1.path b.1.path ≡ true → ⊥)) sorted
       (pairs-unimage f (λ a b. is_after_element a.path b.path ≡ true → ⊥) (filter test (in_header_order t))
       (subst (AllPairs (λ a b. is_after_element a.path b.path ≡ true → ⊥)) headers calm)))) ∙ items

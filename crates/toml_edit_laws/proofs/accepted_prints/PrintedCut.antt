@@ -10,7 +10,7 @@ use Rattle.toml_edit_model.specs.Trivia as trivia
 use Rattle.toml_edit_model.specs.Syntax.{Statement, key_line, header, statement_text, document_text, IsStatement, AreStatements, IsPath, IsValue, IsHeader, keeps_limits, is_ranged, keeps_ranges, without_newline, open_statements}
 use Rattle.toml_edit_model.specs.Paths.{Path}
 use Rattle.toml_edit_model.specs.Tree.{Key, Node, nothing, leaf, list, inline, table, tables, Items, no_items, item, Slots, no_slots, slot, Tree, is_value_node, IsWellMade, ItemsAreWellMade, SlotsAreWellMade, shown_prefix, shown_suffix, shown_raw}
-use Rattle.toml_edit_model.specs.HeaderOrder.{Visit, Placed, node_walk, items_walk, slots_walk, walk, places_from, place_of, comes_before, in_header_order}
+use Rattle.toml_edit_model.specs.HeaderOrder.{Visit, PlacedVisit, node_walk, items_walk, slots_walk, walk, places_from, place_of, comes_before, in_header_order}
 use Rattle.toml_edit_model.specs.Print.{Line, line_of, is_line_node, value_of, inside_lines, lines_inside, table_lines, dotted_lines, segments, last_leaf, line_statement, Printed, printed, printed_line, printed_table, printed_tables, lines_of, has_header, header_of, header_default, lifted_prefix, key_prefix, is_lifted, statements_of, root_prefix, root_suffix, print_in, add_before, final_of, document_in, header_statement, frame_of, header_suffix, open_last, leaves_open, written_statements}
 use Rattle.toml_edit_model.specs.Fits.{PrintedLineSuits, HeaderSuits, TableSuits}
 use Rattle.toml_edit_laws.specs.AcceptedPrints.{PrintIsCut}
@@ -63,21 +63,21 @@ mutual
       (node_walk-is n _ (ks ++ (k ∷ [])) false made.2 (keys-snoc ks k keys made.1)) (slots_walk-is ss p ks made.3 keys)
 
 pub places-all : (P : Visit → Type 0) (seen : ℤ) (vs : List Visit) → AllByRecursion P vs
-    → AllByRecursion (λ (v : Placed). P v.1 × (v.1.fields.is_dotted ≡ false)) (places_from seen vs)
+    → AllByRecursion (λ (v : PlacedVisit). P v.1 × (v.1.fields.is_dotted ≡ false)) (places_from seen vs)
 places-all P seen [] h = tt
 places-all P seen (v ∷ vs) h =
     by_test v.fields.is_dotted refl (places_from seen vs) (places_from (place_of seen v) vs) (places-all P seen vs h.1) (places-all P (place_of seen v) vs h.1)
   where
-    by_test : (c : Bool) → v.fields.is_dotted ≡ c → (xs ys : List Placed) → AllByRecursion (λ (v : Placed). P v.1 × (v.1.fields.is_dotted ≡ false)) xs
-        → AllByRecursion (λ (v : Placed). P v.1 × (v.1.fields.is_dotted ≡ false)) ys
-        → AllByRecursion (λ (v : Placed). P v.1 × (v.1.fields.is_dotted ≡ false)) (if c then xs else (place_of seen v, v) ∷ ys)
+    by_test : (c : Bool) → v.fields.is_dotted ≡ c → (xs ys : List PlacedVisit) → AllByRecursion (λ (v : PlacedVisit). P v.1 × (v.1.fields.is_dotted ≡ false)) xs
+        → AllByRecursion (λ (v : PlacedVisit). P v.1 × (v.1.fields.is_dotted ≡ false)) ys
+        → AllByRecursion (λ (v : PlacedVisit). P v.1 × (v.1.fields.is_dotted ≡ false)) (if c then xs else (place_of seen v, v) ∷ ys)
     by_test true e xs ys f g = f
     by_test false e xs ys f g = ((h.0, e), g)
 
 pub order-all : (P : Visit → Type 0) (t : Tree) → AllByRecursion P (walk t)
-    → AllByRecursion (λ (v : Placed). P v.1 × (v.1.fields.is_dotted ≡ false)) (in_header_order t)
+    → AllByRecursion (λ (v : PlacedVisit). P v.1 × (v.1.fields.is_dotted ≡ false)) (in_header_order t)
 order-all P t h =
-    all-sorted (λ (v : Placed). P v.1 × (v.1.fields.is_dotted ≡ false)) comes_before (places_from (pos 0) (walk t)) (places-all P (pos 0) (walk t) h)
+    all-sorted (λ (v : PlacedVisit). P v.1 × (v.1.fields.is_dotted ≡ false)) comes_before (places_from (pos 0) (walk t)) (places-all P (pos 0) (walk t) h)
 
 default_trivia : (b : Bool) → IsWholeTrivia (header_default b)
 default_trivia true = empty-trivia
@@ -96,9 +96,9 @@ inside-is false prefix suffix h = record { lifted = empty-trivia; opening = h.0;
 abbrev Good : Printed → Type 0
 Good p = IsStatement IsNewline p.statement × (is_ranged p.statement ≡ true)
 
-order-is : (t : Tree) → SlotsAreWellMade t.slots → AllByRecursion (λ (v : Placed). IsVisit v.1) (in_header_order t)
+order-is : (t : Tree) → SlotsAreWellMade t.slots → AllByRecursion (λ (v : PlacedVisit). IsVisit v.1) (in_header_order t)
 order-is t made =
-    all-map (λ (v : Placed). IsVisit v.1 × (v.1.fields.is_dotted ≡ false)) (λ (v : Placed). IsVisit v.1) (in_header_order t) (λ v h. h.0)
+    all-map (λ (v : PlacedVisit). IsVisit v.1 × (v.1.fields.is_dotted ≡ false)) (λ (v : PlacedVisit). IsVisit v.1) (in_header_order t) (λ v h. h.0)
     (order-all IsVisit t (record { keys = tt; made = made }, slots_walk-is t.slots [] [] made tt))
 
 abbrev Ended : Statement → Type 0
@@ -348,7 +348,7 @@ module _ (mode : Mode) where
   header-good b v true e is h = (((header-is b v is e h, newline-is mode (header_suffix mode v)), refl), tt)
   header-good b v false e is h = tt
 
-  table-good : (b : Bool) (v : Placed) → IsVisit v.1 → TableSuits mode v → AllByRecursion Good (printed_table mode b v.1)
+  table-good : (b : Bool) (v : PlacedVisit) → IsVisit v.1 → TableSuits mode v → AllByRecursion Good (printed_table mode b v.1)
   table-good b v is h =
       all-append Good _ (map (printed_line mode v.1.path) (lines_of mode v.1))
       (header-good b v.1 (has_header mode v.1) refl is h.0)
@@ -356,7 +356,7 @@ module _ (mode : Mode) where
       (all-map (λ l. IsLineOf l × PrintedLineSuits mode l) (λ l. Good (printed_line mode v.1.path l)) (lines_of mode v.1) (λ l g. (line_statement-is l g.0 g.1, line-ranged l g.0))
       (all-both IsLineOf (PrintedLineSuits mode) (lines_of mode v.1) (table_lines-are v.1.slots [] is.made tt) h.1)))
 
-  tables-good : (b : Bool) (vs : List Placed) → AllByRecursion (λ v. IsVisit v.1) vs → AllByRecursion (TableSuits mode) vs → AllByRecursion Good (printed_tables mode b vs)
+  tables-good : (b : Bool) (vs : List PlacedVisit) → AllByRecursion (λ v. IsVisit v.1) vs → AllByRecursion (TableSuits mode) vs → AllByRecursion Good (printed_tables mode b vs)
   tables-good b [] h g = tt
   tables-good b (v ∷ vs) h g =
       all-append Good (printed_table mode b v.1) _ (table-good b v h.0 g.0) (tables-good (b && is_empty (printed_table mode b v.1)) vs h.1 g.1)

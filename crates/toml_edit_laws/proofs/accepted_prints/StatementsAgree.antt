@@ -11,7 +11,7 @@ use Rattle.toml_edit_model.specs.Accepted.{agree, has_agreeing_pairs, has_agreei
 use Rattle.toml_edit_laws.specs.OneByOne.{is_right_after, all_right_after}
 use Rattle.toml_edit_laws.proofs.one_by_one.Together.{right-accepted}
 use Rattle.toml_edit_model.specs.Tree.{Key, Tree}
-use Rattle.toml_edit_model.specs.HeaderOrder.{Visit, Placed, walk, in_header_order}
+use Rattle.toml_edit_model.specs.HeaderOrder.{Visit, PlacedVisit, walk, in_header_order}
 use Rattle.toml_edit_model.specs.Print.{Line, lines_of, line_statement, has_header, below, Printed, printed_line, printed_header, printed_table, printed_tables, printed, root_prefix, document_in, header_statement, open_last, written}
 use Rattle.toml_edit_laws.specs.AcceptedPrints.{IsFitting, PrintAgrees}
 use Rattle.toml_edit_laws.proofs.common.Tests.{and_left, and_right, and_both, append-nil}
@@ -176,31 +176,31 @@ module _ (mode : Mode) where
         (all-map (λ (p : Printed). (p.path ≡ v.path) × (is_key_line p.statement ≡ false)) (λ (p : Printed). is_key_line p.statement ≡ false) (printed_header mode f v) (λ p g. g.1) (header-of f v (has_header mode v)))
         (all-image (printed_line mode v.path) (λ (p : Printed). is_key_line p.statement ≡ true) (lines_of mode v) (all-lines v (lines_of mode v))))
 
-    abbrev Faces : Placed → Type 0
+    abbrev Faces : PlacedVisit → Type 0
     Faces v = AllByRecursion (LineAt mode K v.1.path) (lines_of mode v.1) × IsVisit v.1
 
-    tables-of : (Q : Printed → Type 0) (f : Bool) (vs : List Placed) → AllByRecursion Faces vs → AllByRecursion (λ (w : Placed). (q : Printed) → PrintedOf w.1 q → Q q) vs
+    tables-of : (Q : Printed → Type 0) (f : Bool) (vs : List PlacedVisit) → AllByRecursion Faces vs → AllByRecursion (λ (w : PlacedVisit). (q : Printed) → PrintedOf w.1 q → Q q) vs
         → AllByRecursion Q (printed_tables mode f vs)
     tables-of Q f [] h g = tt
     tables-of Q f (v ∷ vs) h g =
         all-append Q (printed_table mode f v.1) _ (all-map (PrintedOf v.1) Q (printed_table mode f v.1) g.0 (table-of f v.1 h.0.0))
         (tables-of Q (f && is_empty (printed_table mode f v.1)) vs h.1 g.1)
 
-    all-unlike : (f : Bool) (vs : List Placed) → AllByRecursion Faces vs → AllPairs (λ (v w : Placed). Apart v.1 w.1) vs → AllPairs Unlike (printed_tables mode f vs)
+    all-unlike : (f : Bool) (vs : List PlacedVisit) → AllByRecursion Faces vs → AllPairs (λ (v w : PlacedVisit). Apart v.1 w.1) vs → AllPairs Unlike (printed_tables mode f vs)
     all-unlike f [] h g = tt
     all-unlike f (v ∷ vs) h g =
         let more = f && is_empty (printed_table mode f v.1) in
         pairs-append Unlike (printed_table mode f v.1) (printed_tables mode more vs) (table-unlike f v.1 h.0.1) (all-unlike more vs h.1 g.1)
         (all-map (PrintedOf v.1) (λ p. AllByRecursion (Unlike p) (printed_tables mode more vs)) (printed_table mode f v.1)
         (λ p of. tables-of (Unlike p) more vs h.1
-        (all-map (λ (w : Placed). Apart v.1 w.1) (λ (w : Placed). (q : Printed) → PrintedOf w.1 q → Unlike p q) vs (λ w apart q og. tables-unlike v.1 w.1 apart p q of og) g.0))
+        (all-map (λ (w : PlacedVisit). Apart v.1 w.1) (λ (w : PlacedVisit). (q : Printed) → PrintedOf w.1 q → Unlike p q) vs (λ w apart q og. tables-unlike v.1 w.1 apart p q of og) g.0))
         (table-of f v.1 h.0.0))
 
   -- No two printed statements are of one table's header, or of one value.
   pub printed-unlike : (t : Tree) → IsFitting mode t → AllPairs Unlike (printed mode t)
   printed-unlike t fitting =
       all-unlike (tree_spot t.slots) true (in_header_order t)
-      (all-map (λ (v : Placed). (tree_at t v.1 × IsVisit v.1) × (v.1.fields.is_dotted ≡ false)) (Faces (tree_spot t.slots)) (in_header_order t)
+      (all-map (λ (v : PlacedVisit). (tree_at t v.1 × IsVisit v.1) × (v.1.fields.is_dotted ≡ false)) (Faces (tree_spot t.slots)) (in_header_order t)
       (λ v h. (table-at mode (tree_spot t.slots) v.1.slots v.1.path [] h.0.1.made tt (h.0.0.sees h.1), h.0.1))
       (order-all (λ v. tree_at t v × IsVisit v) t
       (all-both (tree_at t) IsVisit (walk t) (walk-at t fitting.made) (record { keys = tt; made = fitting.made }, slots_walk-is t.slots [] [] fitting.made tt))))
@@ -271,7 +271,7 @@ module _ (mode : Mode) where
       headers true = (refl, tt)
       headers false = tt
 
-  all-pairs-printed : (f : Bool) (vs : List Placed) → AllByRecursion (λ (v : Placed). IsVisit v.1) vs → AllByRecursion (λ (p : Printed). has_agreeing_tables p.statement ≡ true) (printed_tables mode f vs)
+  all-pairs-printed : (f : Bool) (vs : List PlacedVisit) → AllByRecursion (λ (v : PlacedVisit). IsVisit v.1) vs → AllByRecursion (λ (p : Printed). has_agreeing_tables p.statement ≡ true) (printed_tables mode f vs)
   all-pairs-printed f [] h = tt
   all-pairs-printed f (v ∷ vs) h =
       all-append (λ (p : Printed). has_agreeing_tables p.statement ≡ true) (printed_table mode f v.1) _ (pairs-printed v.1 f h.0) (all-pairs-printed (f && is_empty (printed_table mode f v.1)) vs h.1)
@@ -283,8 +283,8 @@ module _ (mode : Mode) where
       let agreeing = λ (p : Printed). has_agreeing_tables p.statement ≡ true in
       let limits : list_all (λ s. keeps_limits s && is_ranged s) (map (λ (p : Printed). p.statement) ps) ≡ true =
       subst (λ ss. list_all (λ s. keeps_limits s && is_ranged s) ss ≡ true) (printed-statements mode is_open t) (print-cut mode is_open t fitting).1 in
-      let visits : AllByRecursion (λ (v : Placed). IsVisit v.1) (in_header_order t) =
-      all-map (λ (v : Placed). IsVisit v.1 × (v.1.fields.is_dotted ≡ false)) (λ (v : Placed). IsVisit v.1) (in_header_order t) (λ v h. h.0)
+      let visits : AllByRecursion (λ (v : PlacedVisit). IsVisit v.1) (in_header_order t) =
+      all-map (λ (v : PlacedVisit). IsVisit v.1 × (v.1.fields.is_dotted ≡ false)) (λ (v : PlacedVisit). IsVisit v.1) (in_header_order t) (λ v h. h.0)
       (order-all IsVisit t (record { keys = tt; made = fitting.made }, slots_walk-is t.slots [] [] fitting.made tt)) in
       right-accepted (document_in mode is_open t)
       (subst (λ ss. all_right_after [] (placed_from (start_context (document_in mode is_open t)) ss) ≡ true) (sym (printed-statements mode is_open t))

@@ -10,7 +10,7 @@ use Rattle.toml_edit_model.specs.Syntax.{Statement, key_line, header}
 use Rattle.toml_edit_model.specs.Paths.{at_element, Path, same_path, in_last, to_key, to_element, elements_at, passing_role, header_path, header_role_of}
 use Rattle.toml_edit_model.specs.Meaning.{parent}
 use Rattle.toml_edit_model.specs.Tree.{Key, Tree}
-use Rattle.toml_edit_model.specs.HeaderOrder.{Visit, Placed, visit_of, slots_walk, walk, place_of, places_from, is_root, comes_before, in_header_order}
+use Rattle.toml_edit_model.specs.HeaderOrder.{Visit, PlacedVisit, visit_of, slots_walk, walk, place_of, places_from, is_root, comes_before, in_header_order}
 use Rattle.toml_edit_model.specs.Print.{Line, segments, lines_of, has_header, Printed, printed_line, printed_table, printed_tables, printed, header_statement}
 use Rattle.toml_edit_model.specs.Fits.{headed}
 use Rattle.toml_edit_laws.specs.AcceptedPrints.{IsFitting}
@@ -98,10 +98,10 @@ counts-item A before v P n e path h q =
     by_test false more one now = omega arith
 
 -- the tables after the root, in the order of headers
-abbrev pub after_root : Tree → List Placed
+abbrev pub after_root : Tree → List PlacedVisit
 after_root t = sorted_by comes_before (places_from (place_of (pos 0) (visit_of [] [] false t.root t.slots)) (slots_walk t.slots [] []))
 
-abbrev pub root_placed : Tree → Placed
+abbrev pub root_placed : Tree → PlacedVisit
 root_placed t = (place_of (pos 0) (visit_of [] [] false t.root t.slots), visit_of [] [] false t.root t.slots)
 
 keyed-trail : (v : Visit) (T : Trail) → v.path ≡ trail_path T → v.keys ≡ trail_keys T → ([] ≡ v.path → ⊥) → is_root v ≡ false
@@ -242,29 +242,29 @@ module _ (mode : Mode) where
     lines-at v at is undotted = table-at mode K v.slots v.path [] is.made tt (at.sees undotted)
 
     -- the tables after these, in the order of headers
-    tables-thread : (vs : List Placed) (before : List Visit) (A : List Path) (b : Path) (is_first : Bool)
-        → headed mode t ≡ before ++ filter (has_header mode) (map (λ (v : Placed). v.1) vs) → AllByRecursion (λ (v : Placed). IsPlaced v.1) vs → Counts A before
+    tables-thread : (vs : List PlacedVisit) (before : List Visit) (A : List Path) (b : Path) (is_first : Bool)
+        → headed mode t ≡ before ++ filter (has_header mode) (map (λ (v : PlacedVisit). v.1) vs) → AllByRecursion (λ (v : PlacedVisit). IsPlaced v.1) vs → Counts A before
         → Threads (StandsIn K) A b (printed_tables mode is_first vs)
     tables-thread [] before A b is_first split placed counts = tt
     tables-thread (v ∷ vs) before A b is_first split placed counts =
         by_header (has_header mode v.1) refl split (tables-thread vs)
       where
         by_header : (c : Bool) → has_header mode v.1 ≡ c
-            → headed mode t ≡ before ++ (if c then v.1 ∷ filter (has_header mode) (map (λ (v : Placed). v.1) vs) else filter (has_header mode) (map (λ (v : Placed). v.1) vs))
+            → headed mode t ≡ before ++ (if c then v.1 ∷ filter (has_header mode) (map (λ (v : PlacedVisit). v.1) vs) else filter (has_header mode) (map (λ (v : PlacedVisit). v.1) vs))
             → ((before : List Visit) (A : List Path) (b : Path) (is_first : Bool)
-            → headed mode t ≡ before ++ filter (has_header mode) (map (λ (v : Placed). v.1) vs) → AllByRecursion (λ (v : Placed). IsPlaced v.1) vs → Counts A before
+            → headed mode t ≡ before ++ filter (has_header mode) (map (λ (v : PlacedVisit). v.1) vs) → AllByRecursion (λ (v : PlacedVisit). IsPlaced v.1) vs → Counts A before
             → Threads (StandsIn K) A b (printed_tables mode is_first vs))
             → Threads (StandsIn K) A b
             (((if c then own_header mode is_first v.1 ∷ [] else []) ++ map (printed_line mode v.1.path) (lines_of mode v.1))
             ++ printed_tables mode (is_first && is_empty (printed_table mode is_first v.1)) vs)
         by_header true e split more =
-            let stands = header-stands A b before is_first v.1 (filter (has_header mode) (map (λ (v : Placed). v.1) vs)) split placed.0 counts in (
+            let stands = header-stands A b before is_first v.1 (filter (has_header mode) (map (λ (v : PlacedVisit). v.1) vs)) split placed.0 counts in (
               record { block = stands.block; says = stands.says },
               subst (λ q. Threads (StandsIn K) (arrays_after A (header_statement mode is_first v.1)) q (map (printed_line mode v.1.path) (lines_of mode v.1) ++ printed_tables mode (is_first && is_empty (printed_table mode is_first v.1)) vs)) (sym stands.block)
                   (lines-thread K (arrays_after A (header_statement mode is_first v.1)) v.1.path (lines_of mode v.1) (printed_tables mode (is_first && is_empty (printed_table mode is_first v.1)) vs)
                   (lines-at v.1 placed.0.0.0.0 placed.0.0.0.1 placed.0.0.1)
                   (more (before ++ (v.1 ∷ [])) (arrays_after A (header_statement mode is_first v.1)) v.1.path (is_first && is_empty (printed_table mode is_first v.1))
-                  (split ∙ sym (append_assoc before (v.1 ∷ []) (filter (has_header mode) (map (λ (v : Placed). v.1) vs)))) placed.1 stands.counts)),
+                  (split ∙ sym (append_assoc before (v.1 ∷ []) (filter (has_header mode) (map (λ (v : PlacedVisit). v.1) vs)))) placed.1 stands.counts)),
             )
         by_header false e split more =
             subst (λ ls. Threads (StandsIn K) A b (map (printed_line mode v.1.path) ls ++ printed_tables mode (is_first && is_empty (printed_table mode is_first v.1)) vs)) (sym (no-lines v.1 placed.0.1 e))
@@ -279,7 +279,7 @@ module _ (mode : Mode) where
       ∙ root-first (root_placed t) (after_root t) refl
 
   -- the tables after the root are placed
-  pub after-placed : (t : Tree) (fitting : IsFitting mode t) → AllByRecursion (λ (v : Placed). IsPlaced t fitting v.1) (after_root t)
+  pub after-placed : (t : Tree) (fitting : IsFitting mode t) → AllByRecursion (λ (v : PlacedVisit). IsPlaced t fitting v.1) (after_root t)
   after-placed t fitting =
       let W = slots_walk t.slots [] [] in
       let facts : AllByRecursion (λ v. (tree_at t v × IsVisit v) × (is_root v ≡ false)) W =
@@ -288,8 +288,8 @@ module _ (mode : Mode) where
       (all-map (λ v. tree_at t v × ([] ≡ v.path → ⊥)) (λ v. is_root v ≡ false) W (λ v h. keyed-trail v h.0.trail h.0.path h.0.keys h.1)
       (all-both (tree_at t) (λ v. [] ≡ v.path → ⊥) W (walk-at t fitting.made).1 (walk-apart t fitting.made).0)) in
       let seen = place_of (pos 0) (visit_of [] [] false t.root t.slots) in
-      all-sorted (λ (v : Placed). IsPlaced t fitting v.1) comes_before (places_from seen W)
-      (all-map (λ (v : Placed). ((tree_at t v.1 × IsVisit v.1) × (is_root v.1 ≡ false)) × (v.1.fields.is_dotted ≡ false)) (λ (v : Placed). IsPlaced t fitting v.1) (places_from seen W)
+      all-sorted (λ (v : PlacedVisit). IsPlaced t fitting v.1) comes_before (places_from seen W)
+      (all-map (λ (v : PlacedVisit). ((tree_at t v.1 × IsVisit v.1) × (is_root v.1 ≡ false)) × (v.1.fields.is_dotted ≡ false)) (λ (v : PlacedVisit). IsPlaced t fitting v.1) (places_from seen W)
       (λ v h. ((h.0.0, h.1), h.0.1))
       (places-all (λ v. (tree_at t v × IsVisit v) × (is_root v ≡ false)) seen W facts))
 
@@ -297,8 +297,8 @@ module _ (mode : Mode) where
   pub printed-thread : (t : Tree) → IsFitting mode t → Threads (StandsIn (tree_spot t.slots)) [] [] (printed mode t)
   printed-thread t fitting =
       let root = root_placed t in
-      let split : headed mode t ≡ [] ++ filter (has_header mode) (map (λ (v : Placed). v.1) (after_root t)) =
-      ap (λ (vs : List Placed). filter (has_header mode) (map (λ (v : Placed). v.1) vs)) (order-is t fitting) in
+      let split : headed mode t ≡ [] ++ filter (has_header mode) (map (λ (v : PlacedVisit). v.1) (after_root t)) =
+      ap (λ (vs : List PlacedVisit). filter (has_header mode) (map (λ (v : PlacedVisit). v.1) vs)) (order-is t fitting) in
       subst (λ vs. Threads (StandsIn (tree_spot t.slots)) [] [] (printed_tables mode true vs)) (sym (order-is t fitting))
       (lines-thread (tree_spot t.slots) [] [] (lines_of mode root.1) (printed_tables mode (true && is_empty (printed_table mode true root.1)) (after_root t))
       (table-at mode (tree_spot t.slots) t.slots [] [] fitting.made tt (tree-sees t.slots))

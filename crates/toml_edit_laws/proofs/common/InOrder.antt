@@ -5,7 +5,7 @@ use Rattle.std.specs.List.Sorted.{IsPermutation}
 use Rattle.std.proofs.lemmas.List.Sorted.{IsPermutation-refl, IsPermutation-sym, IsPermutation-cons, IsPermutation-trans, IsPermutation-middle}
 use Rattle.toml_edit_model.specs.Order.{is_level, is_sorted_by, IsInOrder, insert_by, sorted_by}
 use Rattle.toml_edit_model.specs.Normal.{is_line, line_before, ordered}
-use Rattle.toml_edit_model.specs.HeaderOrder.{Placed as PlacedVisit, is_root, comes_before, walk, places_from}
+use Rattle.toml_edit_model.specs.HeaderOrder.{PlacedVisit as PlacedVisit, is_root, comes_before, walk, places_from}
 use Rattle.toml_edit_laws.specs.InOrder.{HeadersInOrder, LinesAreKept, PairsAreKept}
 use Rattle.toml_edit_laws.proofs.common.OrderLaws.{int_le-total, int_le-trans}
 use Rattle.toml_edit_laws.proofs.common.Tests.{and_left, and_right, and_both, true-false}

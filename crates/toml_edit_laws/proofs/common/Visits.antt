@@ -1,6 +1,6 @@
 -- The visits of a print: their places, their order, and which are below the root.
 use Rattle.std.proofs.Common.{false, ◌≡◌, true, refl, ◌∷◌, ◌++◌, Bool, ℤ, List, [], suc, ℕ}
-use Rattle.toml_edit_model.specs.HeaderOrder.{Visit, is_root, places_from, place_of, Placed, comes_before, slots_walk, items_walk, node_walk}
+use Rattle.toml_edit_model.specs.HeaderOrder.{Visit, is_root, places_from, place_of, PlacedVisit, comes_before, slots_walk, items_walk, node_walk}
 use Rattle.toml_edit_model.specs.Paths.{Step, same_step, Path, to_key, to_element}
 use Rattle.toml_edit_laws.proofs.common.PathLaws.{same_step-refl}
 use Rattle.toml_edit_laws.proofs.common.Tests.{and_both}
@@ -22,16 +22,16 @@ pub below-more : (p : Path) (s : Step) (r : Path) → is_below p (p ++ (s ∷ r)
 below-more [] s r = refl
 below-more (t ∷ p) s r = and_both (same_step t t) (is_below p (p ++ (s ∷ r))) (same_step-refl t) (below-more p s r)
 
-pub places-all : (P : Visit → Type 0) (seen : ℤ) (vs : List Visit) → AllByRecursion P vs → AllByRecursion (λ (v : Placed). P v.1) (places_from seen vs)
+pub places-all : (P : Visit → Type 0) (seen : ℤ) (vs : List Visit) → AllByRecursion P vs → AllByRecursion (λ (v : PlacedVisit). P v.1) (places_from seen vs)
 places-all P seen [] h = tt
 places-all P seen (v ∷ vs) h = by_test v.fields.is_dotted (places-all P seen vs h.1) (places-all P (place_of seen v) vs h.1)
   where
-    by_test : (b : Bool) → AllByRecursion (λ (v : Placed). P v.1) (places_from seen vs) → AllByRecursion (λ (v : Placed). P v.1) (places_from (place_of seen v) vs)
-        → AllByRecursion (λ (v : Placed). P v.1) (if b then places_from seen vs else (place_of seen v, v) ∷ places_from (place_of seen v) vs)
+    by_test : (b : Bool) → AllByRecursion (λ (v : PlacedVisit). P v.1) (places_from seen vs) → AllByRecursion (λ (v : PlacedVisit). P v.1) (places_from (place_of seen v) vs)
+        → AllByRecursion (λ (v : PlacedVisit). P v.1) (if b then places_from seen vs else (place_of seen v, v) ∷ places_from (place_of seen v) vs)
     by_test true g k = g
     by_test false g k = (h.0, k)
 
-pub root-first : (r : Placed) (vs : List Placed) → is_root r.1 ≡ true → insert_by comes_before r vs ≡ r ∷ vs
+pub root-first : (r : PlacedVisit) (vs : List PlacedVisit) → is_root r.1 ≡ true → insert_by comes_before r vs ≡ r ∷ vs
 root-first r [] h = refl
 root-first r (v ∷ vs) h = rw h refl
 
@@ -39,7 +39,7 @@ root-first r (v ∷ vs) h = rw h refl
 abbrev pub have_no_dotted : List Visit → Bool
 have_no_dotted vs = list_all (λ v. not (v.is_element && v.fields.is_dotted)) vs
 
-pub before-total : (g h : Placed) → comes_before g h ≡ false → comes_before h g ≡ true
+pub before-total : (g h : PlacedVisit) → comes_before g h ≡ false → comes_before h g ≡ true
 before-total g h e = by_tests (is_root g.1) (is_root h.1) e
   where
     by_tests : (r s : Bool) → (r || (not s && int_le g.0 h.0)) ≡ false → (s || (not r && int_le h.0 g.0)) ≡ true
@@ -47,7 +47,7 @@ before-total g h e = by_tests (is_root g.1) (is_root h.1) e
     by_tests false true e = refl
     by_tests false false e = int_le-total g.0 h.0 e
 
-pub before-trans : (a b c : Placed) → comes_before a b ≡ true → comes_before b c ≡ true → comes_before a c ≡ true
+pub before-trans : (a b c : PlacedVisit) → comes_before a b ≡ true → comes_before b c ≡ true → comes_before a c ≡ true
 before-trans a b c h g = by_roots (is_root a.1) (is_root b.1) (is_root c.1) h g
   where
     by_roots : (x y z : Bool) → (x || (not y && int_le a.0 b.0)) ≡ true → (y || (not z && int_le b.0 c.0)) ≡ true → (x || (not z && int_le a.0 c.0)) ≡ true

@@ -7,7 +7,7 @@ use Rattle.toml_edit_model.specs.Text.{Text, same_text, one}
 use Rattle.toml_edit_model.specs.Syntax.{mark_text}
 use Rattle.toml_edit_model.specs.Paths.{Placed}
 use Rattle.toml_edit_model.specs.Accepted.{agree, is_sound, is_accepted}
-use Rattle.toml_edit_model.specs.Flat.{Line, line_statement, flat_document}
+use Rattle.toml_edit_model.specs.Flat.{FlatLine, line_statement, flat_document}
 use Rattle.toml_edit_laws.specs.OneByOne.{all_right_after}
 use Rattle.toml_edit_laws.specs.FlatTree.{is_among, is_right_value, are_right, line_keys, next_line}
 use Rattle.toml_edit_laws.proofs.common.Tests.{and_left, and_right, and-assoc, not-true, append-nil, not-or, same_text-swap}
@@ -18,12 +18,12 @@ use Rattle.toml_edit_model.specs.Roles.{may_meet}
 -- the earlier statements mention these keys alone
 abbrev Mentioned : List Placed → List Text → Type 0
 Mentioned earlier keys =
-    (n start : ℕ) (l : Line) → list_all (λ (e : Placed). agree may_meet e.mentions (line_mention n start l ∷ [])) earlier ≡ not (is_among l.key keys)
+    (n start : ℕ) (l : FlatLine) → list_all (λ (e : Placed). agree may_meet e.mentions (line_mention n start l ∷ [])) earlier ≡ not (is_among l.key keys)
 
 pub is_among-append : (k : Text) (xs ys : List Text) → is_among k (xs ++ ys) ≡ (is_among k xs || is_among k ys)
 is_among-append k xs ys = list_any-append (same_text k) xs ys
 
-more-mentioned : (earlier : List Placed) (keys : List Text) (m i : ℕ) (j : Line) → Mentioned earlier keys
+more-mentioned : (earlier : List Placed) (keys : List Text) (m i : ℕ) (j : FlatLine) → Mentioned earlier keys
     → Mentioned (earlier ++ (line_place m i j ∷ [])) (keys ++ one j.key)
 more-mentioned earlier keys m i j h n start l =
     list_all-append (λ (e : Placed). agree may_meet e.mentions (line_mention n start l ∷ [])) earlier (line_place m i j ∷ [])
@@ -37,10 +37,10 @@ more-mentioned earlier keys m i j h n start l =
     by_test true = refl
     by_test false = refl
 
-sound : (l : Line) → is_sound (line_statement l) ≡ is_right_value l.value
+sound : (l : FlatLine) → is_sound (line_statement l) ≡ is_right_value l.value
 sound l = refl
 
-right-from : (earlier : List Placed) (keys : List Text) (n start : ℕ) (lines : List Line) → Mentioned earlier keys
+right-from : (earlier : List Placed) (keys : List Text) (n start : ℕ) (lines : List FlatLine) → Mentioned earlier keys
     → all_right_after earlier (line_places n start lines) ≡ are_right keys lines
 right-from earlier keys n start [] h = refl
 right-from earlier keys n start (l ∷ rest) h =
@@ -50,12 +50,12 @@ right-from earlier keys n start (l ∷ rest) h =
     (right-from (earlier ++ (line_place n start l ∷ [])) (keys ++ one l.key) (suc n) (next_line start l) rest (more-mentioned earlier keys n start l h))
 
 -- A flat document is accepted where its lines are right.
-pub accepted : (m : Bool) (lines : List Line) (final : Text) → is_accepted (flat_document m lines final) ≡ are_right [] lines
+pub accepted : (m : Bool) (lines : List FlatLine) (final : Text) → is_accepted (flat_document m lines final) ≡ are_right [] lines
 accepted m lines final =
     accepted-is (flat_document m lines final) ∙ ap (all_right_after []) (placed-lines m lines final) ∙ right-from [] [] 0 (length (mark_text m)) lines (λ n start l. refl)
 
 -- lines after lines
-pub are_right-append : (keys : List Text) (xs ys : List Line) → are_right keys (xs ++ ys) ≡ (are_right keys xs && are_right (keys ++ line_keys xs) ys)
+pub are_right-append : (keys : List Text) (xs ys : List FlatLine) → are_right keys (xs ++ ys) ≡ (are_right keys xs && are_right (keys ++ line_keys xs) ys)
 are_right-append keys [] ys = ap (λ ks. are_right ks ys) (sym (append-nil keys))
 are_right-append keys (l ∷ xs) ys =
     ap (λ b. (is_right_value l.value && not (is_among l.key keys)) && b)
@@ -63,15 +63,15 @@ are_right-append keys (l ∷ xs) ys =
     ∙ sym (and-assoc (is_right_value l.value && not (is_among l.key keys)) (are_right (keys ++ one l.key) xs) (are_right (keys ++ (l.key ∷ line_keys xs)) ys))
 
 -- a right line among others: its value, its key, and those after it
-pub line-right : (keys : List Text) (l : Line) (rest : List Line) → are_right keys (l ∷ rest) ≡ true → is_right_value l.value ≡ true
+pub line-right : (keys : List Text) (l : FlatLine) (rest : List FlatLine) → are_right keys (l ∷ rest) ≡ true → is_right_value l.value ≡ true
 line-right keys l rest h =
     and_left (is_right_value l.value) (not (is_among l.key keys))
     (and_left (is_right_value l.value && not (is_among l.key keys)) (are_right (keys ++ one l.key) rest) h)
 
-pub line-new : (keys : List Text) (l : Line) (rest : List Line) → are_right keys (l ∷ rest) ≡ true → is_among l.key keys ≡ false
+pub line-new : (keys : List Text) (l : FlatLine) (rest : List FlatLine) → are_right keys (l ∷ rest) ≡ true → is_among l.key keys ≡ false
 line-new keys l rest h =
     not-true (is_among l.key keys) (and_right (is_right_value l.value) (not (is_among l.key keys))
     (and_left (is_right_value l.value && not (is_among l.key keys)) (are_right (keys ++ one l.key) rest) h))
 
-pub rest-right : (keys : List Text) (l : Line) (rest : List Line) → are_right keys (l ∷ rest) ≡ true → are_right (keys ++ one l.key) rest ≡ true
+pub rest-right : (keys : List Text) (l : FlatLine) (rest : List FlatLine) → are_right keys (l ∷ rest) ≡ true → are_right (keys ++ one l.key) rest ≡ true
 rest-right keys l rest h = and_right (is_right_value l.value && not (is_among l.key keys)) (are_right (keys ++ one l.key) rest) h

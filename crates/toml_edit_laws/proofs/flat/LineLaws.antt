@@ -6,7 +6,7 @@ use Rattle.std.specs.List.{AllByRecursion}
 use Rattle.toml_edit_model.specs.Text.{Text}
 use Rattle.toml_edit_model.specs.Trivia.{IsLineEnd}
 use Rattle.toml_edit_model.specs.Syntax.{Document, IsFrame, IsValue, AreStatements, value_text}
-use Rattle.toml_edit_model.specs.Flat.{Line, line_frame, line_statement, flat_document, IsFlat, IsFlatCut}
+use Rattle.toml_edit_model.specs.Flat.{FlatLine, line_frame, line_statement, flat_document, IsFlat, IsFlatCut}
 use Rattle.toml_edit_laws.specs.FlatTree.{IsSpelledLine, line_text, key_start, key_end, after_equals_start, value_at, value_end}
 use Rattle.toml_edit_laws.specs.Standing.{Stands}
 use Rattle.toml_edit_laws.proofs.common.Tests.{append-nil}
@@ -14,10 +14,10 @@ use Rattle.toml_edit_laws.proofs.common.StandingLaws.{stands-left, stands-right}
 
 -- ---- each line is in the grammar
 
-abbrev IsLine : Line → Type 0
+abbrev IsLine : FlatLine → Type 0
 IsLine l = IsFrame IsLineEnd (line_frame l) × IsValue l.value
 
-are-lines : (final : Text) (lines : List Line) → AreStatements final (map line_statement lines) → AllByRecursion IsLine lines
+are-lines : (final : Text) (lines : List FlatLine) → AreStatements final (map line_statement lines) → AllByRecursion IsLine lines
 are-lines final [] h = tt
 are-lines final (l ∷ []) h = ((h.0, h.1), tt)
 are-lines final (l ∷ j ∷ rest) h = ((h.0.0, h.0.1), are-lines final (j ∷ rest) h.1)
@@ -28,7 +28,7 @@ are-lines final (l ∷ j ∷ rest) h = ((h.0.0, h.0.1), are-lines final (j ∷ r
 pub flat-is : (d : Document) (f : IsFlat d) → d ≡ flat_document d.has_mark f.lines d.final
 flat-is d f = ap (λ ss. record d { statements = ss }) f.statements
 
-spelled-lines : (lines : List Line) → AllByRecursion IsLine lines → AllByRecursion IsSpelledLine lines
+spelled-lines : (lines : List FlatLine) → AllByRecursion IsLine lines → AllByRecursion IsSpelledLine lines
 spelled-lines [] h = tt
 spelled-lines (l ∷ rest) h = (record { key = h.0.0.1.spelled.0; value = h.0.1 }, spelled-lines rest h.1)
 
@@ -40,7 +40,7 @@ cut_lines d t h =
 -- ---- its parts
 
 -- the parts of a line stand in the source
-pub record LineStands (source : Text) (start : ℕ) (l : Line) : Type 0 where
+pub record LineStands (source : Text) (start : ℕ) (l : FlatLine) : Type 0 where
   pub leading : Stands source start l.leading
   pub spelled : Stands source (key_start start l) l.spelled
   pub before_equals : Stands source (key_end start l) l.before_equals
@@ -49,7 +49,7 @@ pub record LineStands (source : Text) (start : ℕ) (l : Line) : Type 0 where
   pub trailing : Stands source (value_end start l) l.trailing
   pub right_side : Stands source (after_equals_start start l) (l.after_equals ++ (value_text l.value ++ l.trailing))
 
-pub line-stands : (source : Text) (start : ℕ) (l : Line) → Stands source start (line_text l) → LineStands source start l
+pub line-stands : (source : Text) (start : ℕ) (l : FlatLine) → Stands source start (line_text l) → LineStands source start l
 line-stands source start l h =
     let from_value : Text = value_text l.value ++ l.trailing in
     let from_equals : Text = codes "=" ++ (l.after_equals ++ from_value) in

@@ -9,7 +9,7 @@ use Rattle.toml_edit_model.specs.Syntax.{mark_text}
 use Rattle.toml_edit_model.specs.Paths.{at_key, same_path, Mention, Source, all_mentions}
 use Rattle.toml_edit_model.specs.Tree.{Node, nothing, leaf, list, inline, table, tables, Slots, no_slots, slot}
 use Rattle.toml_edit_model.specs.TreeOf.{Form, value_start, key_at, IsValueNode, IsLineNode, IsNodeOf, AreSlotsOf, IsTreeOf}
-use Rattle.toml_edit_model.specs.Flat.{Line, line_frame, line_statement, flat_document}
+use Rattle.toml_edit_model.specs.Flat.{FlatLine, line_frame, line_statement, flat_document}
 use Rattle.toml_edit_laws.specs.FlatTree.{is_among, are_right, next_line, after_equals_start, line_key, IsNodeOfLine, AreLineSlots, flat_tree}
 use Rattle.toml_edit_laws.proofs.common.Tests.{append-nil, and-true, same_text-swap}
 use Rattle.toml_edit_laws.proofs.flat.AcceptedLaws.{is_among-append, line-new, rest-right}
@@ -20,7 +20,7 @@ use Rattle.toml_edit_model.specs.TableMentions.{under, some_at, kept_from, kept}
 
 -- ---- the slots are those of all lines
 
-no-heads : (k : Text) (n start : ℕ) (lines : List Line) → some_at is_header_role (at_key k ∷ []) (line_mentions_from n start lines) ≡ false
+no-heads : (k : Text) (n start : ℕ) (lines : List FlatLine) → some_at is_header_role (at_key k ∷ []) (line_mentions_from n start lines) ≡ false
 no-heads k n start [] = refl
 no-heads k n start (l ∷ rest) = by_test (same_text l.key k && true) (no-heads k (suc n) (next_line start l) rest)
   where
@@ -33,7 +33,7 @@ no-heads k n start (l ∷ rest) = by_test (same_text l.key k && true) (no-heads 
 abbrev Mentions : List (Mention Source) → List Text → Type 0
 Mentions before keys = (k : Text) → some_at any_role (at_key k ∷ []) before ≡ is_among k keys
 
-more-mentions : (before : List (Mention Source)) (keys : List Text) (n start : ℕ) (l : Line) → Mentions before keys
+more-mentions : (before : List (Mention Source)) (keys : List Text) (n start : ℕ) (l : FlatLine) → Mentions before keys
     → Mentions (before ++ (line_mention n start l ∷ [])) (keys ++ one l.key)
 more-mentions before keys n start l h k =
     list_any-append (λ (m : Mention Source). same_path m.path (at_key k ∷ []) && any_role m.role) before (line_mention n start l ∷ [])
@@ -42,7 +42,7 @@ more-mentions before keys n start l h k =
     (ap (λ b. b || false) (and-true (same_text l.key k && true) ∙ and-true (same_text l.key k) ∙ same_text-swap l.key k))
     ∙ sym (is_among-append k keys (one l.key))
 
-kept-lines : (before : List (Mention Source)) (keys : List Text) (n start : ℕ) (lines : List Line) → Mentions before keys → are_right keys lines ≡ true
+kept-lines : (before : List (Mention Source)) (keys : List Text) (n start : ℕ) (lines : List FlatLine) → Mentions before keys → are_right keys lines ≡ true
     → kept_from before (line_mentions_from n start lines) ≡ line_mentions_from n start lines
 kept-lines before keys n start [] h right = refl
 kept-lines before keys n start (l ∷ rest) h right =
@@ -61,13 +61,13 @@ kept-lines before keys n start (l ∷ rest) h right =
     by_test false true p q = cc
 
 -- the text before the value of a line, by its frame
-value-begins : (form : Form) (start : ℕ) (l : Line) → after_equals_start start l ≡ start + value_start form (line_frame l)
+value-begins : (form : Form) (start : ℕ) (l : FlatLine) → after_equals_start start l ≡ start + value_start form (line_frame l)
 value-begins form start l =
     let size : length (l.spelled ++ []) ≡ length l.spelled = ap length (append-nil l.spelled) in
     omega arith
 
 module _ (form : Form) where
-  key-is : (n start : ℕ) (l : Line) → line_key form start l ≡ key_at form (line_mention n start l)
+  key-is : (n start : ℕ) (l : FlatLine) → line_key form start l ≡ key_at form (line_mention n start l)
   key-is n start l =
       let here : start + length l.leading + 0 ≡ start + length l.leading = omega arith in
       let dot : start + length l.leading + 0 - 0 ≡ start + length l.leading = omega arith in
@@ -75,11 +75,11 @@ module _ (form : Form) where
       cc
 
   -- the item of a line, as the statement's
-  from-line : (n start : ℕ) (l : Line) (o : Node) → IsNodeOfLine form start l o → IsLineNode form (line_mention n start l).source (line_statement l) o
+  from-line : (n start : ℕ) (l : FlatLine) (o : Node) → IsNodeOfLine form start l o → IsLineNode form (line_mention n start l).source (line_statement l) o
   from-line n start l o h = subst (λ i. IsValueNode form l.value i l.after_equals (with_return form.mode l.trailing l.end) o) (value-begins form start l) h
 
   -- a line's mention has the item of its value
-  node-of : (ns : List (Mention Source)) (n start : ℕ) (l : Line) (o : Node) → IsNodeOfLine form start l o → IsNodeOf form ns (line_mention n start l) o
+  node-of : (ns : List (Mention Source)) (n start : ℕ) (l : FlatLine) (o : Node) → IsNodeOfLine form start l o → IsNodeOf form ns (line_mention n start l) o
   node-of ns n start l (leaf s r d) h = (refl, from-line n start l (leaf s r d) h)
   node-of ns n start l (list f xs) h = (refl, from-line n start l (list f xs) h)
   node-of ns n start l (inline f us) h = (refl, from-line n start l (inline f us) h)
@@ -87,7 +87,7 @@ module _ (form : Form) where
   node-of ns n start l (tables e xs) h = absurd (let same : false ≡ true = (value_item l.value form (after_equals_start start l) l.after_equals (with_return form.mode l.trailing l.end) (tables e xs) h).is_value in cc)
   node-of ns n start l nothing h = absurd (let same : false ≡ true = (value_item l.value form (after_equals_start start l) l.after_equals (with_return form.mode l.trailing l.end) nothing h).is_value in cc)
 
-  slots-of : (ms : List (Mention Source)) (n start : ℕ) (lines : List Line) (ss : Slots) → AreLineSlots form start lines ss
+  slots-of : (ms : List (Mention Source)) (n start : ℕ) (lines : List FlatLine) (ss : Slots) → AreLineSlots form start lines ss
       → AreSlotsOf form ms (line_mentions_from n start lines) ss
   slots-of ms n start [] no_slots h = tt
   slots-of ms n start [] (slot k o ss) h = absurd h
@@ -100,13 +100,13 @@ module _ (form : Form) where
 
   -- ---- the tree
 
-  kept-all : (m : Bool) (lines : List Line) (final : Text) → are_right [] lines ≡ true
+  kept-all : (m : Bool) (lines : List FlatLine) (final : Text) → are_right [] lines ≡ true
       → kept (all_mentions (flat_document m lines final)) ≡ line_mentions_from 0 (length (mark_text m)) lines
   kept-all m lines final right =
       ap (kept_from []) (all_mentions-lines m lines final) ∙ kept-lines [] [] 0 (length (mark_text m)) lines (λ k. refl) right
 
   -- a right flat document has this tree
-  pub tree : (m : Bool) (lines : List Line) (final : Text) (ss : Slots) → are_right [] lines ≡ true → AreLineSlots form (length (mark_text m)) lines ss
+  pub tree : (m : Bool) (lines : List FlatLine) (final : Text) (ss : Slots) → are_right [] lines ≡ true → AreLineSlots form (length (mark_text m)) lines ss
       → IsTreeOf form (flat_document m lines final) (flat_tree form m lines final ss)
   tree m lines final ss right are =
       record {

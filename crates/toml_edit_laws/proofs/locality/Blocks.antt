@@ -7,7 +7,7 @@ use Rattle.toml_edit_model.specs.Text.{Text, is_empty}
 use Rattle.toml_edit_model.specs.Syntax.{Header, header}
 use Rattle.toml_edit_model.specs.Paths.{Path}
 use Rattle.toml_edit_model.specs.Tree.{Raw, owned, span, Key, TableFields, no_slots, Tree, shown_suffix, shown_side}
-use Rattle.toml_edit_model.specs.HeaderOrder.{Visit, visit_of, slots_walk, walk, Placed, place_of, places_from, is_root, comes_before}
+use Rattle.toml_edit_model.specs.HeaderOrder.{Visit, visit_of, slots_walk, walk, PlacedVisit, place_of, places_from, is_root, comes_before}
 use Rattle.toml_edit_model.specs.Print.{Line, last_leaf, segments, lines_of, has_header, is_lifted, key_prefix, lifted_prefix, header_default, header_suffix, header_of, header_statement, Printed, printed_line, printed_table, printed_tables, printed}
 use Rattle.toml_edit_model.specs.Fits.{has_own_prefix, has_steady_header}
 use Rattle.toml_edit_laws.specs.Locality.{root_visit}
@@ -45,13 +45,13 @@ abbrev pub IsSteadyBlock : Block → Type 0
 IsSteadyBlock b = (not (is_headed b) || has_steady_header (bare b)) ≡ true
 
 all-places : (P : Visit → Type 0) (seen : ℤ) (vs : List Visit) → AllByRecursion (λ v. v.fields.is_dotted ≡ false → P v) vs
-    → AllByRecursion (λ (p : Placed). P p.1) (places_from seen vs)
+    → AllByRecursion (λ (p : PlacedVisit). P p.1) (places_from seen vs)
 all-places P seen [] h = tt
 all-places P seen (v ∷ vs) h = by_test v.fields.is_dotted refl (all-places P seen vs h.1) (all-places P (place_of seen v) vs h.1)
   where
-    by_test : (b : Bool) → v.fields.is_dotted ≡ b → AllByRecursion (λ (p : Placed). P p.1) (places_from seen vs)
-        → AllByRecursion (λ (p : Placed). P p.1) (places_from (place_of seen v) vs)
-        → AllByRecursion (λ (p : Placed). P p.1) (if b then places_from seen vs else (place_of seen v, v) ∷ places_from (place_of seen v) vs)
+    by_test : (b : Bool) → v.fields.is_dotted ≡ b → AllByRecursion (λ (p : PlacedVisit). P p.1) (places_from seen vs)
+        → AllByRecursion (λ (p : PlacedVisit). P p.1) (places_from (place_of seen v) vs)
+        → AllByRecursion (λ (p : PlacedVisit). P p.1) (if b then places_from seen vs else (place_of seen v, v) ∷ places_from (place_of seen v) vs)
     by_test true e x y = x
     by_test false e x y = (h.0 e, y)
 
@@ -127,10 +127,10 @@ module _ (mode : Mode) where
       by_test false h = refl
 
   -- the printed statements of tables in an order
-  abbrev placed_printed : Placed → List Printed
+  abbrev placed_printed : PlacedVisit → List Printed
   placed_printed p = block_printed (block_of p.1)
 
-  tables-same : (d : Bool) (ps : List Placed) → AllByRecursion (λ p. IsSteadyBlock (block_of p.1)) ps → printed_tables mode d ps ≡ flat_map placed_printed ps
+  tables-same : (d : Bool) (ps : List PlacedVisit) → AllByRecursion (λ p. IsSteadyBlock (block_of p.1)) ps → printed_tables mode d ps ≡ flat_map placed_printed ps
   tables-same d [] h = refl
   tables-same d (p ∷ ps) h =
       ap (λ xs. xs ++ printed_tables mode (d && is_empty (printed_table mode d p.1)) ps) (table-same d p.1 h.0)
@@ -138,11 +138,11 @@ module _ (mode : Mode) where
 
   -- ---- places
 
-  abbrev has_placed_header : Placed → Bool
+  abbrev has_placed_header : PlacedVisit → Bool
   has_placed_header p = has_header mode p.1
 
   -- the table has a header, and its place is its own position
-  abbrev IsOwnPlace : Placed → Type 0
+  abbrev IsOwnPlace : PlacedVisit → Type 0
   IsOwnPlace p = (is_root p.1 ≡ false) × (p.0 ≡ place (block_of p.1))
 
   own-places : (seen : ℤ) (vs : List Visit) → AllByRecursion IsBelowRoot vs → AllByRecursion IsSteadyTable vs
@@ -169,7 +169,7 @@ module _ (mode : Mode) where
       by_test false false s x y e = rw e y
 
   -- the tables with headers in their places are the headed blocks
-  abbrev block_at : Placed → Block
+  abbrev block_at : PlacedVisit → Block
   block_at p = block_of p.1
 
   blocks-in_places : (seen : ℤ) (vs : List Visit) → map block_at (filter has_placed_header (places_from seen vs)) ≡ filter is_headed (blocks vs)
@@ -206,7 +206,7 @@ module _ (mode : Mode) where
       no_lines [] g = refl
       no_lines (l ∷ ls) g = absurd cc
 
-  drop-unheaded : (ps : List Placed) → AllByRecursion (λ (p : Placed). is_root p.1 ≡ false) ps
+  drop-unheaded : (ps : List PlacedVisit) → AllByRecursion (λ (p : PlacedVisit). is_root p.1 ≡ false) ps
       → flat_map placed_printed ps ≡ flat_map placed_printed (filter has_placed_header ps)
   drop-unheaded [] h = refl
   drop-unheaded (p ∷ ps) h = by_test (has_header mode p.1) refl (drop-unheaded ps h.1)
@@ -218,16 +218,16 @@ module _ (mode : Mode) where
 
   -- ---- the order
 
-  flat-at : (ps : List Placed) → flat_map placed_printed ps ≡ flat_map block_printed (map block_at ps)
+  flat-at : (ps : List PlacedVisit) → flat_map placed_printed ps ≡ flat_map block_printed (map block_at ps)
   flat-at [] = refl
   flat-at (p ∷ ps) = ap (λ xs. placed_printed p ++ xs) (flat-at ps)
 
-  same-order : (ps : List Placed) → AllByRecursion IsOwnPlace ps → map block_at (sorted_by comes_before ps) ≡ sorted_by stands_first (map block_at ps)
+  same-order : (ps : List PlacedVisit) → AllByRecursion IsOwnPlace ps → map block_at (sorted_by comes_before ps) ≡ sorted_by stands_first (map block_at ps)
   same-order ps h =
       ap (λ xs. map block_at xs) (sorted-alike IsOwnPlace comes_before (λ p q. stands_first (block_at p) (block_at q)) agree ps h)
       ∙ sym (sorted-image block_at stands_first ps)
     where
-      agree : (p q : Placed) → IsOwnPlace p → IsOwnPlace q → comes_before p q ≡ stands_first (block_at p) (block_at q)
+      agree : (p q : PlacedVisit) → IsOwnPlace p → IsOwnPlace q → comes_before p q ≡ stands_first (block_at p) (block_at q)
       agree p q x y = by_tests (is_root p.1) (is_root q.1) x.0 y.0 ∙ ap (λ z. int_le z q.0) x.1 ∙ ap (λ z. int_le (place (block_of p.1)) z) y.1
         where
           by_tests : (r s : Bool) → r ≡ false → s ≡ false → (r || (not s && int_le p.0 q.0)) ≡ int_le p.0 q.0
@@ -240,14 +240,14 @@ module _ (mode : Mode) where
   pub printed-walk : (seen : ℤ) (d : Bool) (vs : List Visit) → AllByRecursion IsBelowRoot vs → AllByRecursion IsSteadyTable vs
       → printed_tables mode d (sorted_by comes_before (places_from seen vs)) ≡ printed_blocks (blocks vs)
   printed-walk seen d vs b h =
-      let ps : List Placed = places_from seen vs in
-      let steady : AllByRecursion (λ (p : Placed). IsSteadyBlock (block_of p.1)) ps =
+      let ps : List PlacedVisit = places_from seen vs in
+      let steady : AllByRecursion (λ (p : PlacedVisit). IsSteadyBlock (block_of p.1)) ps =
       all-places (λ v. IsSteadyBlock (block_of v)) seen vs
       (all-map IsSteadyTable (λ v. v.fields.is_dotted ≡ false → IsSteadyBlock (block_of v)) vs (λ v s e. undotted v.fields.is_dotted (has_header mode v) (has_steady_header v) e s) h) in
-      let below : AllByRecursion (λ (p : Placed). is_root p.1 ≡ false) ps =
+      let below : AllByRecursion (λ (p : PlacedVisit). is_root p.1 ≡ false) ps =
       all-places IsBelowRoot seen vs (all-map IsBelowRoot (λ v. v.fields.is_dotted ≡ false → IsBelowRoot v) vs (λ v s e. s) b) in
-      tables-same d (sorted_by comes_before ps) (all-sorted (λ (p : Placed). IsSteadyBlock (block_of p.1)) comes_before ps steady)
-      ∙ drop-unheaded (sorted_by comes_before ps) (all-sorted (λ (p : Placed). is_root p.1 ≡ false) comes_before ps below)
+      tables-same d (sorted_by comes_before ps) (all-sorted (λ (p : PlacedVisit). IsSteadyBlock (block_of p.1)) comes_before ps steady)
+      ∙ drop-unheaded (sorted_by comes_before ps) (all-sorted (λ (p : PlacedVisit). is_root p.1 ≡ false) comes_before ps below)
       ∙ ap (λ xs. flat_map placed_printed xs) (filter-sorted comes_before before-trans before-total has_placed_header ps)
       ∙ flat-at (sorted_by comes_before (filter has_placed_header ps))
       ∙ ap (λ xs. flat_map block_printed xs) (same-order (filter has_placed_header ps) (own-places seen vs b h))

@@ -9,7 +9,7 @@ use Rattle.toml_edit_model.specs.Text.{Text, one, is_empty}
 use Rattle.toml_edit_model.specs.Syntax.{Value, Elements, no_elements, element, Pairs, no_pairs, pair, depth, elements_depth, pairs_depth, nesting_limit, is_short, has_short_keys, elements_have_short_keys, pairs_have_short_keys, keeps_limits}
 use Rattle.toml_edit_model.specs.Paths.{Path}
 use Rattle.toml_edit_model.specs.Tree.{Key, Node, nothing, leaf, list, inline, table, tables, Items, no_items, item, Slots, no_slots, slot, Tree, shown_raw, node_decor}
-use Rattle.toml_edit_model.specs.HeaderOrder.{Placed, in_header_order}
+use Rattle.toml_edit_model.specs.HeaderOrder.{PlacedVisit, in_header_order}
 use Rattle.toml_edit_model.specs.Print.{Line, segments, segments_after, is_line_node, table_lines, dotted_lines, inside_lines, lines_inside, lines_of, line_of, value_of, elements_of, around_of, add_after, close_array, add_after_pairs, close_inline, pairs_of_lines, line_statement, has_header, header_statement, Printed, printed_line, printed_header, printed_table, printed_tables, statements_of}
 use Rattle.toml_edit_laws.proofs.normal_texts.SpansWalk.{key, visit, line, inside-owned, lines-owned, header-same, placed_visit, order-owned}
 use Rattle.toml_edit_laws.proofs.common.Each.{all-append}
@@ -172,7 +172,7 @@ module _ (mode : Mode) where
     lines_keep [] = true
     lines_keep (l ∷ ls) = keeps_limits (line_statement mode l) && lines_keep ls
 
-    abbrev table_keeps : Placed → Bool
+    abbrev table_keeps : PlacedVisit → Bool
     table_keeps g = (if has_header mode g.1 then is_short (segments mode g.1.keys) else true) && lines_keep (lines_of mode g.1)
 
     abbrev keeps : Printed → Bool
@@ -182,7 +182,7 @@ module _ (mode : Mode) where
     lines-kept p [] = refl
     lines-kept p (l ∷ ls) = ap (λ b. keeps_limits (line_statement mode l) && b) (lines-kept p ls)
 
-    table-kept : (b : Bool) (g : Placed) → list_all keeps (printed_table mode b g.1) ≡ table_keeps g
+    table-kept : (b : Bool) (g : PlacedVisit) → list_all keeps (printed_table mode b g.1) ≡ table_keeps g
     table-kept b g =
         list_all-append keeps (printed_header mode b g.1) (map (printed_line mode g.1.path) (lines_of mode g.1))
         ∙ ap (λ c. list_all keeps (printed_header mode b g.1) && c) (lines-kept g.1.path (lines_of mode g.1))
@@ -197,7 +197,7 @@ module _ (mode : Mode) where
         by_header true = and-true (is_short (segments mode g.1.keys))
         by_header false = refl
 
-    tables-kept : (b : Bool) (gs : List Placed) → list_all keeps (printed_tables mode b gs) ≡ list_all table_keeps gs
+    tables-kept : (b : Bool) (gs : List PlacedVisit) → list_all keeps (printed_tables mode b gs) ≡ list_all table_keeps gs
     tables-kept b [] = refl
     tables-kept b (g ∷ gs) =
         let next : Bool = b && is_empty (printed_table mode b g.1) in
@@ -217,14 +217,14 @@ module _ (mode : Mode) where
         ∙ ap (λ b. (is_short (segments mode l.keys) && (nat_le (depth l.value) nesting_limit && b)) && lines_keep (map (line mode source) ls)) h.0.1
         ∙ ap (λ b. keeps_limits (line_statement mode l) && b) (lines-keep ls h.1)
 
-    table-owned : (g : Placed) → table_keeps (placed_visit mode source g) ≡ table_keeps g
+    table-owned : (g : PlacedVisit) → table_keeps (placed_visit mode source g) ≡ table_keeps g
     table-owned g =
         ap (λ b. (if b then is_short (segments mode (map (key mode source) g.1.keys)) else true) && lines_keep (lines_of mode (visit mode source g.1))) (header-same mode source g.1)
         ∙ ap (λ b. (if has_header mode g.1 then b else true) && lines_keep (lines_of mode (visit mode source g.1))) (short-same g.1.keys)
         ∙ ap (λ ls. (if has_header mode g.1 then is_short (segments mode g.1.keys) else true) && lines_keep ls) (lines-owned mode source g.1.slots [])
         ∙ ap (λ b. (if has_header mode g.1 then is_short (segments mode g.1.keys) else true) && b) (lines-keep (lines_of mode g.1) (table-same g.1.slots []))
 
-    tables-owned : (gs : List Placed) → list_all table_keeps (map (placed_visit mode source) gs) ≡ list_all table_keeps gs
+    tables-owned : (gs : List PlacedVisit) → list_all table_keeps (map (placed_visit mode source) gs) ≡ list_all table_keeps gs
     tables-owned [] = refl
     tables-owned (g ∷ gs) = ap (λ b. b && list_all table_keeps (map (placed_visit mode source) gs)) (table-owned g) ∙ ap (λ b. table_keeps g && b) (tables-owned gs)
 

@@ -7,7 +7,7 @@ use Rattle.toml_edit_model.specs.Mode.{Mode}
 use Rattle.toml_edit_model.specs.Text.{Text, one, is_empty}
 use Rattle.toml_edit_model.specs.Paths.{Path, to_key, to_element}
 use Rattle.toml_edit_model.specs.Tree.{Key, Node, nothing, leaf, list, inline, table, tables, Items, no_items, item, Slots, no_slots, slot, Tree}
-use Rattle.toml_edit_model.specs.HeaderOrder.{Visit, visit_of, node_walk, items_walk, slots_walk, walk, Placed, place_of, places_from, is_root, comes_before, in_header_order}
+use Rattle.toml_edit_model.specs.HeaderOrder.{Visit, visit_of, node_walk, items_walk, slots_walk, walk, PlacedVisit, place_of, places_from, is_root, comes_before, in_header_order}
 use Rattle.toml_edit_model.specs.Print.{Line, is_line_node, table_lines, dotted_lines, inside_lines, lines_inside, lines_of, line_of, value_of, has_header}
 use Rattle.toml_edit_model.specs.Fits.{is_undotted, is_too_late, none_too_late, headed, elements_are_ordered}
 use Rattle.toml_edit_laws.proofs.common.OrderLaws.{sorted-alike, sorted-image}
@@ -140,7 +140,7 @@ module _ (mode : Mode) where
         ∙ ap (λ ls. not (is_root v) && (v.is_element || not (v.fields.is_implicit && is_empty ls))) (lines-owned v.slots [])
         ∙ ap (λ b. not (is_root v) && (v.is_element || not (v.fields.is_implicit && b))) (empty-map line (lines_of mode v))
 
-    abbrev pub placed_visit : Placed → Placed
+    abbrev pub placed_visit : PlacedVisit → PlacedVisit
     placed_visit g = (g.0, visit g.1)
 
     places-owned : (seen : ℤ) (vs : List Visit) → places_from seen (map visit vs) ≡ map placed_visit (places_from seen vs)
@@ -153,7 +153,7 @@ module _ (mode : Mode) where
         by_test true a c = a
         by_test false a c = ap (λ gs. (place_of seen v, visit v) ∷ gs) c
 
-    comes-same : (g h : Placed) → comes_before (placed_visit g) (placed_visit h) ≡ comes_before g h
+    comes-same : (g h : PlacedVisit) → comes_before (placed_visit g) (placed_visit h) ≡ comes_before g h
     comes-same g h =
         ap (λ b. b || (not (is_root (visit h.1)) && Rattle.std.specs.Prelude.int_le g.0 h.0)) (root-same g.1)
         ∙ ap (λ b. is_root g.1 || (not b && Rattle.std.specs.Prelude.int_le g.0 h.0)) (root-same h.1)
@@ -172,15 +172,15 @@ module _ (mode : Mode) where
 
     -- ---- elements in order
 
-    headed-owned : (gs : List Placed) → filter (has_header mode) (map (λ v. v.1) (map placed_visit gs)) ≡ map visit (filter (has_header mode) (map (λ v. v.1) gs))
+    headed-owned : (gs : List PlacedVisit) → filter (has_header mode) (map (λ v. v.1) (map placed_visit gs)) ≡ map visit (filter (has_header mode) (map (λ v. v.1) gs))
     headed-owned [] = refl
     headed-owned (g ∷ gs) =
-        ap (λ b. if b then visit g.1 ∷ filter (has_header mode) (map (λ (v : Placed). v.1) (map placed_visit gs)) else filter (has_header mode) (map (λ (v : Placed). v.1) (map placed_visit gs))) (header-same g.1)
+        ap (λ b. if b then visit g.1 ∷ filter (has_header mode) (map (λ (v : PlacedVisit). v.1) (map placed_visit gs)) else filter (has_header mode) (map (λ (v : PlacedVisit). v.1) (map placed_visit gs))) (header-same g.1)
         ∙ ap (λ vs. if has_header mode g.1 then visit g.1 ∷ vs else vs) (headed-owned gs)
         ∙ by_test (has_header mode g.1)
       where
-        by_test : (b : Bool) → (if b then visit g.1 ∷ map visit (filter (has_header mode) (map (λ (v : Placed). v.1) gs)) else map visit (filter (has_header mode) (map (λ (v : Placed). v.1) gs)))
-            ≡ map visit (if b then g.1 ∷ filter (has_header mode) (map (λ (v : Placed). v.1) gs) else filter (has_header mode) (map (λ (v : Placed). v.1) gs))
+        by_test : (b : Bool) → (if b then visit g.1 ∷ map visit (filter (has_header mode) (map (λ (v : PlacedVisit). v.1) gs)) else map visit (filter (has_header mode) (map (λ (v : PlacedVisit). v.1) gs)))
+            ≡ map visit (if b then g.1 ∷ filter (has_header mode) (map (λ (v : PlacedVisit). v.1) gs) else filter (has_header mode) (map (λ (v : PlacedVisit). v.1) gs))
         by_test true = refl
         by_test false = refl
 
@@ -194,7 +194,7 @@ module _ (mode : Mode) where
 
     pub ordered-owned : (t : Tree) → elements_are_ordered mode (owned_tree source t) ≡ elements_are_ordered mode t
     ordered-owned t =
-        ap (λ gs. none_too_late (filter (has_header mode) (map (λ (v : Placed). v.1) gs))) (order-owned t)
+        ap (λ gs. none_too_late (filter (has_header mode) (map (λ (v : PlacedVisit). v.1) gs))) (order-owned t)
         ∙ ap none_too_late (headed-owned (in_header_order t)) ∙ late-owned (headed mode t)
 
     -- ---- dotted tables

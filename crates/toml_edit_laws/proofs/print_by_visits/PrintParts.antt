@@ -10,7 +10,7 @@ use Rattle.toml_edit_model.specs.Text.{Text, is_empty, joined}
 use Rattle.toml_edit_model.specs.Paths.{Path}
 use Rattle.toml_edit_model.specs.Syntax.{closing_brackets, opening_brackets, path_text, statement_text}
 use Rattle.toml_edit_model.specs.Tree.{TableFields, Slots, Tree, shown_prefix, shown_raw, shown_suffix}
-use Rattle.toml_edit_model.specs.HeaderOrder.{Placed, Visit, comes_before, in_header_order, is_root, place_of, places_from, slots_walk, visit_of}
+use Rattle.toml_edit_model.specs.HeaderOrder.{PlacedVisit, Visit, comes_before, in_header_order, is_root, place_of, places_from, slots_walk, visit_of}
 use Rattle.toml_edit_model.specs.Print.{Line, Printed, has_header, header_default, last_leaf, line_statement, lines_of, print_in, printed_line, printed_table, printed_tables, segments, table_lines, header_statement}
 use Rattle.toml_edit_laws.specs.PrintByVisits.{PrintByVisits, begins, by_place, has_lines, headed_tables, header_text, headers_text, holds_newline, root_lines, root_place, written_lines, inside_brackets}
 use Rattle.toml_edit_laws.proofs.common.Tests.{and-true}
@@ -54,21 +54,21 @@ and-false : (b : Bool) → (b && false) ≡ false
 and-false true = refl
 and-false false = refl
 
-abbrev IsBelow : Placed → Type 0
+abbrev IsBelow : PlacedVisit → Type 0
 IsBelow v = is_root v.1 ≡ false
 
-abbrev placed_before : Placed → Placed → Bool
+abbrev placed_before : PlacedVisit → PlacedVisit → Bool
 placed_before g h = int_le g.0 h.0
 
 -- Leaving out those without headers, and then sorting by place, is sorting and then leaving out.
-pub shown-sorted : (vs : List Placed) → shown_heads (sorted_by placed_before vs) ≡ sorted_by by_place (shown_heads vs)
+pub shown-sorted : (vs : List PlacedVisit) → shown_heads (sorted_by placed_before vs) ≡ sorted_by by_place (shown_heads vs)
 shown-sorted vs =
     ap (map head_of)
     (filter-sorted placed_before (λ a b c p q. int_le-trans a.0 b.0 c.0 p q) (λ a b p. int_le-total a.0 b.0 p) shows_header vs)
     ∙ sym (sorted-image head_of by_place (filter shows_header vs))
 
 -- below the root the place decides
-same-order : (a b : Placed) → IsBelow a → IsBelow b → comes_before a b ≡ placed_before a b
+same-order : (a b : PlacedVisit) → IsBelow a → IsBelow b → comes_before a b ≡ placed_before a b
 same-order a b p q =
     ap (λ (r : Bool). r || (not (is_root b.1) && int_le a.0 b.0)) p ∙ ap (λ (r : Bool). not r && int_le a.0 b.0) q
 
@@ -98,7 +98,7 @@ module _ (mode : Mode) where
   -- ---- a header
 
   -- what stands before the suffix of a header
-  abbrev header_before : Bool → Placed → Text → Text
+  abbrev header_before : Bool → PlacedVisit → Text → Text
   header_before is_first v t =
       let d = last_leaf v.1.keys in
       (if holds_newline mode d then shown_prefix mode [] d else [])
@@ -106,7 +106,7 @@ module _ (mode : Mode) where
       ++ (opening_brackets v.1.is_element ++ (inside_brackets mode d (path_text (segments mode v.1.keys)) ++ (closing_brackets v.1.is_element ++ t))))
 
   -- a header in the parts that are written
-  pub header-is : (is_first : Bool) (v : Placed) → statement_text (header_statement mode is_first v.1) ≡ header_text mode is_first (head_of v)
+  pub header-is : (is_first : Bool) (v : PlacedVisit) → statement_text (header_statement mode is_first v.1) ≡ header_text mode is_first (head_of v)
   header-is is_first v =
       let d = last_leaf v.1.keys in
       header-order (if holds_newline mode d then shown_prefix mode [] d else []) (shown_prefix mode (header_default is_first) v.1.fields.decor)
@@ -118,24 +118,24 @@ module _ (mode : Mode) where
   -- ---- which tables have one
 
   -- a table below the root has a header just where it is collected
-  pub has-header : (v : Placed) → is_root v.1 ≡ false → has_header mode v.1 ≡ shows_header v
+  pub has-header : (v : PlacedVisit) → is_root v.1 ≡ false → has_header mode v.1 ≡ shows_header v
   has-header v below =
       ap (λ (r : Bool). not r && (v.1.is_element || not (v.1.fields.is_implicit && is_empty (lines_of mode v.1)))) below
       ∙ ap (λ (b : Bool). v.1.is_element || b) (not-both v.1.fields.is_implicit (is_empty (lines_of mode v.1)) (has_lines v.1.slots) (lines-some mode v.1.slots []))
 
-  with-header : (b : Bool) (v : Placed) → is_root v.1 ≡ false → shows_header v ≡ true
+  with-header : (b : Bool) (v : PlacedVisit) → is_root v.1 ≡ false → shows_header v ≡ true
       → printed_table mode b v.1 ≡ own_header mode b v.1 ∷ map (printed_line mode v.1.path) (lines_of mode v.1)
   with-header b v below e =
       ap (λ (c : Bool). (if c then own_header mode b v.1 ∷ [] else []) ++ map (printed_line mode v.1.path) (lines_of mode v.1)) (has-header v below ∙ e)
 
   -- one that isn't collected prints nothing
-  pub without-header : (b : Bool) (v : Placed) → is_root v.1 ≡ false → shows_header v ≡ false → printed_table mode b v.1 ≡ []
+  pub without-header : (b : Bool) (v : PlacedVisit) → is_root v.1 ≡ false → shows_header v ≡ false → printed_table mode b v.1 ≡ []
   without-header b v below e =
       ap (λ (c : Bool). (if c then own_header mode b v.1 ∷ [] else []) ++ map (printed_line mode v.1.path) (lines_of mode v.1)) (has-header v below ∙ e)
       ∙ ap (map (printed_line mode v.1.path)) (no-lines v.1.is_element v.1.fields.is_implicit (has_lines v.1.slots) (lines_of mode v.1) (lines-some mode v.1.slots []) e)
 
   -- the text of tables below the root is that of those with headers
-  pub headers-printed : (b : Bool) (vs : List Placed) → AllByRecursion IsBelow vs → text_of (printed_tables mode b vs) ≡ headers_text mode b (shown_heads vs)
+  pub headers-printed : (b : Bool) (vs : List PlacedVisit) → AllByRecursion IsBelow vs → text_of (printed_tables mode b vs) ≡ headers_text mode b (shown_heads vs)
   headers-printed b [] h = refl
   headers-printed b (v ∷ vs) h =
       elim (cases_Bool (shows_header v)) [
@@ -155,7 +155,7 @@ module _ (mode : Mode) where
 
   -- ---- their order
 
-  in-order : (b : Bool) (hs : List Placed) → AllByRecursion IsBelow hs
+  in-order : (b : Bool) (hs : List PlacedVisit) → AllByRecursion IsBelow hs
       → text_of (printed_tables mode b (sorted_by comes_before hs)) ≡ headers_text mode b (sorted_by by_place (shown_heads hs))
   in-order b hs h =
       headers-printed b (sorted_by comes_before hs) (all-sorted IsBelow comes_before hs h)
@@ -181,7 +181,7 @@ module _ (mode : Mode) where
   printed-root f ss p false =
       let hs = places_from p (slots_walk ss [] []) in
       let sorted = sorted_by comes_before hs in
-      ap (λ (l : List Placed). text_of (printed_tables mode true l)) (root-first (p, visit_of [] [] false f ss) sorted refl)
+      ap (λ (l : List PlacedVisit). text_of (printed_tables mode true l)) (root-first (p, visit_of [] [] false f ss) sorted refl)
       ∙ text_of-append (map (printed_line mode []) (table_lines mode ss [])) (printed_tables mode (is_empty (map (printed_line mode []) (table_lines mode ss []))) sorted)
       ∙ ap (λ (t : Text). t ++ text_of (printed_tables mode (is_empty (map (printed_line mode []) (table_lines mode ss []))) sorted)) (table-text [] ss)
       ∙ ap (λ (b : Bool). written_lines mode ss [] ++ text_of (printed_tables mode b sorted)) (begins-is ss)

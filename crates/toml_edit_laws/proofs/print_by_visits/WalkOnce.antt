@@ -3,7 +3,7 @@ use Rattle.std.proofs.Common.{◌≡◌, refl, sym, ap, ◌∙◌, ℕ, suc, ℤ
 use Rattle.std.specs.Prelude.{filter, map, if◌then◌else◌}
 use Rattle.toml_edit_model.specs.Paths.{Path, to_element, to_key}
 use Rattle.toml_edit_model.specs.Tree.{Key, Node, nothing, leaf, list, inline, table, tables, Items, no_items, item, Slots, no_slots, slot}
-use Rattle.toml_edit_model.specs.HeaderOrder.{Placed, Visit, items_walk, node_walk, place_of, places_from, slots_walk, visit_of}
+use Rattle.toml_edit_model.specs.HeaderOrder.{PlacedVisit, Visit, items_walk, node_walk, place_of, places_from, slots_walk, visit_of}
 use Rattle.toml_edit_laws.specs.PrintByVisits.{Headed, Walked, enter, has_own_header, headed, walked, walked_items, walked_node}
 use Rattle.toml_edit_laws.proofs.common.Tests.{append-nil}
 
@@ -56,15 +56,15 @@ abbrev pub seen_after : ℤ → List Visit → ℤ
 seen_after seen [] = seen
 seen_after seen (v ∷ vs) = seen_after (if v.fields.is_dotted then seen else place_of seen v) vs
 
-abbrev pub head_of : Placed → Headed
+abbrev pub head_of : PlacedVisit → Headed
 head_of v = headed v.0 v.1.keys v.1.is_element v.1.fields v.1.slots
 
 -- the table has a header below the root
-abbrev pub shows_header : Placed → Bool
+abbrev pub shows_header : PlacedVisit → Bool
 shows_header v = has_own_header v.1.is_element v.1.fields v.1.slots
 
 -- the headers of these tables with their places
-abbrev pub shown_heads : List Placed → List Headed
+abbrev pub shown_heads : List PlacedVisit → List Headed
 shown_heads vs = map head_of (filter shows_header vs)
 
 abbrev step : Bool → Bool → Walked → ℤ → Visit → Walked
@@ -83,7 +83,7 @@ seen-is (v ∷ vs) w =
     seen-is vs (enter_visit w v)
     ∙ ap (λ z. seen_after z vs) (seen-step v.fields.is_dotted (shows_header (place_of w.seen v, v)) w (place_of w.seen v) v)
 
-one-more : (c : Bool) (w : Walked) (s : ℤ) (v : Visit) (rest : List Placed)
+one-more : (c : Bool) (w : Walked) (s : ℤ) (v : Visit) (rest : List PlacedVisit)
     → (if c then w.tables ++ (head_of (s, v) ∷ []) else w.tables) ++ shown_heads rest
     ≡ w.tables ++ map head_of (if c then (s, v) ∷ filter shows_header rest else filter shows_header rest)
 one-more true w s v rest = append_assoc w.tables (head_of (s, v) ∷ []) (shown_heads rest)

@@ -10,7 +10,7 @@ use Rattle.toml_edit_model.specs.Paths.{at_element, Path, to_element, elements_a
 use Rattle.toml_edit_model.specs.Meaning.{Fact, fact, a_table, an_array, below_keys, value_facts, tables_along, parent, element_header_facts, facts_from, SameFacts, meaning}
 use Rattle.toml_edit_model.specs.Tree.{Tree}
 use Rattle.toml_edit_model.specs.Shown.{slots_facts, shown_meaning}
-use Rattle.toml_edit_model.specs.HeaderOrder.{Visit, Placed, slots_walk, walk, place_of, places_from, is_root, comes_before, in_header_order}
+use Rattle.toml_edit_model.specs.HeaderOrder.{Visit, PlacedVisit, slots_walk, walk, place_of, places_from, is_root, comes_before, in_header_order}
 use Rattle.toml_edit_model.specs.Print.{Line, lines_of, has_header, segments, table_lines, Printed, printed_line, printed_table, printed_tables, statements_of, add_before, root_prefix, document_in, header_statement, open_last, leaves_open, written_statements, printed}
 use Rattle.toml_edit_laws.specs.AcceptedPrints.{IsFitting}
 use Rattle.toml_edit_laws.proofs.accepted_prints.Spots.{Spot, tree_spot}
@@ -152,25 +152,25 @@ module _ (mode : Mode) where
         ∙ ih arrays block (lines-through arrays block v.path (lines_of mode v) later h)
         ∙ ap (λ ls. line_facts mode (tables_along [] v.path) v.path ls ++ facts) (sym (none refl))
 
-    tables-say : (arrays : List Path) (block : Path) (first : Bool) (vs : List Placed) → AllByRecursion (λ (v : Placed). is_root v.1 ≡ false) vs
+    tables-say : (arrays : List Path) (block : Path) (first : Bool) (vs : List PlacedVisit) → AllByRecursion (λ (v : PlacedVisit). is_root v.1 ≡ false) vs
         → Threads (StandsIn mode K) arrays block (printed_tables mode first vs)
-        → facts_by arrays block (statement_list (printed_tables mode first vs)) ≡ flat_map (λ (v : Placed). visit_facts mode v.1) vs
+        → facts_by arrays block (statement_list (printed_tables mode first vs)) ≡ flat_map (λ (v : PlacedVisit). visit_facts mode v.1) vs
     tables-say arrays block first [] r h = refl
     tables-say arrays block first (v ∷ vs) r h =
         let next = first && is_empty (printed_table mode first v.1) in
         ap (facts_by arrays block) (map-append (λ (p : Printed). p.statement) (printed_table mode first v.1) (printed_tables mode next vs))
         ∙ table-says (has_header mode v.1) arrays block first v.1 (printed_tables mode next vs)
-        (flat_map (λ (v : Placed). visit_facts mode v.1) vs) (no-lines mode v.1 r.0) h (λ xs q g. tables-say xs q next vs r.1 g)
+        (flat_map (λ (v : PlacedVisit). visit_facts mode v.1) vs) (no-lines mode v.1 r.0) h (λ xs q g. tables-say xs q next vs r.1 g)
 
   -- ---- the order of headers makes no difference
 
-  places-facts : (seen : ℤ) (vs : List Visit) → flat_map (λ (v : Placed). visit_facts mode v.1) (places_from seen vs) ≡ walk_facts mode vs
+  places-facts : (seen : ℤ) (vs : List Visit) → flat_map (λ (v : PlacedVisit). visit_facts mode v.1) (places_from seen vs) ≡ walk_facts mode vs
   places-facts seen [] = refl
   places-facts seen (v ∷ vs) = by_test v.fields.is_dotted (places-facts seen vs) (places-facts (place_of seen v) vs)
     where
-      by_test : (b : Bool) → flat_map (λ (v : Placed). visit_facts mode v.1) (places_from seen vs) ≡ walk_facts mode vs
-          → flat_map (λ (v : Placed). visit_facts mode v.1) (places_from (place_of seen v) vs) ≡ walk_facts mode vs
-          → flat_map (λ (v : Placed). visit_facts mode v.1) (if b then places_from seen vs else (place_of seen v, v) ∷ places_from (place_of seen v) vs)
+      by_test : (b : Bool) → flat_map (λ (v : PlacedVisit). visit_facts mode v.1) (places_from seen vs) ≡ walk_facts mode vs
+          → flat_map (λ (v : PlacedVisit). visit_facts mode v.1) (places_from (place_of seen v) vs) ≡ walk_facts mode vs
+          → flat_map (λ (v : PlacedVisit). visit_facts mode v.1) (if b then places_from seen vs else (place_of seen v, v) ∷ places_from (place_of seen v) vs)
           ≡ (if b then [] else visit_facts mode v) ++ walk_facts mode vs
       by_test true h g = h
       by_test false h g = ap (λ fs. visit_facts mode v ++ fs) g
@@ -178,7 +178,7 @@ module _ (mode : Mode) where
   -- ---- the document
 
   -- the printed statements have the facts of the tables in order
-  printed-say : (t : Tree) → IsFitting mode t → facts_by [] [] (statements_of mode t) ≡ flat_map (λ (v : Placed). visit_facts mode v.1) (in_header_order t)
+  printed-say : (t : Tree) → IsFitting mode t → facts_by [] [] (statements_of mode t) ≡ flat_map (λ (v : PlacedVisit). visit_facts mode v.1) (in_header_order t)
   printed-say t fitting =
       let K = tree_spot t.slots in
       let order = order-is mode t fitting in
@@ -186,14 +186,14 @@ module _ (mode : Mode) where
       let next = true && is_empty (printed_table mode true (root_placed t).1) in
       let threads : Threads (StandsIn mode K) [] [] (printed_tables mode true (root_placed t ∷ rest)) =
       subst (λ vs. Threads (StandsIn mode K) [] [] (printed_tables mode true vs)) order (printed-thread mode t fitting) in
-      let keyed : AllByRecursion (λ (v : Placed). is_root v.1 ≡ false) rest =
-      all-map (λ (v : Placed). IsPlaced mode t fitting v.1) (λ (v : Placed). is_root v.1 ≡ false) rest (λ v h. h.1) (after-placed mode t fitting) in
+      let keyed : AllByRecursion (λ (v : PlacedVisit). is_root v.1 ≡ false) rest =
+      all-map (λ (v : PlacedVisit). IsPlaced mode t fitting v.1) (λ (v : PlacedVisit). is_root v.1 ≡ false) rest (λ v h. h.1) (after-placed mode t fitting) in
       ap (λ vs. facts_by [] [] (statement_list (printed_tables mode true vs))) order
       ∙ ap (facts_by [] []) (map-append (λ (p : Printed). p.statement) (map (printed_line mode []) (table_lines mode t.slots [])) (printed_tables mode next rest))
       ∙ lines-say [] [] [] (table_lines mode t.slots []) (statement_list (printed_tables mode next rest))
       ∙ ap (λ fs. line_facts mode [] [] (table_lines mode t.slots []) ++ fs)
       (tables-say K [] [] next rest keyed (lines-through K [] [] [] (table_lines mode t.slots []) (printed_tables mode next rest) threads))
-      ∙ ap (λ vs. flat_map (λ (v : Placed). visit_facts mode v.1) vs) (sym order)
+      ∙ ap (λ vs. flat_map (λ (v : PlacedVisit). visit_facts mode v.1) vs) (sym order)
 
   -- The print of a tree that fits means what the tree shows.
   pub meaning-of-print : (is_open : Bool) (t : Tree) → IsFitting mode t → SameFacts (meaning (document_in mode is_open t)) (shown_meaning t)
@@ -203,15 +203,15 @@ module _ (mode : Mode) where
       let d = not-true t.root.is_dotted (and_left (not t.root.is_dotted) (have_no_dotted (walk t)) u) in
       let elements = and_right (not (false && t.root.is_dotted)) (have_no_dotted (slots_walk t.slots [] [])) (and_right (not t.root.is_dotted) (have_no_dotted (walk t)) u) in
       let said = facts_from (start_context (document_in mode is_open t)) (document_in mode is_open t).statements in
-      let same : said ≡ flat_map (λ (v : Placed). visit_facts mode v.1) (in_header_order t) =
+      let same : said ≡ flat_map (λ (v : PlacedVisit). visit_facts mode v.1) (in_header_order t) =
       facts-by (start_context (document_in mode is_open t)) (document_in mode is_open t).statements ∙ facts-before (root_prefix mode t) [] [] (written_statements mode is_open t)
       ∙ facts-written (leaves_open mode is_open t) (printed mode t) ∙ printed-say t fitting in
       contained (fact [] a_table ∷ said) (fact [] a_table ∷ slots_facts t.slots [])
       (alike-cons (fact [] a_table) said (slots_facts t.slots [])
       (alike-then said (walk_facts mode (walk t)) (slots_facts t.slots [])
-      (alike-then said (flat_map (λ (v : Placed). visit_facts mode v.1) (in_header_order t)) (walk_facts mode (walk t))
-      (alike-same said (flat_map (λ (v : Placed). visit_facts mode v.1) (in_header_order t)) same)
-      (alike-then (flat_map (λ (v : Placed). visit_facts mode v.1) (in_header_order t)) (flat_map (λ (v : Placed). visit_facts mode v.1) (places_from (pos 0) (walk t))) (walk_facts mode (walk t))
-      (sorted-alike (λ (v : Placed). visit_facts mode v.1) comes_before (places_from (pos 0) (walk t)))
-      (alike-same (flat_map (λ (v : Placed). visit_facts mode v.1) (places_from (pos 0) (walk t))) (walk_facts mode (walk t)) (places-facts (pos 0) (walk t)))))
+      (alike-then said (flat_map (λ (v : PlacedVisit). visit_facts mode v.1) (in_header_order t)) (walk_facts mode (walk t))
+      (alike-same said (flat_map (λ (v : PlacedVisit). visit_facts mode v.1) (in_header_order t)) same)
+      (alike-then (flat_map (λ (v : PlacedVisit). visit_facts mode v.1) (in_header_order t)) (flat_map (λ (v : PlacedVisit). visit_facts mode v.1) (places_from (pos 0) (walk t))) (walk_facts mode (walk t))
+      (sorted-alike (λ (v : PlacedVisit). visit_facts mode v.1) comes_before (places_from (pos 0) (walk t)))
+      (alike-same (flat_map (λ (v : PlacedVisit). visit_facts mode v.1) (places_from (pos 0) (walk t))) (walk_facts mode (walk t)) (places-facts (pos 0) (walk t)))))
       (walk-tells mode t d elements)))

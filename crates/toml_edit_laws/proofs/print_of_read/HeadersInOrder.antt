@@ -10,7 +10,7 @@ use Rattle.toml_edit_model.specs.Text.{is_empty}
 use Rattle.toml_edit_model.specs.Syntax.{header}
 use Rattle.toml_edit_model.specs.Tree.{TableFields, Tree, shown_side}
 use Rattle.toml_edit_model.specs.TreeOf.{owned_in, root_fields}
-use Rattle.toml_edit_model.specs.HeaderOrder.{Visit, visit_of, slots_walk, Placed, place_of, places_from, is_root, comes_before, in_header_order}
+use Rattle.toml_edit_model.specs.HeaderOrder.{Visit, visit_of, slots_walk, PlacedVisit, place_of, places_from, is_root, comes_before, in_header_order}
 use Rattle.toml_edit_model.specs.Print.{table_lines, lines_of, has_header, header_default, lifted_prefix, header_of, printed_line, printed_table, printed_tables, printed, header_suffix}
 use Rattle.toml_edit_laws.proofs.common.OrderLaws.{all-sorted, sorted-alike, filter-twice}
 use Rattle.toml_edit_laws.proofs.print_of_read.SortedLists.{by_key, IsAscending, AreTied, sorted-ascending, filter-ascending, sorted-kept, ascending-same, flat_map-kept}
@@ -44,7 +44,7 @@ size (pos k) = k
 size (negsuc k) = 0
 
 -- the number of a place: that of the table, or the inherited one
-abbrev place_key : Placed → ℕ
+abbrev place_key : PlacedVisit → ℕ
 place_key g = number_or (size g.0) g.1.fields.position
 
 pub set-number : (n : ℕ) (o : Option ℤ) → (is_set o && (number_or 0 o == n)) ≡ is_number n o
@@ -62,11 +62,11 @@ number-key m n (Some (pos k)) h = eqb-true k n h
 number-key m n (Some (negsuc k)) h = absurd cc
 number-key m n None h = absurd cc
 
-map-ascending : (gs : List Placed) → AllByRecursion (λ g. has_number g.1 ≡ true) gs → IsAscending place_key gs → IsAscending number_of (map (λ g. g.1) gs)
+map-ascending : (gs : List PlacedVisit) → AllByRecursion (λ g. has_number g.1 ≡ true) gs → IsAscending place_key gs → IsAscending number_of (map (λ g. g.1) gs)
 map-ascending [] h asc = tt
 map-ascending (g ∷ gs) h asc = (each gs h.1 asc.0, map-ascending gs h.1 asc.1)
   where
-    each : (xs : List Placed) → AllByRecursion (λ x. has_number x.1 ≡ true) xs → AllByRecursion (λ x. place_key g ≤ place_key x) xs
+    each : (xs : List PlacedVisit) → AllByRecursion (λ x. has_number x.1 ≡ true) xs → AllByRecursion (λ x. place_key g ≤ place_key x) xs
         → AllByRecursion (λ v. number_of g.1 ≤ number_of v) (map (λ x. x.1) xs)
     each [] p q = tt
     each (x ∷ xs) p q =
@@ -82,14 +82,14 @@ filter-alike : {A : Type 0} (first second : A → Bool) (xs : List A) → AllByR
 filter-alike first second [] h = refl
 filter-alike first second (x ∷ xs) h = rw h.0 (ap (λ ys. if second x then x ∷ ys else ys) (filter-alike first second xs h.1))
 
-abbrev sorted_places : List Visit → List Placed
+abbrev sorted_places : List Visit → List PlacedVisit
 sorted_places vs = sorted_by comes_before (places_from (pos 0) vs)
 
 module _ (mode : Mode) where
   -- ---- the places of tables
 
   -- a table of a read tree in its place: no root, not dotted
-  abbrev IsSetPlace : Placed → Type 0
+  abbrev IsSetPlace : PlacedVisit → Type 0
   IsSetPlace g = IsEntered mode g.1 × (g.1.fields.is_dotted ≡ false) × (g.0 ≡ pos (place_key g))
 
   places-set : (j : ℕ) (vs : List Visit) → AllByRecursion (IsEntered mode) vs → AllByRecursion IsSetPlace (places_from (pos j) vs)
@@ -118,8 +118,8 @@ module _ (mode : Mode) where
       kept : Visit → List Visit → List Visit
       kept u us = if numbered n u then u ∷ us else us
 
-      here : ((z : ℤ) → map (λ (g : Placed). g.1) (filter (λ (g : Placed). numbered n g.1) (places_from z vs)) ≡ filter (numbered n) vs)
-          → map (λ (g : Placed). g.1) (filter (λ (g : Placed). numbered n g.1) ((place_of seen v, v) ∷ places_from (place_of seen v) vs)) ≡ filter (numbered n) (v ∷ vs)
+      here : ((z : ℤ) → map (λ (g : PlacedVisit). g.1) (filter (λ (g : PlacedVisit). numbered n g.1) (places_from z vs)) ≡ filter (numbered n) vs)
+          → map (λ (g : PlacedVisit). g.1) (filter (λ (g : PlacedVisit). numbered n g.1) ((place_of seen v, v) ∷ places_from (place_of seen v) vs)) ≡ filter (numbered n) (v ∷ vs)
       here ih =
           elim (cases_Bool (numbered n v)) [
             | inl e ↦ rw e (ap (λ us. v ∷ us) (ih (place_of seen v)))
@@ -127,24 +127,24 @@ module _ (mode : Mode) where
           ]
 
       by_dot : v.fields.position ≡ None → (b : Bool) → v.fields.is_dotted ≡ b
-          → ((z : ℤ) → map (λ (g : Placed). g.1) (filter (λ (g : Placed). numbered n g.1) (places_from z vs)) ≡ filter (numbered n) vs)
-          → map (λ (g : Placed). g.1) (filter (λ (g : Placed). numbered n g.1) (if b then places_from seen vs else (place_of seen v, v) ∷ places_from (place_of seen v) vs))
+          → ((z : ℤ) → map (λ (g : PlacedVisit). g.1) (filter (λ (g : PlacedVisit). numbered n g.1) (places_from z vs)) ≡ filter (numbered n) vs)
+          → map (λ (g : PlacedVisit). g.1) (filter (λ (g : PlacedVisit). numbered n g.1) (if b then places_from seen vs else (place_of seen v, v) ∷ places_from (place_of seen v) vs))
           ≡ filter (numbered n) (v ∷ vs)
       by_dot e true d ih = ih seen ∙ sym (rw (ap (is_number n) e) refl)
       by_dot e false d ih = here ih
 
-      by_read : IsOfRead mode v → ((z : ℤ) → map (λ (g : Placed). g.1) (filter (λ (g : Placed). numbered n g.1) (places_from z vs)) ≡ filter (numbered n) vs)
-          → map (λ (g : Placed). g.1) (filter (λ (g : Placed). numbered n g.1) (places_from seen (v ∷ vs))) ≡ filter (numbered n) (v ∷ vs)
+      by_read : IsOfRead mode v → ((z : ℤ) → map (λ (g : PlacedVisit). g.1) (filter (λ (g : PlacedVisit). numbered n g.1) (places_from z vs)) ≡ filter (numbered n) vs)
+          → map (λ (g : PlacedVisit). g.1) (filter (λ (g : PlacedVisit). numbered n g.1) (places_from seen (v ∷ vs))) ≡ filter (numbered n) (v ∷ vs)
       by_read (headed k t e d i p) ih =
           subst
           (λ b.
-          map (λ (g : Placed). g.1) (filter (λ (g : Placed). numbered n g.1) (if b then places_from seen vs else (place_of seen v, v) ∷ places_from (place_of seen v) vs))
+          map (λ (g : PlacedVisit). g.1) (filter (λ (g : PlacedVisit). numbered n g.1) (if b then places_from seen vs else (place_of seen v, v) ∷ places_from (place_of seen v) vs))
           ≡ filter (numbered n) (v ∷ vs)) (sym d) (here ih)
       by_read (by_path e i el lines) ih = by_dot e v.fields.is_dotted refl ih
 
   -- ---- in order
 
-  before-key : (a b : Placed) → IsSetPlace a → IsSetPlace b → comes_before a b ≡ by_key place_key a b
+  before-key : (a b : PlacedVisit) → IsSetPlace a → IsSetPlace b → comes_before a b ≡ by_key place_key a b
   before-key a b h g =
       rw (h.0.0, g.0.0) (ap (λ z. int_le z b.0) h.2 ∙ ap (λ z. int_le (pos (place_key a)) z) g.2)
 
@@ -153,35 +153,35 @@ module _ (mode : Mode) where
       → ((n : ℕ) → filter (numbered n) vs ≡ filter (numbered n) zs)
       → map (λ g. g.1) (filter (λ g. has_number g.1) (sorted_places vs)) ≡ zs
   in-order vs zs entered numbers ascending same =
-      ap (λ gs. map (λ (g : Placed). g.1) (filter (λ (g : Placed). has_number g.1) gs)) sorted_is
-      ∙ ascending-same number_of (map (λ (g : Placed). g.1) ys) zs
+      ap (λ gs. map (λ (g : PlacedVisit). g.1) (filter (λ (g : PlacedVisit). has_number g.1) gs)) sorted_is
+      ∙ ascending-same number_of (map (λ (g : PlacedVisit). g.1) ys) zs
       (map-ascending ys all_numbers (filter-ascending place_key (λ g. has_number g.1) sorted (sorted-ascending place_key places))) ascending (λ n.
-      filter-image (λ (g : Placed). g.1) (λ v. number_of v == n) ys
-      ∙ ap (map (λ (g : Placed). g.1))
-      (filter-twice (λ (g : Placed). Unit {0}) (λ g. has_number g.1) (λ g. number_of g.1 == n) (λ g. numbered n g.1) (λ g u. set-number n g.1.fields.position) sorted (trivially sorted)
+      filter-image (λ (g : PlacedVisit). g.1) (λ v. number_of v == n) ys
+      ∙ ap (map (λ (g : PlacedVisit). g.1))
+      (filter-twice (λ (g : PlacedVisit). Unit {0}) (λ g. has_number g.1) (λ g. number_of g.1 == n) (λ g. numbered n g.1) (λ g u. set-number n g.1.fields.position) sorted (trivially sorted)
       ∙ sorted-kept (by_key place_key) (λ g. numbered n g.1) (tied n) places)
       ∙ places-kept n (pos 0) vs entered
       ∙ same n
       ∙ sym (filter-alike (λ v. number_of v == n) (numbered n) zs (all-map (λ v. has_number v ≡ true) (λ v. (number_of v == n) ≡ numbered n v) zs (λ v e. number-test n v e) numbers)))
     where
-      places : List Placed
+      places : List PlacedVisit
       places = places_from (pos 0) vs
 
-      sorted : List Placed
+      sorted : List PlacedVisit
       sorted = sorted_by (by_key place_key) places
 
-      ys : List Placed
-      ys = filter (λ (g : Placed). has_number g.1) sorted
+      ys : List PlacedVisit
+      ys = filter (λ (g : PlacedVisit). has_number g.1) sorted
 
       sorted_is : sorted_places vs ≡ sorted
       sorted_is = sorted-alike IsSetPlace comes_before (by_key place_key) before-key places (places-set 0 vs entered)
 
-      all_numbers : AllByRecursion (λ (g : Placed). has_number g.1 ≡ true) ys
+      all_numbers : AllByRecursion (λ (g : PlacedVisit). has_number g.1 ≡ true) ys
       all_numbers =
-          all-map (λ (g : Placed). Unit {0} × (has_number g.1 ≡ true)) (λ g. has_number g.1 ≡ true) ys (λ g p. p.1)
-          (all_pass (λ (g : Placed). Unit {0}) (λ g. has_number g.1) sorted (trivially sorted))
+          all-map (λ (g : PlacedVisit). Unit {0} × (has_number g.1 ≡ true)) (λ g. has_number g.1 ≡ true) ys (λ g p. p.1)
+          (all_pass (λ (g : PlacedVisit). Unit {0}) (λ g. has_number g.1) sorted (trivially sorted))
 
-      tied : (n : ℕ) → AreTied (by_key place_key) (λ (g : Placed). numbered n g.1)
+      tied : (n : ℕ) → AreTied (by_key place_key) (λ (g : PlacedVisit). numbered n g.1)
       tied n a b p q =
           let first : place_key a ≡ n = number-key (size a.0) n a.1.fields.position p in
           let second : place_key b ≡ n = number-key (size b.0) n b.1.fields.position q in
@@ -216,7 +216,7 @@ module _ (mode : Mode) where
       ∙ and-false (not (is_root v)) in
       rw none (ap (map (printed_line mode v.path)) (lines dot))
 
-  tables-printed : (b : Bool) (gs : List Placed) → AllByRecursion IsSetPlace gs → printed_tables mode b gs ≡ flat_map (λ g. printed_table mode true g.1) gs
+  tables-printed : (b : Bool) (gs : List PlacedVisit) → AllByRecursion IsSetPlace gs → printed_tables mode b gs ≡ flat_map (λ g. printed_table mode true g.1) gs
   tables-printed b [] h = refl
   tables-printed b (g ∷ gs) h =
       ap (λ ps. ps ++ printed_tables mode (b && is_empty (printed_table mode b g.1)) gs) (default-unseen b g.1 h.0.0.1 h.0.1)
@@ -228,8 +228,8 @@ module _ (mode : Mode) where
       → ((n : ℕ) → filter (numbered n) (slots_walk t.slots [] []) ≡ filter (numbered n) zs)
       → map (λ g. g.1) (filter (λ g. has_number g.1) (in_header_order t)) ≡ zs
   order-of-headers t zs root_is entered numbers ascending same =
-      ap (λ (f : TableFields). map (λ (g : Placed). g.1) (filter (λ (g : Placed). has_number g.1) (sorted_by comes_before (places_from (pos 0) (visit_of [] [] false f t.slots ∷ vs))))) root_is
-      ∙ ap (λ gs. map (λ (g : Placed). g.1) (filter (λ (g : Placed). has_number g.1) gs)) (root-first (pos 0, root) (sorted_places vs) refl)
+      ap (λ (f : TableFields). map (λ (g : PlacedVisit). g.1) (filter (λ (g : PlacedVisit). has_number g.1) (sorted_by comes_before (places_from (pos 0) (visit_of [] [] false f t.slots ∷ vs))))) root_is
+      ∙ ap (λ gs. map (λ (g : PlacedVisit). g.1) (filter (λ (g : PlacedVisit). has_number g.1) gs)) (root-first (pos 0, root) (sorted_places vs) refl)
       ∙ in-order vs zs entered numbers ascending same
     where
       vs : List Visit
@@ -248,9 +248,9 @@ module _ (mode : Mode) where
       ∙ ap (printed_tables mode true) (root-first (pos 0, root) (sorted_places vs) refl)
       ∙ ap (λ ps. map (printed_line mode []) (table_lines mode t.slots []) ++ ps)
       (tables-printed (true && is_empty (printed_table mode true root)) (sorted_places vs) all_set
-      ∙ flat_map-kept (λ (g : Placed). printed_table mode true g.1) (λ g. has_number g.1) (sorted_places vs)
+      ∙ flat_map-kept (λ (g : PlacedVisit). printed_table mode true g.1) (λ g. has_number g.1) (sorted_places vs)
       (all-map IsSetPlace (λ g. has_number g.1 ≡ false → printed_table mode true g.1 ≡ []) (sorted_places vs) (λ g h e. nothing-printed g.1 h.0.1 h.1 e) all_set)
-      ∙ sym (flat_map-map (printed_table mode true) (λ (g : Placed). g.1) (filter (λ (g : Placed). has_number g.1) (sorted_places vs)))
+      ∙ sym (flat_map-map (printed_table mode true) (λ (g : PlacedVisit). g.1) (filter (λ (g : PlacedVisit). has_number g.1) (sorted_places vs)))
       ∙ ap (flat_map (printed_table mode true)) (in-order vs zs entered numbers ascending same))
     where
       vs : List Visit

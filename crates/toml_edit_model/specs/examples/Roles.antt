@@ -138,6 +138,7 @@ in_inline_tables =
     ∷ refused (pairs (b ∷ []) (scalar (boolean true) (codes "true")) (b ∷ c ∷ []) two_value) (codes "a = { b = true, b.c = 2 }\n") 0
     (codes "cannot extend value of type boolean with a dotted key") 16 17
     ∷ refused (pairs (b ∷ []) (inline_table (pair_of [] (c ∷ []) one_value [] no_pairs) false []) (b ∷ d ∷ []) two_value) (codes "a = { b = {c = 1}, b.d = 2 }\n") 0 duplicate 19 20
+    ∷ refused (pairs (b ∷ c ∷ []) one_value (b ∷ []) two_value) (codes "a = { b.c = 1, b = 2 }\n") 0 duplicate 15 16
     ∷ refused (pairs (b ∷ c ∷ []) one_value (b ∷ c ∷ d ∷ []) two_value) (codes "a = { b.c = 1, b.c.d = 2 }\n") 0
     (codes "cannot extend value of type integer with a dotted key") 17 18
     ∷ refused (document (line (a ∷ []) (inline_table (pair_of [] (b ∷ []) twice [] no_pairs) false []) ∷ [])) (codes "a = {b = {c = 1, c = 2}}\n") 0 duplicate 17 18

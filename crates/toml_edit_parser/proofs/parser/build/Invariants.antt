@@ -1,6 +1,6 @@
 use Rattle.std.proofs.Common.{List, Bool, length}
 use Rattle.toml_edit_model.specs.Text.{Text}
-use Rattle.toml_edit_model.specs.Flat.{Line}
+use Rattle.toml_edit_model.specs.Flat.{FlatLine}
 use Rattle.toml_edit_parser.specs.Parsed.{AreEventsIn}
 use Rattle.toml_edit_parser.specs.ValueRead.{AreIn}
 use Rattle.toml_edit_tree.specs.View.{slots_view}
@@ -14,7 +14,7 @@ invariant-lines l =
     record {
       fits : SlotsFit l.source (slots_view l.slots);
       spans : AreIn l.source l.rest;
-      progress : (m : Bool) (lines : List Line) (final : Text) → AreEventsIn l.source m lines final l.events
+      progress : (m : Bool) (lines : List FlatLine) (final : Text) → AreEventsIn l.source m lines final l.events
           → Progress l.source m lines final l.rest (slots_view l.slots);
     }
 
