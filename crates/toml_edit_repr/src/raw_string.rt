@@ -123,13 +123,7 @@ impl RawString {
         ensures err { OnErr result (self.new ≡ self.old) }
     {
         if let Inner::Span(start, end) = &self.inner {
-            let text = &source[*start..*end];
-            // Most sides are one space.
-            if text != " " {
-                *self = RawString::from_text(alloc, text)?;
-            } else {
-                self.inner = Inner::Space;
-            }
+            *self = RawString::from_text(alloc, &source[*start..*end])?;
         }
         Ok(())
     }

@@ -1,5 +1,5 @@
 -- How a result stands to what reading gives.
-use Rattle.std.specs.Prelude.{◌≡◌, ℕ, List, Option, Some, None, Result, MatchResult}
+use Rattle.std.specs.Prelude.{◌≡◌, ℕ, List, Result, MatchResult}
 use Rattle.std.specs.Borrow.{Bor}
 use Rattle.toml_edit_syntax.specs.declared.event.Event.{Event}
 use Rattle.toml_edit_syntax.specs.declared.lexer.Stop.{Stop}
@@ -8,10 +8,6 @@ use Rattle.toml_edit_syntax.specs.declared.mistake.Mistake.{Mistake}
 use Rattle.toml_edit_model.specs.Text.{Text}
 use Rattle.toml_edit_syntax.specs.ValueReading.{Reading, got, deep, wrong}
 use Rattle.toml_edit_syntax.specs.EventReading.{preceded}
-
--- The result, seen by `view`, is the value and the text after it that reading gives, and an error where it gives none.
-abbrev pub Reads : {A B E : Type 0} → (A → B) → Result (A × Bor Text) E → Option (B × Text) → Type 0
-Reads view r expected = MatchResult r (λ p. expected ≡ Some (view p.0, p.1.now)) (λ _. expected ≡ None)
 
 -- reading stops so, where these are the events up to there
 abbrev pub StopsAs : List Event → Reading (List Event) → Stop → Type 0

@@ -1,7 +1,7 @@
 //! Trivia, the sign of a pair, and the end of a line.
 ghost use Rattle.std.specs.Prelude.{◌≡◌, false, ◌+◌, ◌<◌, ◌≤◌, length, option_map, IfOk, IfSome};
 ghost use Rattle.std.specs.Str.{IsCharBoundary};
-ghost use Rattle.toml_edit_syntax.specs.Gives.{Reads, Adds};
+ghost use Rattle.toml_edit_syntax.specs.Gives.{Adds};
 ghost use Rattle.toml_edit_syntax.specs.Scanning as spec;
 ghost use Rattle.toml_edit_syntax.specs.StatementReading as read;
 
@@ -41,18 +41,18 @@ pub(crate) fn trivia(s: &str) -> (usize, bool)
     (bytes.len(), inside)
 }
 
-/// The white space before `=` and the white space after it, or how many bytes are left where `=` should stand.
+/// The white space before `=` and the white space after it, and what follows.
 #[tactic(auto, unfolding(crate::specs::Scanning::equals_at))]
-pub(crate) fn equals(s: &str) -> Result<((&str, &str), &str), usize>
-    ensures value { Reads (λ p. (p.0.now, p.1.now)) result (spec.equals_at s.now) }
-    ensures lens { IfOk result (λ p. length p.0.0.now + 1 + length p.0.1.now + length p.1.now ≡ length s.now) }
+pub(crate) fn equals(s: &str) -> Option<((&str, &str), &str)>
+    ensures value { option_map (λ p. ((p.0.0.now, p.0.1.now), p.1.now)) result ≡ spec.equals_at s.now }
+    ensures lens { IfSome result (λ p. length p.0.0.now + 1 + length p.0.1.now + length p.1.now ≡ length s.now) }
 {
     let (before, rest) = split_run(s, Class::Blank);
     if first(rest) != b'=' {
-        return Err(rest.len());
+        return None;
     }
     let (after, rest) = split_run(skip(rest, 1), Class::Blank);
-    Ok(((before, after), rest))
+    Some(((before, after), rest))
 }
 
 /// Behind white space and a comment.

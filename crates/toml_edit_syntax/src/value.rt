@@ -159,9 +159,9 @@ fn sides<'a>(events: &mut Vec<Event>, whole: usize, s: &'a str) -> Result<&'a st
     ensures adds { Adds events.old.items events.new.items result (read.equals_read whole s.now) }
     ensures within { IfOk result (λ r. length r.now ≤ length s.now) }
 {
-    let ((before, after), rest) = match equals(s) {
-        Ok(found) => found,
-        Err(left) => return Err(Stop::Before(Mistake::ExpectedEquals, left)),
+    let Some(((before, after), rest)) = equals(s) else {
+        let (_, other) = split_run(s, Class::Blank);
+        return Err(Stop::Before(Mistake::ExpectedEquals, other.len()));
     };
     events.push(part(
         EventKind::BeforeEquals,
