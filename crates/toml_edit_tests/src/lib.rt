@@ -5,6 +5,8 @@
 #[cfg(test)]
 mod comparisons;
 #[cfg(test)]
+mod displays;
+#[cfg(test)]
 mod holding;
 #[cfg(test)]
 mod makers;

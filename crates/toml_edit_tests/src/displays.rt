@@ -1,0 +1,127 @@
+//! What each `Display` writes, into a text. That one fails only where its writer does no contract can say, and a text fails where memory
+//! runs out alone.
+use crate::holding::{holds_changed, holds_moved, shows};
+use std::alloc::Global;
+use std::fmt::Display;
+use std::str::FromStr;
+use toml_edit::{
+    Broken, Date, Datetime, DatetimeFault, Document, FloatText, Formatted, Key, ParseFault, Time,
+    Value,
+};
+use toml_edit_stream::ReadFault;
+
+/// A path of 81 keys.
+const LONG_PATH: &str =
+    "a.a.a.a.a.a.a.a.a.a.a.a.a.a.a.a.a.a.a.a.a.a.a.a.a.a.a.a.a.a.a.a.a.a.a.a.a.a.a.a.a.a.a.a.a.a.a.a.a.a.a.a.a.a.a.a.a.a.a.a.a.a.a.a.a.a.a.a.a.a.a.a.a.a.a.a.a.a.a.a.a";
+
+/// Whether it was made, and is shown so.
+fn shows_made<T: Display + Drop>(alloc: Global, made: Option<T>, shown: &str) -> bool {
+    match made {
+        Some(made) => shows(alloc, made, shown),
+        None => false,
+    }
+}
+
+/// Whether the thing is shown so.
+fn writes<T: Display>(alloc: Global, thing: &T, shown: &str) -> bool {
+    match thing.to_string(alloc) {
+        Ok(text) => text.as_str() == shown,
+        Err(_) => false,
+    }
+}
+
+#[test]
+fn shows_dates(rt: HostRuntime) {
+    let alloc = rt.alloc();
+    assert!(rt; shows_made(alloc, Date::new(1979, 5, 27), "1979-05-27"));
+    assert!(rt; shows_made(alloc, Time::new(7, 32, None, None), "07:32"));
+    assert!(rt;
+        shows_made(
+            alloc,
+            Datetime::from_str("1979-05-27t07:32z").ok(),
+            "1979-05-27T07:32Z"
+        )
+    );
+    assert!(rt; shows(alloc, DatetimeFault, "invalid date-time"));
+}
+
+fn float(alloc: Global, text: &str) -> Option<FloatText> {
+    FloatText::from_text(alloc, text).ok()?
+}
+
+#[test]
+fn shows_scalars(rt: HostRuntime) {
+    let alloc = rt.alloc();
+    assert!(rt; shows_made(alloc, float(alloc, "1e400"), "1e400"));
+    assert!(rt; shows(alloc, Formatted::new(-7i64), "-7"));
+}
+
+fn shows_lent_key(alloc: Global, key: &mut Key) -> bool {
+    shows(alloc, key.as_mut(), "'a'")
+}
+
+fn lends_key(alloc: Global, key: Key) -> bool {
+    holds_changed(alloc, key, shows_lent_key)
+}
+
+#[test]
+fn shows_keys(rt: HostRuntime) {
+    let alloc = rt.alloc();
+    assert!(rt; shows_made(alloc, Key::from_str(alloc, "'a'").ok(), "'a'"));
+    assert!(rt; holds_moved(alloc, Key::from_str(alloc, "'a'").ok(), lends_key));
+}
+
+fn shows_array(alloc: Global, value: Value) -> bool {
+    match value.as_array() {
+        Some(array) => writes(alloc, array, "[1, 0x2]"),
+        None => false,
+    }
+}
+
+fn shows_inline_table(alloc: Global, value: Value) -> bool {
+    match value.as_inline_table() {
+        Some(table) => writes(alloc, table, "{ a = 1 }"),
+        None => false,
+    }
+}
+
+#[test]
+fn shows_values(rt: HostRuntime) {
+    let alloc = rt.alloc();
+    assert!(rt; shows_made(alloc, read_value(alloc, "'b'"), "'b'"));
+    assert!(rt; holds_moved(alloc, read_value(alloc, "[1, 0x2]"), shows_array));
+    assert!(rt; holds_moved(alloc, read_value(alloc, "{ a = 1 }"), shows_inline_table));
+}
+
+fn read_value(alloc: Global, text: &str) -> Option<Value> {
+    <Value as toml_edit::FromStr>::from_str(alloc, text).ok()
+}
+
+fn shows_document(alloc: Global, document: Document<&str>) -> bool {
+    shows_made(alloc, document.into_mut(alloc).ok(), "a = 1 # c\n")
+}
+
+#[test]
+fn shows_documents(rt: HostRuntime) {
+    let document = Document::parse(rt.alloc(), "a = 1 # c\n").ok();
+    assert!(rt; holds_moved(rt.alloc(), document, shows_document));
+}
+
+fn shows_error(alloc: Global, fault: &ParseFault) -> bool {
+    match fault {
+        ParseFault::Toml(error) => writes(alloc, error, "recursion limit\n"),
+        ParseFault::Memory => false,
+    }
+}
+
+fn shows_fault(alloc: Global, fault: ParseFault) -> bool {
+    shows_error(alloc, &fault) && writes(alloc, &fault, "recursion limit\n")
+}
+
+#[test]
+fn shows_errors(rt: HostRuntime) {
+    let alloc = rt.alloc();
+    assert!(rt; holds_moved(alloc, Key::parse(alloc, LONG_PATH).err(), shows_fault));
+    assert!(rt; shows(alloc, Broken, "broken"));
+    assert!(rt; shows(alloc, ReadFault::Memory, "out of memory"));
+}
