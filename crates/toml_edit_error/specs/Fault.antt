@@ -1,6 +1,7 @@
 -- The errors of a call that reads a text.
 use Rattle.std.specs.Prelude.{◌++◌, codes}
 use Rattle.toml_edit_model.specs.Text.{Text, newline}
+use Rattle.toml_edit_model.specs.Excerpt.{excerpt}
 use Rattle.toml_edit_error.specs.Report.{Report}
 use Rattle.toml_edit_error.specs.declared.toml_error.ParseFault.{ParseFault}
 use Rattle.toml_edit_error.specs.declared.toml_error.ParseFault.TheVariants.{Toml, Memory}
@@ -12,5 +13,5 @@ IfToml Memory P = Unit {0}
 
 -- what is shown of it
 abbrev pub fault_text : ParseFault → Text
-fault_text (Toml e) = e.message ++ newline
+fault_text (Toml e) = excerpt e.input e.span e.message
 fault_text Memory = codes "out of memory" ++ newline

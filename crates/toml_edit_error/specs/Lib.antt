@@ -1,2 +1,5 @@
 pub mod Report
 pub mod Fault
+pub mod Place
+pub mod Sameness
+pub mod SamenessLaws

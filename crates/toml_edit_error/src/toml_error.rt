@@ -1,11 +1,13 @@
 //! What is wrong with a text, and where.
-ghost use Rattle.std.specs.Prelude.{◌≡◌, IfOk, option_map, string_bytes};
+ghost use Rattle.std.specs.Prelude.{◌≡◌, ◌↔◌, IfOk, IsTrue, option_map, string_bytes};
 ghost use Rattle.toml_edit_error.specs.Fault.{IfToml};
 ghost use Rattle.toml_edit_error.specs.Report.{SpanIsIn};
 
+use crate::excerpt::{write_excerpt, write_message};
 use std::alloc::{AllocError, AllocFailed, Global};
 use std::error::Error;
 use std::fmt;
+use std::hash::{Hash, Hasher};
 use std::marker::Model;
 use std::ops::Range;
 
@@ -55,18 +57,68 @@ impl TomlError {
     {
         self.span.map(|(start, end)| start..end)
     }
+
+    /// An equal copy: its message, its span and its text. The only error is want of memory.
+    pub fn clone(&self, alloc: Global) -> Result<TomlError, AllocError>
+        ensures { IfOk result (λ copy. copy ≡ self.now) }
+    {
+        error(alloc, self.input.as_str(), self.message.as_str(), self.span)
+    }
 }
 
-/// The message, and a line feed.
-impl fmt::Display for TomlError {
-    ghost use Rattle.std.specs.Prelude.{Some, ◌++◌};
-    ghost use Rattle.toml_edit_model.specs.Text.{newline};
+/// Two errors are equal if their messages, their spans and their texts are.
+impl PartialEq for TomlError {
+    ghost use Rattle.toml_edit_error.specs.Sameness.{same_report};
+    ghost use Rattle.toml_edit_error.specs.SamenessLaws.{same_report_partial_equiv};
 
-    ghost output = { λ e. Some (e.message ++ newline) };
+    ghost eq = { same_report };
+
+    ghost laws = { same_report_partial_equiv };
+
+    fn eq(&self, other: &TomlError) -> bool
+        ensures answer { result ≡ same_report self.now other.now }
+        ensures exact { IsTrue result ↔ (self.now ≡ other.now) }
+    {
+        self.message == other.message && self.span == other.span && self.input == other.input
+    }
+}
+
+impl Eq for TomlError {
+    ghost use Rattle.toml_edit_error.specs.SamenessLaws.{same_report_equiv};
+
+    ghost laws = { same_report_equiv };
+}
+
+impl Hash for TomlError {
+    ghost use Rattle.toml_edit_error.specs.Sameness.{report_hash_input};
+    ghost use Rattle.toml_edit_error.specs.SamenessLaws.{report_hash_respects};
+
+    ghost hash_input = { report_hash_input };
+
+    ghost respects_eq = { report_hash_respects };
+
+    fn hash<H: Hasher>(&self, state: &mut H) {
+        self.message.hash(state);
+        self.span.hash(state);
+        self.input.hash(state);
+    }
+}
+
+/// The line of the text that the message is about, with its number and what is marked in it, and the message. An error that is
+/// about no place is its message alone. Each line ends with a line feed.
+impl fmt::Display for TomlError {
+    ghost use Rattle.std.specs.Prelude.{Some};
+    ghost use Rattle.toml_edit_model.specs.Excerpt.{excerpt};
+
+    ghost output = { λ e. Some (excerpt e.input e.span e.message) };
 
     fn fmt<W: fmt::Write>(&self, f: &mut fmt::Formatter<W>) -> fmt::Result {
-        f.write_str(self.message.as_str())?;
-        f.write_str("\n")
+        match self.span {
+            Some((start, end)) => {
+                write_excerpt(f, self.input.as_str(), start, end, self.message.as_str())
+            }
+            None => write_message(f, self.message.as_str()),
+        }
     }
 }
 

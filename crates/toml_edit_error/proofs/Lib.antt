@@ -1,0 +1,4 @@
+pub mod Characters
+pub mod Lines
+pub mod Cuts
+pub mod Excerpts
