@@ -3,7 +3,7 @@ use Rattle.std.proofs.Common.{◌≡◌, ℕ, Bool, true, false, List, [], ◌�
 use Rattle.std.specs.Prelude.{not, ◌&&◌}
 use Rattle.toml_edit_model.specs.Text.{Text}
 use Rattle.toml_edit_model.specs.Syntax.{Value, scalar, array, inline_table}
-use Rattle.toml_edit_model.specs.Flat.{Line}
+use Rattle.toml_edit_model.specs.Flat.{FlatLine}
 use Rattle.toml_edit_model.specs.Tree.{Node, nothing, leaf, list, inline, table, tables, Slots, no_slots, slot}
 use Rattle.toml_edit_model.specs.TreeOf.{spanned_form, IsValueNode}
 use Rattle.toml_edit_model.specs.OwnedForm.{owned_node, owned_slots}
@@ -25,7 +25,7 @@ value-node (scalar s t) i before after (tables e xs) h = absurd h
 value-node (array es comma t) i before after (tables e xs) h = absurd h
 value-node (inline_table ps comma t) i before after (tables e xs) h = absurd h
 
-pub lines-without : (start : ℕ) (ls : List Line) (ss : Slots) → AreLineSlots spanned_form start ls ss → has_no_tables ss ≡ true
+pub lines-without : (start : ℕ) (ls : List FlatLine) (ss : Slots) → AreLineSlots spanned_form start ls ss → has_no_tables ss ≡ true
 lines-without start [] no_slots h = refl
 lines-without start [] (slot k n ss) h = absurd h
 lines-without start (l ∷ ls) no_slots h = absurd h
