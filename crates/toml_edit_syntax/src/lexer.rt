@@ -103,8 +103,8 @@ fn parts<'a>(events: &mut Vec<Event>, whole: usize, s: &'a str) -> Result<&'a st
 pub(crate) fn place(source: &str, left: usize) -> Span
     ensures { IsSpanOf source.now result }
 {
-    let at = source.len().saturating_sub(left);
-    let start = source.floor_char_boundary(at);
+    let byte = source.len().saturating_sub(left);
+    let start = source.floor_char_boundary(byte);
     if start == source.len() {
         return Span { start, end: start };
     }

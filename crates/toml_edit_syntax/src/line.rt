@@ -92,10 +92,10 @@ pub(crate) fn end<'a>(events: &mut Vec<Event>, whole: usize, s: &'a str) -> Resu
     ensures adds { Adds events.old.items events.new.items result (read.end_read whole s.now) }
     ensures within { IfOk result (λ r. length r.now ≤ length s.now) }
 {
-    let end = after_line_end(s);
-    let Some(rest) = after_newline(end) else {
-        return Err(Stop::Before(at(end, Mistake::ExpectedNewline), end.len()));
+    let behind = after_line_end(s);
+    let Some(rest) = after_newline(behind) else {
+        return Err(Stop::Before(at(behind, Mistake::ExpectedNewline), behind.len()));
     };
-    events.push(part(EventKind::LineEnd, whole - s.len(), whole - end.len()))?;
+    events.push(part(EventKind::LineEnd, whole - s.len(), whole - behind.len()))?;
     Ok(rest)
 }

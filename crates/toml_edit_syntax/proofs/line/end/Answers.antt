@@ -11,9 +11,9 @@ use Rattle.toml_edit_syntax.proofs.line.end.Goals as goal
 pub returns-clause-adds : goal.returns-clause-adds
 returns-clause-adds c =
     let old = c.args.events.now.items in
-    let end = c.after_line_end-end.result.now in
+    let end = c.after_line_end-behind.result.now in
     let rest = c.in-Some.rest.now in
     let found : newline_rest end ≡ Some rest = grind (arith, common_steps) in
     let pushed = added old c.push.new.self.items c.part.result _ c.in_ok-push.ensures.items c.part.ensures in
-    ap (preceded old) (end_found c.args.whole c.args.s.now end rest c.requires c.after_line_end-end.ensures.within c.after_line_end-end.ensures.rest found)
+    ap (preceded old) (end_found c.args.whole c.args.s.now end rest c.requires c.after_line_end-behind.ensures.within c.after_line_end-behind.ensures.rest found)
     ∙ ap (λ (es : List Event). got es rest) (sym pushed)
