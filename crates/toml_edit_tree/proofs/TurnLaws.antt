@@ -5,9 +5,9 @@ use Rattle.std.proofs.lemmas.List.{at_drop_all, drop_more}
 use Rattle.toml_edit_model.specs.Text.{Text}
 use Rattle.toml_edit_model.specs.Mode.{plain}
 use Rattle.toml_edit_model.specs.Tree.{Decor, Items, Key, Node, is_value_node, item}
-use Rattle.toml_edit_model.specs.Print.{Line, inside_lines}
+use Rattle.toml_edit_model.specs.Print.{Line, inside_lines, table_lines}
 use Rattle.toml_edit_slots.specs.declared.slots.Slot.{Slot}
-use Rattle.toml_edit_tree.specs.Printing.{element_text, items_text, last_comma, last_shown, lines_of_item, lines_text, pairs_shown}
+use Rattle.toml_edit_tree.specs.Printing.{element_text, items_text, last_comma, last_shown, lines_in_table, lines_of_item, lines_text, pairs_shown}
 use Rattle.toml_edit_tree.specs.declared.array.Array.{Array}
 use Rattle.toml_edit_tree.specs.declared.array_of_tables.ArrayOfTables.{ArrayOfTables}
 use Rattle.toml_edit_tree.specs.declared.inline_table.InlineTable.{InlineTable}
@@ -117,6 +117,24 @@ module _ (es : List (Slot Item)) (i : ℕ) (s : Slot Item) (h : i < length es) (
   lines-turn done all more =
       append_assoc done (lines_text own) (lines_text rest)
       ∙ ap (λ (t : Text). done ++ t) (sym (ap lines_text from-slot ∙ lines_text-append own rest)) ∙ more
+
+  abbrev own-in-table : List Line
+  own-in-table = lines_in_table (item_view s.item) (ks ++ (s.key ∷ []))
+
+  abbrev rest-in-table : List Line
+  rest-in-table = table_lines plain (slots_view (drop (i + 1) es)) ks
+
+  from-slot-in-table : table_lines plain (slots_view (drop i es)) ks ≡ own-in-table ++ rest-in-table
+  from-slot-in-table =
+      ap (λ (fs : List (Slot Item)). table_lines plain (slots_view fs) ks) (drop_more es i s h)
+      ∙ ap (λ (e : Slot Item). lines_in_table (item_view e.item) (ks ++ (e.key ∷ [])) ++ rest-in-table) (sym is)
+
+  -- the lines of a slot of a table
+  pub table-turn : (done all : Text) → done ++ lines_text (table_lines plain (slots_view (drop i es)) ks) ≡ all
+      → (done ++ lines_text own-in-table) ++ lines_text rest-in-table ≡ all
+  table-turn done all more =
+      append_assoc done (lines_text own-in-table) (lines_text rest-in-table)
+      ∙ ap (λ (t : Text). done ++ t) (sym (ap lines_text from-slot-in-table ∙ lines_text-append own-in-table rest-in-table)) ∙ more
 
   module _ (before next : Option Decor) (last : next ≡ last_shown before own) where
     -- the decor of the last pair

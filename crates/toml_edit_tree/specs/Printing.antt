@@ -7,7 +7,8 @@ use Rattle.toml_edit_model.specs.Text.{Text, is_empty, joined}
 use Rattle.toml_edit_model.specs.Syntax.{comma_text, path_text, statement_text, value_text}
 use Rattle.toml_edit_model.specs.Mode.{plain}
 use Rattle.toml_edit_model.specs.Tree.{Decor, Key, Node, Items, no_items, item, shown_prefix, shown_suffix, key_text, node_decor, is_value_node}
-use Rattle.toml_edit_model.specs.Print.{Line, one_space, dot_prefix, dot_suffix, element_default, is_line_node, last_leaf, line_of, line_statement, lines_inside, segments, value_of}
+use Rattle.toml_edit_model.specs.Print.{Line, one_space, dot_prefix, dot_suffix, element_default, is_line_node, last_leaf, dotted_lines, line_of, line_statement, lines_inside, segments, value_of}
+use Rattle.toml_edit_laws.specs.PrintByVisits.{has_dotted_lines, has_inside_of}
 use Rattle.toml_edit_tree.specs.declared.encode.Path as paths
 
 -- the text of a value, without its decor
@@ -69,6 +70,17 @@ items_text comma is_first (item n xs) =
 -- the lines of an item with these keys
 abbrev pub lines_of_item : Node → List Key → List Line
 lines_of_item n ks = elim (is_line_node n) [ true ↦ line_of ks n (value_of plain n) | false ↦ lines_inside plain n ks ]
+
+-- the lines of an item of a table, with these keys
+abbrev pub lines_in_table : Node → List Key → List Line
+lines_in_table n ks = elim (is_line_node n) [ true ↦ line_of ks n (value_of plain n) | false ↦ dotted_lines plain n ks ]
+
+-- whether an item has lines in a dotted inline table, and in a table
+abbrev pub has_lines_inside : Node → Bool
+has_lines_inside n = elim (is_line_node n) [ true ↦ true | false ↦ has_inside_of n ]
+
+abbrev pub has_lines_in_table : Node → Bool
+has_lines_in_table n = elim (is_line_node n) [ true ↦ true | false ↦ has_dotted_lines n ]
 
 -- a line or a pair up to the end of its value
 abbrev pub line_start : Text → Line → Text

@@ -1,14 +1,15 @@
 //! Trees to text.
-ghost use Rattle.std.specs.Prelude.{◌≡◌, true, [], ◌∷◌, ◌++◌, if◌then◌else◌, IfOk};
+ghost use Rattle.std.specs.Prelude.{◌≡◌, true, [], ◌∷◌, ◌++◌, IfOk};
 ghost use Rattle.std.specs.Option.{option_copied};
 ghost use Rattle.std.specs.Fmt.{WritesOnOk};
-ghost use Rattle.toml_edit_model.specs.Syntax.{comma_text};
+ghost use Rattle.toml_edit_model.specs.Syntax.{comma_text, path_text};
 ghost use Rattle.toml_edit_model.specs.Text.{newline};
 ghost use Rattle.toml_edit_model.specs.Mode.{plain};
 ghost use Rattle.toml_edit_model.specs.Tree.{key_text, node_decor, shown_suffix};
 ghost use Rattle.toml_edit_model.specs.Conversions.{value_display};
-ghost use Rattle.toml_edit_model.specs.Print.{one_space, element_default, inside_lines};
-ghost use Rattle.toml_edit_tree.specs.Printing.{WritesWithAnswer, node_text, keys_on, before_key, dotted_keys, key_part, pair_start, comma_before, element_text, last_comma, items_text, lines_of_item, between_pairs, after_pairs, pairs_shown, last_shown, lines_text};
+ghost use Rattle.toml_edit_model.specs.Print.{one_space, element_default, inside_lines, segments, table_lines};
+ghost use Rattle.toml_edit_laws.specs.PrintByVisits.{has_inside, has_lines};
+ghost use Rattle.toml_edit_tree.specs.Printing.{WritesWithAnswer, node_text, keys_on, before_key, dotted_keys, key_part, pair_start, comma_before, element_text, last_comma, items_text, lines_of_item, lines_in_table, has_lines_inside, has_lines_in_table, between_pairs, after_pairs, pairs_shown, last_shown, lines_text};
 ghost use Rattle.toml_edit_tree.specs.Containers.{array_node, inline_node};
 ghost use Rattle.toml_edit_tree.specs.View.{array_view, inline_view, value_view, item_view, items_view, slots_view, table_slots, fields_view};
 
@@ -24,36 +25,32 @@ use toml_edit_repr::{Decor, spelling_text, write_raw, write_scalar, write_side};
 use toml_edit_slots::Slots;
 use toml_edit_token::write_key;
 
-/// The keys of the dotted tables around a slot, from the outermost in.
+/// The keys on the way to a slot or to a table, from the outermost in.
+#[doc(hidden)]
 #[derive(Clone, Copy)]
-enum Path<'p, 'k> {
+pub enum Path<'p, 'k> {
     /// No keys.
     Root,
     /// A key behind others.
     Under(&'p Path<'p, 'k>, &'k Key),
 }
 
-/// The lines of the root. A dotted table has none of its own.
+/// The lines of a table: its values, and in their place those of dotted tables and of dotted inline tables.
 #[doc(hidden)]
-pub fn write_root<W: Write>(f: &mut Formatter<W>, root: &Table) -> fmt::Result
-    ensures { WritesOnOk W.write_str_gives f.old result
-        (if (fields_view root.now).is_dotted then [] else lines_text (inside_lines plain (table_slots root.now) [])) f.new }
+pub fn write_table_lines<W: Write>(f: &mut Formatter<W>, table: &Table) -> fmt::Result
+    ensures { WritesOnOk W.write_str_gives f.old result (lines_text (table_lines plain (table_slots table.now) [])) f.new }
 {
-    if root.dotted {
-        Ok(())
-    } else {
-        write_lines(f, &root.slots, &Path::Root)
-    }
+    write_lines(f, &table.slots, &Path::Root)
 }
 
-/// The lines of the slots, in order.
+/// The lines of the slots of a table, in order.
 #[cycle(lines)]
 fn write_lines<'p, 'a, W: Write>(
     f: &mut Formatter<W>,
     slots: &'a Slots<Item>,
     path: &'p Path<'p, 'a>,
 ) -> fmt::Result
-    ensures { WritesOnOk W.write_str_gives f.old result (lines_text (inside_lines plain (slots_view slots.now) (keys_on path.now))) f.new }
+    ensures { WritesOnOk W.write_str_gives f.old result (lines_text (table_lines plain (slots_view slots.now) (keys_on path.now))) f.new }
 {
     let entries = slots.as_slice();
     'slots: for slot in entries {
@@ -62,9 +59,49 @@ fn write_lines<'p, 'a, W: Write>(
     Ok(())
 }
 
-/// The lines of a slot of an inline table: those in a table, and those of a value.
+/// The lines of a slot of a table: those in a dotted table, and those of a value. Another table has a header, and its lines behind that.
 #[cycle(lines)]
 fn write_item_lines<'p, 'a, W: Write>(
+    f: &mut Formatter<W>,
+    item: &'a Item,
+    key: &'a Key,
+    path: &'p Path<'p, 'a>,
+) -> fmt::Result
+    ensures { WritesOnOk W.write_str_gives f.old result
+        (lines_text (lines_in_table (item_view item.now) (keys_on path.now ++ (key.now ∷ [])))) f.new }
+{
+    match item {
+        Item::Value(value) => write_value_lines(f, value, key, path),
+        Item::Table(table) => {
+            if table.dotted {
+                write_lines(f, &table.slots, &Path::Under(path, key))
+            } else {
+                Ok(())
+            }
+        }
+        Item::None | Item::ArrayOfTables(_) => Ok(()),
+    }
+}
+
+/// The lines of the slots of a dotted inline table, in order.
+#[cycle(inside_lines)]
+fn write_inside_lines<'p, 'a, W: Write>(
+    f: &mut Formatter<W>,
+    slots: &'a Slots<Item>,
+    path: &'p Path<'p, 'a>,
+) -> fmt::Result
+    ensures { WritesOnOk W.write_str_gives f.old result (lines_text (inside_lines plain (slots_view slots.now) (keys_on path.now))) f.new }
+{
+    let entries = slots.as_slice();
+    'slots: for slot in entries {
+        write_inside_item(f, &slot.item, &slot.key, path)?;
+    }
+    Ok(())
+}
+
+/// The lines of a slot of an inline table: those in a table, and those of a value.
+#[cycle(inside_lines)]
+fn write_inside_item<'p, 'a, W: Write>(
     f: &mut Formatter<W>,
     item: &'a Item,
     key: &'a Key,
@@ -75,13 +112,13 @@ fn write_item_lines<'p, 'a, W: Write>(
 {
     match item {
         Item::Value(value) => write_value_lines(f, value, key, path),
-        Item::Table(table) => write_lines(f, &table.slots, &Path::Under(path, key)),
+        Item::Table(table) => write_inside_lines(f, &table.slots, &Path::Under(path, key)),
         Item::None | Item::ArrayOfTables(_) => Ok(()),
     }
 }
 
 /// The lines of a value: those in a dotted inline table, and one of any other value.
-#[cycle(lines)]
+#[cycle(inside_lines)]
 fn write_value_lines<'p, 'a, W: Write>(
     f: &mut Formatter<W>,
     value: &'a Value,
@@ -94,12 +131,83 @@ fn write_value_lines<'p, 'a, W: Write>(
     match value {
         Value::InlineTable(table) => {
             if table.dotted {
-                write_lines(f, &table.items, &Path::Under(path, key))
+                write_inside_lines(f, &table.items, &Path::Under(path, key))
             } else {
                 write_line(f, path, key, value)
             }
         }
         _ => write_line(f, path, key, value),
+    }
+}
+
+/// Whether a table has lines.
+#[doc(hidden)]
+pub fn table_has_lines(table: &Table) -> bool
+    ensures { result ≡ has_lines (table_slots table.now) }
+{
+    have_lines(&table.slots)
+}
+
+/// Whether a table of these slots has lines.
+#[cycle(has_lines)]
+fn have_lines(slots: &Slots<Item>) -> bool
+    ensures { result ≡ has_lines (slots_view slots.now) }
+{
+    let entries = slots.as_slice();
+    'slots: for slot in entries {
+        if item_has_lines(&slot.item) {
+            return true;
+        }
+    }
+    false
+}
+
+/// Whether an item of a table has lines there.
+#[cycle(has_lines)]
+fn item_has_lines(item: &Item) -> bool
+    ensures { result ≡ has_lines_in_table (item_view item.now) }
+{
+    match item {
+        Item::Value(value) => value_has_lines(value),
+        Item::Table(table) => table.dotted && have_lines(&table.slots),
+        Item::None | Item::ArrayOfTables(_) => false,
+    }
+}
+
+/// Whether a dotted inline table of these slots has lines.
+#[cycle(has_inside)]
+fn have_lines_inside(slots: &Slots<Item>) -> bool
+    ensures { result ≡ has_inside (slots_view slots.now) }
+{
+    let entries = slots.as_slice();
+    'slots: for slot in entries {
+        if item_has_lines_inside(&slot.item) {
+            return true;
+        }
+    }
+    false
+}
+
+/// Whether an item of a dotted inline table has lines there.
+#[cycle(has_inside)]
+fn item_has_lines_inside(item: &Item) -> bool
+    ensures { result ≡ has_lines_inside (item_view item.now) }
+{
+    match item {
+        Item::Value(value) => value_has_lines(value),
+        Item::Table(table) => have_lines_inside(&table.slots),
+        Item::None | Item::ArrayOfTables(_) => false,
+    }
+}
+
+/// Whether a value has lines: each has one, but a dotted inline table has those in it.
+#[cycle(has_inside)]
+fn value_has_lines(value: &Value) -> bool
+    ensures { result ≡ has_lines_inside (value_view value.now) }
+{
+    match value {
+        Value::InlineTable(table) => !table.dotted || have_lines_inside(&table.items),
+        _ => true,
     }
 }
 
@@ -164,6 +272,16 @@ fn write_before_key<W: Write>(f: &mut Formatter<W>, path: &Path<'_, '_>, key: &K
         Path::Root => Ok(()),
         Path::Under(_, _) => write_side(f, key.dotted_decor().prefix(), ""),
     }
+}
+
+/// The keys of a header, of which this one stands behind the path, without what stands around them.
+#[doc(hidden)]
+pub fn write_path<W: Write>(f: &mut Formatter<W>, path: &Path<'_, '_>, key: &Key) -> fmt::Result
+    ensures { WritesOnOk W.write_str_gives f.old result (path_text (segments plain (keys_on path.now ++ (key.now ∷ [])))) f.new }
+{
+    write_dotted_keys(f, path)?;
+    write_before_key(f, path, key)?;
+    write_key_text(f, key)
 }
 
 /// The spelling of the key as it stands, or the default one.

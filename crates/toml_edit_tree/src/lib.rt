@@ -14,7 +14,7 @@ pub mod value;
 pub use array::{Array, ArrayIter};
 pub use array_of_tables::{ArrayOfTables, ArrayOfTablesIter};
 #[doc(hidden)]
-pub use encode::write_root;
+pub use encode::{Path, table_has_lines, write_path, write_table_lines};
 pub use inline_table::{InlineTable, InlineTableIter};
 pub use item::Item;
 pub use table::{Iter, Table};
