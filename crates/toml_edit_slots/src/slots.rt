@@ -77,6 +77,11 @@ impl<T> Slots<T> {
         }
     }
 
+    /// The allocator that they were made with, and by which they grow.
+    pub fn allocator(&self) -> Global {
+        *self.entries.allocator()
+    }
+
     /// The slots in order.
     pub fn as_slice(&self) -> &[Slot<T>]
         ensures slots { result.now ≡ self.now }

@@ -23,7 +23,8 @@ use toml_edit_slots::{Slot, Slots};
 #[cycle(tree)]
 #[derive(Debug, Drop)]
 pub struct Table {
-    pub(crate) slots: Slots<Item>,
+    #[doc(hidden)]
+    pub slots: Slots<Item>,
     pub(crate) decor: Decor,
     pub(crate) implicit: bool,
     pub(crate) dotted: bool,
