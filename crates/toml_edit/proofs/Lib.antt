@@ -1,5 +1,4 @@
 pub mod SpanProps
 pub mod OwnLaws
 pub mod OverLaws
-pub mod PrintingLaws
-pub mod NoTables
+pub mod HeaderLaws

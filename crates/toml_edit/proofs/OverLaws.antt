@@ -1,5 +1,5 @@
 -- What parsing gives is a tree over its text, and a reading of it.
-use Rattle.std.proofs.Common.{◌≡◌, ◌-◌, length, [], true, sym, ap, subst, ◌∙◌}
+use Rattle.std.proofs.Common.{◌≡◌, ◌-◌, length, [], sym, ap, subst, ◌∙◌}
 use Rattle.toml_edit_model.specs.Mode.{plain}
 use Rattle.toml_edit_model.specs.Text.{Text}
 use Rattle.toml_edit_model.specs.Syntax.{Document}
@@ -17,8 +17,6 @@ use Rattle.toml_edit.specs.Documents.{IsReading}
 use Rattle.toml_edit_parser.specs.Parsed.{IsParsed}
 use Rattle.toml_edit_tree.specs.View.{table_slots, fields_view, tree_view}
 use Rattle.toml_edit_model.specs.OwnedForm.{owned_tree, IsOver}
-use Rattle.toml_edit.specs.NoTables.{has_no_tables}
-use Rattle.toml_edit.proofs.NoTables.{lines-without}
 
 -- the tree of these slots and this trailing text
 abbrev pub read_tree : Slots → Raw → Tree
@@ -89,7 +87,3 @@ module _ (t u : Text) (root : Table) (slots : Slots) (trailing : Raw) (same : u 
   pub root-reading : IsReading t (tree_view root trailing)
   root-reading =
       subst (IsReading t) (root-tree root slots trailing fields held) (subst (λ v. IsReading v (read_tree slots trailing)) same (reading u slots trailing h))
-
-  -- None of its slots holds a table.
-  pub root-flat : has_no_tables (table_slots root) ≡ true
-  root-flat = ap has_no_tables held ∙ lines-without _ h.lines slots h.parsed.slots_are

@@ -1,3 +1,3 @@
 pub mod DocumentView
 pub mod Documents
-pub mod NoTables
+pub mod HeadersView

@@ -1,7 +1,5 @@
 //! Documents: as they were read, over their text, and as they can be printed.
-ghost use Rattle.std.specs.Prelude.{◌≡◌, true};
-ghost use Rattle.toml_edit.specs.NoTables.{has_no_tables};
-ghost use Rattle.toml_edit_tree.specs.View.{table_slots, tree_view};
+ghost use Rattle.toml_edit_tree.specs.View.{tree_view};
 ghost use Rattle.toml_edit_model.specs.OwnedForm.{IsOver};
 
 use std::alloc::Global;
@@ -48,7 +46,6 @@ pub struct Document<S: SourceText> {
     trailing: RawString,
     // Each span cuts a text from the source, and each spelling so cut is true.
     ghost over: { ∥ IsOver (S.content raw) (tree_view root trailing) ∥₁ },
-    ghost flat: { has_no_tables (table_slots root) ≡ true },
 }
 
 impl<S: SourceText> Document<S> {
@@ -137,7 +134,6 @@ impl<S: SourceText> Document<S> {
 pub struct DocumentMut {
     pub(crate) root: Table,
     pub(crate) trailing: RawString,
-    ghost flat: { has_no_tables (table_slots root) ≡ true },
 }
 
 impl DocumentMut {

@@ -3,6 +3,7 @@
 
 pub mod document;
 mod encode;
+mod headers;
 pub mod laws;
 
 pub use document::{Document, DocumentMut, SourceText};

@@ -5,9 +5,6 @@ use Rattle.toml_edit_tree.specs.View.{tree_view}
 use Rattle.toml_edit.proofs.OwnLaws.{over-root, over-slots, over-trailing, over-true, owned-parts, stays-tree}
 use Rattle.toml_edit.proofs.document.Document.into_mut.Goals as goal
 use Rattle.toml_edit_model.specs.OwnedForm.{owned_raw}
-use Rattle.toml_edit.specs.NoTables.{has_no_tables}
-use Rattle.toml_edit_tree.specs.View.{table_slots}
-use Rattle.toml_edit.proofs.NoTables.{owned-without}
 
 pub despan-requires-clause-decor : goal.despan-requires-clause-decor
 despan-requires-clause-decor g c = over-root (source c.args.self) c.text.result.now (tree_read c.args.self) c.args.self.over c.text.ensures
@@ -28,9 +25,3 @@ returns-clause-normal g c =
     c.in_ok-despan.ensures.fields c.in_ok-despan.ensures.slots
     (c.in_ok-despan-2.ensures.ok ∙ ap (λ v. owned_raw v c.args.self.trailing) (c.text-2.ensures ∙ sym c.text.ensures)) in
     stays-tree (source c.args.self) (tree_read c.args.self) whole is_owned
-
-pub invariant_of-result : goal.invariant_of-result
-invariant_of-result g c =
-    record {
-      flat = ap has_no_tables c.in_ok-despan.ensures.slots ∙ owned-without c.text.result.now (table_slots c.args.self.root) ∙ c.args.self.flat;
-    }

@@ -1,6 +1,6 @@
 -- A document, by what its text was parsed to.
 use Rattle.toml_edit_tree.specs.View.{slots_view}
-use Rattle.toml_edit.proofs.OverLaws.{root-flat, root-over, root-reading}
+use Rattle.toml_edit.proofs.OverLaws.{root-over, root-reading}
 use Rattle.toml_edit.proofs.document.Document.parse.Goals as goal
 
 pub invariant_of-result : goal.invariant_of-result
@@ -8,8 +8,6 @@ invariant_of-result g c =
     record {
       over = ∣ root-over (g.S.SourceText.content c.args.raw) c.text.result.now c.root.result (slots_view c.in_ok-slots.slots) c.in_ok-slots.trailing
           c.text.ensures c.in_ok-slots.ensures.parsed c.root.ensures.fields c.root.ensures.slots ∣₁;
-      flat = root-flat (g.S.SourceText.content c.args.raw) c.text.result.now c.root.result (slots_view c.in_ok-slots.slots) c.in_ok-slots.trailing
-          c.text.ensures c.in_ok-slots.ensures.parsed c.root.ensures.fields c.root.ensures.slots;
     }
 
 pub returns-clause-accepted : goal.returns-clause-accepted

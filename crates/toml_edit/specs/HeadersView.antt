@@ -1,0 +1,13 @@
+-- What a contract sees of the headers of a document, and of the walk that finds them.
+use Rattle.std.specs.Prelude.{[], ◌∷◌, ◌++◌, map}
+use Rattle.toml_edit_laws.specs.PrintByVisits.{Headed, Walked, headed}
+use Rattle.toml_edit_tree.specs.Printing.{keys_on}
+use Rattle.toml_edit_tree.specs.View.{fields_view, table_slots}
+use Rattle.toml_edit.specs.declared.headers.Header.{Header}
+use Rattle.toml_edit.specs.declared.headers.Walk.{Walk}
+
+abbrev pub header_view : Header → Headed
+header_view h = headed h.place (keys_on h.path.now ++ (h.key.now ∷ [])) h.is_element (fields_view h.table.now) (table_slots h.table.now)
+
+abbrev pub walk_view : Walk → Walked
+walk_view w = record { tables = map header_view w.headers.items; seen = w.seen }
