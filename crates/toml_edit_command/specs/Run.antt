@@ -5,6 +5,9 @@ use Rattle.toml_edit_model.specs.Text.{Text, newline}
 use Rattle.toml_edit_model.specs.Syntax.{Document}
 use Rattle.toml_edit_model.specs.Flat.{FlatAs}
 use Rattle.toml_edit_model.specs.Normal.{normal_text}
+use Rattle.toml_edit_model.specs.Excerpt.{excerpt}
+use Rattle.toml_edit_error.specs.Report.{Report}
+use Rattle.toml_edit_parser.specs.Parsed.{IsRefusal}
 use Rattle.toml_edit_stream.specs.Whole.{AppendsBeginning}
 
 -- the words are the command `print` alone
@@ -18,6 +21,10 @@ IsPrintOf t printed = (d : Document) × FlatAs t d × (printed ≡ normal_text d
 -- no cut of the text is accepted
 abbrev pub IsRefused : Text → Type 0
 IsRefused t = (d : Document) → FlatAs t d → ⊥
+
+-- the second text is the excerpt of a fault for which the first is refused
+abbrev pub IsExcerptOf : Text → Text → Type 0
+IsExcerptOf t shown = (r : Report) × IsRefusal t r × (shown ≡ excerpt r.input r.span r.message)
 
 -- the bytes are no text that is accepted
 abbrev pub IsNotAccepted : Text → Type 0
@@ -50,3 +57,7 @@ write_line = codes "tomled: write failed" ++ newline
 -- What is held grew by this line, unless the writer has failed; then it may have grown by a beginning alone.
 abbrev pub Tells : Option Text → Option Text → Bool → Text → Type 0
 Tells old new failed line = AppendsBeginning old new line × (failed ≡ false → Appends old new line)
+
+-- It grew so by the excerpt of a fault for which the text is refused.
+abbrev pub TellsRefusal : Text → Option Text → Option Text → Bool → Type 0
+TellsRefusal t old new failed = (shown : Text) × IsExcerptOf t shown × Tells old new failed shown

@@ -1,7 +1,7 @@
 -- Why a run stops, and what it leaves then.
-use Rattle.std.specs.Prelude.{◌≡◌, ℕ, Bool, true, false, Option, IfSome, IsUtf8}
+use Rattle.std.specs.Prelude.{◌≡◌, ℕ, Bool, true, false, Option, IfSome, IsUtf8, string_bytes}
 use Rattle.toml_edit_model.specs.Text.{Text}
-use Rattle.toml_edit_command.specs.Run.{IsRefused, PrintsBeginning, Tells, encoding_line, memory_line, read_line, write_line}
+use Rattle.toml_edit_command.specs.Run.{IsExcerptOf, IsRefused, PrintsBeginning, Tells, encoding_line, memory_line, read_line, write_line}
 use Rattle.toml_edit_command.specs.declared.stop.Stop.{Stop}
 use Rattle.toml_edit_command.specs.declared.stop.Stop.TheVariants.{NotUtf8, Refused, Memory, ReadFailed, WriteFailed}
 
@@ -16,7 +16,7 @@ status_of WriteFailed = 4
 -- a step that reads stops so: what was left to read, and whether the input has failed then
 abbrev pub StopsReading : Option Text → Bool → Stop → Type 0
 StopsReading known failed NotUtf8 = IfSome known (λ bytes. ¬ (IsUtf8 bytes)) × (failed ≡ false)
-StopsReading known failed (Refused e) = IfSome known (λ bytes. IsUtf8 bytes × IsRefused bytes) × (failed ≡ false)
+StopsReading known failed (Refused e) = IfSome known (λ bytes. IsUtf8 bytes × IsRefused bytes × IsExcerptOf bytes (string_bytes e)) × (failed ≡ false)
 StopsReading known failed Memory = failed ≡ false
 StopsReading known failed ReadFailed = failed ≡ true
 StopsReading known failed WriteFailed = ⊥
@@ -43,7 +43,7 @@ StopsPrinting s WriteFailed = (s.input_failed ≡ false) × PrintsBeginning s.kn
 -- what is told of it
 abbrev pub TellsStop : Stop → Option Text → Option Text → Bool → Type 0
 TellsStop NotUtf8 old new failed = Tells old new failed encoding_line
-TellsStop (Refused e) old new failed = Unit {0}
+TellsStop (Refused e) old new failed = Tells old new failed (string_bytes e)
 TellsStop Memory old new failed = Tells old new failed memory_line
 TellsStop ReadFailed old new failed = Tells old new failed read_line
 TellsStop WriteFailed old new failed = Tells old new failed write_line

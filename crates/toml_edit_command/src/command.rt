@@ -1,5 +1,5 @@
 ghost use Rattle.std.specs.Prelude.{◌≡◌, ◌≤◌, ◌↔◌, ◌⊎◌, false, true, map, IfSome, IsTrue, IsUtf8, string_bytes};
-ghost use Rattle.toml_edit_command.specs.Run.{IsPrint, IsNotAccepted, Prints, PrintsBeginning, Tells, encoding_line, usage_line, memory_line, read_line, write_line};
+ghost use Rattle.toml_edit_command.specs.Run.{IsPrint, IsNotAccepted, Prints, PrintsBeginning, Tells, TellsRefusal, encoding_line, usage_line, memory_line, read_line, write_line};
 
 use super::steps::print;
 use super::stop::Stop;
@@ -41,6 +41,8 @@ pub fn run<I: Input, O: Output, E: Output>(
     ensures untouched { result ≡ 2 → (input.new ≡ input.old) × (output.new ≡ output.old) }
     ensures encoding { result ≡ 1 → IfSome (I.remaining input.old) (λ bytes. ¬ (IsUtf8 bytes) →
         Tells (E.contents errors.old) (E.contents errors.new) (E.has_failed errors.new) encoding_line) }
+    ensures excerpt { result ≡ 1 → IfSome (I.remaining input.old) (λ bytes. IsUtf8 bytes →
+        TellsRefusal bytes (E.contents errors.old) (E.contents errors.new) (E.has_failed errors.new)) }
     ensures usage { result ≡ 2 → Tells (E.contents errors.old) (E.contents errors.new) (E.has_failed errors.new) usage_line }
     ensures memory { result ≡ 3 → Tells (E.contents errors.old) (E.contents errors.new) (E.has_failed errors.new) memory_line }
     ensures failed { (result ≡ 4) ↔ ((I.has_failed input.new ≡ true) ⊎ (O.has_failed output.new ≡ true)) }

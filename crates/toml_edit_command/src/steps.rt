@@ -1,5 +1,6 @@
 ghost use Rattle.std.specs.Prelude.{◌≡◌, false, IfSome, IfOk, IfErr, OnOk, string_bytes};
 ghost use Rattle.toml_edit_error.specs.Fault.{IfToml};
+ghost use Rattle.toml_edit_parser.specs.Parsed.{IsRefusal};
 ghost use Rattle.toml_edit_command.specs.Run.{IsPrintOf, IsRefused, Prints};
 ghost use Rattle.toml_edit_command.specs.Steps.{StopsReading, StopsPrinting};
 
@@ -40,7 +41,10 @@ fn print_of<I: Input>(alloc: Global, input: &mut I) -> Result<String, Stop>
     let text = text_of(alloc, input)?;
     match printed(alloc, text.as_str()) {
         Ok(print) => Ok(print),
-        Err(ParseFault::Toml(error)) => Err(Stop::Refused(error)),
+        Err(ParseFault::Toml(error)) => match error.to_string(alloc) {
+            Ok(excerpt) => Err(Stop::Refused(excerpt)),
+            Err(_) => Err(Stop::Memory),
+        },
         Err(ParseFault::Memory) => Err(Stop::Memory),
     }
 }
@@ -65,7 +69,7 @@ fn text_of<I: Input>(alloc: Global, input: &mut I) -> Result<String, Stop>
 // The print of the document that the text is.
 fn printed(alloc: Global, text: &str) -> Result<String, ParseFault>
     ensures ok { IfOk result (λ s. IsPrintOf text.now (string_bytes s)) }
-    ensures refused { IfErr result (λ e. IfToml e (λ _. IsRefused text.now)) }
+    ensures refused { IfErr result (λ e. IfToml e (λ r. IsRefused text.now × IsRefusal text.now r)) }
 {
     let document = Document::parse(alloc, text)?;
     let document = document.into_mut(alloc)?;

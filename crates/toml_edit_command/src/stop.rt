@@ -1,12 +1,10 @@
-use toml_edit_error::TomlError;
-
 // Why a run ends before it is done.
 #[derive(Debug, Drop)]
 pub enum Stop {
     // the bytes are no text
     NotUtf8,
-    // the text is not TOML
-    Refused(TomlError),
+    // the text is not TOML: what is shown of the error
+    Refused(String),
     Memory,
     ReadFailed,
     WriteFailed,

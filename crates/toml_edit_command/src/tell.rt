@@ -3,8 +3,6 @@ ghost use Rattle.toml_edit_command.specs.Run.{Tells};
 ghost use Rattle.toml_edit_command.specs.Steps.{TellsStop, status_of};
 
 use super::stop::Stop;
-use std::fmt;
-use std::fmt::Write;
 use toml_edit_stream::{Output, write_all};
 
 // Tells why a run stopped, and answers its status.
@@ -17,9 +15,8 @@ pub fn end<E: Output>(stop: &Stop, errors: &mut E) -> u8
             tell(errors, "tomled: input is not UTF-8\n");
             1
         }
-        Stop::Refused(error) => {
-            // A fault in writing to standard error is passed over.
-            let _ = write!(Told(errors), "{error}");
+        Stop::Refused(excerpt) => {
+            tell(errors, excerpt.as_str());
             1
         }
         Stop::Memory => {
@@ -37,22 +34,9 @@ pub fn end<E: Output>(stop: &Stop, errors: &mut E) -> u8
     }
 }
 
-// Writes a line. A fault in that is passed over.
-pub fn tell<E: Output>(errors: &mut E, line: &str)
-    ensures { Tells (E.contents errors.old) (E.contents errors.new) (E.has_failed errors.new) line.now }
+// Writes what is told. A fault in that is passed over.
+pub fn tell<E: Output>(errors: &mut E, text: &str)
+    ensures { Tells (E.contents errors.old) (E.contents errors.new) (E.has_failed errors.new) text.now }
 {
-    let _ = write_all(errors, line.as_bytes());
-}
-
-// An output as what is formatted to.
-#[derive(Drop)]
-struct Told<'a, E>(&'a mut E);
-
-impl<E: Output> Write for Told<'_, E> {
-    fn write_str(&mut self, s: &str) -> fmt::Result {
-        match write_all(self.0, s.as_bytes()) {
-            Ok(()) => Ok(()),
-            Err(_) => Err(fmt::Error),
-        }
-    }
+    let _ = write_all(errors, text.as_bytes());
 }
