@@ -109,6 +109,14 @@ impl<S: SourceText> Document<S> {
         self.raw.text()
     }
 
+    /// The root table alone.
+    pub fn into_table(self) -> Table
+        ensures fields { fields_view result ≡ (tree_read self).root }
+        ensures slots { table_slots result ≡ (tree_read self).slots }
+    {
+        self.root
+    }
+
     /// The document with its spans turned into the texts that they cut. The only error is want of memory, which gives the document
     /// up.
     pub fn into_mut(self, alloc: Global) -> Mem<DocumentMut>
@@ -140,6 +148,7 @@ impl DocumentMut {
     ghost use Rattle.std.specs.Prelude.{◌≡◌, IfOk, string_bytes};
     ghost use Rattle.toml_edit_model.specs.Print.{print as printed};
     ghost use Rattle.toml_edit.specs.DocumentView.{tree_owned};
+    ghost use Rattle.toml_edit_tree.specs.Held.{held, held_left};
     ghost use Rattle.toml_edit_tree.specs.View.{table_slots, fields_view};
 
     /// The root table.
@@ -148,6 +157,35 @@ impl DocumentMut {
         ensures slots { table_slots result.now ≡ (tree_owned self.now).slots }
     {
         &self.root
+    }
+
+    /// The root table alone.
+    pub fn into_table(self) -> Table
+        ensures fields { fields_view result ≡ (tree_owned self).root }
+        ensures slots { table_slots result ≡ (tree_owned self).slots }
+    {
+        self.root
+    }
+
+    /// The keys' texts and the items of the root in order, without placeholders.
+    pub fn iter(&self) -> Iter<'_>
+        ensures { held_left result ≡ held (tree_owned self.now).slots }
+    {
+        self.root.iter()
+    }
+
+    /// What follows the last statement.
+    pub fn trailing(&self) -> &RawString
+        ensures { result.now ≡ (tree_owned self.now).trailing }
+    {
+        &self.trailing
+    }
+
+    /// Puts another text behind the last statement.
+    pub fn set_trailing(&mut self, trailing: RawString)
+        ensures { tree_owned self.new ≡ record (tree_owned self.old) { trailing = trailing } }
+    {
+        self.trailing = trailing;
     }
 
     /// The text of the document. The only error is want of memory.
