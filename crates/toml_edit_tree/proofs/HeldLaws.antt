@@ -1,10 +1,9 @@
 -- The items of a table without placeholders, by its slots.
-use Rattle.std.proofs.Common.{◌≡◌, ℕ, Bool, true, false, List, [], ◌∷◌, Option, Some, None, cond, get_or, is_some, option_map, refl, ap, ◌∙◌}
+use Rattle.std.proofs.Common.{◌≡◌, ℕ, zero, suc, Bool, true, false, List, [], ◌∷◌, Option, Some, None, cond, option_map, slice_get, refl, sym, ap, ◌∙◌}
 use Rattle.toml_edit_model.specs.Text.{Text}
 use Rattle.toml_edit_model.specs.Tree.{Node, nothing, leaf, list, inline, table, tables}
 use Rattle.toml_edit_slots.specs.declared.slots.Slot.{Slot}
-use Rattle.toml_edit_slots.specs.Slots.{is_at, lookup, lookup_slot, place}
-use Rattle.toml_edit_slots.proofs.SlotLaws.{lookup_slot-absent, lookup_slot-present}
+use Rattle.toml_edit_slots.specs.Slots.{is_at, items_of, lookup, lookup_slot}
 use Rattle.toml_edit_tree.specs.declared.item.Item.{Item}
 use Rattle.toml_edit_tree.specs.Held.{held_at, held_item}
 use Rattle.toml_edit_tree.specs.View.{item_view, slots_view}
@@ -43,23 +42,11 @@ held_item-filled (inline f ss) full = refl
 held_item-filled (table f ss) full = refl
 held_item-filled (tables e xs) full = refl
 
--- what is held, where something is
-pub held_item-some : (n : Node) → is_some (held_item n) ≡ true → Some n ≡ held_item n
-held_item-some nothing h = absurd cc
-held_item-some (leaf s spelling d) h = refl
-held_item-some (list f xs) h = refl
-held_item-some (inline f ss) h = refl
-held_item-some (table f ss) h = refl
-held_item-some (tables e xs) h = refl
+-- by the slot that was looked up
+pub held_at-found : (t : Text) (es : List (Slot Item)) (o : Option (Slot Item)) → o ≡ lookup_slot t es → held_at t (slots_view es) ≡ held_in o
+held_at-found t es o h = held_at-view t es ∙ ap held_in (sym h)
 
-pub none_held : (o : Option Node) → false ≡ is_some o → None ≡ o
-none_held None h = refl
-none_held (Some n) h = absurd cc
-
--- by the place of the key
-pub held_at-absent : (t : Text) (es : List (Slot Item)) → place t es ≡ None → held_at t (slots_view es) ≡ None
-held_at-absent t es h = held_at-view t es ∙ ap held_in (lookup_slot-absent t es h)
-
-pub held_at-present : (t : Text) (es : List (Slot Item)) (i : ℕ) (s : Slot Item) → place t es ≡ Some i
-    → held_at t (slots_view es) ≡ held_item (item_view (get_or es i s).item)
-held_at-present t es i s h = held_at-view t es ∙ ap held_in (lookup_slot-present t es i s h)
+pub item-at : (es : List (Slot Item)) (i : ℕ) (s : Slot Item) → slice_get es i ≡ Some s → slice_get (items_of es) i ≡ Some s.item
+item-at [] i s h = absurd cc
+item-at (x ∷ es) zero s h = ap (option_map (λ y. y.item)) h
+item-at (x ∷ es) (suc i) s h = item-at es i s h

@@ -4,3 +4,4 @@ pub mod Printing
 pub mod Casts
 pub mod Containers
 pub mod ContainerParts
+pub mod TableLending

@@ -1,11 +1,15 @@
 //! Tables.
-ghost use Rattle.std.specs.Prelude.{◌≡◌, ◌<◌, List, None, Some, IfOk, OnOk, option_map};
+ghost use Rattle.std.specs.Prelude.{◌≡◌, ◌<◌, List, None, Some, IfOk, IfSome, OnOk, length, option_and_then, option_map, slice_get};
 ghost use Rattle.std.specs.Borrow.{sem};
 ghost use Rattle.std.specs.Iterator.{YieldsFirstBy, item_count};
-ghost use Rattle.toml_edit_model.specs.Tree.{SlotsAreWellMade};
+ghost use Rattle.toml_edit_model.specs.Tree.{no_slots, SlotsAreWellMade};
 ghost use Rattle.toml_edit_model.specs.TreeOf.{made_by_path, root_fields, spanned_form};
 ghost use Rattle.toml_edit_tree.specs.ContainerParts.{LendsTableDecor, LendsTableSlots, table_holding};
-ghost use Rattle.toml_edit_tree.specs.Containers.{range_in, headed, table_with_dotted, table_with_implicit, table_with_position};
+ghost use Rattle.std.specs.Option.{option_copied};
+ghost use Rattle.toml_edit_slots.specs.Slots.{items_of, place};
+ghost use Rattle.toml_edit_tree.specs.TableLending.{LendsHeld, new_table};
+ghost use Rattle.toml_edit_tree.specs.declared.table.Table.{out-Table};
+ghost use Rattle.toml_edit_tree.specs.Containers.{key_under, range_in, headed, table_with_dotted, table_with_implicit, table_with_position};
 ghost use Rattle.toml_edit_tree.specs.Held.{held, held_left, held_at, pair_read};
 ghost use Rattle.toml_edit_tree.specs.View.{item_view, slots_view, table_slots, table_view, fields_view};
 ghost use Rattle.toml_edit_model.specs.OwnedForm.{DecorFits, SlotsFit, owned_slots, owned_fields};
@@ -16,6 +20,7 @@ use crate::item::Item;
 use std::alloc::Global;
 use std::ops::Range;
 use std::slice;
+use toml_edit_key::Key;
 use toml_edit_repr::{Decor, Mem};
 use toml_edit_slots::{Slot, Slots};
 
@@ -33,6 +38,20 @@ pub struct Table {
 }
 
 impl Table {
+    /// No slots, which take no memory yet.
+    pub fn new(alloc: Global) -> Table
+        ensures { table_view result ≡ record { fields = new_table; slots = no_slots } }
+    {
+        Table {
+            slots: Slots::new(alloc),
+            decor: Decor::default(),
+            implicit: false,
+            dotted: false,
+            position: None,
+            span: None,
+        }
+    }
+
     /// The root of a document that was read.
     #[doc(hidden)]
     pub fn root(slots: Slots<Item>) -> Table
@@ -201,6 +220,41 @@ impl Table {
     {
         let item = self.slots.get(key)?;
         if item.is_none() { None } else { Some(item) }
+    }
+
+    /// The item under the key, which is no placeholder, to be changed.
+    pub fn get_mut(&mut self, key: &str) -> Option<&mut Item>
+        ensures* writes_back { sem 𝓛 (LendsHeld self.entry key.now result) }
+        ensures item { option_map (λ x. item_view x.now) result ≡ held_at key.now (table_slots self.old) }
+    {
+        match self.held_place(key) {
+            Some(at) => Some(self.slots.item_mut(at)),
+            None => None,
+        }
+    }
+
+    /// The place of the key's slot, unless it is a placeholder.
+    fn held_place(&self, key: &str) -> Option<usize>
+        ensures held { option_map item_view (option_and_then (slice_get (items_of (out-Table self.now).slots)) result)
+            ≡ held_at key.now (table_slots self.now) }
+        ensures place { IfSome result (λ at. place key.now (out-Table self.now).slots ≡ Some at) }
+        ensures within { IfSome result (λ at. at < length (out-Table self.now).slots) }
+    {
+        let at = self.slots.find(key)?;
+        let entries = self.slots.as_slice();
+        if entries[at].item.is_none() {
+            None
+        } else {
+            Some(at)
+        }
+    }
+
+    /// The key of this text as it stands in the table, with its spelling and decors, if it has a slot of any kind.
+    pub fn key(&self, key: &str) -> Option<&Key>
+        ensures { option_copied result ≡ key_under key.now (table_slots self.now) }
+    {
+        let at = self.slots.find(key)?;
+        Some(&self.slots.as_slice()[at].key)
     }
 
     /// The keys' texts and the items in order, without placeholders.

@@ -1,0 +1,23 @@
+-- A new table, and what a table lends of its slots.
+use Rattle.std.specs.Prelude.{false, Option, None}
+use Rattle.std.specs.Option.{option_map_or}
+use Rattle.std.specs.Borrow.{LendsIf, MutBor, Fml}
+use Rattle.toml_edit_model.specs.Text.{Text}
+use Rattle.toml_edit_model.specs.Tree.{TableFields, unset}
+use Rattle.toml_edit_slots.specs.Slots.{place, with_item}
+use Rattle.toml_edit_tree.specs.declared.item.Item.{Item}
+use Rattle.toml_edit_tree.specs.declared.table.Table.{Table, out-Table}
+use Rattle.toml_edit_tree.specs.contracts.item.Item.{the_row as item_row}
+use Rattle.toml_edit_tree.specs.contracts.table.Table.{the_row as table_row}
+
+abbrev pub new_table : TableFields
+new_table = record { decor = unset; is_implicit = false; is_dotted = false; position = None; extent = None }
+
+-- the table with another item in the slot of a key
+abbrev pub with_item_under : Text → Item → Table → Table
+with_item_under k x t =
+    record t { slots = option_map_or (λ at. with_item at x (out-Table t).slots) (place k (out-Table t).slots) (out-Table t).slots }
+
+-- the table ends with the last item behind r in the slot of the key, where an item is lent
+abbrev pub LendsHeld : MutBor Table → Text → Option (MutBor Item) → Fml
+LendsHeld s k r = LendsIf table_row item_row s r (λ w. with_item_under k w s.now) s.now
