@@ -1,1 +1,3 @@
 pub mod PathLaws
+pub mod SlotLaws
+pub mod ItemLaws

@@ -3,20 +3,21 @@ use Rattle.std.proofs.Common.{◌≡◌, ℕ, ◌+◌, Bool, true, false, List, 
 use Rattle.std.specs.Prelude.{if◌then◌else◌, not, ◌&&◌, option_and_then, Result, Ok, Err}
 use Rattle.toml_edit_model.specs.Mode.{plain}
 use Rattle.toml_edit_model.specs.Roles.{Role, ends_path, extends}
-use Rattle.toml_edit_model.specs.Text.{Text, one}
+use Rattle.toml_edit_model.specs.Text.{Text}
 use Rattle.toml_edit_model.specs.Syntax.{Segment, segment_text, path_text}
 use Rattle.toml_edit_model.specs.Faults.{duplicate_key}
 use Rattle.toml_edit_model.specs.Paths.{Mention, Source, next_start}
-use Rattle.toml_edit_model.specs.Tree.{Decor, unset, Key, TableFields, Node, nothing, leaf, list, inline, table, tables, Items, no_items, item, Slots, no_slots}
+use Rattle.toml_edit_model.specs.Tree.{Decor, unset, Key, Extent, TableFields, Node, nothing, leaf, list, inline, table, tables, Items, no_items, item, Slots, no_slots, is_value_node}
 use Rattle.toml_edit_model.specs.TreeOf.{spanned_form, key_at, key_extent, made_by_path, header_fields, statement_leaf, brackets_from, brackets_to}
 use Rattle.toml_edit_laws.specs.FlatTree.{with_slot}
-use Rattle.toml_edit_laws.specs.InlineTree.{node_at, with_node}
-use Rattle.toml_edit_laws.specs.TableTree.{without_slot, with_item, change_table, change_last, reaching}
+use Rattle.toml_edit_laws.specs.InlineTree.{add_last, node_at, with_node}
+use Rattle.toml_edit_laws.specs.TableTree.{without_slot, change_table, change_last}
 use Rattle.toml_edit_laws.specs.TableClash.{clash_in_last, table_clash, element_clash, table_way_message, table_way_fault}
-use Rattle.toml_edit_laws.specs.AddPath.{Addition, a_value, a_table, an_element, add_path, path_clash, makes_dotted, extend_in, inside, clash_inside, last_item, with_last, put_last_key, last_key_clash, AreMentionsOf, IsMentionOf}
+use Rattle.toml_edit_laws.specs.AddPath.{Addition, a_value, a_table, an_element, add_path, path_clash, makes_dotted, inside, clash_inside, last_item, with_last, put_last_key, last_key_clash, AreMentionsOf, IsMentionOf}
 use Rattle.toml_edit_laws.specs.Standing.{Stands}
+use Rattle.toml_edit_laws.proofs.common.Tests.{if-true}
 use Rattle.toml_edit_laws.proofs.common.StandingLaws.{stands-right}
-use Rattle.toml_edit_laws.proofs.building.OneKey.{nothing-new, new-below, there-below, there-clash, last-changed, last-met, last-none, last-put, last-clash}
+use Rattle.toml_edit_laws.proofs.building.OneKey.{nothing-new, new-below, there-below, there-clash, last-changed, last-met, last-put, last-clash}
 use Rattle.toml_edit_error.specs.Report.{Report, fault_of}
 use Rattle.toml_edit_error.specs.Fault.{IfToml}
 use Rattle.toml_edit_error.specs.declared.toml_error.ParseFault.{ParseFault}
@@ -25,11 +26,12 @@ use Rattle.toml_edit_syntax.specs.declared.event.Span.{Span}
 use Rattle.toml_edit_parser.specs.declared.key_path.PathKey.{PathKey}
 use Rattle.toml_edit_parser.specs.declared.pairs.KeyPath.{KeyPath}
 use Rattle.toml_edit_parser.specs.PathRead.{IsFirstKey, IsKeyBefore, IsPathFrom, segment_key}
-use Rattle.toml_edit_parser.specs.PairRead.{IsEndOfPath}
+use Rattle.toml_edit_parser.specs.PairRead.{AddsLast, IsEndOfPath}
 use Rattle.toml_edit_parser.specs.ValueRead.{span_at}
+use Rattle.toml_edit_tree.specs.Containers.{TableView, TablesView, table_node, tables_node}
 use Rattle.toml_edit_builder.specs.declared.path.Kind.{Kind}
 use Rattle.toml_edit_builder.specs.declared.path.Kind.TheVariants as kinds
-use Rattle.toml_edit_builder.specs.TableRead.{addition_for, is_line, Goes, headed, IsHeaded, IsItemFor, IsKeyOf, IsPathOf}
+use Rattle.toml_edit_builder.specs.TableRead.{addition_for, is_line, opened, with_element, AddsInside, AddsPath, Goes, IsHeaded, IsItemFor, IsKeyOf, IsPathOf, PutsLast}
 
 -- what stands in the way: a mention, and the item there
 abbrev pub Way : Type 0
@@ -221,3 +223,251 @@ pub below-refused : (t : Text) (e : ParseFault) (a : Addition) (ms : List (Menti
     → IfToml e (λ r. (r.input ≡ t) × (option_map table_way_fault (path_clash a ms ss) ≡ Some (fault_of r))) → IfToml e (λ r. ⊥)
 below-refused t e a ms ss is h =
     mapped e _ _ (λ r named. absurd (let g = ap (option_map table_way_fault) (sym (nothing-below a ms) ∙ ap (path_clash a ms) (sym is)) ∙ named.1 in cc)) h
+
+-- ---- what stands in the way
+
+-- the item at a key is named
+pub stopped : (t message : Text) (e : ParseFault) (s : Source) (passes : Bool) (m : Mention Source) (n : Node) (k : Key) (at : Span) (way : Way)
+    → way ≡ Some (m, n) → IsKeyOf s passes m k at → message ≡ table_way_message m.role n → IfToml e (λ r. r ≡ message_at message at t)
+    → IfToml e (λ r. (r.input ≡ t) × (option_map table_way_fault way ≡ Some (fault_of r)))
+stopped t message e s passes m n k at way is key said h =
+    mapped e _ _ (λ r same. let f = way-named t message at s passes m n k r key said same in (f.0, ap (option_map table_way_fault) is ∙ f.1)) h
+
+-- a value stops a path, and so does a placeholder
+pub value-stops : (a : Addition) (m : Mention Source) (further : Slots → Way) (n : Node) → is_value_node n ≡ true → clash_inside a m further n ≡ Some (m, n)
+value-stops (a_value x) m further nothing h = refl
+value-stops a_table m further nothing h = refl
+value-stops an_element m further nothing h = refl
+value-stops (a_value x) m further (leaf s sp d) h = refl
+value-stops a_table m further (leaf s sp d) h = refl
+value-stops an_element m further (leaf s sp d) h = refl
+value-stops (a_value x) m further (list f xs) h = refl
+value-stops a_table m further (list f xs) h = refl
+value-stops an_element m further (list f xs) h = refl
+value-stops (a_value x) m further (inline f ss) h = refl
+value-stops a_table m further (inline f ss) h = refl
+value-stops an_element m further (inline f ss) h = refl
+value-stops a m further (table f ss) h = absurd cc
+value-stops a m further (tables e xs) h = absurd cc
+
+pub nothing-stops : (a : Addition) (m : Mention Source) (further : Slots → Way) → clash_inside a m further nothing ≡ Some (m, nothing)
+nothing-stops (a_value x) m further = refl
+nothing-stops a_table m further = refl
+nothing-stops an_element m further = refl
+
+-- ---- the last key
+
+put_again : (t : Text) (e : ParseFault) (s : Source) (m : Mention Source) (k : Key) (at : Span) (ss : Slots) → IsKeyOf s false m k at
+    → IfToml e (λ r. (x : Node) × (node_at k.name ss ≡ Some x) × (r ≡ message_at duplicate_key at t))
+    → IfToml e (λ r. (r.input ≡ t) × (option_map table_way_fault (option_map (λ x. (m, x)) (node_at m.segment.key ss)) ≡ Some (fault_of r)))
+put_again t e s m k at ss is h =
+    mapped e _ _ (λ r same.
+    let f = way-named t duplicate_key at s false m same.0 k r is (sym (last-message m.role same.0 is.role)) same.2 in
+    let there = ap (λ (x : Key). node_at x.name ss) (sym is.key) ∙ same.1 in
+    (f.0, ap (λ (o : Option Node). option_map table_way_fault (option_map (λ (x : Node). (m, x)) o)) there ∙ f.1)) h
+
+-- the item of a key line
+pub line-put : {A : Type 0} (t : Text) (r : Result A ParseFault) (s : Source) (m : Mention Source) (k : Key) (at : Span) (n : Node) (ss new : Slots)
+    → IsKeyOf s false m k at → AddsLast t at k n ss new r → PutsLast t (a_value n) m ss new r
+line-put t (Ok x) s m k at n ss new is h = subst (λ (y : Key). add_last ss y n (node_at y.name ss) ≡ Some new) is.key h
+line-put t (Err e) s m k at n ss new is h = put_again t e s m k at ss is h
+
+-- what is put there for one kind is put there for this one
+pub kind-put : {A : Type 0} (t : Text) (r : Result A ParseFault) (kind other : Kind) (n : Node) (m : Mention Source) (ss new : Slots) → kind ≡ other
+    → PutsLast t (addition_for other n) m ss new r → PutsLast t (addition_for kind n) m ss new r
+kind-put t r kind other n m ss new is h = subst (λ (x : Kind). PutsLast t (addition_for x n) m ss new r) (sym is) h
+
+there : (s : Source) (passes : Bool) (m : Mention Source) (k : Key) (at : Span) (ss : Slots) (o : Option Node) → IsKeyOf s passes m k at → node_at k.name ss ≡ o
+    → node_at m.segment.key ss ≡ o
+there s passes m k at ss o is h = ap (λ (x : Key). node_at x.name ss) (sym is.key) ∙ h
+
+-- the table of a header at a new key
+pub table-new : (s : Source) (m : Mention Source) (k : Key) (at : Span) (n : Node) (ss less new : Slots) → IsKeyOf s false m k at → IsHeaded s n
+    → node_at k.name ss ≡ None → less ≡ ss → new ≡ with_slot less k n → put_last_key plain a_table m ss (node_at m.segment.key ss) ≡ Some new
+table-new s m k at n ss less new is head free same put =
+    ap (put_last_key plain a_table m ss) (there s false m k at ss None is free)
+    ∙ ap (λ (x : Source). Some (with_slot ss (key_at spanned_form m) (table (header_fields spanned_form x x.statement) no_slots))) is.source
+    ∙ ap (λ (x : Node). Some (with_slot ss (key_at spanned_form m) x)) (sym head)
+    ∙ ap (λ (x : Key). Some (with_slot ss x n)) (sym is.key)
+    ∙ ap (λ (x : Slots). Some (with_slot x k n)) (sym same)
+    ∙ ap (λ (x : Slots). Some x) (sym put)
+
+open_step : (m : Mention Source) (old : Node) (ss : Slots)
+    → put_last_key plain a_table m ss (Some old)
+    ≡ option_map (with_slot (without_slot m.segment.key ss) (key_at spanned_form m)) (opened (header_fields spanned_form m.source m.source.statement) old)
+open_step m nothing ss = refl
+open_step m (leaf s x d) ss = refl
+open_step m (list f xs) ss = refl
+open_step m (inline f us) ss = refl
+open_step m (tables e xs) ss = refl
+open_step m (table f inner) ss = by_test (f.is_implicit && not f.is_dotted)
+  where
+    by_test : (b : Bool)
+        → (if b then Some (with_slot (without_slot m.segment.key ss) (key_at spanned_form m) (table (header_fields spanned_form m.source m.source.statement) inner)) else None)
+        ≡ option_map (with_slot (without_slot m.segment.key ss) (key_at spanned_form m)) (if b then Some (table (header_fields spanned_form m.source m.source.statement) inner) else None)
+    by_test true = refl
+    by_test false = refl
+
+-- and at a key that is there
+pub table-there : {A : Type 0} (t : Text) (r : Result A ParseFault) (s : Source) (m : Mention Source) (k : Key) (at : Span) (old : Node) (ss less new : Slots)
+    → IsKeyOf s false m k at → node_at k.name ss ≡ Some old → less ≡ without_slot k.name ss
+    → Goes t (option_map (with_slot less k) (opened (header_fields spanned_form s s.statement) old)) (table_clash m (Some old)) new r
+    → PutsLast t a_table m ss new r
+table-there t r s m k at old ss less new is here took g =
+    let o = there s false m k at ss (Some old) is here in
+    goes-same t r _ _ _ _ new new
+    (ap (put_last_key plain a_table m ss) o ∙ open_step m old ss
+    ∙ ap (λ (x : Source). option_map (with_slot (without_slot m.segment.key ss) (key_at spanned_form m)) (opened (header_fields spanned_form x x.statement) old)) is.source
+    ∙ ap (λ (x : Key). option_map (with_slot (without_slot x.name ss) x) (opened (header_fields spanned_form s s.statement) old)) (sym is.key)
+    ∙ ap (λ (x : Slots). option_map (with_slot x k) (opened (header_fields spanned_form s s.statement) old)) (sym took))
+    (ap (table_clash m) o) refl g
+
+-- the array of tables of a header in double brackets at a new key
+pub element-new : (s : Source) (m : Mention Source) (k : Key) (at brackets : Span) (n : Node) (ss new : Slots) → IsKeyOf s false m k at
+    → IsItemFor (kinds.Element brackets) s n → node_at k.name ss ≡ None
+    → new ≡ with_slot ss k (tables (Some (brackets.start, brackets.end)) (item n no_items))
+    → put_last_key plain an_element m ss (node_at m.segment.key ss) ≡ Some new
+element-new s m k at brackets n ss new is head free put =
+    ap (put_last_key plain an_element m ss) (there s false m k at ss None is free)
+    ∙ ap (λ (x : Source). Some (with_slot ss (key_at spanned_form m)
+    (tables (Some (brackets_from spanned_form x x.statement, brackets_to spanned_form x x.statement)) (item (table (header_fields spanned_form x x.statement) no_slots) no_items)))) is.source
+    ∙ ap (λ (x : Span). Some (with_slot ss (key_at spanned_form m) (tables (Some (x.start, x.end)) (item (table (header_fields spanned_form s s.statement) no_slots) no_items)))) (sym head.1)
+    ∙ ap (λ (x : Node). Some (with_slot ss (key_at spanned_form m) (tables (Some (brackets.start, brackets.end)) (item x no_items)))) (sym head.0)
+    ∙ ap (λ (x : Key). Some (with_slot ss x (tables (Some (brackets.start, brackets.end)) (item n no_items)))) (sym is.key)
+    ∙ ap (λ (x : Slots). Some x) (sym put)
+
+element_step : (m : Mention Source) (old : Node) (ss : Slots)
+    → put_last_key plain an_element m ss (Some old)
+    ≡ option_map (λ x. with_node m.segment.key x ss)
+    (with_element (brackets_to spanned_form m.source m.source.statement) (table (header_fields spanned_form m.source m.source.statement) no_slots) old)
+element_step m nothing ss = refl
+element_step m (leaf s x d) ss = refl
+element_step m (list f xs) ss = refl
+element_step m (inline f us) ss = refl
+element_step m (table f us) ss = refl
+element_step m (tables e xs) ss = refl
+
+-- and at a key that is there
+pub element-there : {A : Type 0} (t : Text) (r : Result A ParseFault) (s : Source) (m : Mention Source) (k : Key) (at brackets : Span) (n old changed : Node) (ss new : Slots)
+    → IsKeyOf s false m k at → IsItemFor (kinds.Element brackets) s n → node_at k.name ss ≡ Some old → new ≡ with_node k.name changed ss
+    → Goes t (with_element brackets.end n old) (element_clash m (Some old)) changed r → PutsLast t an_element m ss new r
+element-there t r s m k at brackets n old changed ss new is head here put g =
+    let o = there s false m k at ss (Some old) is here in
+    goes-same t r _ _ _ _ new _
+    (ap (put_last_key plain an_element m ss) o ∙ element_step m old ss
+    ∙ ap (λ (x : Source). option_map (λ (y : Node). with_node m.segment.key y ss) (with_element (brackets_to spanned_form x x.statement) (table (header_fields spanned_form x x.statement) no_slots) old)) is.source
+    ∙ ap (λ (x : Span). option_map (λ (y : Node). with_node m.segment.key y ss) (with_element x.end (table (header_fields spanned_form s s.statement) no_slots) old)) (sym head.1)
+    ∙ ap (λ (x : Node). option_map (λ (y : Node). with_node m.segment.key y ss) (with_element brackets.end x old)) (sym head.0))
+    (ap (element_clash m) o)
+    (put ∙ ap (λ (x : Key). with_node x.name changed ss) is.key)
+    (goes-on t r (λ (x : Node). with_node m.segment.key x ss) (with_element brackets.end n old) (element_clash m (Some old)) changed g)
+
+-- ---- below a key
+
+dotted-kind : (kind : Kind) (n : Node) → makes_dotted (addition_for kind n) ≡ is_line kind
+dotted-kind kinds.Line n = refl
+dotted-kind kinds.Table n = refl
+dotted-kind (kinds.Element brackets) n = refl
+
+-- the table of a new key
+pub below-put : (kind : Kind) (n : Node) (ms : List (Mention Source)) (k : Key) (at : Span) (ss less inner new : Slots) (b : Bool) (x : Node) → less ≡ no_slots
+    → add_path plain (addition_for kind n) ms less ≡ Some inner → b ≡ is_line kind → x ≡ table (made_by_path spanned_form b (Some (at.start, at.end))) inner
+    → new ≡ with_slot ss k x
+    → option_map (λ us. with_slot ss k (table (made_by_path spanned_form (makes_dotted (addition_for kind n)) (Some (at.start, at.end))) us))
+    (add_path plain (addition_for kind n) ms no_slots) ≡ Some new
+below-put kind n ms k at ss less inner new b x none added line held put =
+    let a = addition_for kind n in
+    let h = λ (us : Slots). with_slot ss k (table (made_by_path spanned_form (makes_dotted a) (Some (at.start, at.end))) us) in
+    ap (λ (z : Slots). option_map h (add_path plain a ms z)) (sym none)
+    ∙ ap (option_map h) added
+    ∙ ap (λ (d : Bool). Some (with_slot ss k (table (made_by_path spanned_form d (Some (at.start, at.end))) inner))) (dotted-kind kind n ∙ sym line)
+    ∙ ap (λ (y : Node). Some (with_slot ss k y)) (sym held)
+    ∙ ap (λ (y : Slots). Some y) (sym put)
+
+-- in the slots of a table
+pub in-slots : {A : Type 0} (t : Text) (r : Result A ParseFault) (a : Addition) (ms : List (Mention Source)) (held left : TableView) (old new : Slots) → old ≡ held.slots
+    → left ≡ record { fields = held.fields; slots = new } → AddsPath t a ms old new r
+    → Goes t (change_table (add_path plain a ms) (table_node held)) (path_clash a ms held.slots) (table_node left) r
+in-slots t r a ms held left old new was is h =
+    rw (is, ← was) (goes-on t r (table held.fields) (add_path plain a ms old) (path_clash a ms old) new h)
+
+-- in a table: a header goes on in any
+pub header-in : {A : Type 0} (t : Text) (r : Result A ParseFault) (kind : Kind) (n : Node) (m : Mention Source) (ms : List (Mention Source)) (held left : TableView) (old new : Slots)
+    → is_line kind ≡ false → old ≡ held.slots → left ≡ record { fields = held.fields; slots = new } → AddsPath t (addition_for kind n) ms old new r
+    → AddsInside t (addition_for kind n) m ms (table_node held) (table_node left) r
+header-in t r kinds.Line n m ms held left old new line was is h = absurd cc
+header-in t r kinds.Table n m ms held left old new line was is h =
+    rw (is, ← was) (goes-on t r (table held.fields) (add_path plain a_table ms old) (path_clash a_table ms old) new h)
+header-in t r (kinds.Element brackets) n m ms held left old new line was is h =
+    rw (is, ← was) (goes-on t r (table held.fields) (add_path plain an_element ms old) (path_clash an_element ms old) new h)
+
+-- and a key line in one without a header, which is dotted from then on
+pub line-in : {A : Type 0} (t : Text) (r : Result A ParseFault) (kind : Kind) (n : Node) (m : Mention Source) (ms : List (Mention Source)) (held dotted left : TableView) (old new : Slots)
+    → is_line kind ≡ true → held.fields.is_implicit ≡ true → dotted ≡ record { fields = record held.fields { is_dotted = true }; slots = held.slots } → old ≡ dotted.slots
+    → left ≡ record { fields = dotted.fields; slots = new } → AddsPath t (addition_for kind n) ms old new r
+    → AddsInside t (addition_for kind n) m ms (table_node held) (table_node left) r
+line-in t r kinds.Line n m ms held dotted left old new line implicit made was is h =
+    let f : TableFields = record held.fields { is_dotted = true } in
+    let left_is : table_node left ≡ table f new = ap table_node is ∙ ap (λ (v : TableView). table v.fields new) made in
+    let old_is : old ≡ held.slots = was ∙ ap (λ (v : TableView). v.slots) made in
+    goes-same t r _ _ _ _ (table_node left) (table f new)
+    (if-true held.fields.is_implicit (option_map (table f) (add_path plain (a_value n) ms held.slots)) None implicit
+    ∙ ap (λ (us : Slots). option_map (table f) (add_path plain (a_value n) ms us)) (sym old_is))
+    (if-true held.fields.is_implicit (path_clash (a_value n) ms held.slots) (Some (m, table_node held)) implicit
+    ∙ ap (path_clash (a_value n) ms) (sym old_is))
+    left_is
+    (goes-on t r (table f) (add_path plain (a_value n) ms old) (path_clash (a_value n) ms old) new h)
+line-in t r kinds.Table n m ms held dotted left old new line implicit made was is h = absurd cc
+line-in t r (kinds.Element brackets) n m ms held dotted left old new line implicit made was is h = absurd cc
+
+-- a table with a header stops a key line
+pub header-stops : (kind : Kind) (n : Node) (m : Mention Source) (further : Slots → Way) (held : TableView) → is_line kind ≡ true → held.fields.is_implicit ≡ false
+    → clash_inside (addition_for kind n) m further (table_node held) ≡ Some (m, table_node held)
+header-stops kinds.Line n m further held line explicit = rw explicit refl
+header-stops kinds.Table n m further held line explicit = absurd cc
+header-stops (kinds.Element brackets) n m further held line explicit = absurd cc
+
+-- so does an array of tables
+pub tables-stop : (kind : Kind) (n : Node) (m : Mention Source) (further : Slots → Way) (held : TablesView) → is_line kind ≡ true
+    → clash_inside (addition_for kind n) m further (tables_node held) ≡ Some (m, tables_node held)
+tables-stop kinds.Line n m further held line = refl
+tables-stop kinds.Table n m further held line = absurd cc
+tables-stop (kinds.Element brackets) n m further held line = absurd cc
+
+-- one without elements stops a header
+pub empty-stops : (kind : Kind) (n : Node) (m : Mention Source) (further : Slots → Way) (held : TablesView) → is_line kind ≡ false → held.items ≡ no_items
+    → clash_inside (addition_for kind n) m further (tables_node held) ≡ Some (m, tables_node held)
+empty-stops kinds.Line n m further held line none = absurd cc
+empty-stops kinds.Table n m further held line none = ap (clash_in_last (m, tables_node held) further) none
+empty-stops (kinds.Element brackets) n m further held line none = ap (clash_in_last (m, tables_node held) further) none
+
+-- in the last element of one
+last-in : {A : Type 0} (t : Text) (r : Result A ParseFault) (a : Addition) (m : Mention Source) (ms : List (Mention Source)) (e : Extent) (xs ys : Items) (last changed : Node)
+    → last_item xs ≡ Some last → ys ≡ with_last changed xs
+    → Goes t (change_table (add_path plain a ms) last) (clash_in_last (m, tables e xs) (path_clash a ms) (item last no_items)) changed r
+    → Goes t (option_map (tables e) (change_last (add_path plain a ms) xs)) (clash_in_last (m, tables e xs) (path_clash a ms) xs) (tables e ys) r
+last-in t r a m ms e xs ys last changed is put h =
+    let change = add_path plain a ms in
+    let way = clash_in_last (m, tables e xs) (path_clash a ms) (item last no_items) in
+    goes-same t r _ _ _ _ (tables e ys) _
+    (ap (option_map (tables e)) (last-changed change xs
+    ∙ ap (option_and_then (λ (x : Node). option_map (λ (new : Node). with_last new xs) (change_table change x))) is))
+    (last-met (m, tables e xs) (path_clash a ms) xs last is) (ap (tables e) put)
+    (goes-on t r (tables e) (option_map (λ (new : Node). with_last new xs) (change_table change last)) way (with_last changed xs)
+    (goes-on t r (λ (new : Node). with_last new xs) (change_table change last) way changed h))
+
+pub tables-in : {A : Type 0} (t : Text) (r : Result A ParseFault) (kind : Kind) (n : Node) (m : Mention Source) (ms : List (Mention Source)) (held left : TablesView) (last changed : Node)
+    → is_line kind ≡ false → last_item held.items ≡ Some last → left ≡ record { extent = held.extent; items = with_last changed held.items }
+    → Goes t (change_table (add_path plain (addition_for kind n) ms) last) (clash_in_last (m, tables_node held) (path_clash (addition_for kind n) ms) (item last no_items)) changed r
+    → AddsInside t (addition_for kind n) m ms (tables_node held) (tables_node left) r
+tables-in t r kinds.Line n m ms held left last changed line is put h = absurd cc
+tables-in t r kinds.Table n m ms held left last changed line is put h =
+    rw put (last-in t r a_table m ms held.extent held.items (with_last changed held.items) last changed is refl h)
+tables-in t r (kinds.Element brackets) n m ms held left last changed line is put h =
+    rw put (last-in t r an_element m ms held.extent held.items (with_last changed held.items) last changed is refl h)
+
+-- a key that is read is not refused
+pub refused-key : (t : Text) (e : ParseFault) (s : Source) (ms : List (Mention Source)) (path : KeyPath)
+    → ((own : Decor) (p : List Segment) (start : ℕ) → IsEndOfPath p → Stands t start (path_text p) → IsPathFrom own start p path → IfToml e (λ r. ⊥))
+    → IsPathOf t s ms path → IfToml e (λ r. ⊥)
+refused-key t e s ms path told f = told (own_leaf s) f.segments f.start f.ends f.stands f.read

@@ -6,12 +6,13 @@ use Rattle.toml_edit_model.specs.Roles.{extends}
 use Rattle.toml_edit_model.specs.Text.{Text}
 use Rattle.toml_edit_model.specs.Syntax.{Segment, path_text}
 use Rattle.toml_edit_model.specs.Paths.{Mention, Source}
-use Rattle.toml_edit_model.specs.Tree.{Key, TableFields, Node, table, tables, no_slots}
+use Rattle.toml_edit_model.specs.Tree.{Key, TableFields, Node, table, tables, Slots, no_slots}
 use Rattle.toml_edit_model.specs.TreeOf.{spanned_form, header_fields, statement_leaf, key_at, brackets_from, brackets_to}
 use Rattle.toml_edit_laws.specs.Standing.{Stands}
+use Rattle.toml_edit_laws.specs.InlineTree.{node_at}
 use Rattle.toml_edit_laws.specs.TableTree.{reaching, with_item}
 use Rattle.toml_edit_laws.specs.TableClash.{table_way_fault}
-use Rattle.toml_edit_laws.specs.AddPath.{Addition, a_value, a_table, an_element, AreMentionsOf}
+use Rattle.toml_edit_laws.specs.AddPath.{Addition, a_value, a_table, an_element, add_path, path_clash, inside, clash_inside, put_last_key, last_key_clash, AreMentionsOf}
 use Rattle.toml_edit_error.specs.Report.{fault_of}
 use Rattle.toml_edit_error.specs.Fault.{IfToml}
 use Rattle.toml_edit_error.specs.declared.toml_error.ParseFault.{ParseFault}
@@ -71,12 +72,28 @@ abbrev pub Goes : {A X : Type 0} → Text → Option X → Option (Mention Sourc
 Goes t want way new (Ok x) = want ≡ Some new
 Goes t want way new (Err e) = IfToml e (λ r. (r.input ≡ t) × (option_map table_way_fault way ≡ Some (fault_of r)))
 
--- the table of a header, with the slots of the table that is there, if that was only passed through so far
-abbrev pub headed : TableFields → Node → Option Node
-headed g (table f inner) = if f.is_implicit && not f.is_dotted then Some (table g inner) else None
-headed g n = None
+-- adding something at the end of a path below these slots
+abbrev pub AddsPath : {A : Type 0} → Text → Addition → List (Mention Source) → Slots → Slots → Result A ParseFault → Type 0
+AddsPath t a ms old new result = Goes t (add_path plain a ms old) (path_clash a ms old) new result
 
--- the array of tables of a header in double brackets that ends at this byte, with its table as one more element
+-- adding it below a key with this item, where these mentions are the path behind the key
+abbrev pub AddsInside : {A : Type 0} → Text → Addition → Mention Source → List (Mention Source) → Node → Node → Result A ParseFault → Type 0
+AddsInside t a m ms old new result = Goes t (inside a (add_path plain a ms) old) (clash_inside a m (path_clash a ms) old) new result
+
+-- adding it at the last key of a path
+abbrev pub PutsLast : {A : Type 0} → Text → Addition → Mention Source → Slots → Slots → Result A ParseFault → Type 0
+PutsLast t a m old new result = Goes t (put_last_key plain a m old (node_at m.segment.key old)) (last_key_clash a m (node_at m.segment.key old)) new result
+
+-- the table of a header with these fields, with the slots of the table that is there, if that was only passed through so far
+abbrev pub opened : TableFields → Node → Option Node
+opened g (table f inner) = if f.is_implicit && not f.is_dotted then Some (table g inner) else None
+opened g n = None
+
+-- the array of tables that is there, with the table of a header that ends at this byte as one more element
 abbrev pub with_element : ℕ → Node → Node → Option Node
 with_element end n (tables e xs) = Some (tables (reaching e end) (with_item xs n))
 with_element end n other = None
+
+abbrev pub AreTables : Node → Type 0
+AreTables (tables e xs) = Unit {0}
+AreTables n = ⊥

@@ -1,6 +1,8 @@
 //! The tree of a document, built statement by statement.
 #![tactic(auto)]
 
-pub mod path;
+mod last_key;
+mod path;
 
-pub use path::Kind;
+#[doc(hidden)]
+pub use path::{Kind, add_path};

@@ -1,8 +1,32 @@
-//! From the slots of the root down a statement's path.
-ghost use Rattle.std.specs.Prelude.{◌≡◌};
+//! What a statement adds at the end of its path: down the path, key by key.
+ghost use Rattle.std.specs.Prelude.{◌≡◌, true, List, None, Some, IfErr, option_map};
+ghost use Rattle.toml_edit_model.specs.Mode.{plain};
+ghost use Rattle.toml_edit_model.specs.Paths.{Mention, Source};
+ghost use Rattle.toml_edit_model.specs.Roles.{Role, extends};
+ghost use Rattle.toml_edit_model.specs.Tree.{Node, item as item_of, no_items, no_slots, table as table_of, tables as tables_of};
+ghost use Rattle.toml_edit_model.specs.TreeOf.{made_by_path, spanned_form};
+ghost use Rattle.toml_edit_laws.specs.AddPath as model;
+ghost use Rattle.toml_edit_laws.specs.AddPath.{Addition, makes_dotted, path_clash};
+ghost use Rattle.toml_edit_laws.specs.FlatTree.{with_slot};
+ghost use Rattle.toml_edit_laws.specs.TableClash.{clash_in_last, table_way_message};
+ghost use Rattle.toml_edit_laws.specs.TableTree.{change_table};
+ghost use Rattle.toml_edit_error.specs.Fault.{IfToml};
+ghost use Rattle.toml_edit_slots.specs.Slots.{place};
+ghost use Rattle.toml_edit_syntax.specs.Events.{IsSpanOf};
+ghost use Rattle.toml_edit_parser.specs.ValueRead.{AreIn};
+ghost use Rattle.toml_edit_tree.specs.Containers.{table_node, tables_node};
+ghost use Rattle.toml_edit_tree.specs.View.{item_view, slots_view, table_view, tables_view, value_view};
 ghost use Rattle.toml_edit_builder.specs.TableRead as spec;
+ghost use Rattle.toml_edit_builder.specs.TableRead.{AddsInside, AddsPath, Goes, IsItemFor, IsKeyOf, IsPathOf, addition_for};
 
+use crate::last_key::put_last;
+use std::alloc::Global;
+use toml_edit_error::ParseFault;
+use toml_edit_key::Key;
+use toml_edit_parser::{KeyPath, PathKey, next_key, push_item, refusal};
+use toml_edit_slots::Slots;
 use toml_edit_syntax::Span;
+use toml_edit_tree::{ArrayOfTables, Item, Table, Value};
 
 /// What a statement adds at the end of its path.
 #[derive(Clone, Copy)]
@@ -20,4 +44,204 @@ fn is_line(kind: Kind) -> bool
     ensures { result ≡ spec.is_line kind }
 {
     matches!(kind, Kind::Line)
+}
+
+/// Adds an item at the end of a path, and leaves a placeholder in its place. An error leaves the slots as they may be: the document is
+/// to be given up.
+#[cycle(path)]
+pub fn add_path(
+    alloc: Global,
+    source: &str,
+    kind: Kind,
+    path: KeyPath<'_>,
+    item: &mut Item,
+    slots: &mut Slots<Item>,
+) -> Result<(), ParseFault>
+    requires { AreIn source.now path.events.now }
+    ensures added { (s : Source) (ms : List (Mention Source)) → IsItemFor kind s (item_view item.old) → IsPathOf source.now s ms path.entry
+        → AddsPath source.now (addition_for kind (item_view item.old)) ms (slots_view slots.old) (slots_view slots.new) result }
+    ensures input { IfErr result (λ e. IfToml e (λ r. r.input ≡ source.now)) }
+{
+    let PathKey { key, span, rest } = next_key(alloc, source, path)?;
+    match rest {
+        None => put_last(alloc, source, kind, key, span, item, slots),
+        Some(inside) => match slots.find(key.get()) {
+            None => add_below(alloc, source, kind, key, span, inside, item, slots),
+            Some(at) => add_in_item(alloc, source, kind, span, inside, item, slots.item_mut(at)),
+        },
+    }
+}
+
+/// Adds an item at the end of what is left of a path, below a new key.
+#[cycle(path)]
+fn add_below(
+    alloc: Global,
+    source: &str,
+    kind: Kind,
+    key: Key,
+    span: Span,
+    path: KeyPath<'_>,
+    item: &mut Item,
+    slots: &mut Slots<Item>,
+) -> Result<(), ParseFault>
+    requires new { place key.name slots.old ≡ None }
+    requires path { AreIn source.now path.events.now }
+    ensures added { (s : Source) (ms : List (Mention Source)) → IsItemFor kind s (item_view item.old) → IsPathOf source.now s ms path.entry
+        → Goes source.now (option_map (λ inner. with_slot (slots_view slots.old) key
+        (table_of (made_by_path spanned_form (makes_dotted (addition_for kind (item_view item.old))) (Some (span.start, span.end))) inner))
+        (model.add_path plain (addition_for kind (item_view item.old)) ms no_slots)) None (slots_view slots.new) result }
+    ensures input { IfErr result (λ e. IfToml e (λ r. r.input ≡ source.now)) }
+{
+    let mut inner = Slots::new(alloc);
+    add_path(alloc, source, kind, path, item, &mut inner)?;
+    push_item(slots, key, passed_item(is_line(kind), span, inner))?;
+    Ok(())
+}
+
+/// The table of a key that a path passes through.
+fn passed_item(dotted: bool, span: Span, slots: Slots<Item>) -> Item
+    ensures { item_view result ≡ table_of (made_by_path spanned_form dotted (Some (span.start, span.end))) (slots_view slots) }
+{
+    Item::Table(Table::passed(slots, dotted, span.start, span.end))
+}
+
+/// Adds an item at the end of what is left of a path, below a key that is there with this item.
+#[cycle(path)]
+fn add_in_item(
+    alloc: Global,
+    source: &str,
+    kind: Kind,
+    span: Span,
+    path: KeyPath<'_>,
+    item: &mut Item,
+    holder: &mut Item,
+) -> Result<(), ParseFault>
+    requires span { IsSpanOf source.now span }
+    requires path { AreIn source.now path.events.now }
+    ensures added { (s : Source) (m : Mention Source) (ms : List (Mention Source)) (k : Key) → IsItemFor kind s (item_view item.old) → IsKeyOf s true m k span
+        → IsPathOf source.now s ms path.entry
+        → AddsInside source.now (addition_for kind (item_view item.old)) m ms (item_view holder.old) (item_view holder.new) result }
+    ensures input { IfErr result (λ e. IfToml e (λ r. r.input ≡ source.now)) }
+{
+    match holder {
+        Item::Table(table) => add_in_table(alloc, source, kind, span, path, item, table),
+        Item::ArrayOfTables(tables) => {
+            add_in_tables(alloc, source, kind, span, path, item, tables)
+        }
+        Item::Value(value) => Err(refusal(alloc, source, extend_message(value), span)),
+        Item::None => Err(refusal(alloc, source, "duplicate key", span)),
+    }
+}
+
+/// What to say of a key of a path that goes on, where this value stands.
+fn extend_message(value: &Value) -> &'static str
+    ensures { (later : Role) → extends later ≡ true → result.now ≡ table_way_message later (value_view value.now) }
+{
+    match value {
+        Value::String(_) => "cannot extend value of type string with a dotted key",
+        Value::Integer(_) => "cannot extend value of type integer with a dotted key",
+        Value::Float(_) => "cannot extend value of type float with a dotted key",
+        Value::Boolean(_) => "cannot extend value of type boolean with a dotted key",
+        Value::Datetime(_) => "cannot extend value of type datetime with a dotted key",
+        Value::Array(_) => "cannot extend value of type array with a dotted key",
+        Value::InlineTable(_) => "cannot extend value of type inline table with a dotted key",
+    }
+}
+
+/// The same below a key that is there with this table: a key line goes on in a table that has no header, which is dotted from then on.
+#[cycle(path)]
+fn add_in_table(
+    alloc: Global,
+    source: &str,
+    kind: Kind,
+    span: Span,
+    path: KeyPath<'_>,
+    item: &mut Item,
+    table: &mut Table,
+) -> Result<(), ParseFault>
+    requires span { IsSpanOf source.now span }
+    requires path { AreIn source.now path.events.now }
+    ensures added { (s : Source) (m : Mention Source) (ms : List (Mention Source)) (k : Key) → IsItemFor kind s (item_view item.old) → IsKeyOf s true m k span
+        → IsPathOf source.now s ms path.entry
+        → AddsInside source.now (addition_for kind (item_view item.old)) m ms (table_node (table_view table.old)) (table_node (table_view table.new)) result }
+    ensures input { IfErr result (λ e. IfToml e (λ r. r.input ≡ source.now)) }
+{
+    if is_line(kind) {
+        if !table.is_implicit() {
+            return Err(refusal(alloc, source, "duplicate key", span));
+        }
+        table.set_dotted(true);
+    }
+    add_path(alloc, source, kind, path, item, table.slots_mut())
+}
+
+/// The same below a key that is there with this array of tables: a header goes on in the last element.
+#[cycle(path)]
+fn add_in_tables(
+    alloc: Global,
+    source: &str,
+    kind: Kind,
+    span: Span,
+    path: KeyPath<'_>,
+    item: &mut Item,
+    tables: &mut ArrayOfTables,
+) -> Result<(), ParseFault>
+    requires span { IsSpanOf source.now span }
+    requires path { AreIn source.now path.events.now }
+    ensures added { (s : Source) (m : Mention Source) (ms : List (Mention Source)) (k : Key) → IsItemFor kind s (item_view item.old) → IsKeyOf s true m k span
+        → IsPathOf source.now s ms path.entry
+        → AddsInside source.now (addition_for kind (item_view item.old)) m ms (tables_node (tables_view tables.old)) (tables_node (tables_view tables.new)) result }
+    ensures input { IfErr result (λ e. IfToml e (λ r. r.input ≡ source.now)) }
+{
+    if is_line(kind) {
+        return Err(refusal(alloc, source, "duplicate key", span));
+    }
+    match tables.values.last_mut() {
+        None => Err(refusal(alloc, source, "duplicate key", span)),
+        Some(last) => add_in_element(alloc, source, kind, span, path, item, last),
+    }
+}
+
+/// The same in this element, if it is a table.
+#[cycle(path)]
+fn add_in_element(
+    alloc: Global,
+    source: &str,
+    kind: Kind,
+    span: Span,
+    path: KeyPath<'_>,
+    item: &mut Item,
+    holder: &mut Item,
+) -> Result<(), ParseFault>
+    requires span { IsSpanOf source.now span }
+    requires path { AreIn source.now path.events.now }
+    ensures added { (s : Source) (m : Mention Source) (ms : List (Mention Source)) (k : Key) (way : Node) → IsItemFor kind s (item_view item.old)
+        → IsKeyOf s true m k span → IsPathOf source.now s ms path.entry → spec.AreTables way
+        → Goes source.now (change_table (model.add_path plain (addition_for kind (item_view item.old)) ms) (item_view holder.old))
+        (clash_in_last (m, way) (path_clash (addition_for kind (item_view item.old)) ms) (item_of (item_view holder.old) no_items)) (item_view holder.new) result }
+    ensures input { IfErr result (λ e. IfToml e (λ r. r.input ≡ source.now)) }
+{
+    match holder {
+        Item::Table(table) => add_in_slots(alloc, source, kind, path, item, table),
+        _ => Err(refusal(alloc, source, "duplicate key", span)),
+    }
+}
+
+/// The same in the slots of this table.
+#[cycle(path)]
+fn add_in_slots(
+    alloc: Global,
+    source: &str,
+    kind: Kind,
+    path: KeyPath<'_>,
+    item: &mut Item,
+    table: &mut Table,
+) -> Result<(), ParseFault>
+    requires { AreIn source.now path.events.now }
+    ensures added { (s : Source) (ms : List (Mention Source)) → IsItemFor kind s (item_view item.old) → IsPathOf source.now s ms path.entry
+        → Goes source.now (change_table (model.add_path plain (addition_for kind (item_view item.old)) ms) (table_node (table_view table.old)))
+        (path_clash (addition_for kind (item_view item.old)) ms (table_view table.old).slots) (table_node (table_view table.new)) result }
+    ensures input { IfErr result (λ e. IfToml e (λ r. r.input ≡ source.now)) }
+{
+    add_path(alloc, source, kind, path, item, table.slots_mut())
 }

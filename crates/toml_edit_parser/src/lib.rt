@@ -12,7 +12,7 @@ pub use from_str::FromStr;
 #[doc(hidden)]
 pub use key_path::{PathKey, next_key};
 #[doc(hidden)]
-pub use pairs::KeyPath;
+pub use pairs::{KeyPath, add_last, push_item};
 #[doc(hidden)]
 pub use parser::parse;
 #[doc(hidden)]

@@ -409,7 +409,8 @@ fn extend_message(value: &Value) -> &'static str
 }
 
 /// Adds a slot, unless its key stands there already, and leaves a placeholder in the place of its item.
-fn add_last(
+#[doc(hidden)]
+pub fn add_last(
     alloc: Global,
     source: &str,
     key: Key,
@@ -432,7 +433,8 @@ fn add_last(
 }
 
 /// Puts a slot last, whose key has to be new.
-fn push_item(slots: &mut Slots<Item>, key: Key, item: Item) -> Mem<()>
+#[doc(hidden)]
+pub fn push_item(slots: &mut Slots<Item>, key: Key, item: Item) -> Mem<()>
     requires { place key.name slots.old ≡ None }
     ensures { OnOk result (slots_view slots.new ≡ with_slot (slots_view slots.old) key (item_view item)) }
 {

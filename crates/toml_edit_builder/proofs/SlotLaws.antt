@@ -1,0 +1,83 @@
+-- The slots of a table as the definitions see them, at the place of a key.
+use Rattle.std.proofs.Common.{◌≡◌, ℕ, zero, suc, true, false, List, [], ◌∷◌, cond, Bool, refl, sym, ap, inl, inr, arith, Option, Some, None, option_map, slice_get}
+use Rattle.std.proofs.lemmas.Bool.{cases_Bool}
+use Rattle.std.proofs.lemmas.Option.{same_Some}
+use Rattle.toml_edit_model.specs.Text.{Text}
+use Rattle.toml_edit_model.specs.Tree.{Node, Slots, slot}
+use Rattle.toml_edit_laws.specs.InlineTree.{node_at, with_node}
+use Rattle.toml_edit_laws.specs.TableTree.{without_slot}
+use Rattle.toml_edit_slots.specs.declared.slots.Slot as repr
+use Rattle.toml_edit_slots.specs.Slots.{is_at, items_of, lookup_slot, place, with_item, without}
+use Rattle.toml_edit_tree.specs.declared.item.Item.{Item}
+use Rattle.toml_edit_tree.specs.View.{item_view, slots_view}
+
+node_none : (b : Bool) (n : Node) (o : Option Node) (i : Option ℕ) → cond b (Some 0) (option_map suc i) ≡ None → (i ≡ None → o ≡ None) → cond b (Some n) o ≡ None
+node_none true n o i h f = absurd cc
+node_none false n o None h f = f refl
+node_none false n o (Some j) h f = absurd cc
+
+-- no item stands at a key that has no place
+pub node-none : (k : Text) (es : List (repr.Slot Item)) → place k es ≡ None → node_at k (slots_view es) ≡ None
+node-none k [] h = refl
+node-none k (e ∷ es) h = node_none (is_at k e) (item_view e.item) (node_at k (slots_view es)) (place k es) h (node-none k es)
+
+same_place : (i j : ℕ) → ◌≡◌ {A = Option ℕ} (Some (suc i)) (Some (suc j)) → i ≡ j
+same_place i j h = let e = same_Some (suc i) (suc j) h in omega (arith, e)
+
+node_some : (b : Bool) (e : repr.Slot Item) (es : List (repr.Slot Item)) (o : Option Node) (i : Option ℕ) (at : ℕ) (x : Item)
+    → cond b (Some 0) (option_map suc i) ≡ Some at → Some x ≡ slice_get (items_of (e ∷ es)) at
+    → ((j : ℕ) → i ≡ Some j → Some x ≡ slice_get (items_of es) j → o ≡ Some (item_view x))
+    → cond b (Some (item_view e.item)) o ≡ Some (item_view x)
+node_some true e es o i zero x h g f = ap (option_map item_view) (sym g)
+node_some true e es o i (suc at) x h g f = absurd cc
+node_some false e es o None at x h g f = absurd cc
+node_some false e es o (Some j) zero x h g f = absurd cc
+node_some false e es o (Some j) (suc at) x h g f = f at (ap Some (same_place j at h)) g
+
+-- the item at the place of a key
+pub node-some : (k : Text) (es : List (repr.Slot Item)) (at : ℕ) (x : Item) → place k es ≡ Some at → Some x ≡ slice_get (items_of es) at
+    → node_at k (slots_view es) ≡ Some (item_view x)
+node-some k [] at x h g = absurd cc
+node-some k (e ∷ es) at x h g = node_some (is_at k e) e es (node_at k (slots_view es)) (place k es) at x h g (λ j same there. node-some k es j x same there)
+
+with_some : (b : Bool) (e : repr.Slot Item) (es : List (repr.Slot Item)) (i : Option ℕ) (at : ℕ) (y : Item) (ss : Slots)
+    → cond b (Some 0) (option_map suc i) ≡ Some at → ((j : ℕ) → i ≡ Some j → slots_view (with_item j y es) ≡ ss)
+    → slots_view (with_item at y (e ∷ es)) ≡ cond b (slot e.key (item_view y) (slots_view es)) (slot e.key (item_view e.item) ss)
+with_some true e es i zero y ss h f = refl
+with_some true e es i (suc at) y ss h f = absurd cc
+with_some false e es None at y ss h f = absurd cc
+with_some false e es (Some j) zero y ss h f = absurd cc
+with_some false e es (Some j) (suc at) y ss h f = ap (slot e.key (item_view e.item)) (f at (ap Some (same_place j at h)))
+
+-- the slots with another item at the place of a key
+pub with-place : (k : Text) (es : List (repr.Slot Item)) (at : ℕ) (y : Item) → place k es ≡ Some at
+    → slots_view (with_item at y es) ≡ with_node k (item_view y) (slots_view es)
+with-place k [] at y h = absurd cc
+with-place k (e ∷ es) at y h = with_some (is_at k e) e es (place k es) at y (with_node k (item_view y) (slots_view es)) h (λ j same. with-place k es j y same)
+
+-- the slots without that of a key
+pub without-view : (k : Text) (es : List (repr.Slot Item)) → slots_view (without k es) ≡ without_slot k (slots_view es)
+without-view k [] = refl
+without-view k (s ∷ es) =
+    elim (cases_Bool (is_at k s)) [
+      | inl same ↦ rw same refl
+      | inr other ↦ rw other (ap (slot s.key (item_view s.item)) (without-view k es))
+    ]
+
+-- what is taken out is the item at the key
+pub node-taken : (k : Text) (es : List (repr.Slot Item)) (s : repr.Slot Item) → Some s ≡ lookup_slot k es → node_at k (slots_view es) ≡ Some (item_view s.item)
+node-taken k [] s h = absurd cc
+node-taken k (x ∷ es) s h =
+    elim (cases_Bool (is_at k x)) [
+      | inl same ↦ rw same (ap (option_map (λ (y : repr.Slot Item). item_view y.item)) (sym (rw same at h)))
+      | inr other ↦ rw other (node-taken k es s (rw other at h))
+    ]
+
+-- and where nothing is, no item stands there, and the slots are as they were
+pub none-taken : (k : Text) (es : List (repr.Slot Item)) → None ≡ lookup_slot k es → (node_at k (slots_view es) ≡ None) × (without k es ≡ es)
+none-taken k [] h = (refl, refl)
+none-taken k (x ∷ es) h =
+    elim (cases_Bool (is_at k x)) [
+      | inl same ↦ absurd (let e = rw same at h in cc)
+      | inr other ↦ let f = none-taken k es (rw other at h) in rw other (f.0, ap (λ (ys : List (repr.Slot Item)). x ∷ ys) f.1)
+    ]

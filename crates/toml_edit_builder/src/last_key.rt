@@ -1,0 +1,217 @@
+//! The last key of a path: what is put there, and what stands in its way.
+ghost use Rattle.std.specs.Prelude.{◌≡◌, false, None, Some, OnOk, IfErr, option_map};
+ghost use Rattle.toml_edit_model.specs.Paths.{Mention, Source};
+ghost use Rattle.toml_edit_model.specs.Tree.{TableFields, item as item_of, no_items, no_slots, table as table_of, tables as tables_of};
+ghost use Rattle.toml_edit_laws.specs.AddPath.{a_table, a_value, an_element};
+ghost use Rattle.toml_edit_laws.specs.FlatTree.{with_slot};
+ghost use Rattle.toml_edit_laws.specs.TableClash.{element_clash, table_clash};
+ghost use Rattle.toml_edit_error.specs.Fault.{IfToml};
+ghost use Rattle.toml_edit_slots.specs.Slots.{place};
+ghost use Rattle.toml_edit_syntax.specs.Events.{IsSpanOf};
+ghost use Rattle.toml_edit_tree.specs.Containers.{table_node};
+ghost use Rattle.toml_edit_tree.specs.View.{fields_view, item_view, slots_view, table_view};
+ghost use Rattle.toml_edit_builder.specs.TableRead as spec;
+ghost use Rattle.toml_edit_builder.specs.TableRead.{Goes, IsHeaded, IsItemFor, IsKeyOf, PutsLast, addition_for, opened, with_element};
+ghost use Rattle.toml_edit_builder.specs.declared.path.Kind.TheVariants as kinds;
+
+use crate::path::Kind;
+use std::alloc::Global;
+use std::mem;
+use toml_edit_error::ParseFault;
+use toml_edit_key::Key;
+use toml_edit_parser::{add_last, push_item, refusal};
+use toml_edit_repr::Mem;
+use toml_edit_slots::Slots;
+use toml_edit_syntax::Span;
+use toml_edit_tree::{ArrayOfTables, Item, Table};
+
+/// Adds an item at the last key of a path, and leaves a placeholder in its place.
+pub(crate) fn put_last(
+    alloc: Global,
+    source: &str,
+    kind: Kind,
+    key: Key,
+    at: Span,
+    item: &mut Item,
+    slots: &mut Slots<Item>,
+) -> Result<(), ParseFault>
+    requires { IsSpanOf source.now at }
+    ensures put { (s : Source) (m : Mention Source) → IsItemFor kind s (item_view item.old) → IsKeyOf s false m key at
+        → PutsLast source.now (addition_for kind (item_view item.old)) m (slots_view slots.old) (slots_view slots.new) result }
+    ensures input { IfErr result (λ e. IfToml e (λ r. r.input ≡ source.now)) }
+{
+    match kind {
+        Kind::Line => add_last(alloc, source, key, at, item, slots),
+        Kind::Table => put_table(alloc, source, key, at, item, slots),
+        Kind::Element(brackets) => put_element(alloc, source, brackets, key, at, item, slots),
+    }
+}
+
+/// Puts the table of a header last. It takes the slots of the table that is there, if that was only passed through so far.
+fn put_table(
+    alloc: Global,
+    source: &str,
+    key: Key,
+    at: Span,
+    item: &mut Item,
+    slots: &mut Slots<Item>,
+) -> Result<(), ParseFault>
+    requires { IsSpanOf source.now at }
+    ensures put { (s : Source) (m : Mention Source) → IsHeaded s (item_view item.old) → IsKeyOf s false m key at
+        → PutsLast source.now a_table m (slots_view slots.old) (slots_view slots.new) result }
+    ensures input { IfErr result (λ e. IfToml e (λ r. r.input ≡ source.now)) }
+{
+    match slots.remove(key.get()) {
+        None => {
+            push_item(slots, key, mem::replace(item, Item::None))?;
+            Ok(())
+        }
+        Some(slot) => put_opened(alloc, source, key, at, slot.into_item(), item, slots),
+    }
+}
+
+/// Puts the table of a header last, with the slots of what stood at its key, whose slot was taken out.
+fn put_opened(
+    alloc: Global,
+    source: &str,
+    key: Key,
+    at: Span,
+    there: Item,
+    item: &mut Item,
+    slots: &mut Slots<Item>,
+) -> Result<(), ParseFault>
+    requires at { IsSpanOf source.now at }
+    requires absent { place key.name slots.old ≡ None }
+    ensures put { (g : TableFields) (s : Source) (m : Mention Source) → item_view item.old ≡ table_of g no_slots → IsKeyOf s false m key at
+        → Goes source.now (option_map (with_slot (slots_view slots.old) key) (opened g (item_view there))) (table_clash m (Some (item_view there)))
+        (slots_view slots.new) result }
+    ensures input { IfErr result (λ e. IfToml e (λ r. r.input ≡ source.now)) }
+{
+    open_item(alloc, source, at, there, item)?;
+    push_item(slots, key, mem::replace(item, Item::None))?;
+    Ok(())
+}
+
+/// Moves the slots of what stands at the key of a header into the header's table, if it is a table that was only passed through so far.
+fn open_item(
+    alloc: Global,
+    source: &str,
+    at: Span,
+    there: Item,
+    item: &mut Item,
+) -> Result<(), ParseFault>
+    requires { IsSpanOf source.now at }
+    ensures opened { (g : TableFields) (s : Source) (m : Mention Source) (k : Key) → item_view item.old ≡ table_of g no_slots → IsKeyOf s false m k at
+        → Goes source.now (opened g (item_view there)) (table_clash m (Some (item_view there))) (item_view item.new) result }
+    ensures input { IfErr result (λ e. IfToml e (λ r. r.input ≡ source.now)) }
+{
+    match there {
+        Item::Table(table) => open_table(alloc, source, at, table, item),
+        other => {
+            drop(other);
+            Err(refusal(alloc, source, "duplicate key", at))
+        }
+    }
+}
+
+/// The same of a table.
+fn open_table(
+    alloc: Global,
+    source: &str,
+    at: Span,
+    there: Table,
+    item: &mut Item,
+) -> Result<(), ParseFault>
+    requires { IsSpanOf source.now at }
+    ensures opened { (g : TableFields) (s : Source) (m : Mention Source) (k : Key) → item_view item.old ≡ table_of g no_slots → IsKeyOf s false m k at
+        → Goes source.now (opened g (table_node (table_view there))) (table_clash m (Some (table_node (table_view there)))) (item_view item.new) result }
+    ensures input { IfErr result (λ e. IfToml e (λ r. r.input ≡ source.now)) }
+{
+    if there.is_implicit() && !there.is_dotted() {
+        fill(item, there.into_slots());
+        Ok(())
+    } else {
+        Err(refusal(alloc, source, "duplicate key", at))
+    }
+}
+
+/// Puts these slots into an item that is a table, in place of its own.
+fn fill(item: &mut Item, slots: Slots<Item>)
+    ensures { (g : TableFields) → item_view item.old ≡ table_of g no_slots → item_view item.new ≡ table_of g (slots_view slots) }
+{
+    if let Item::Table(table) = item {
+        fill_table(table, slots);
+    }
+}
+
+/// Puts these slots into a table, in place of its own.
+fn fill_table(table: &mut Table, slots: Slots<Item>)
+    ensures { table_view table.new ≡ record { fields = fields_view table.old; slots = slots_view slots } }
+{
+    *table.slots_mut() = slots;
+}
+
+/// Adds the table of a header in double brackets to the array of tables at its key, which is made where the key is new.
+fn put_element(
+    alloc: Global,
+    source: &str,
+    brackets: Span,
+    key: Key,
+    at: Span,
+    item: &mut Item,
+    slots: &mut Slots<Item>,
+) -> Result<(), ParseFault>
+    requires { IsSpanOf source.now at }
+    ensures put { (s : Source) (m : Mention Source) → IsItemFor (kinds.Element brackets) s (item_view item.old) → IsKeyOf s false m key at
+        → PutsLast source.now an_element m (slots_view slots.old) (slots_view slots.new) result }
+    ensures input { IfErr result (λ e. IfToml e (λ r. r.input ≡ source.now)) }
+{
+    match slots.find(key.get()) {
+        Some(place) => add_element(alloc, source, brackets, at, item, slots.item_mut(place)),
+        None => {
+            put_tables(alloc, brackets, key, item, slots)?;
+            Ok(())
+        }
+    }
+}
+
+/// Puts an array of this one table last.
+fn put_tables(
+    alloc: Global,
+    brackets: Span,
+    key: Key,
+    item: &mut Item,
+    slots: &mut Slots<Item>,
+) -> Mem<()>
+    requires { place key.name slots.old ≡ None }
+    ensures { OnOk result (slots_view slots.new
+        ≡ with_slot (slots_view slots.old) key (tables_of (Some (brackets.start, brackets.end)) (item_of (item_view item.old) no_items))) }
+{
+    let mut tables = ArrayOfTables::begun(alloc, brackets.start, brackets.end);
+    tables.add_element(mem::replace(item, Item::None), brackets.end)?;
+    push_item(slots, key, Item::ArrayOfTables(tables))
+}
+
+/// Adds the table of a header in double brackets to what stands at its key, if that is an array of tables.
+fn add_element(
+    alloc: Global,
+    source: &str,
+    brackets: Span,
+    at: Span,
+    item: &mut Item,
+    holder: &mut Item,
+) -> Result<(), ParseFault>
+    requires { IsSpanOf source.now at }
+    ensures added { (s : Source) (m : Mention Source) (k : Key) → IsKeyOf s false m k at
+        → Goes source.now (with_element brackets.end (item_view item.old) (item_view holder.old)) (element_clash m (Some (item_view holder.old)))
+        (item_view holder.new) result }
+    ensures input { IfErr result (λ e. IfToml e (λ r. r.input ≡ source.now)) }
+{
+    match holder {
+        Item::ArrayOfTables(tables) => {
+            tables.add_element(mem::replace(item, Item::None), brackets.end)?;
+            Ok(())
+        }
+        _ => Err(refusal(alloc, source, "duplicate key", at)),
+    }
+}
