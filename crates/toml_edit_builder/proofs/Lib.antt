@@ -1,3 +1,4 @@
 pub mod PathLaws
 pub mod SlotLaws
 pub mod ItemLaws
+pub mod SwapLaws

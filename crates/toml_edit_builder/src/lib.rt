@@ -1,8 +1,11 @@
 //! The tree of a document, built statement by statement.
 #![tactic(auto)]
 
+mod block;
 mod last_key;
 mod path;
 
+#[doc(hidden)]
+pub use block::swap_block;
 #[doc(hidden)]
 pub use path::{Kind, add_path};

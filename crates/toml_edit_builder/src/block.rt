@@ -1,0 +1,83 @@
+//! The slots of the table of a block, taken out and put back.
+ghost use Rattle.std.specs.Prelude.{◌≡◌, List, None, Some, map, option_and_then, option_map, string_bytes};
+ghost use Rattle.toml_edit_model.specs.Tree.{no_items, item as item_of, table as table_of, tables as tables_of};
+ghost use Rattle.toml_edit_laws.specs.AddPath.{put_along, put_in, put_last};
+ghost use Rattle.toml_edit_laws.specs.Building.{last_slots, slots_along, slots_in};
+ghost use Rattle.toml_edit_builder.specs.BlockRead.{Swaps, names, split_name};
+ghost use Rattle.toml_edit_tree.specs.Containers.{table_node, tables_node};
+ghost use Rattle.toml_edit_tree.specs.View.{item_view, slots_view, table_view, tables_view};
+
+use std::mem;
+use toml_edit_slots::Slots;
+use toml_edit_tree::{ArrayOfTables, Item, Table};
+
+/// The first name, and those behind it.
+fn split_name(block: &[String]) -> Option<(&str, &[String])>
+    ensures { option_map (λ p. (p.0.now, names p.1.now)) result ≡ split_name (names block.now) }
+{
+    let [first, rest @ ..] = block else {
+        return None;
+    };
+    Some((first.as_str(), rest))
+}
+
+/// Exchanges other slots with those of the table at these names, if there is one.
+#[cycle(swap)]
+pub(crate) fn swap_block(block: &[String], others: &mut Slots<Item>, slots: &mut Slots<Item>)
+    ensures { Swaps (slots_along (names block.now) (slots_view slots.old)) (slots_view others.new)
+        (put_along (names block.now) (slots_view others.old) (slots_view slots.old)) (slots_view slots.new) }
+{
+    match split_name(block) {
+        None => mem::swap(others, slots),
+        Some((first, rest)) => match slots.find(first) {
+            None => {}
+            Some(at) => swap_item(rest, others, slots.item_mut(at)),
+        },
+    }
+}
+
+/// The same in the item at a name.
+#[cycle(swap)]
+fn swap_item(block: &[String], others: &mut Slots<Item>, holder: &mut Item)
+    ensures { Swaps (option_and_then (slots_along (names block.now)) (slots_in (item_view holder.old))) (slots_view others.new)
+        (put_in (put_along (names block.now) (slots_view others.old)) (item_view holder.old)) (item_view holder.new) }
+{
+    match holder {
+        Item::Table(table) => swap_table(block, others, table),
+        Item::ArrayOfTables(tables) => swap_tables(block, others, tables),
+        _ => {}
+    }
+}
+
+/// The same in a table.
+#[cycle(swap)]
+fn swap_table(block: &[String], others: &mut Slots<Item>, table: &mut Table)
+    ensures { Swaps (slots_along (names block.now) (table_view table.old).slots) (slots_view others.new)
+        (table_of (table_view table.old).fields (put_along (names block.now) (slots_view others.old) (table_view table.old).slots)) (table_node (table_view table.new)) }
+{
+    swap_block(block, others, table.slots_mut())
+}
+
+/// The same in the last element of an array of tables.
+#[cycle(swap)]
+fn swap_tables(block: &[String], others: &mut Slots<Item>, tables: &mut ArrayOfTables)
+    ensures { Swaps (option_and_then (slots_along (names block.now)) (last_slots (tables_view tables.old).items)) (slots_view others.new)
+        (tables_of (tables_view tables.old).extent (put_last (put_along (names block.now) (slots_view others.old)) (tables_view tables.old).items)) (tables_node (tables_view tables.new)) }
+{
+    match tables.values.last_mut() {
+        None => {}
+        Some(last) => swap_last(block, others, last),
+    }
+}
+
+/// The same in an element, if it is a table.
+#[cycle(swap)]
+fn swap_last(block: &[String], others: &mut Slots<Item>, holder: &mut Item)
+    ensures { Swaps (option_and_then (slots_along (names block.now)) (last_slots (item_of (item_view holder.old) no_items))) (slots_view others.new)
+        (put_last (put_along (names block.now) (slots_view others.old)) (item_of (item_view holder.old) no_items)) (item_of (item_view holder.new) no_items) }
+{
+    match holder {
+        Item::Table(table) => swap_table(block, others, table),
+        _ => {}
+    }
+}
