@@ -1,5 +1,5 @@
 -- What a place says of the slots: its slot, and the slots once that one is another or gone.
-use Rattle.std.proofs.Common.{◌≡◌, Result, Ok, Err, OnOk, ℕ, zero, suc, ◌+◌, ◌<◌, true, false, cond, nat_lt, List, [], ◌∷◌, ◌++◌, Option, Some, None, option_map, length, get_or, set, remove, refl, sym, ap, subst, ◌∙◌, inl, inr, arith, rules, position, slice_get, take, option_and_then}
+use Rattle.std.proofs.Common.{◌≡◌, Result, Ok, Err, OnOk, ℕ, zero, suc, ◌+◌, ◌<◌, true, false, cond, nat_lt, List, [], ◌∷◌, ◌++◌, Option, Some, None, IfSome, option_map, length, get_or, set, remove, refl, sym, ap, subst, ◌∙◌, inl, inr, arith, rules, position, slice_get, take, option_and_then}
 use Rattle.std.proofs.lemmas.Bool.{cases_Bool}
 use Rattle.std.proofs.lemmas.Cmp.{nat_list_eq_equiv}
 use Rattle.std.proofs.lemmas.Option.{none-some, same_Some, slice_get_cases, slice_get-get_or, slice_get_within, get_or_from_slice_get}
@@ -63,6 +63,15 @@ module _ {T : Type 0} (t : Text) where
       elim (cases_Bool (is_at t s)) [
         | inl same ↦ let e : 0 ≡ i = same_Some 0 i (rw same at h) in rw (same, ← e) refl
         | inr other ↦ let (j, at, e) = some_next (place t es) i (rw other at h) in rw (other, e) (ap (λ l. s ∷ l) (put-present es j d x at))
+      ]
+
+  -- the names stay
+  pub names-put : (es : List (Slot T)) (i : ℕ) (x : T) → place t es ≡ Some i → names (put t x es) ≡ names es
+  names-put [] i x h = absurd (none-some i h)
+  names-put (s ∷ es) i x h =
+      elim (cases_Bool (is_at t s)) [
+        | inl same ↦ rw same refl
+        | inr other ↦ let (j, at, e) = some_next (place t es) i (rw other at h) in rw other (ap (λ l. s.key.name ∷ l) (names-put es j x at))
       ]
 
   -- at a text that isn't there, a slot comes last
@@ -223,6 +232,11 @@ place-within t (s ∷ es) i h =
       | inl same ↦ let e : 0 ≡ i = same_Some 0 i (rw same at h) in omega (arith, e)
       | inr other ↦ let (j, at, e) = some_next (place t es) i (rw other at h) in omega (arith, e, place-within t es j at)
     ]
+
+-- the same of any place that is found
+pub places-within : {T : Type 0} (t : Text) (es : List (Slot T)) (o : Option ℕ) → o ≡ place t es → IfSome o (λ i. i < length es)
+places-within t es None h = tt
+places-within t es (Some i) h = place-within t es i (sym h)
 
 -- the slot at the place, if there is one, is the one that is found
 pub slot-at : {T : Type 0} (t : Text) (es : List (Slot T)) (o : Option ℕ) → place t es ≡ o → option_and_then (slice_get es) o ≡ lookup_slot t es

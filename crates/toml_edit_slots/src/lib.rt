@@ -1,6 +1,7 @@
 //! The container of a table's slots.
 #![tactic(auto)]
 
+mod index;
 pub mod slots;
 
 pub use slots::{NoMemory, Slot, Slots};

@@ -1,7 +1,9 @@
 //! The slots of a table: keys with their items, in order, where no two keys have one name.
-ghost use Rattle.std.specs.Prelude.{◌≡◌, ◌<◌, ◌↔◌, ℕ, IsTrue, [], ◌∷◌, ◌++◌, None, Some, IsSome, IsOk, length, IfOk, IfErr, IfSome, OnOk, OnErr, slice_get, option_and_then, option_map, position, take};
+ghost use Rattle.std.specs.Prelude.{◌≡◌, ◌<◌, ◌↔◌, ℕ, IsTrue, [], ◌∷◌, ◌++◌, None, Some, IsSome, IsOk, length, IfOk, IfErr, IfSome, OnOk, OnErr, slice_get, option_and_then, option_map, take};
 ghost use Rattle.std.specs.Option.{ForSome, option_copied, option_copied_mut};
 
+use crate::index::{add_place, close_gap, find_place};
+use indexmap::IndexMap;
 use std::alloc::{AllocError, Global};
 use std::marker::Model;
 use std::mem;
@@ -42,13 +44,16 @@ impl<T> Slot<T> {
 #[derive(Debug, Drop)]
 pub struct Slots<T> {
     entries: Vec<Slot<T>>,
+    // From the name of each key to the place of its slot. Few slots have none.
+    index: Option<Box<IndexMap<String, usize>>>,
 }
 
 impl<T> Model for Slots<T> {
     ghost use Rattle.std.specs.Prelude.{List};
     ghost use Rattle.std.specs.Coded.{coded_list};
     ghost use Rattle.toml_edit_slots.specs.declared.slots.Slot.{Slot};
-    ghost use Rattle.toml_edit_slots.specs.Slots.{AreApart};
+    ghost use Rattle.toml_edit_slots.specs.Slots.{AreApart, names};
+    ghost use Rattle.toml_edit_slots.specs.SlotIndex.{IsIndexed};
     ghost use Rattle.toml_edit_slots.specs.SlotCode.{slot_code};
 
     ghost Value = { List (Slot T) };
@@ -57,7 +62,7 @@ impl<T> Model for Slots<T> {
 
     ghost view = { λ a. a.entries.items };
 
-    ghost invariant = { λ a. AreApart a.entries.items };
+    ghost invariant = { λ a. AreApart a.entries.items × IsIndexed a.index (names a.entries.items) };
 }
 
 impl<T> Slots<T> {
@@ -65,7 +70,7 @@ impl<T> Slots<T> {
     ghost use Rattle.toml_edit_model.specs.Tree.{HasTrueSpelling};
     ghost use Rattle.toml_edit_model.specs.Spelling.{SpellsKey};
     ghost use Rattle.toml_edit_slots.specs.Lending.{LendsItem, LendsFound};
-    ghost use Rattle.toml_edit_slots.specs.Slots.{AreApart, is_at, place, lookup, lookup_slot, put, without, items_of, on_key, names};
+    ghost use Rattle.toml_edit_slots.specs.Slots.{AreApart, place, lookup, lookup_slot, put, without, items_of, on_key, names};
     ghost use Rattle.toml_edit_model.specs.OwnedForm.{KeyFits, owned_raw, owned_key};
 
     /// No slots, which take no memory yet.
@@ -74,6 +79,7 @@ impl<T> Slots<T> {
     {
         Slots {
             entries: Vec::new(alloc),
+            index: None,
         }
     }
 
@@ -111,13 +117,7 @@ impl<T> Slots<T> {
         ensures slot { option_and_then (slice_get self.now) result ≡ lookup_slot text.now self.now }
         ensures within { IfSome result (λ at. at < length self.now) }
     {
-        Slots::place_in(&self.entries, text)
-    }
-
-    fn place_in(entries: &[Slot<T>], text: &str) -> Option<usize>
-        ensures { result ≡ position (is_at text.now) entries.now }
-    {
-        entries.iter().position(|slot| text == slot.key.get())
+        find_place(&self.index, &self.entries, text)
     }
 
     /// The item under the name, if there is one.
@@ -156,9 +156,16 @@ impl<T> Slots<T> {
         ensures back { IfErr result (λ refused. refused.0 ≡ slot) }
         ensures err { OnErr result (self.new ≡ self.old) }
     {
-        match self.entries.push(slot) {
-            Ok(()) => Ok(()),
-            Err(refused) => Err(NoMemory(refused.value)),
+        let alloc = *self.entries.allocator();
+        if self.entries.reserve(1).is_err() {
+            return Err(NoMemory(slot));
+        }
+        match add_place(&mut self.index, alloc, &self.entries, slot.key.get()) {
+            Ok(()) => {
+                self.entries.push_reserved(slot);
+                Ok(())
+            }
+            Err(_) => Err(NoMemory(slot)),
         }
     }
 
@@ -196,6 +203,7 @@ impl<T> Slots<T> {
         ensures absent { place text.now self.new ≡ None }
     {
         let at = self.find(text)?;
+        close_gap(&mut self.index, &self.entries, text, at);
         Some(self.entries.remove(at))
     }
 

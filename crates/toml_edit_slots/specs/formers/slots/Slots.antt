@@ -15,9 +15,16 @@ use Rattle.std.specs.declared.alloc.Global.{Global}
 use Rattle.std.specs.contracts.alloc.Global as heap
 use Rattle.std.specs.contracts.impls.GlobalAllocator.TheImpl.{ghosts}
 use Rattle.std.specs.List.{IsDistinct, IsDistinct-prop}
-use Rattle.toml_edit_model.specs.Text.{same_text}
+use Rattle.std.specs.Prelude.{ℕ, Option, None, Some, String}
+use Rattle.std.specs.Global.{Box}
+use Rattle.std.specs.HashMap.{HashMap, get_by_text}
+use Rattle.std.specs.Coded.{Coded-set, coded_option, coded_ℕ, ×_prop, le_prop}
+use Rattle.std.specs.declared.hash.BuildHasherDefault.{BuildHasherDefault}
+use Rattle.std.specs.declared.hash.FoldHasher.{FoldHasher}
+use Rattle.toml_edit_model.specs.Text.{Text, same_text}
 use Rattle.toml_edit_model.specs.Tree.{Key}
-use Rattle.toml_edit_slots.specs.Slots.{names, on_item}
+use Rattle.toml_edit_slots.specs.Slots.{names, on_item, place_in}
+use Rattle.toml_edit_slots.specs.SlotIndex.{IsIndexed}
 use Rattle.toml_edit_slots.specs.SlotCode.{slot_code}
 use Rattle.toml_edit_key.specs.contracts.key.Key as key
 use Rattle.toml_edit_slots.specs.declared.slots.Slot.{Slot}
@@ -55,8 +62,16 @@ names_kept : {X Y : Type 0} (h : X → Y) (es : List (Slot X)) → names (map (o
 names_kept h [] = refl
 names_kept h (s ∷ es) = ap (λ l. s.key.name ∷ l) (names_kept h es)
 
+-- the index, to a contract
+abbrev IndexValue : Type 0
+IndexValue = Option (Box (HashMap (String Global) ℕ (BuildHasherDefault FoldHasher)))
+
 abbrev fields : Former {0}
-fields = via (vec.the_former (of_slot this) Global) Inside (λ X a. a.entries) (λ X v. record { entries = v }) (λ X a. refl) (λ X v. refl)
+fields = via (pair (vec.the_former (of_slot this) Global) (const IndexValue)) Inside (λ X a. (a.entries, a.index)) (λ X v. record { entries = v.0; index = v.1 }) (λ X a. refl) (λ X v. refl)
+
+IsIndexed-prop : (index : IndexValue) (us : List Text) → IsProp (IsIndexed index us)
+IsIndexed-prop None us = le_prop
+IsIndexed-prop (Some m) us = λ p q i t. Coded-set (coded_option coded_ℕ) (get_by_text m.value t) (place_in t us) (p t) (q t) i
 
 module _ (R S : RattleType) (h : R.Denot → S.Denot) where
   slot_places : Alike R S h → Alike (slot.the_row R) (slot.the_row S) (on_item h)
@@ -64,12 +79,13 @@ module _ (R S : RattleType) (h : R.Denot → S.Denot) where
 
   pub the_places : Alike R S h → Alike (C.the_row R) (C.the_row S) ((the_former this).map R.Denot S.Denot h)
   the_places a = view_places fields (list (of_slot this)) view (λ X Y k u. refl) (λ X u. refl) R.Denot S.Denot h (C.the_row R).coded (C.the_row S).coded
-      (invariant R.Denot) (invariant S.Denot) (λ u. IsDistinct-prop _ _) (λ u. IsDistinct-prop _ _)
-      (λ u e. subst (IsDistinct same_text) (sym (names_kept h u.entries.items)) e)
-      (λ u e. subst (IsDistinct same_text) (names_kept h u.entries.items) e)
+      (invariant R.Denot) (invariant S.Denot)
+      (λ u. ×_prop (IsDistinct-prop _ _) (IsIndexed-prop u.index (names u.entries.items))) (λ u. ×_prop (IsDistinct-prop _ _) (IsIndexed-prop u.index (names u.entries.items)))
+      (λ u e. (subst (IsDistinct same_text) (sym (names_kept h u.entries.items)) e.0, subst (IsIndexed u.index) (sym (names_kept h u.entries.items)) e.1))
+      (λ u e. (subst (IsDistinct same_text) (names_kept h u.entries.items) e.0, subst (IsIndexed u.index) (names_kept h u.entries.items) e.1))
       (over (I.the_row R)) (over (I.the_row S))
-      (struct_places (I.the_type R) (I.the_type S) (vec.mapped (on_item h), tt) _ (λ d. refl) refl
-      (laid _ _ _ (vec.the_places heap.the_row ghosts (slot.the_row R) (slot.the_row S) (on_item h) (slot_places a)), tt))
+      (struct_places (I.the_type R) (I.the_type S) (vec.mapped (on_item h), ((λ n. n), tt)) _ (λ d. refl) refl
+      (laid _ _ _ (vec.the_places heap.the_row ghosts (slot.the_row R) (slot.the_row S) (on_item h) (slot_places a)), ((refl, (λ n. refl, λ n. refl)), tt)))
 
   pub the_codes_placed : Recodes R S h → Recodes (C.the_row R) (C.the_row S) ((the_former this).map R.Denot S.Denot h)
   the_codes_placed e d = sym (code_map (slot_code R.coded).code (slot_code S.coded).code (on_item h) (λ x i. gcons ((key.the_row).coded.code x.key) (sym (e x.item) i)) d)

@@ -1,6 +1,7 @@
 -- A key in owned form.
-use Rattle.std.proofs.Common.{ap, ◌∙◌}
+use Rattle.std.proofs.Common.{ap, sym, subst, ◌∙◌}
 use Rattle.toml_edit_slots.specs.Slots.{names, items_of, on_key}
+use Rattle.toml_edit_slots.specs.SlotIndex.{IsIndexed}
 use Rattle.toml_edit_slots.proofs.SlotLaws.{on_key-is, names-set, items-set, apart-set, on_ok}
 use Rattle.toml_edit_slots.proofs.slots.Slots.despan_key.Goals as goal
 use Rattle.toml_edit_model.specs.OwnedForm.{owned_key}
@@ -8,8 +9,9 @@ use Rattle.toml_edit_model.specs.OwnedForm.{owned_key}
 pub invariant_of-self : goal.invariant_of-self
 invariant_of-self g c =
     let d = c.index_mut-spanned.result.now in
-    apart-set c.self.inside.entries.items c.args.at d (record { key = c.despan.new.self; item = d.item })
-    (c.despan.ensures.name ∙ ap (λ s. s.key.name) c.index_mut-spanned.ensures.value) c.self.invariant
+    let same = c.despan.ensures.name ∙ ap (λ s. s.key.name) c.index_mut-spanned.ensures.value in
+    let es = c.self.inside.entries.items in
+    (apart-set es c.args.at d (record { key = c.despan.new.self; item = d.item }) same c.self.invariant.0, subst (IsIndexed c.self.inside.index) (sym (names-set es c.args.at d (record { key = c.despan.new.self; item = d.item }) same)) c.self.invariant.1)
 
 pub returns-clause-names : goal.returns-clause-names
 returns-clause-names g c =

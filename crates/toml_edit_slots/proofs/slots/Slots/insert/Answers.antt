@@ -1,7 +1,8 @@
 -- An item under a name.
-use Rattle.std.proofs.Common.{◌≡◌, rules, sym, set}
+use Rattle.std.proofs.Common.{◌≡◌, rules, sym, subst, set}
 use Rattle.toml_edit_slots.specs.Slots.{put}
-use Rattle.toml_edit_slots.proofs.SlotLaws.{lookup_slot-absent, lookup_slot-present, put-absent, put-present, apart-put}
+use Rattle.toml_edit_slots.specs.SlotIndex.{IsIndexed}
+use Rattle.toml_edit_slots.proofs.SlotLaws.{lookup_slot-absent, lookup_slot-present, put-absent, put-present, names-put, apart-put}
 use Rattle.toml_edit_slots.proofs.slots.Slots.insert.Goals as goal
 
 pub invariant_of-self : goal.invariant_of-self
@@ -10,7 +11,10 @@ invariant_of-self g c =
     let es = c.self.inside.entries.items in
     let done : set es c.in-Some.at (record { key = c.fmt.new.self; item = c.replace.new.dest }) ≡ put t c.args.item es =
     rw (put-present t es c.in-Some.at c.index_mut-slot.result.now c.args.item (rw c.self.view_is (sym c.in-Some.ensures.place))) (search rules) in
-    rw done (apart-put t es c.args.item c.self.invariant)
+    rw done (
+      apart-put t es c.args.item c.self.invariant.0,
+      subst (IsIndexed c.self.inside.index) (sym (names-put t es c.in-Some.at c.args.item (rw c.self.view_is (sym c.in-Some.ensures.place)))) c.self.invariant.1,
+    )
 
 pub returns-in-Some-clause-old : goal.returns-in-Some-clause-old
 returns-in-Some-clause-old g c = rw (lookup_slot-present c.args.text.now c.args.self.now c.in-Some.at c.index_mut-slot.result.now (sym c.in-Some.ensures.place)) (search rules)

@@ -1,7 +1,8 @@
 -- The empty slots.
+use Rattle.std.proofs.Common.{arith}
 use Rattle.std.specs.List.{IsDistinct}
 use Rattle.toml_edit_slots.proofs.slots.Slots.new.Goals as goal
 
 pub invariant_of-result : goal.invariant_of-result
 unfolding IsDistinct
-invariant_of-result g c = rw c.new.ensures.items tt
+invariant_of-result g c = rw c.new.ensures.items (tt, omega arith)

@@ -1,5 +1,8 @@
 -- A slot taken out.
-use Rattle.std.proofs.Common.{rules, sym}
+use Rattle.std.proofs.Common.{◌≡◌, ◌∙◌, rules, sym, ap, subst, remove}
+use Rattle.toml_edit_slots.specs.Slots.{names, without}
+use Rattle.toml_edit_slots.specs.SlotIndex.{IsIndexed}
+use Rattle.toml_edit_slots.proofs.IndexLaws.{names-removed}
 use Rattle.toml_edit_slots.proofs.SlotLaws.{lookup_slot-absent, lookup_slot-present, without-absent, without-present, apart-without, place-without}
 use Rattle.toml_edit_slots.proofs.slots.Slots.remove.Goals as goal
 
@@ -19,10 +22,13 @@ pub invariant_of-self : goal.invariant_of-self
 invariant_of-self g c =
     let t = c.args.text.now in
     let es = c.self.inside.entries.items in
-    rw (c.remove.ensures.items, ← without-present t es c.in_ok-at.at (rw c.self.view_is (sym c.in_ok-at.ensures.place))) (apart-without t es c.self.invariant)
+    let left : c.remove.new.self.items ≡ without t es = c.remove.ensures.items ∙ sym (without-present t es c.in_ok-at.at (rw c.self.view_is (sym c.in_ok-at.ensures.place))) in
+    let named : remove (names c.deref.result.now) c.in_ok-at.at ≡ names c.remove.new.self.items =
+    ap (λ l. remove (names l) c.in_ok-at.at) c.deref.ensures.value ∙ sym (names-removed es c.in_ok-at.at) ∙ sym (ap names c.remove.ensures.items) in
+    (rw left (apart-without t es c.self.invariant.0), subst (IsIndexed c.close_gap.new.index) named c.close_gap.ensures)
 
 pub returns-clause-absent : goal.returns-clause-absent
 returns-clause-absent g c =
     let t = c.args.text.now in
     let es = c.self.inside.entries.items in
-    rw (c.remove.ensures.items, ← without-present t es c.in_ok-at.at (rw c.self.view_is (sym c.in_ok-at.ensures.place))) (place-without t es c.self.invariant)
+    rw (c.remove.ensures.items, ← without-present t es c.in_ok-at.at (rw c.self.view_is (sym c.in_ok-at.ensures.place))) (place-without t es c.self.invariant.0)

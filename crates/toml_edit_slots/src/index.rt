@@ -1,0 +1,120 @@
+//! The index of a table's slots: from the name of each key to the place of its slot.
+ghost use Rattle.std.specs.Prelude.{◌≡◌, ◌<◌, ◌++◌, ◌∷◌, [], None, Some, is_some, length, position, remove, IfOk, OnOk, OnErr};
+ghost use Rattle.std.specs.HashMap.{get_by_text};
+ghost use Rattle.toml_edit_model.specs.Text.{Text};
+ghost use Rattle.toml_edit_slots.specs.Slots.{AreApart, is_at, names, place, place_in};
+ghost use Rattle.toml_edit_slots.specs.SlotIndex.{IsIndexed, IsIndexOf, IsRightBefore, IsPutAt};
+
+use crate::slots::Slot;
+use indexmap::IndexMap;
+use std::alloc::Global;
+use toml_edit_repr::Mem;
+
+/// How many slots need no index: so few are found as fast one by one.
+const FEW: usize = 8;
+
+/// The place of the slot of the name, if there is one.
+pub(crate) fn find_place<T>(
+    index: &Option<Box<IndexMap<String, usize>>>,
+    entries: &[Slot<T>],
+    name: &str,
+) -> Option<usize>
+    requires { IsIndexed index.now (names entries.now) }
+    ensures { result ≡ place name.now entries.now }
+{
+    match index {
+        Some(places) => {
+            let at = places.get(name)?;
+            Some(*at)
+        }
+        None => walk(entries, name),
+    }
+}
+
+/// The place of the first slot of the name, if there is one.
+fn walk<T>(entries: &[Slot<T>], name: &str) -> Option<usize>
+    ensures { result ≡ position (is_at name.now) entries.now }
+{
+    entries.iter().position(|slot| name == slot.key.get())
+}
+
+/// Notes that the slot of a new name comes behind the others. The only error is want of memory: the index stays.
+pub(crate) fn add_place<T>(
+    index: &mut Option<Box<IndexMap<String, usize>>>,
+    alloc: Global,
+    entries: &[Slot<T>],
+    name: &str,
+) -> Mem<()>
+    requires apart { AreApart entries.now }
+    requires indexed { IsIndexed index.old (names entries.now) }
+    requires new { place name.now entries.now ≡ None }
+    ensures ok { OnOk result (IsIndexed index.new (names entries.now ++ name.now ∷ [])) }
+    ensures err { OnErr result (IsIndexed index.new (names entries.now)) }
+{
+    if let Some(places) = index {
+        return put_place(places, alloc, name, entries.len());
+    }
+    if entries.len() < FEW {
+        return Ok(());
+    }
+    let mut places = index_of(alloc, entries)?;
+    put_place(&mut places, alloc, name, entries.len())?;
+    *index = Some(Box::new(alloc, places)?);
+    Ok(())
+}
+
+/// The index of these slots.
+fn index_of<T>(alloc: Global, entries: &[Slot<T>]) -> Mem<IndexMap<String, usize>>
+    requires { AreApart entries.now }
+    ensures { IfOk result (λ places. IsIndexOf places (names entries.now)) }
+{
+    let mut places = IndexMap::with_capacity(alloc, entries.len() + FEW)?;
+    for at in 0..entries.len() {
+        put_place(&mut places, alloc, entries[at].key.get(), at)?;
+    }
+    Ok(places)
+}
+
+/// Puts the place of a name into an index. The only error is want of memory: the index stays.
+fn put_place(places: &mut IndexMap<String, usize>, alloc: Global, name: &str, at: usize) -> Mem<()>
+    ensures ok { OnOk result (IsPutAt at name.now places.old places.new) }
+    ensures err { OnErr result ((t : Text) → get_by_text places.new t ≡ get_by_text places.old t) }
+{
+    let text = String::from_str(alloc, name)?;
+    places.insert(text, at)?;
+    Ok(())
+}
+
+/// Takes out the place of a name whose slot is about to be taken out, and moves the places behind it down by one. It takes no memory.
+pub(crate) fn close_gap<T>(
+    index: &mut Option<Box<IndexMap<String, usize>>>,
+    entries: &[Slot<T>],
+    name: &str,
+    gap: usize,
+)
+    requires apart { AreApart entries.now }
+    requires indexed { IsIndexed index.old (names entries.now) }
+    requires gap { place name.now entries.now ≡ Some gap }
+    ensures { IsIndexed index.new (remove (names entries.now) gap) }
+{
+    if let Some(places) = index {
+        let _ = places.swap_remove(name);
+        move_down(places, entries, gap);
+    }
+}
+
+/// Moves the places behind the gap down by one. The index has all names but the one at the gap.
+fn move_down<T>(places: &mut IndexMap<String, usize>, entries: &[Slot<T>], gap: usize)
+    requires apart { AreApart entries.now }
+    requires gap { gap < length entries.now }
+    requires names { (t : Text) → is_some (get_by_text places.old t) ≡ is_some (place_in t (remove (names entries.now) gap)) }
+    requires before { IsRightBefore gap places.old (remove (names entries.now) gap) }
+    ensures { IsIndexOf places.new (remove (names entries.now) gap) }
+{
+    for at in gap + 1..entries.len() {
+        let name = entries[at].key.get();
+        if let Some(place) = places.get_mut(name) {
+            *place = at - 1;
+        }
+    }
+}
