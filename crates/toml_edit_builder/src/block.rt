@@ -23,7 +23,7 @@ fn split_name(block: &[String]) -> Option<(&str, &[String])>
 
 /// Exchanges other slots with those of the table at these names, if there is one.
 #[cycle(swap)]
-pub(crate) fn swap_block(block: &[String], others: &mut Slots<Item>, slots: &mut Slots<Item>)
+pub fn swap_block(block: &[String], others: &mut Slots<Item>, slots: &mut Slots<Item>)
     ensures { Swaps (slots_along (names block.now) (slots_view slots.old)) (slots_view others.new)
         (put_along (names block.now) (slots_view others.old) (slots_view slots.old)) (slots_view slots.new) }
 {
