@@ -1,7 +1,9 @@
 //! The container of keyed slots at a concrete type: each call once. Those that take memory hold whichever allocation fails.
 use crate::holding::{holds_changed, holds_moved};
 use crate::spans::is_yes;
-use std::alloc::Global;
+use std::alloc::{AllocError, Global};
+use std::fmt::Write;
+use std::mem;
 use toml_edit::{Decor, Key, Mem};
 use toml_edit_slots::{Slot, Slots};
 
@@ -9,19 +11,34 @@ fn is_next(slots: &Slots<u8>, name: &str, before: usize) -> bool {
     slots.find(name) == Some(before) && slots.len().checked_sub(before) == Some(1)
 }
 
+/// More names than are found without an index.
+const NAMES: [&str; 20] = [
+    "a", "b", "c", "d", "e", "f", "g", "h", "i", "j", "k", "l", "m", "n", "o", "p", "q", "r", "s",
+    "t",
+];
+
+/// Whether each slot is found at its place.
+fn are_found(slots: &Slots<u8>) -> bool {
+    slots
+        .as_slice()
+        .iter()
+        .enumerate()
+        .all(|(at, slot)| slots.find(slot.key.get()) == Some(at))
+}
+
 /// Whether the item is put in behind the others, or is given back where there is no memory.
 fn inserts(alloc: Global, slots: &mut Slots<u8>, name: &str, item: u8) -> bool {
     let before = slots.len();
     match slots.insert(alloc, name, item) {
         Ok(old) => old.is_none() && is_next(slots, name, before),
-        Err(refused) => refused.0 == item && slots.len() == before,
+        Err(refused) => { refused.0 == item && slots.len() == before && slots.find(name).is_none() }
     }
 }
 
 fn inserts_all(alloc: Global, slots: &mut Slots<u8>) -> bool {
     let mut is_right = slots.is_empty();
-    for name in ["a", "b", "c", "d", "e"].iter() {
-        is_right = is_right && inserts(alloc, slots, name, 7);
+    for name in NAMES.iter() {
+        is_right = is_right && inserts(alloc, slots, name, 7) && are_found(slots);
     }
     is_right
 }
@@ -98,6 +115,84 @@ fn changes_all(alloc: Global, slots: &mut Slots<u8>) -> bool {
 #[test]
 fn changes_slots(rt: HostRuntime) {
     assert!(rt; holds_changed(rt.alloc(), Slots::new(rt.alloc()), changes_all));
+}
+
+/// The keys and items that the slots are to have, without an index.
+type Pairs = Vec<(String, u32)>;
+
+fn place_of(pairs: &Pairs, name: &str) -> Option<usize> {
+    pairs.iter().position(|pair| pair.0.as_str() == name)
+}
+
+fn is_same(slots: &Slots<u32>, pairs: &Pairs) -> bool {
+    let entries = slots.as_slice();
+    entries.len() == pairs.len()
+        && entries.iter().zip(pairs.iter()).all(|(slot, pair)| slot.key.get() == pair.0.as_str()
+            && slot.item == pair.1)
+}
+
+fn inserts_in_both(
+    alloc: Global,
+    slots: &mut Slots<u32>,
+    pairs: &mut Pairs,
+    name: String,
+    item: u32,
+) -> Mem<bool> {
+    let old = slots.insert(alloc, name.as_str(), item)?;
+    match place_of(pairs, name.as_str()) {
+        Some(at) => match pairs.get_mut(at) {
+            Some(pair) => Ok(old == Some(mem::replace(&mut pair.1, item))),
+            None => Ok(false),
+        },
+        None => {
+            pairs.push((name, item))?;
+            Ok(old.is_none())
+        }
+    }
+}
+
+fn removes_from_both(slots: &mut Slots<u32>, pairs: &mut Pairs, name: &str) -> bool {
+    let removed = slots.remove(name).map(|slot| slot.into_item());
+    match place_of(pairs, name) {
+        Some(at) => at < pairs.len() && removed == Some(pairs.remove(at).1),
+        None => removed.is_none(),
+    }
+}
+
+fn gets_from_both(slots: &Slots<u32>, pairs: &Pairs, name: &str) -> bool {
+    let at = place_of(pairs, name);
+    let item = at.and_then(|at| pairs.get(at)).map(|pair| pair.1);
+    slots.find(name) == at && slots.get(name).copied() == item
+}
+
+/// Whether 5,000 calls on 200 keys, in an order that looks mixed, leave what they leave in the pairs, each of them.
+fn mixes(alloc: Global, slots: &mut Slots<u32>) -> Mem<bool> {
+    let mut pairs = Vec::new(alloc);
+    let mut state: u32 = 1;
+    for item in 0..5000u32 {
+        state = state.wrapping_mul(1664525).wrapping_add(1013904223);
+        let mut name = String::new(alloc);
+        write!(name, "{}", (state >> 8) % 200).map_err(|_| AllocError)?;
+        let is_right = match (state >> 24) % 4 {
+            0 => removes_from_both(slots, &mut pairs, name.as_str()),
+            1 => gets_from_both(slots, &pairs, name.as_str()),
+            _ => inserts_in_both(alloc, slots, &mut pairs, name, item)?,
+        };
+        if !is_right || !is_same(slots, &pairs) {
+            return Ok(false);
+        }
+    }
+    Ok(true)
+}
+
+/// It wants its memory.
+fn mixes_all(alloc: Global, slots: &mut Slots<u32>) -> bool {
+    mixes(alloc, slots).unwrap_or(false)
+}
+
+#[test]
+fn mixes_slots(rt: HostRuntime) {
+    assert!(rt; holds_changed(rt.alloc(), Slots::new(rt.alloc()), mixes_all));
 }
 
 fn spelled(slots: &Slots<u8>) -> Option<&str> {
