@@ -1,3 +1,4 @@
 pub mod DocumentView
 pub mod Documents
 pub mod HeadersView
+pub mod DocumentLending

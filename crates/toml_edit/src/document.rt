@@ -147,6 +147,8 @@ pub struct DocumentMut {
 impl DocumentMut {
     ghost use Rattle.std.specs.Prelude.{◌≡◌, IfOk, string_bytes};
     ghost use Rattle.toml_edit_model.specs.Print.{print as printed};
+    ghost use Rattle.std.specs.Borrow.{sem};
+    ghost use Rattle.toml_edit.specs.DocumentLending.{LendsRoot};
     ghost use Rattle.toml_edit.specs.DocumentView.{tree_owned};
     ghost use Rattle.toml_edit_tree.specs.Held.{held, held_left};
     ghost use Rattle.toml_edit_tree.specs.View.{table_slots, fields_view};
@@ -157,6 +159,15 @@ impl DocumentMut {
         ensures slots { table_slots result.now ≡ (tree_owned self.now).slots }
     {
         &self.root
+    }
+
+    /// The root table, to be changed.
+    pub fn as_table_mut(&mut self) -> &mut Table
+        ensures* writes_back { sem 𝓛 (LendsRoot self.entry result) }
+        ensures fields { fields_view result.now ≡ (tree_owned self.old).root }
+        ensures slots { table_slots result.now ≡ (tree_owned self.old).slots }
+    {
+        &mut self.root
     }
 
     /// The root table alone.
@@ -193,5 +204,22 @@ impl DocumentMut {
         ensures { IfOk result (λ s. string_bytes s ≡ printed (tree_owned self.now)) }
     {
         self.to_string(alloc)
+    }
+}
+
+/// The document with this root, and nothing behind its last statement.
+impl From<Table> for DocumentMut {
+    ghost use Rattle.std.specs.Prelude.{◌≡◌, []};
+    ghost use Rattle.toml_edit_model.specs.Tree.{owned};
+    ghost use Rattle.toml_edit.specs.DocumentView.{tree_owned};
+    ghost use Rattle.toml_edit_tree.specs.View.{tree_view};
+
+    ghost from_gives = { λ root document. tree_owned document ≡ tree_view root (owned []) };
+
+    fn from(root: Table) -> DocumentMut {
+        DocumentMut {
+            root,
+            trailing: RawString::default(),
+        }
     }
 }
