@@ -1,2 +1,3 @@
 -- Lemmas on runs.
 pub mod Words
+pub mod Refusals
