@@ -3,7 +3,8 @@ ghost use Rattle.std.specs.Prelude.{◌≡◌, Contains};
 ghost use Rattle.toml_edit_model.specs.Messages.{syntax_messages};
 ghost use Rattle.toml_edit_syntax.specs.Faults.{syntax_message};
 
-use toml_edit_token::run::first;
+use toml_edit_token::run::{byte_at, first};
+use toml_edit_token::string_stop;
 
 /// What stands in the way where a text leaves the grammar.
 #[derive(Clone, Copy, Debug, PartialEq, Eq)]
@@ -26,6 +27,8 @@ pub enum Mistake {
     UnclosedInlineTable,
     /// The brackets of a header aren't closed.
     UnclosedHeader,
+    /// An escape that there isn't.
+    InvalidEscape,
     /// Digits that are no number.
     InvalidNumber,
     /// A control character.
@@ -51,6 +54,7 @@ impl Mistake {
             Mistake::UnclosedArray => "unclosed array",
             Mistake::UnclosedInlineTable => "unclosed inline table",
             Mistake::UnclosedHeader => "unclosed header",
+            Mistake::InvalidEscape => "invalid escape",
             Mistake::InvalidNumber => "invalid number",
             Mistake::ControlCharacter => "control character",
             Mistake::CarriageReturn => "carriage return without line feed",
@@ -61,25 +65,39 @@ impl Mistake {
 /// What is wrong where `s` goes on, if none of the characters that stand nowhere is in the way.
 pub(crate) fn at(s: &str, otherwise: Mistake) -> Mistake {
     match first(s) {
-        b'\r' => Mistake::CarriageReturn,
-        0x01..=0x08 | 0x0B..=0x1F | 0x7F => Mistake::ControlCharacter,
+        _ if s.is_empty() => otherwise,
+        b'\r' if byte_at(s, 1) != b'\n' => Mistake::CarriageReturn,
+        0x00..=0x08 | 0x0B..=0x0C | 0x0E..=0x1F | 0x7F => Mistake::ControlCharacter,
         _ => otherwise,
     }
 }
 
-/// What is wrong where `s` should go on with a key.
-pub(crate) fn no_key(s: &str) -> Mistake {
+/// What is wrong where `s` should go on with a key, and how many bytes are left there.
+pub(crate) fn no_key(s: &str) -> (Mistake, usize) {
     match first(s) {
-        b'"' | b'\'' => Mistake::UnclosedString,
-        _ => at(s, Mistake::ExpectedKey),
+        b'"' | b'\'' => no_string(s),
+        _ => (at(s, Mistake::ExpectedKey), s.len()),
     }
 }
 
-/// What is wrong where `s` should go on with a scalar.
-pub(crate) fn no_scalar(s: &str) -> Mistake {
+/// What is wrong where `s` should go on with a scalar, and how many bytes are left there.
+pub(crate) fn no_scalar(s: &str) -> (Mistake, usize) {
     match first(s) {
-        b'"' | b'\'' => Mistake::UnclosedString,
-        b'0'..=b'9' | b'+' | b'-' => Mistake::InvalidNumber,
-        _ => at(s, Mistake::ExpectedValue),
+        b'"' | b'\'' => no_string(s),
+        b'0'..=b'9' | b'+' | b'-' => (Mistake::InvalidNumber, s.len()),
+        _ => (at(s, Mistake::ExpectedValue), s.len()),
+    }
+}
+
+/// What is wrong in the string that opens at the front of `s`, and how many bytes are left there. One that doesn't end is marked
+/// where it opens.
+fn no_string(s: &str) -> (Mistake, usize) {
+    let stop = string_stop(s);
+    if first(stop) == b'\\' {
+        return (Mistake::InvalidEscape, stop.len());
+    }
+    match at(stop, Mistake::UnclosedString) {
+        Mistake::UnclosedString => (Mistake::UnclosedString, s.len()),
+        mistake => (mistake, stop.len()),
     }
 }

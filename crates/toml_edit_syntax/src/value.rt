@@ -135,7 +135,8 @@ pub(crate) fn path<'a>(events: &mut Vec<Event>, whole: usize, s: &'a str) -> Res
     let mut rest = s;
     'segments: loop {
         let Some(end) = after_key(rest) else {
-            return Err(Stop::Before(no_key(rest), rest.len()));
+            let (mistake, left) = no_key(rest);
+            return Err(Stop::Before(mistake, left));
         };
         events.push(part(EventKind::Key, whole - rest.len(), whole - end.len()))?;
         let (before, dot) = split_run(end, Class::Blank);
@@ -228,7 +229,8 @@ fn scalar<'a>(events: &mut Vec<Event>, whole: usize, s: &'a str) -> Result<&'a s
     ensures shorter { IfOk result (λ r. length r.now < length s.now) }
 {
     let Some(rest) = after_scalar(s) else {
-        return Err(Stop::Before(no_scalar(s), s.len()));
+        let (mistake, left) = no_scalar(s);
+        return Err(Stop::Before(mistake, left));
     };
     events.push(part(EventKind::Scalar, whole - s.len(), whole - rest.len()))?;
     Ok(rest)

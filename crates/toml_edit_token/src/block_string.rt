@@ -182,6 +182,23 @@ pub(crate) fn after_block(s: &str) -> Option<&str>
     }
 }
 
+/// Where a string of several lines can't go on that opens here: at an escape that there isn't, at a character that may not stand in it,
+/// behind its closing quotes, or at the end of the text.
+pub(crate) fn block_stop(s: &str) -> &str
+    ensures within { length result.now ≤ length s.now }
+{
+    let Some((form, mut rest)) = opening(s) else {
+        return s;
+    };
+    'pieces: loop {
+        match next_piece(form, rest) {
+            Some((Piece::Last(_), next)) => return next,
+            Some((_, next)) => rest = next,
+            None => return rest,
+        }
+    }
+}
+
 /// What a text says that is a string of several lines.
 pub(crate) fn read_block(alloc: Global, text: &str) -> Result<Option<String>, AllocError>
     ensures { IfOk result (λ o. option_map string_bytes o ≡ whole (spec.block_at text.now)) }

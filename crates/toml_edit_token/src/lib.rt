@@ -13,4 +13,4 @@ pub mod token;
 pub use decode::{Scalar, decode_integer, decode_key, decode_scalar};
 pub use lone::range_message;
 pub use spelling::{write_key, write_string};
-pub use token::{after_key, after_scalar};
+pub use token::{after_key, after_scalar, string_stop};

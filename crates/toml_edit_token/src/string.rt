@@ -39,6 +39,24 @@ fn after_basic(s: &str) -> Option<&str>
     }
 }
 
+/// Where a basic string can't go on, from behind its opening quote: before its closing quote, an escape that there isn't, a character
+/// that may not stand in it, or the end of the text.
+pub(crate) fn basic_stop(s: &str) -> &str
+    ensures within { length result.now ≤ length s.now }
+{
+    let mut rest = s;
+    'parts: loop {
+        let (_, after) = split_run(rest, Class::Plain);
+        if first(after) != b'\\' {
+            return after;
+        }
+        match escape(skip(after, 1)) {
+            Some((_, next)) => rest = next,
+            None => return after,
+        }
+    }
+}
+
 /// The character that an escape stands for, and the text after it. It is read from behind its backslash.
 #[tactic(auto, unfolding(toml_edit_laws::specs::reading::Tokens::escape_at))]
 pub(crate) fn escape(s: &str) -> Option<(char, &str)>

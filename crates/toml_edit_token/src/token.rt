@@ -7,10 +7,10 @@ ghost use Rattle.toml_edit_laws.specs.reading.BlockReading as block;
 ghost use Rattle.toml_edit_laws.specs.reading.ScalarReading as scalar;
 ghost use Rattle.toml_edit_laws.specs.reading.Tokens as spec;
 
-use crate::block_string::after_block;
+use crate::block_string::{after_block, block_stop};
 use crate::number::is_integer;
-use crate::run::{Class, byte_at, first, is_bare, is_word, run_len, split_run};
-use crate::string::after_string;
+use crate::run::{Class, byte_at, first, is_bare, is_word, run_len, skip, split_run};
+use crate::string::{after_string, basic_stop};
 use toml_edit_datetime::{is_datetime, is_float};
 
 /// The text after the simple key at the front, or `None` if there is none. A bare key goes as far as its bytes do.
@@ -111,5 +111,20 @@ fn behind_scalar(s: &str) -> Option<&str>
         Some(rest)
     } else {
         None
+    }
+}
+
+/// Where the string at the front can't go on: at an escape that there isn't, at a character that may not stand in it, or at the end of
+/// its line or of the text. A string that has an end goes on up to it.
+pub fn string_stop(s: &str) -> &str
+    ensures within { length result.now ≤ length s.now }
+{
+    if opens_block(s) {
+        return block_stop(s);
+    }
+    match first(s) {
+        b'"' => basic_stop(skip(s, 1)),
+        b'\'' => split_run(skip(s, 1), Class::Literal).1,
+        _ => s,
     }
 }

@@ -29,6 +29,9 @@ returns-in-UnclosedInlineTable-clause-listed c = (7, lit< tt, refl)
 pub returns-in-UnclosedHeader-clause-listed : goal.returns-in-UnclosedHeader-clause-listed
 returns-in-UnclosedHeader-clause-listed c = (8, lit< tt, refl)
 
+pub returns-in-InvalidEscape-clause-listed : goal.returns-in-InvalidEscape-clause-listed
+returns-in-InvalidEscape-clause-listed c = (9, lit< tt, refl)
+
 pub returns-in-InvalidNumber-clause-listed : goal.returns-in-InvalidNumber-clause-listed
 returns-in-InvalidNumber-clause-listed c = (10, lit< tt, refl)
 
