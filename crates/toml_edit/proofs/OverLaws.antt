@@ -1,5 +1,5 @@
 -- What parsing gives is a tree over its text, and a reading of it.
-use Rattle.std.proofs.Common.{◌≡◌, ◌-◌, length, [], sym, ap, subst, ◌∙◌}
+use Rattle.std.proofs.Common.{◌≡◌, ◌-◌, length, sym, ap, subst, ◌∙◌}
 use Rattle.toml_edit_model.specs.Mode.{plain}
 use Rattle.toml_edit_model.specs.Text.{Text}
 use Rattle.toml_edit_model.specs.Syntax.{Document}
