@@ -15,6 +15,6 @@ pub use toml_edit_repr::{Decor, Formatted, Mem, RawString, Repr, ScalarValue, Va
 pub use toml_edit_slots::NoMemory;
 pub use toml_edit_stream::{Broken, Input, Output, Watched};
 pub use toml_edit_tree::{
-    Array, ArrayIter, InlineTable, InlineTableIter, Item, Iter, Table, Value, array, inline_table,
-    item, table, value,
+    Array, ArrayIter, ArrayOfTables, ArrayOfTablesIter, InlineTable, InlineTableIter, Item, Iter,
+    Table, Value, array, array_of_tables, inline_table, item, table, value,
 };

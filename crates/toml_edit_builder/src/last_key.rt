@@ -25,7 +25,7 @@ use toml_edit_slots::Slots;
 use toml_edit_syntax::Span;
 use toml_edit_tree::{ArrayOfTables, Item, Table};
 
-/// Adds an item at the last key of a path, and leaves a placeholder in its place.
+/// Adds an item at the last key of a path; what is left in its place is not said.
 pub(crate) fn put_last(
     alloc: Global,
     source: &str,

@@ -46,8 +46,8 @@ fn is_line(kind: Kind) -> bool
     matches!(kind, Kind::Line)
 }
 
-/// Adds an item at the end of a path, and leaves a placeholder in its place. An error leaves the slots as they may be: the document is
-/// to be given up.
+/// Adds an item at the end of a path; what is left in its place is not said. The errors are a `TomlError` that names the key in the way,
+/// and want of memory; the slots are then left as they may be, and the document is to be given up.
 #[cycle(path)]
 pub fn add_path(
     alloc: Global,
