@@ -2,3 +2,5 @@ pub mod PathLaws
 pub mod SlotLaws
 pub mod ItemLaws
 pub mod SwapLaws
+pub mod LoopLaws
+pub mod StatementLaws

@@ -1,3 +1,4 @@
 -- What the contracts of this crate cite.
 pub mod TableRead
 pub mod BlockRead
+pub mod StatementRead

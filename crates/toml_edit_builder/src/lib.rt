@@ -3,6 +3,7 @@
 
 mod block;
 mod last_key;
+mod parser;
 mod path;
 
 #[doc(hidden)]

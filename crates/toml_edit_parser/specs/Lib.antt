@@ -7,3 +7,4 @@ pub mod Parsed
 pub mod Split
 pub mod LoneValue
 pub mod PathRead
+pub mod StatementParts

@@ -7,6 +7,7 @@ mod key_path;
 mod pairs;
 mod parser;
 mod reader;
+mod statement;
 
 pub use from_str::FromStr;
 #[doc(hidden)]
@@ -16,4 +17,6 @@ pub use pairs::{KeyPath, add_last, push_item};
 #[doc(hidden)]
 pub use parser::parse;
 #[doc(hidden)]
-pub use reader::{refusal, refusal_of_all};
+pub use reader::{raw, refusal, refusal_of_all, split_first};
+#[doc(hidden)]
+pub use statement::{HeaderSpans, read_header, read_key_line};

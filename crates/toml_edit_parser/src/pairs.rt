@@ -41,15 +41,15 @@ use toml_edit_token::decode_key;
 use toml_edit_tree::{InlineTable, Item, Value};
 
 /// How many events a path of the most segments has: one for each key, and two for each dot.
-const MOST_PATH_EVENTS: usize = 238;
+pub(crate) const MOST_PATH_EVENTS: usize = 238;
 
 /// Where the parts of a pair up to its value stand, and the events of its path.
 #[derive(Clone, Copy)]
-struct FrameSpans<'a> {
-    leading: Span,
-    path: &'a [Event],
-    before_equals: Span,
-    after_equals: Span,
+pub(crate) struct FrameSpans<'a> {
+    pub(crate) leading: Span,
+    pub(crate) path: &'a [Event],
+    pub(crate) before_equals: Span,
+    pub(crate) after_equals: Span,
 }
 
 /// A path, or what is left of one: where the texts around its pair's key stand, where the white space behind the dot before it does, and
@@ -172,7 +172,7 @@ fn ends_path(kind: EventKind) -> bool
 }
 
 /// The parts of a pair behind its leading text, and the events behind them.
-fn split_frame<'a>(leading: Span, events: &'a [Event]) -> Option<(FrameSpans<'a>, &'a [Event])>
+pub(crate) fn split_frame<'a>(leading: Span, events: &'a [Event]) -> Option<(FrameSpans<'a>, &'a [Event])>
     ensures { option_map (λ p. (spec.parts_of p.0, p.1.now)) result ≡ spec.split_frame leading events.now }
 {
     let (path, signs) = events.split_at(equals_place(events)?);

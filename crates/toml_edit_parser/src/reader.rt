@@ -44,7 +44,8 @@ pub(crate) fn cut(source: &str, span: Span) -> &str
 }
 
 /// The span, or the empty text where nothing stands there.
-pub(crate) fn raw(span: Span) -> RawString
+#[doc(hidden)]
+pub fn raw(span: Span) -> RawString
     ensures raw { result ≡ spec.spanned_raw span }
     ensures span { (t : Text) → span.end ≡ span.start + length t → result ≡ span_of span.start t }
     ensures fits { (t : Text) → IsSpanOf t span → RawFits t result }
@@ -88,7 +89,8 @@ pub(crate) fn refusal_at_end(alloc: Global, source: &str, message: &str) -> Pars
 }
 
 /// The first event, and those behind it.
-pub(crate) fn split_first(events: &[Event]) -> Option<(Event, &[Event])>
+#[doc(hidden)]
+pub fn split_first(events: &[Event]) -> Option<(Event, &[Event])>
     ensures { option_map (λ p. (p.0, p.1.now)) result ≡ spec.split_first events.now }
 {
     let [first, rest @ ..] = events else {

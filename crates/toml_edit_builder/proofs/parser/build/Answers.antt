@@ -1,0 +1,47 @@
+-- The loop over statements, turn by turn.
+use Rattle.std.proofs.Common.{sym, ap, refl, ◌∙◌}
+use Rattle.std.proofs.lemmas.Result.{err_from_is_err_and}
+use Rattle.toml_edit_tree.specs.View.{slots_view}
+use Rattle.toml_edit_builder.proofs.LoopLaws.{held_first, at_start, next, is-whole, stands-here, more, goes_on, refused, ended, built}
+use Rattle.toml_edit_builder.specs.declared.parser.Building.{Building}
+use Rattle.toml_edit_builder.proofs.parser.build.Goals as goal
+
+pub statements-init : goal.statements-init
+statements-init c =
+    record {
+      spans = c.requires;
+      progress = λ d cut e.
+          let held : Building = record { root = c.new.result; current = c.new-2.result; block = c.new-3.result; headers = 0 } in
+          at_start c.args.source.now d c.args.events.now held cut e
+          (held_first d.has_mark held (ap slots_view c.new.ensures) (ap slots_view c.new-2.ensures) c.new-3.ensures.items refl);
+    }
+
+pub statements-preserved : goal.statements-preserved
+statements-preserved c =
+    record {
+      spans = c.in_ok-rest.ensures.rest.0;
+      progress = λ d cut e.
+          let t = c.args.source.now in
+          let n = next t d c.statements.rest.now c.statements.building (c.statements.invariant.progress d cut e) (sym c.starts_statement.ensures ∙ c.statements-test.true) in
+          goes_on t d c.statements.rest.now c.statements.building n _ _ cut.0
+          (c.in_ok-rest.ensures.statement n.builder n.statement (more t d c.statements.rest.now c.statements.building n)
+          (is-whole t d c.statements.rest.now c.statements.building n) (stands-here t d c.statements.rest.now c.statements.building n) n.held n.rest_is);
+    }
+
+pub returns-in_err-rest-clause-built : goal.returns-in_err-rest-clause-built
+returns-in_err-rest-clause-built c =
+    let p = err_from_is_err_and c.from_residual.result c.from_residual.ensures.1 in
+    rw (p.1, p.2) (λ d cut e.
+    let t = c.args.source.now in
+    let n = next t d c.statements.rest.now c.statements.building (c.statements.invariant.progress d cut e) (sym c.starts_statement.ensures ∙ c.statements-test.true) in
+    refused t d c.statements.rest.now c.statements.building n c.in_err-rest.field-0.0 cut.0
+    (c.in_err-rest.ensures.statement n.builder n.statement (more t d c.statements.rest.now c.statements.building n)
+    (is-whole t d c.statements.rest.now c.statements.building n) (stands-here t d c.statements.rest.now c.statements.building n) n.held n.rest_is))
+
+pub returns-clause-built : goal.returns-clause-built
+returns-clause-built c =
+    λ d cut e.
+    let t = c.args.source.now in
+    let end = ended t d c.statements.rest.now c.statements.building (c.statements.invariant.progress d cut e) (sym c.starts_statement.ensures ∙ c.statements-test.false) in
+    built d c.statements.rest.now c.statements.building (slots_view c.whole.result) c.trailing.result cut.0 end
+    (c.whole.ensures end.builder end.held) (c.trailing.ensures _ d.final end.rest_is)

@@ -1,0 +1,18 @@
+use Rattle.std.proofs.Common.{◌≡◌, length}
+use Rattle.toml_edit_model.specs.Syntax.{Document, IsCut}
+use Rattle.toml_edit_syntax.specs.Events.{events_of}
+use Rattle.toml_edit_syntax.specs.ValueEvents.{shortened}
+use Rattle.toml_edit_parser.specs.ValueRead.{AreIn}
+use Rattle.toml_edit_builder.proofs.LoopLaws.{Progress}
+use Rattle.toml_edit_builder.proofs.parser.build.Given as goal
+
+-- What is held is the builder of the statements done, and the events are those of the statements left.
+abbrev pub invariant-statements : goal.invariant-statements
+invariant-statements l =
+    record {
+      spans : AreIn l.source l.rest;
+      progress : (d : Document) → IsCut d l.source → l.events ≡ shortened 0 (events_of d) → Progress l.source d l.rest l.building;
+    }
+
+abbrev pub decreases-statements : goal.decreases-statements
+decreases-statements l = length l.rest

@@ -1,0 +1,67 @@
+-- What reading the statements of a text, one after another, does to what is held of its tree (TOML 1.1.0, "Key/Value Pair", "Table" and
+-- "Array of Tables").
+use Rattle.std.specs.Prelude.{◌≡◌, ℕ, ◌-◌, true, List, [], ◌∷◌, ◌++◌, length, Option, Some, Result, Ok, Err}
+use Rattle.std.specs.Borrow.{Bor}
+use Rattle.toml_edit_model.specs.Mode.{plain}
+use Rattle.toml_edit_model.specs.Text.{Text}
+use Rattle.toml_edit_model.specs.Syntax.{Statement, IsStatement, Document, document_text}
+use Rattle.toml_edit_model.specs.Accepted.{is_accepted}
+use Rattle.toml_edit_model.specs.Faults.{own_faults}
+use Rattle.toml_edit_model.specs.Tree.{Raw, Node, Slots, Tree}
+use Rattle.toml_edit_model.specs.TreeOf.{spanned_form, root_fields, IsTreeOf}
+use Rattle.toml_edit_laws.specs.Building.{slots_along, Builder, added, faults_at, behind, IsStatementNode, IsRefusedBy}
+use Rattle.toml_edit_laws.specs.AddPath.{put_along}
+use Rattle.toml_edit_error.specs.Report.{Report, fault_of}
+use Rattle.toml_edit_error.specs.Fault.{IfToml}
+use Rattle.toml_edit_error.specs.declared.toml_error.ParseFault.{ParseFault}
+use Rattle.toml_edit_syntax.specs.declared.event.Event.{Event}
+use Rattle.toml_edit_syntax.specs.declared.event.EventKind.TheVariants.{Final}
+use Rattle.toml_edit_syntax.specs.ValueEvents.{event, shortened}
+use Rattle.toml_edit_tree.specs.View.{slots_view}
+use Rattle.toml_edit_parser.specs.ValueRead.{NamesOne}
+use Rattle.toml_edit_builder.specs.BlockRead.{names}
+use Rattle.toml_edit_builder.specs.declared.parser.Building.{Building}
+
+-- a statement of the grammar, whatever ends it
+abbrev pub IsWhole : Statement → Type 0
+IsWhole s = IsStatement (λ end. Unit {0}) s
+
+-- What is held between statements: the slots of the root, without those of the table of the last block, which are held by themselves,
+-- the keys of that block, and how many headers there were.
+pub record IsHeld (b : Builder) (h : Building) : Type 0 where
+  pub block : b.block ≡ names h.block.items
+  pub headers : b.headers ≡ h.headers
+  pub left : Slots
+  pub there : slots_along b.block (slots_view h.root) ≡ Some left
+  pub slots : b.slots ≡ put_along b.block (slots_view h.current) (slots_view h.root)
+
+-- The statement is right and is added: the builder behind it is what is held. These events follow.
+pub record IsAdded (b : Builder) (s : Statement) (more : List Event) (new : Building) (rest : List Event) : Type 0 where
+  pub node : Node
+  pub is_node : IsStatementNode plain b.start s node
+  pub slots : Slots
+  pub faultless : own_faults b.start s ≡ []
+  pub added_is : added plain b s node ≡ Some slots
+  pub held : (inner : Slots) → slots_along (behind b s slots).block slots ≡ Some inner → IsHeld (behind b s slots) new
+  pub rest_is : rest ≡ shortened 0 more
+
+-- what reading a statement answers, where these events follow it: it is added, or the report names what stands in it
+abbrev pub ReadsStatement : Text → Builder → Statement → List Event → Building → Result (Bor (List Event)) ParseFault → Type 0
+ReadsStatement t b s more new (Ok r) = IsAdded b s more new r.now
+ReadsStatement t b s more new (Err e) = IfToml e (NamesOne t (faults_at b s))
+
+-- ---- all statements
+
+-- what follows the last statement
+abbrev pub final_event : Document → Event
+final_event d = event Final (length (document_text d) - length d.final) d.final
+
+-- a tree that was read
+abbrev pub tree_of : Slots → Raw → Tree
+tree_of slots trailing = record { root = root_fields spanned_form; slots = slots; trailing = trailing }
+
+-- what building the tree of a document answers: the document is accepted, and this is its tree, or the report names a fault of its first
+-- faulty statement
+abbrev pub Builds : {S : Type 0} → (S → Slots) → Text → Document → Result (S × Raw) ParseFault → Type 0
+Builds view t d (Ok r) = (is_accepted d ≡ true) × IsTreeOf spanned_form d (tree_of (view r.0) r.1)
+Builds view t d (Err e) = IfToml e (λ r. (r.input ≡ t) × IsRefusedBy d (fault_of r))

@@ -1,0 +1,143 @@
+//! From the events of a text to its tree, statement by statement.
+ghost use Rattle.std.specs.Prelude.{◌≡◌, ◌+◌, ◌<◌, ◌≤◌, ◌++◌, ◌∷◌, List, [], ℕ, length, is_some, IfOk, IfErr};
+ghost use Rattle.toml_edit_model.specs.Syntax.{Document, Statement, IsCut, statement_text};
+ghost use Rattle.toml_edit_model.specs.Text.{Text};
+ghost use Rattle.toml_edit_model.specs.TreeOf.{span_of};
+ghost use Rattle.toml_edit_laws.specs.Building.{Builder};
+ghost use Rattle.toml_edit_laws.specs.Standing.{Stands};
+ghost use Rattle.toml_edit_error.specs.Fault.{IfToml};
+ghost use Rattle.toml_edit_syntax.specs.Events.{events_of, statement_events};
+ghost use Rattle.toml_edit_syntax.specs.ValueEvents.{event, shortened};
+ghost use Rattle.toml_edit_syntax.specs.declared.event.EventKind.TheVariants.{Final};
+ghost use Rattle.toml_edit_tree.specs.View.{slots_view};
+ghost use Rattle.toml_edit_parser.specs.ValueRead.{AreIn, split_leading};
+ghost use Rattle.toml_edit_builder.specs.StatementRead.{Builds, IsHeld, IsWhole, ReadsStatement};
+
+use crate::block::swap_block;
+use std::alloc::Global;
+use toml_edit_error::ParseFault;
+use toml_edit_repr::RawString;
+use toml_edit_slots::Slots;
+use toml_edit_syntax::{Event, EventKind, Span};
+use toml_edit_tree::Item;
+
+/// What is held of a tree between statements: the slots of the root, without those of the table that key lines are added to, which are held
+/// by themselves; the keys of that table, and how many headers there were. So a key line costs nothing for the path of its table.
+#[derive(Drop)]
+struct Building {
+    root: Slots<Item>,
+    current: Slots<Item>,
+    block: Vec<String>,
+    headers: usize,
+}
+
+/// Whether a statement comes first.
+fn starts_statement(events: &[Event]) -> bool
+    ensures { result ≡ is_some (split_leading events.now) }
+{
+    match events.first() {
+        Some(first) => matches!(first.kind, EventKind::Leading),
+        None => false,
+    }
+}
+
+/// Adds the statement that comes first, and gives the events behind it.
+fn read_statement<'a>(
+    alloc: Global,
+    source: &str,
+    building: &mut Building,
+    events: &'a [Event],
+) -> Result<&'a [Event], ParseFault>
+    requires spans { AreIn source.now events.now }
+    ensures statement { (b : Builder) (s : Statement) (more : List Event) → IsWhole s → Stands source.now b.start (statement_text s)
+        → IsHeld b building.old → events.now ≡ shortened 0 (statement_events b.start s ++ more)
+        → ReadsStatement source.now b s more building.new result }
+    ensures input { IfErr result (λ e. IfToml e (λ r. r.input ≡ source.now)) }
+    ensures rest { IfOk result (λ r. AreIn source.now r.now × (length r.now < length events.now)) }
+{
+    Err(ParseFault::Memory)
+}
+
+/// The slots of the root.
+fn whole(mut building: Building) -> Slots<Item>
+    ensures { (b : Builder) → IsHeld b building → slots_view result ≡ b.slots }
+{
+    swap_block(
+        building.block.as_slice(),
+        &mut building.current,
+        &mut building.root,
+    );
+    building.root
+}
+
+/// The text after the last statement, which alone is left.
+fn trailing(events: &[Event]) -> RawString
+    ensures { (start : ℕ) (t : Text) → events.now ≡ event Final start t ∷ [] → result ≡ span_of start t }
+{
+    match events.first() {
+        Some(last) => spanned(last.span),
+        None => RawString::default(),
+    }
+}
+
+/// The span, or the empty text where nothing stands there.
+fn spanned(span: Span) -> RawString
+    ensures { (t : Text) → span.end ≡ span.start + length t → result ≡ span_of span.start t }
+{
+    if span.start == span.end {
+        RawString::default()
+    } else {
+        RawString::from_span(span.start, span.end)
+    }
+}
+
+/// The slots of the statements, and the text after the last.
+fn build(
+    alloc: Global,
+    source: &str,
+    events: &[Event],
+) -> Result<(Slots<Item>, RawString), ParseFault>
+    requires { AreIn source.now events.now }
+    ensures built { (d : Document) → IsCut d source.now → events.now ≡ shortened 0 (events_of d) → Builds slots_view source.now d result }
+    ensures input { IfErr result (λ e. IfToml e (λ r. r.input ≡ source.now)) }
+{
+    let mut building = Building {
+        root: Slots::new(alloc),
+        current: Slots::new(alloc),
+        block: Vec::new(alloc),
+        headers: 0,
+    };
+    let mut rest = events;
+    'statements: while starts_statement(rest) {
+        rest = read_statement(alloc, source, &mut building, rest)?;
+    }
+    Ok((whole(building), trailing(rest)))
+}
+
+// DRAFT, not checked: the body of read_statement.
+//
+//     let Some((leading, behind)) = split_first(events) else { return Err(refusal_of_all(alloc, source, "expected a key")); };
+//     let Some((opening, inside)) = split_first(behind) else { return Err(refusal_of_all(alloc, source, "expected a key")); };
+//     match opening.kind {
+//         EventKind::HeaderOpen | EventKind::ArrayHeaderOpen => add_header(alloc, source, leading.span, opening, building, inside),
+//         _ => add_line(alloc, source, leading.span, building, behind),
+//     }
+//
+// fn add_line(.., leading: Span, building, events):
+//     let mut item = Item::None;                                        // (or a field of Building, which saves its drops)
+//     let (path, rest) = read_key_line(alloc, source, leading, events, &mut item)?;
+//     add_path(alloc, source, Kind::Line, path, &mut item, &mut building.current)?;
+//     Ok(rest)
+//   events are shortened 0 (line_behind b.start f v more) of StatementParts; line-added, line-clashes, line-held of StatementLaws
+//
+// fn add_header(.., leading: Span, opening: Event, building, events):
+//     let (header, rest) = read_header(alloc, source, leading, opening.span, events)?;      // toml_edit_parser::statement
+//     let block = read_names(alloc, source, header.path.events)?;                            // Vec<String>, one for each Key event
+//     swap_block(building.block.as_slice(), &mut building.current, &mut building.root);      // put-back: the root is the whole
+//     building.headers += 1;                                                                 // requires headers + length events <= isize::MAX
+//     let mut item = Item::Table(Table::headed(Slots::new(alloc), Decor::new(raw(leading), raw(header.trailing)), headers as isize, start, end));
+//     add_path(alloc, source, kind, header.path, &mut item, &mut building.root)?;
+//     building.block = block;
+//     building.current = Slots::new(alloc);
+//     swap_block(building.block.as_slice(), &mut building.current, &mut building.root);      // header-held
+//     Ok(rest)
