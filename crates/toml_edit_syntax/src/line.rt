@@ -7,7 +7,7 @@ ghost use Rattle.toml_edit_syntax.specs.StatementReading as read;
 
 use crate::event::{Event, EventKind};
 use crate::lexer::{Stop, part};
-use crate::mistake::{Mistake, at};
+use crate::mistake::{Mistake, behind_value};
 use toml_edit_token::run::{Class, byte_at, first, is_blank, is_visible, skip, split_run};
 
 fn turn(inside: bool, byte: u8, next: u8) -> Option<bool>
@@ -86,15 +86,21 @@ fn after_newline(s: &str) -> Option<&str>
     }
 }
 
-/// Adds what follows the value of a line, or the brackets of a header.
-pub(crate) fn end<'a>(events: &mut Vec<Event>, whole: usize, s: &'a str) -> Result<&'a str, Stop>
+/// Adds what follows the value of a line, or the brackets of a header, which stand at the front of `value`.
+pub(crate) fn end<'a>(
+    events: &mut Vec<Event>,
+    whole: usize,
+    value: &str,
+    s: &'a str,
+) -> Result<&'a str, Stop>
     requires { length s.now ≤ whole }
     ensures adds { Adds events.old.items events.new.items result (read.end_read whole s.now) }
     ensures within { IfOk result (λ r. length r.now ≤ length s.now) }
 {
     let behind = after_line_end(s);
     let Some(rest) = after_newline(behind) else {
-        return Err(Stop::Before(at(behind, Mistake::ExpectedNewline), behind.len()));
+        let (mistake, left) = behind_value(value, behind, Mistake::ExpectedNewline);
+        return Err(Stop::Before(mistake, left));
     };
     events.push(part(EventKind::LineEnd, whole - s.len(), whole - behind.len()))?;
     Ok(rest)

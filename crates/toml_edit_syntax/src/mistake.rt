@@ -31,6 +31,8 @@ pub enum Mistake {
     InvalidEscape,
     /// Digits that are no number.
     InvalidNumber,
+    /// Digits that begin as a date or a time does, and are none.
+    InvalidDateTime,
     /// A control character.
     ControlCharacter,
     /// A carriage return that no line feed follows.
@@ -56,6 +58,7 @@ impl Mistake {
             Mistake::UnclosedHeader => "unclosed header",
             Mistake::InvalidEscape => "invalid escape",
             Mistake::InvalidNumber => "invalid number",
+            Mistake::InvalidDateTime => "invalid date-time",
             Mistake::ControlCharacter => "control character",
             Mistake::CarriageReturn => "carriage return without line feed",
         }
@@ -63,7 +66,8 @@ impl Mistake {
 }
 
 /// What is wrong where `s` goes on, if none of the characters that stand nowhere is in the way.
-pub(crate) fn at(s: &str, otherwise: Mistake) -> Mistake {
+#[doc(hidden)]
+pub fn at(s: &str, otherwise: Mistake) -> Mistake {
     match first(s) {
         _ if s.is_empty() => otherwise,
         b'\r' if byte_at(s, 1) != b'\n' => Mistake::CarriageReturn,
@@ -73,7 +77,8 @@ pub(crate) fn at(s: &str, otherwise: Mistake) -> Mistake {
 }
 
 /// What is wrong where `s` should go on with a key, and how many bytes are left there.
-pub(crate) fn no_key(s: &str) -> (Mistake, usize) {
+#[doc(hidden)]
+pub fn no_key(s: &str) -> (Mistake, usize) {
     match first(s) {
         b'"' | b'\'' => no_string(s),
         _ => (at(s, Mistake::ExpectedKey), s.len()),
@@ -84,8 +89,32 @@ pub(crate) fn no_key(s: &str) -> (Mistake, usize) {
 pub(crate) fn no_scalar(s: &str) -> (Mistake, usize) {
     match first(s) {
         b'"' | b'\'' => no_string(s),
+        b'0'..=b'9' if is_dated(s) => (Mistake::InvalidDateTime, s.len()),
         b'0'..=b'9' | b'+' | b'-' => (Mistake::InvalidNumber, s.len()),
         _ => (at(s, Mistake::ExpectedValue), s.len()),
+    }
+}
+
+/// What is wrong where `rest` goes on behind the value at the front of `value`, and how many bytes are left there. A date with
+/// slashes is marked as a whole: its year is read as a number.
+pub(crate) fn behind_value(value: &str, rest: &str, otherwise: Mistake) -> (Mistake, usize) {
+    if first(rest) == b'/' && is_dated(value) {
+        return (Mistake::InvalidDateTime, value.len());
+    }
+    (at(rest, otherwise), rest.len())
+}
+
+/// Whether `s` begins as a date does, by a year and `-` or `/`, or as a time does, by an hour and `:`.
+fn is_dated(s: &str) -> bool {
+    let digits = s
+        .as_bytes()
+        .iter()
+        .take_while(|b| b.is_ascii_digit())
+        .count();
+    match byte_at(s, digits) {
+        b'-' | b'/' => digits == 4,
+        b':' => digits == 1 || digits == 2,
+        _ => false,
     }
 }
 

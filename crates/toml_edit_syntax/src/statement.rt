@@ -27,7 +27,7 @@ fn key_line<'a>(
 {
     let text = frame(events, whole, leading, s)?;
     let rest = value(events, whole, 0, text)?;
-    end(events, whole, rest)
+    end(events, whole, text, rest)
 }
 
 /// Whether two brackets open the header at the front, and the text behind the one or the two.
@@ -93,7 +93,7 @@ fn header_end<'a>(
         whole - brackets.len(),
         whole - rest.len(),
     ))?;
-    end(events, whole, rest)
+    end(events, whole, brackets, rest)
 }
 
 /// Adds the parts of a header behind its trivia.

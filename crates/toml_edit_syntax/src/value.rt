@@ -1,15 +1,16 @@
 //! The end of a value, and the events of its parts.
-ghost use Rattle.std.specs.Prelude.{◌≡◌, ℕ, ◌+◌, ◌*◌, ◌-◌, ◌++◌, [], ◌∷◌, ◌<◌, ◌≤◌, false, true, length, drop, None, option_map, IfOk, IfErr, MatchResult};
-ghost use Rattle.toml_edit_syntax.specs.Gives.{Adds, IsBefore};
+ghost use Rattle.std.specs.Prelude.{◌≡◌, ℕ, List, ◌+◌, ◌*◌, ◌-◌, ◌++◌, [], ◌∷◌, ◌<◌, ◌≤◌, false, true, length, drop, None, option_map, IfOk, IfErr, MatchResult};
+ghost use Rattle.toml_edit_syntax.specs.Gives.{Adds, IsBefore, Leaves};
 ghost use Rattle.toml_edit_laws.specs.reading.Runs.{first};
 ghost use Rattle.toml_edit_syntax.specs.Scanning.{turn};
 ghost use Rattle.toml_edit_syntax.specs.ValueReading as spec;
 ghost use Rattle.toml_edit_syntax.specs.EventReading as read;
+ghost use Rattle.toml_edit_syntax.specs.declared.event.Event.{Event as EventView};
 
 use crate::event::{Event, EventKind};
 use crate::lexer::{Stop, part};
 use crate::line::{equals, trivia};
-use crate::mistake::{Mistake, at, no_key, no_scalar};
+use crate::mistake::{Mistake, at, behind_value, no_key, no_scalar};
 use std::alloc::AllocError;
 use toml_edit_token::run::{Class, byte_at, first, skip, split_run};
 use toml_edit_token::{after_key, after_scalar};
@@ -53,10 +54,9 @@ impl Brackets {
         }
     }
 
-    /// What is wrong where neither a comma nor the closing bracket follows an element or a pair.
-    fn mistake(self, s: &str) -> Mistake {
+    /// What is wrong where a text ends inside of them.
+    fn unclosed(self) -> Mistake {
         match self {
-            _ if !s.is_empty() => at(s, Mistake::UnexpectedCharacter),
             Brackets::Array => Mistake::UnclosedArray,
             Brackets::InlineTable => Mistake::UnclosedInlineTable,
         }
@@ -236,6 +236,21 @@ fn scalar<'a>(events: &mut Vec<Event>, whole: usize, s: &'a str) -> Result<&'a s
     Ok(rest)
 }
 
+/// What reading came to inside brackets that open where so many bytes are left: there is marked that the text ends inside.
+fn closed<'a>(
+    brackets: Brackets,
+    left: usize,
+    inner: Result<&'a str, Stop>,
+) -> Result<&'a str, Stop>
+    ensures leaves { (es : List EventView) (expected : spec.Reading (List EventView)) → Leaves es inner.entry expected → Leaves es result expected }
+    ensures shorter { (n : ℕ) → IfOk inner.entry (λ r. length r.now < n) → IfOk result (λ r. length r.now < n) }
+{
+    match inner {
+        Err(Stop::Before(_, 0)) => Err(Stop::Before(brackets.unclosed(), left)),
+        _ => inner,
+    }
+}
+
 /// Adds the parts of the value at the front, inside so many brackets.
 #[cycle(value)]
 pub(crate) fn value<'a>(
@@ -258,7 +273,8 @@ pub(crate) fn value<'a>(
         return Err(Stop::TooDeep);
     }
     events.push(part(brackets.opening(), whole - s.len(), whole - rest.len()))?;
-    items(events, whole, level + 1, brackets, rest)
+    let inner = items(events, whole, level + 1, brackets, rest);
+    closed(brackets, s.len(), inner)
 }
 
 /// Adds the elements or the pairs behind an opening bracket, and the closing bracket.
@@ -294,7 +310,8 @@ fn items<'a>(
             return close(events, whole, brackets, false, "", next);
         }
         if first(next) != b',' {
-            return Err(Stop::Before(brackets.mistake(next), next.len()));
+            let (mistake, left) = behind_value(start, next, Mistake::UnexpectedCharacter);
+            return Err(Stop::Before(mistake, left));
         }
         rest = skip(next, 1);
         comma = true;

@@ -14,6 +14,7 @@ use super::Key;
 use std::alloc::Global;
 use toml_edit_error::{ParseFault, refusal};
 use toml_edit_repr::{Decor, Mem, RawString, Repr};
+use toml_edit_syntax::mistake::{Mistake, at, no_key};
 use toml_edit_token::run::{Class, split_run};
 use toml_edit_token::{after_key, decode_key};
 
@@ -22,7 +23,7 @@ const MOST_SEGMENTS: usize = 80;
 
 impl Key {
     /// The simple key that the text spells, exactly, with this spelling and no decor. Any other text is refused, white space around
-    /// a key too: the error marks the first character that doesn't belong there.
+    /// a key too: the error marks the first character that doesn't belong there, or the quote that opens a string without an end.
     pub fn from_str(alloc: Global, text: &str) -> Result<Key, ParseFault>
         ensures key { IfOk result (λ key. SpellsKey key.name text.now × (key ≡ lone_key key.name text.now)) }
         ensures every { (k : Text) → SpellsKey k text.now → GivesValue (λ key. key) result (lone_key k text.now) }
@@ -37,7 +38,7 @@ impl Key {
     /// The keys of a path of 1 to 80 segments, with white space around it, each with its spelling. White space at a dot is the
     /// dotted decor of the keys beside it; white space around the path is the leaf decor of the last key, each side set only where
     /// there is some. A longer path is refused with `recursion limit` and no span; past the 80th segment nothing is kept. In any
-    /// other text the first character that doesn't belong there is marked.
+    /// other text the first character that doesn't belong there is marked, or the quote that opens a string without an end.
     pub fn parse(alloc: Global, text: &str) -> Result<Vec<Key>, ParseFault>
         ensures keys { IfOk result (λ keys. AreLoneKeys text.now keys.items) }
         ensures every { (before : Text) (p : List Segment) (after : Text) → IsLonePath text.now before p after
@@ -63,27 +64,18 @@ enum Misread<'a> {
 fn unreadable(alloc: Global, text: &str, fault: Misread<'_>) -> ParseFault
     ensures { IfToml result (IsMisread text.now) }
 {
-    match fault {
-        Misread::NoKey(rest) => {
-            refusal(alloc, text, "expected a key", Some(first_of(text, rest)))
-        }
-        Misread::Stray(rest) => {
-            refusal(
-                alloc,
-                text,
-                "unexpected character",
-                Some(first_of(text, rest)),
-            )
-        }
-    }
+    let (mistake, left) = match fault {
+        Misread::NoKey(rest) => no_key(rest),
+        Misread::Stray(rest) => (at(rest, Mistake::UnexpectedCharacter), rest.len()),
+    };
+    refusal(alloc, text, mistake.message(), Some(place(text, left)))
 }
 
-/// The first character of the rest of the text, or the text's end where none is left.
-fn first_of(text: &str, rest: &str) -> (usize, usize)
+/// The first of the last `left` bytes of the text, as a character, or the text's end where none is left.
+fn place(text: &str, left: usize) -> (usize, usize)
     ensures { SpanIsIn text.now (Some result) }
 {
-    let at = text.len().saturating_sub(rest.len());
-    let start = text.floor_char_boundary(at);
+    let start = text.floor_char_boundary(text.len().saturating_sub(left));
     if start == text.len() {
         return (start, start);
     }

@@ -170,4 +170,4 @@ value-returns-clause-adds t c n h =
     ∙ ap (λ (es : List Event). preceded es (inside (suc c.args.level) (drop 1 s))) (sym opened)
     ∙ ap (λ (x : Text). preceded c.push-2.new.self.items (inside (suc c.args.level) x)) (sym c.skip-rest.ensures.rest)
     ∙ ap (λ (level : ℕ). preceded c.push-2.new.self.items (inside level c.skip-rest.result.now)) one_more in
-    subst (Leaves c.items.new.events.items c.items.result) (sym all) (c.items.ensures.adds m (omega (arith, is, h, less)))
+    c.closed.ensures.leaves c.items-inner.new.events.items _ (subst (Leaves c.items-inner.new.events.items c.items-inner.result) (sym all) (c.items-inner.ensures.adds m (omega (arith, is, h, less))))

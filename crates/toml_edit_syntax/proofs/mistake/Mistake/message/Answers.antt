@@ -35,6 +35,9 @@ returns-in-InvalidEscape-clause-listed c = (9, lit< tt, refl)
 pub returns-in-InvalidNumber-clause-listed : goal.returns-in-InvalidNumber-clause-listed
 returns-in-InvalidNumber-clause-listed c = (10, lit< tt, refl)
 
+pub returns-in-InvalidDateTime-clause-listed : goal.returns-in-InvalidDateTime-clause-listed
+returns-in-InvalidDateTime-clause-listed c = (11, lit< tt, refl)
+
 pub returns-in-ControlCharacter-clause-listed : goal.returns-in-ControlCharacter-clause-listed
 returns-in-ControlCharacter-clause-listed c = (12, lit< tt, refl)
 
