@@ -17,16 +17,20 @@ use toml_edit_error::ParseFault;
 use toml_edit_key::Key;
 use toml_edit_syntax::Span;
 
-/// The first key of a path, where it is spelled, and the path behind its dot, if it isn't the last.
+/// The first key of a path, and what is left of the path.
 #[doc(hidden)]
 #[derive(Drop)]
 pub struct PathKey<'a> {
+    /// The key, with its decors as spans.
     pub key: Key,
+    /// Where it is spelled, in bytes.
     pub span: Span,
+    /// The path behind its dot, or `None` if it is the last.
     pub rest: Option<KeyPath<'a>>,
 }
 
-/// The first key of a path.
+/// The first key of a path. The errors are a `TomlError` for events that are those of no path, which no text of the grammar has, and
+/// want of memory.
 #[doc(hidden)]
 pub fn next_key<'a>(
     alloc: Global,

@@ -52,14 +52,17 @@ pub(crate) struct FrameSpans<'a> {
     pub(crate) after_equals: Span,
 }
 
-/// A path, or what is left of one: where the texts around its pair's key stand, where the white space behind the dot before it does, and
-/// its events.
+/// A path, or what is left of one.
 #[doc(hidden)]
 #[derive(Clone, Copy)]
 pub struct KeyPath<'a> {
+    /// Where the text before the whole path stands: the prefix of its last key's leaf decor.
     pub prefix: Span,
+    /// Where the text behind the whole path stands: the suffix of its last key's leaf decor.
     pub suffix: Span,
+    /// Where the white space behind the dot before what is left stands: nothing, at the front.
     pub before: Span,
+    /// The events of what is left: a key, and for each further one the white space on both sides of a dot and the key.
     pub events: &'a [Event],
 }
 
@@ -172,7 +175,10 @@ fn ends_path(kind: EventKind) -> bool
 }
 
 /// The parts of a pair behind its leading text, and the events behind them.
-pub(crate) fn split_frame<'a>(leading: Span, events: &'a [Event]) -> Option<(FrameSpans<'a>, &'a [Event])>
+pub(crate) fn split_frame<'a>(
+    leading: Span,
+    events: &'a [Event],
+) -> Option<(FrameSpans<'a>, &'a [Event])>
     ensures { option_map (λ p. (spec.parts_of p.0, p.1.now)) result ≡ spec.split_frame leading events.now }
 {
     let (path, signs) = events.split_at(equals_place(events)?);
@@ -408,7 +414,8 @@ fn extend_message(value: &Value) -> &'static str
     }
 }
 
-/// Adds a slot, unless its key stands there already, and leaves a placeholder in the place of its item.
+/// Adds a slot last, and leaves a placeholder in the place of its item. The errors are `duplicate key` at the span for a key that
+/// stands there already, and want of memory; the slots are as they were then.
 #[doc(hidden)]
 pub fn add_last(
     alloc: Global,
@@ -432,7 +439,8 @@ pub fn add_last(
     Ok(())
 }
 
-/// Puts a slot last, whose key has to be new.
+/// Puts a slot last, whose key has to be new. The only error is want of memory; the slots are as they were then, and key and item are
+/// given up.
 #[doc(hidden)]
 pub fn push_item(slots: &mut Slots<Item>, key: Key, item: Item) -> Mem<()>
     requires { place key.name slots.old ≡ None }
