@@ -1,10 +1,10 @@
 //! Rows on the text of a document.
 use crate::row::Row;
 use crate::said::Answer;
-use crate::steps::{Asked, Subject, behind, copied, word};
-use crate::{events, refusal, run, steps, value};
+use crate::steps::{Subject, behind, word};
+use crate::{events, refusal, run, steps, table};
 use serde_json::Value as Json;
-use toml_edit::{Document, DocumentMut, Item, ParseFault, Table};
+use toml_edit::{Document, DocumentMut, Mem, ParseFault, RawString};
 
 pub fn answer(row: Row<'_>, out: &mut Answer) {
     match row.question {
@@ -12,6 +12,7 @@ pub fn answer(row: Row<'_>, out: &mut Answer) {
         "last_event" => events::last(row.text(), out),
         "every_cut_ends" => run::every_cut_ends(row.text(), out),
         "reads" => steps::read(Document::parse(out.alloc, row.text()), row, out),
+        "root_prints" => root(Document::parse(out.alloc, row.text()), row, out),
         _ => owned(Document::parse(out.alloc, row.text()), row, out),
     }
 }
@@ -21,8 +22,8 @@ impl Subject for Document<&str> {
         match word(words, 0) {
             "raw" => out.text(self.raw()),
             "trailing" => out.raw(Some(self.trailing())),
-            "iter" => names(self.iter(), out),
-            _ => ask_table(self.as_table(), words, out),
+            "iter" => table::names(self.iter(), out),
+            _ => table::ask(self.as_table(), words, out),
         }
     }
 
@@ -31,72 +32,83 @@ impl Subject for Document<&str> {
     }
 }
 
+/// Asks of the document that is made of the root alone, whose texts are spans.
+fn root(read: Result<Document<&str>, ParseFault>, row: Row<'_>, out: &mut Answer) {
+    match read {
+        Ok(document) => steps::stepped(DocumentMut::from(document.into_table()), row, out),
+        Err(fault) => refusal::answer(&fault, row.question, out),
+    }
+}
+
 /// Asks of the document after it owns its texts.
 fn owned(read: Result<Document<&str>, ParseFault>, row: Row<'_>, out: &mut Answer) {
     match read {
+        Ok(document) if row.question == "owned_root_prints" => {
+            owned_root(document.into_mut(out.alloc), row, out);
+        }
         Ok(document) => steps::made(document.into_mut(out.alloc), row, out),
         Err(fault) => refusal::answer(&fault, row.question, out),
     }
 }
 
+/// Asks of the document that is made of the root of one that owns its texts.
+fn owned_root(made: Mem<DocumentMut>, row: Row<'_>, out: &mut Answer) {
+    match made {
+        Ok(document) => steps::stepped(DocumentMut::from(document.into_table()), row, out),
+        Err(_) => out.refuse(),
+    }
+}
+
 impl Subject for DocumentMut {
     fn call(&mut self, words: &[Json], out: &mut Answer) {
-        ask_table(self.as_table(), words, out);
+        match word(words, 0) {
+            "iter" => table::names(self.iter(), out),
+            "trailing" => out.raw(Some(self.trailing())),
+            "to_string" => out.shown(self),
+            "as_table_mut" => table::change(self.as_table_mut(), behind(words, 1), out),
+            "set_trailing" => {
+                if let Ok(raw) = out.given(RawString::from_text(out.alloc, word(words, 1))) {
+                    self.set_trailing(raw);
+                }
+            }
+            _ => table::ask(self.as_table(), words, out),
+        }
     }
 
     fn answer(&self, question: &str, out: &mut Answer) {
         match question {
-            "prints" => out.made(self.print(out.alloc)),
+            "prints" | "root_prints" | "owned_root_prints" => out.made(self.print(out.alloc)),
+            "settles" => settles(self.print(out.alloc), out),
             _ => refusal::of_accepted(question, out),
         }
     }
 }
 
-fn ask_table(table: &Table, words: &[Json], out: &mut Answer) {
-    match word(words, 0) {
-        "iter" => names(table.iter(), out),
-        "get" => ask_found(table.get(word(words, 1)), behind(words, 2), out),
-        call => out.no_such(call),
+/// Whether what was printed, read again, is printed as it stands.
+fn settles(printed: Mem<String>, out: &mut Answer) {
+    match printed {
+        Ok(text) => comes_back(text.as_str(), out),
+        Err(_) => out.refuse(),
     }
 }
 
-/// The names of what an iterator gives.
-fn names(items: toml_edit::table::Iter<'_>, out: &mut Answer) {
-    for (name, _item) in items {
-        if !out.as_str().is_empty() {
-            out.text(", ");
-        }
-        out.text(name);
+fn comes_back(text: &str, out: &mut Answer) {
+    match Document::parse(out.alloc, text) {
+        Ok(document) => prints_as(document.into_mut(out.alloc), text, out),
+        Err(fault) => refusal::answer(&fault, "settles", out),
     }
 }
 
-fn ask_found(item: Option<&Item>, words: &[Json], out: &mut Answer) {
-    match item {
-        Some(item) => ask_item(item, words, out),
-        None => out.text("none"),
+fn prints_as(made: Mem<DocumentMut>, text: &str, out: &mut Answer) {
+    match made {
+        Ok(document) => is_text(document.print(out.alloc), text, out),
+        Err(_) => out.refuse(),
     }
 }
 
-fn ask_item(item: &Item, words: &[Json], out: &mut Answer) {
-    match word(words, 0) {
-        "clone" => copied(item.clone(out.alloc), behind(words, 1), out),
-        _ => item.ask(words, out),
-    }
-}
-
-impl Asked for Item {
-    fn ask(&self, words: &[Json], out: &mut Answer) {
-        match word(words, 0) {
-            "is_none" => out.truth(self.is_none()),
-            "is_value" => out.truth(self.is_value()),
-            _ => ask_value(self.as_value(), words, out),
-        }
-    }
-}
-
-fn ask_value(found: Option<&toml_edit::Value>, words: &[Json], out: &mut Answer) {
-    match found {
-        Some(found) => value::ask(found, words, out),
-        None => out.text("no value"),
+fn is_text(printed: Mem<String>, text: &str, out: &mut Answer) {
+    match printed {
+        Ok(printed) => out.truth(printed.as_str() == text),
+        Err(_) => out.refuse(),
     }
 }

@@ -14,6 +14,7 @@ mod run;
 mod said;
 mod scalar;
 mod steps;
+mod table;
 mod tokens;
 mod value;
 

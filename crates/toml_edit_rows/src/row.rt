@@ -1,10 +1,10 @@
 //! A row: what is asked, and what is wanted.
 use crate::said::{self, Answer};
-use crate::{date_time, document, key, run, scalar, tokens, value};
+use crate::{date_time, document, key, run, scalar, table, tokens, value};
 use serde_json::Value as Json;
 
 /// The kinds of rows. A row is of a kind if it has a member of this name, which says what is asked.
-const KINDS: [&str; 18] = [
+const KINDS: [&str; 19] = [
     "text",
     "value",
     "string",
@@ -18,6 +18,7 @@ const KINDS: [&str; 18] = [
     "parts",
     "array",
     "inline_table",
+    "item",
     "key",
     "name",
     "path",
@@ -157,6 +158,7 @@ fn answer(row: Row<'_>, out: &mut Answer) {
         "key" | "name" | "path" => key::answer(row, out),
         "token" => tokens::answer(row, out),
         "run" => run::answer(row, out),
+        "item" => table::answer(row, out),
         "date_time" | "date" | "time" | "parts" => date_time::answer(row, out),
         _ => scalar::answer(row, out),
     }
