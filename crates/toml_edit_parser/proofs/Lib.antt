@@ -13,6 +13,7 @@ pub mod EntryLaws
 pub mod KeyPathLaws
 pub mod PairLaws
 pub mod PairsLaws
+pub mod StatementLaws
 pub mod InlineLaws
 pub mod LineLaws
 pub mod BuildLaws

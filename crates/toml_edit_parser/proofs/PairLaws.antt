@@ -5,11 +5,10 @@ use Rattle.std.specs.Borrow.{Bor}
 use Rattle.std.specs.List.{position_or_len}
 use Rattle.std.proofs.lemmas.Bool.{cases_Bool}
 use Rattle.std.proofs.lemmas.Bool.Decides.{nat_tests}
-use Rattle.std.proofs.lemmas.List.Elements.{Contains-append_right}
+use Rattle.std.proofs.lemmas.List.Elements.{Contains-append_left, Contains-append_right}
 use Rattle.std.proofs.Math.Seq.{drop-append_seam, take-append_seam}
 use Rattle.toml_edit_model.specs.Text.{Text, is_empty}
-use Rattle.toml_edit_model.specs.Syntax.{Segment, Frame, Value, IsFrame, begins_unspaced, is_short, segment_text, path_text, frame_text, value_text}
-use Rattle.toml_edit_model.specs.Trivia.{IsWholeTrivia}
+use Rattle.toml_edit_model.specs.Syntax.{Segment, Frame, Value, IsPath, begins_unspaced, is_short, segment_text, path_text, frame_text, value_text}
 use Rattle.toml_edit_model.specs.Faults.{Fault, recursion_limit, long_path, value_faults}
 use Rattle.toml_edit_model.specs.Tree.{Raw, Node, Slots}
 use Rattle.toml_edit_model.specs.TreeOf.{spanned_form, span_of, decor_at, frame_leaf, value_start}
@@ -22,12 +21,12 @@ use Rattle.toml_edit_error.specs.Report.{fault_of}
 use Rattle.toml_edit_error.specs.Fault.{IfToml}
 use Rattle.toml_edit_error.specs.declared.toml_error.ParseFault.{ParseFault}
 use Rattle.toml_edit_syntax.specs.declared.event.Event.{Event}
-use Rattle.toml_edit_syntax.specs.declared.event.EventKind.TheVariants.{BeforeEquals, AfterEquals, After}
+use Rattle.toml_edit_syntax.specs.declared.event.EventKind.TheVariants.{Key, BeforeDot, AfterDot, BeforeEquals, AfterEquals, After}
 use Rattle.toml_edit_syntax.specs.declared.event.Span.{Span}
 use Rattle.toml_edit_syntax.specs.Events.{IsSpanOf}
 use Rattle.toml_edit_syntax.specs.ValueEvents.{event, path_events, shortened, value_at_byte}
 use Rattle.toml_edit_tree.specs.Casts.{both_sides}
-use Rattle.toml_edit_parser.specs.PairRead.{FrameParts, EndsPair, IsEndOfPath, NamesPair, ReadsPair, equals_place, first_before, frame_behind, is_before_equals, frame_parts, key_events, split_frame}
+use Rattle.toml_edit_parser.specs.PairRead.{FrameParts, EndsPair, IsEndOfPath, NamesPair, ReadsPair, ends_path, first_before, frame_behind, frame_parts, key_events, path_end, split_frame}
 use Rattle.toml_edit_parser.specs.ValueRead.{AreIn, IsRead, NamesOne, is_leading, span_at, spanned_raw, split_leading}
 use Rattle.toml_edit_parser.proofs.ArrayLaws.{spanned_raw-is}
 use Rattle.toml_edit_parser.proofs.ReadLaws.{here, mapped, same_spans}
@@ -44,24 +43,27 @@ next_place n m =
 -- the place of the first event that ends a path, event by event
 abbrev first_end : List Event → Option ℕ
 first_end [] = None
-first_end (e ∷ es) = cond (is_before_equals e.kind) (Some 0) (option_map suc (first_end es))
+first_end (e ∷ es) = cond (ends_path e.kind) (Some 0) (option_map suc (first_end es))
 
-place-position : (es : List Event) → equals_place es ≡ first_end es
+place-position : (es : List Event) → path_end es ≡ first_end es
 place-position [] = refl
 place-position (e ∷ es) =
-    elim (cases_Bool (is_before_equals e.kind)) [
+    elim (cases_Bool (ends_path e.kind)) [
       | inl same ↦ rw same (grind (arith, rules))
-      | inr other ↦ rw (other, ← place-position es) (next_place (position_or_len (λ (e : Event). is_before_equals e.kind) es) (length es))
+      | inr other ↦ rw (other, ← place-position es) (next_place (position_or_len (λ (e : Event). ends_path e.kind) es) (length es))
     ]
 
-end_behind : (p : List Segment) (start at : ℕ) (t : Text) (es : List Event) → first_end (path_events start p ++ (event BeforeEquals at t ∷ es)) ≡ Some (length (path_events start p))
-end_behind [] start at t es = refl
-end_behind (s ∷ []) start at t es = refl
-end_behind (s ∷ r ∷ rest) start at t es =
-    ap (λ (o : Option ℕ). option_map suc (option_map suc (option_map suc o))) (end_behind (r ∷ rest) (start + length (segment_text s) + 1) at t es)
+end_behind : (p : List Segment) (start : ℕ) (e : Event) (es : List Event) → ends_path e.kind ≡ true
+    → first_end (path_events start p ++ (e ∷ es)) ≡ Some (length (path_events start p))
+end_behind [] start e es ends = rw ends refl
+end_behind (s ∷ []) start e es ends = rw ends refl
+end_behind (s ∷ r ∷ rest) start e es ends =
+    ap (λ (o : Option ℕ). option_map suc (option_map suc (option_map suc o))) (end_behind (r ∷ rest) (start + length (segment_text s) + 1) e es ends)
 
-place_behind : (p : List Segment) (start at : ℕ) (t : Text) (es : List Event) → equals_place (path_events start p ++ (event BeforeEquals at t ∷ es)) ≡ Some (length (path_events start p))
-place_behind p start at t es = place-position (path_events start p ++ (event BeforeEquals at t ∷ es)) ∙ end_behind p start at t es
+-- a path ends before what stands behind it
+pub path_end-is : (p : List Segment) (start : ℕ) (e : Event) (es : List Event) → ends_path e.kind ≡ true
+    → path_end (path_events start p ++ (e ∷ es)) ≡ Some (length (path_events start p))
+path_end-is p start e es ends = place-position (path_events start p ++ (e ∷ es)) ∙ end_behind p start e es ends
 
 abbrev parts_at : Span → List Event → Span → Span → FrameParts
 parts_at leading path before after = record { leading = leading; path = path; before_equals = before; after_equals = after }
@@ -77,7 +79,7 @@ frame-split start f leading es e =
     let after = event AfterEquals (at + length f.before_equals + 1) f.after_equals in
     let behind = before ∷ after ∷ es in
     ap (split_frame leading) (append_assoc path (before ∷ after ∷ []) es)
-    ∙ ap (option_and_then (λ n. frame_behind leading (take n (path ++ behind)) (drop n (path ++ behind)))) (place_behind f.path key at f.before_equals (after ∷ es))
+    ∙ ap (option_and_then (λ n. frame_behind leading (take n (path ++ behind)) (drop n (path ++ behind)))) (path_end-is f.path key before (after ∷ es) refl)
     ∙ ap (λ (q : List Event). frame_behind leading q (drop (length path) (path ++ behind))) (take-append_seam path behind)
     ∙ ap (λ (q : List Event). frame_behind leading path q) (drop-append_seam path behind)
     ∙ ap (λ (l : Span). Some (parts_at l path before.span after.span, es)) e
@@ -100,6 +102,23 @@ same_frames a b x y e =
     let f : ◌≡◌ {A = FrameParts × List Event} (a, x) (b, y) = cc in
     (ap (λ (p : FrameParts × List Event). p.0) f, ap (λ (p : FrameParts × List Event). p.1) f)
 
+-- a path has no brackets
+pub path-whole : (level start : ℕ) (p : List Segment) (more : List Event) → shortened level (path_events start p ++ more) ≡ path_events start p ++ shortened level more
+path-whole level start [] more = refl
+path-whole level start (s ∷ []) more = refl
+path-whole level start (s ∷ r ∷ rest) more =
+    let dot = start + length (segment_text s) in
+    ap (λ (x : List Event). event Key (start + length s.before) s.spelled ∷ event BeforeDot (start + length s.before + length s.spelled) s.after ∷ event AfterDot (dot + 1) r.before ∷ x)
+    (path-whole level (dot + 1) (r ∷ rest) more)
+
+-- nor has a pair, from its key up to its value
+pub key-whole : (level start : ℕ) (f : Frame) (more : List Event) → shortened level (key_events start f ++ more) ≡ key_events start f ++ shortened level more
+key-whole level start f more =
+    let path = path_events (start + length f.leading) f.path in
+    let before_equals = start + length f.leading + length (path_text f.path) in
+    let signs : List Event = event BeforeEquals before_equals f.before_equals ∷ event AfterEquals (before_equals + length f.before_equals + 1) f.after_equals ∷ [] in
+    ap (shortened level) (append_assoc path signs more) ∙ path-whole level (start + length f.leading) f.path (signs ++ more) ∙ sym (append_assoc path signs (shortened level more))
+
 -- a pair has its parts
 pub no-frame : (start : ℕ) (f : Frame) (leading : Span) (events es : List Event) (P : Type 0) → leading ≡ span_at start f.leading → events ≡ key_events start f ++ es
     → None ≡ split_frame leading events → P
@@ -112,17 +131,18 @@ the-frame start f leading events es parts rest same e g =
 
 -- ---- the parts lie in the text
 
-in_take : (t : Text) (n : ℕ) (es : List Event) → AreIn t es → AreIn t (take n es)
+-- so does a part of events
+pub in_take : (t : Text) (n : ℕ) (es : List Event) → AreIn t es → AreIn t (take n es)
 in_take t zero es h = tt
 in_take t (suc n) [] h = tt
 in_take t (suc n) (e ∷ es) h = (h.0, in_take t n es h.1)
 
-in_drop : (t : Text) (n : ℕ) (es : List Event) → AreIn t es → AreIn t (drop n es)
+pub in_drop : (t : Text) (n : ℕ) (es : List Event) → AreIn t es → AreIn t (drop n es)
 in_drop t zero es h = h
 in_drop t (suc n) [] h = tt
 in_drop t (suc n) (e ∷ es) h = in_drop t n es h.1
 
-fewer : (n : ℕ) (es : List Event) → length (drop n es) ≤ length es
+pub fewer : (n : ℕ) (es : List Event) → length (drop n es) ≤ length es
 fewer zero es = omega arith
 fewer (suc n) [] = omega arith
 fewer (suc n) (e ∷ es) = let h = fewer n es in omega (arith, h)
@@ -159,7 +179,7 @@ in_of t leading events parts rest (Some n) h e =
 
 pub frame-in : (t : Text) (leading : Span) (events : List Event) (parts : FrameParts) (rest : List Event) → Some (parts, rest) ≡ split_frame leading events → AreIn t events
     → FrameIn t leading events parts rest
-frame-in t leading events parts rest e h = in_of t leading events parts rest (equals_place events) h e
+frame-in t leading events parts rest e h = in_of t leading events parts rest (path_end events) h e
 
 -- what is behind the value is shorter than all
 pub fewer-still : (t : Text) (behind inner events : List Event) (result : Result (Bor (List Event)) ParseFault) → length behind < length events
@@ -196,26 +216,32 @@ long (s ∷ p) start some h =
     let many : 80 < length (s ∷ p) = omega (arith, n, h) in
     long_of (s ∷ p) (grind (arith, nat_tests, many))
 
-path_some : (p : List Segment) → begins_unspaced p ≡ true → is_empty p ≡ false
-path_some [] e = absurd cc
-path_some (s ∷ p) e = refl
+begun_some : (p : List Segment) → begins_unspaced p ≡ true → is_empty p ≡ false
+begun_some [] e = absurd cc
+begun_some (s ∷ p) e = refl
 
--- a frame's key is not empty
-pub frame-some : (f : Frame) → IsFrame IsWholeTrivia f → is_empty f.path ≡ false
-frame-some f is = path_some f.path is.1.begins
+-- a path is not empty
+pub path-some : (p : List Segment) → IsPath p → is_empty p ≡ false
+path-some p is = begun_some p is.begins
+
+-- a path that is too long is named
+pub path-too-long : (source : Text) (p : List Segment) (start : ℕ) (e : ParseFault) → IsPath p → 238 < length (path_events start p)
+    → IfToml e (λ r. r ≡ record { message = recursion_limit; span = None; input = source }) → IfToml e (NamesOne source (long_path p))
+path-too-long source p start e is many h =
+    let fault : Fault = record { message = recursion_limit; span = None } in
+    mapped e _ _ (λ r same. (
+      ap (λ x. x.input) same,
+      subst (λ (fs : List Fault). Contains fs (fault_of r)) (sym (long p start (path-some p is) many))
+          (subst (Contains (fault ∷ [])) (sym (ap fault_of same)) (here fault [])),
+    )) h
 
 -- a key that is too long is named
-pub too-long : (source : Text) (f : Frame) (v : Value) (start level : ℕ) (old : Slots) (e : ParseFault) → IsFrame IsWholeTrivia f
+pub too-long : (source : Text) (f : Frame) (v : Value) (start level : ℕ) (old : Slots) (e : ParseFault) → IsPath f.path
     → 238 < length (path_events (start + length f.leading) f.path) → IfToml e (λ r. r ≡ record { message = recursion_limit; span = None; input = source })
     → IfToml e (NamesPair source f v start level old)
 too-long source f v start level old e is many h =
-    let faults = value_faults v (value_at_byte start f) level in
-    let fault : Fault = record { message = recursion_limit; span = None } in
-    mapped e _ _ (λ r same. inl (
-      ap (λ x. x.input) same,
-      subst (λ (fs : List Fault). Contains (fs ++ faults) (fault_of r)) (sym (long f.path (start + length f.leading) (frame-some f is) many))
-          (subst (Contains (fault ∷ faults)) (sym (ap fault_of same)) (here fault faults)),
-    )) h
+    mapped e _ _ (λ r named. inl (named.0, Contains-append_left (long_path f.path) (value_faults v (value_at_byte start f) level) (fault_of r) named.1))
+    (path-too-long source f.path (start + length f.leading) e is many h)
 
 -- ---- where it stands
 
@@ -243,7 +269,7 @@ pub value-refused : (source : Text) (f : Frame) (v : Value) (start level : ℕ) 
 value-refused source f v start level old e h =
     mapped e _ _ (λ r is. inl (is.0, Contains-append_right (long_path f.path) (value_faults v (value_at_byte start f) level) (fault_of r) is.1)) h
 
-value_place : (start : ℕ) (f : Frame) → value_at_byte start f ≡ start + value_start spanned_form f + length f.after_equals
+pub value_place : (start : ℕ) (f : Frame) → value_at_byte start f ≡ start + value_start spanned_form f + length f.after_equals
 value_place start f = omega arith
 
 -- a pair whose value was read is added
@@ -290,11 +316,11 @@ nothing_at i p e =
     let none : i ≡ i + 0 = omega arith in
     ap (λ j. let s : Span = record { start = i; end = j } in s) none ∙ ap (span_at i) (sym (begins p e))
 
--- a path begins at its frame's key
-pub path-begins : (start : ℕ) (f : Frame) (leading : Span) → IsFrame IsWholeTrivia f → leading ≡ span_at start f.leading
-    → record { start = leading.end; end = leading.end } ≡ span_at (start + length f.leading) (first_before f.path)
-path-begins start f leading is e =
-    ap (λ (x : Span). let s : Span = record { start = x.end; end = x.end } in s) e ∙ nothing_at (start + length f.leading) f.path is.1.begins
+-- a path begins where the text before it ends
+pub path-begins : (start : ℕ) (t : Text) (p : List Segment) (before : Span) → IsPath p → before ≡ span_at start t
+    → record { start = before.end; end = before.end } ≡ span_at (start + length t) (first_before p)
+path-begins start t p before is e =
+    ap (λ (x : Span). let s : Span = record { start = x.end; end = x.end } in s) e ∙ nothing_at (start + length t) p is.begins
 
-pub frame-ends : (f : Frame) → IsFrame IsWholeTrivia f → IsEndOfPath f.path
-frame-ends f is = record { some = frame-some f is; ends = is.1.ends; spelled = is.1.spelled }
+pub path-ends : (p : List Segment) → IsPath p → IsEndOfPath p
+path-ends p is = record { some = path-some p is; ends = is.ends; spelled = is.spelled }

@@ -4,7 +4,7 @@ use Rattle.std.specs.Prelude.{Contains}
 use Rattle.std.proofs.lemmas.List.{length-append}
 use Rattle.std.proofs.lemmas.List.Elements.{Contains-append_left, Contains-append_right}
 use Rattle.toml_edit_model.specs.Text.{Text}
-use Rattle.toml_edit_model.specs.Syntax.{Segment, Frame, Value, Pairs, no_pairs, pair, IsValue, IsFrame, ArePairs, value_text, segment_text, path_text, frame_text, pairs_text, nesting_limit}
+use Rattle.toml_edit_model.specs.Syntax.{Frame, Value, Pairs, no_pairs, pair, IsValue, IsFrame, ArePairs, value_text, path_text, frame_text, pairs_text, nesting_limit}
 use Rattle.toml_edit_model.specs.Trivia.{IsWholeTrivia}
 use Rattle.toml_edit_model.specs.Paths.{pair_mentions}
 use Rattle.toml_edit_model.specs.Faults.{Fault, long_path, value_faults, pairs_faults, pair_clashes}
@@ -18,11 +18,12 @@ use Rattle.toml_edit_error.specs.Report.{Report, fault_of}
 use Rattle.toml_edit_error.specs.Fault.{IfToml}
 use Rattle.toml_edit_error.specs.declared.toml_error.ParseFault.{ParseFault}
 use Rattle.toml_edit_syntax.specs.declared.event.Event.{Event}
-use Rattle.toml_edit_syntax.specs.declared.event.EventKind.TheVariants.{Leading, Key, BeforeDot, AfterDot, BeforeEquals, AfterEquals, After}
+use Rattle.toml_edit_syntax.specs.declared.event.EventKind.TheVariants.{Leading, After}
 use Rattle.toml_edit_syntax.specs.declared.event.Span.{Span}
-use Rattle.toml_edit_syntax.specs.ValueEvents.{event, path_events, frame_events, value_at_byte, value_events, pairs_events, shortened}
+use Rattle.toml_edit_syntax.specs.ValueEvents.{event, frame_events, value_at_byte, value_events, pairs_events, shortened}
 use Rattle.toml_edit_parser.specs.PairRead.{AddsPair, ArePairsRead, NamesClash, NamesPair, PairsStand, key_events}
 use Rattle.toml_edit_parser.specs.ValueRead.{NamesOne, span_at, split_leading}
+use Rattle.toml_edit_parser.proofs.PairLaws.{key-whole}
 use Rattle.toml_edit_parser.proofs.ReadLaws.{here, mapped, same_spans}
 
 -- what is said of a list of pairs whose events these are
@@ -124,21 +125,8 @@ among_all : (a b c : List Fault) (f : Fault) → Contains (a ++ b) f → Contain
 among_all a b c f h = subst (λ (x : List Fault). Contains x f) (append_assoc a b c) (Contains-append_left (a ++ b) c f h)
 
 -- the events of a pair up to its value have no brackets
-path_whole : (level start : ℕ) (p : List Segment) (more : List Event) → shortened level (path_events start p ++ more) ≡ path_events start p ++ shortened level more
-path_whole level start [] more = refl
-path_whole level start (s ∷ []) more = refl
-path_whole level start (s ∷ r ∷ rest) more =
-    let dot = start + length (segment_text s) in
-    ap (λ (x : List Event). event Key (start + length s.before) s.spelled ∷ event BeforeDot (start + length s.before + length s.spelled) s.after ∷ event AfterDot (dot + 1) r.before ∷ x)
-    (path_whole level (dot + 1) (r ∷ rest) more)
-
 frame_whole : (level start : ℕ) (f : Frame) (more : List Event) → shortened level (frame_events start f ++ more) ≡ frame_events start f ++ shortened level more
-frame_whole level start f more =
-    let path = path_events (start + length f.leading) f.path in
-    let before_equals = start + length f.leading + length (path_text f.path) in
-    let signs : List Event = event BeforeEquals before_equals f.before_equals ∷ event AfterEquals (before_equals + length f.before_equals + 1) f.after_equals ∷ [] in
-    ap (λ (x : List Event). event Leading start f.leading ∷ x)
-    (ap (shortened level) (append_assoc path signs more) ∙ path_whole level (start + length f.leading) f.path (signs ++ more) ∙ sym (append_assoc path signs (shortened level more)))
+frame_whole level start f more = ap (λ (x : List Event). event Leading start f.leading ∷ x) (key-whole level start f more)
 
 split_pair : (place level : ℕ) (f : Frame) (v : Value) (others : Pairs) (more : List Event)
     → shortened level (pairs_events place (pair f v others) ++ more) ≡ frame_events place f ++ shortened level (value_events (value_at_byte place f) v

@@ -17,7 +17,7 @@ use Rattle.toml_edit_error.specs.Fault.{IfToml}
 use Rattle.toml_edit_error.specs.declared.toml_error.ParseFault.{ParseFault}
 use Rattle.toml_edit_syntax.specs.declared.event.Event.{Event}
 use Rattle.toml_edit_syntax.specs.declared.event.EventKind.{EventKind}
-use Rattle.toml_edit_syntax.specs.declared.event.EventKind.TheVariants.{BeforeEquals, AfterEquals}
+use Rattle.toml_edit_syntax.specs.declared.event.EventKind.TheVariants.{AfterKey, BeforeEquals, AfterEquals}
 use Rattle.toml_edit_syntax.specs.declared.event.Span.{Span}
 use Rattle.toml_edit_syntax.specs.ValueEvents.{event, path_events, shortened, value_at_byte}
 use Rattle.toml_edit_parser.specs.declared.pairs.FrameSpans.{FrameSpans}
@@ -63,13 +63,15 @@ key_events start f =
     ∷ event AfterEquals (before_equals + length f.before_equals + 1) f.after_equals
     ∷ [])
 
-abbrev pub is_before_equals : EventKind → Bool
-is_before_equals BeforeEquals = true
-is_before_equals _ = false
+-- what stands behind the last key of a path, of a key line or of a header
+abbrev pub ends_path : EventKind → Bool
+ends_path BeforeEquals = true
+ends_path AfterKey = true
+ends_path _ = false
 
--- where the path of a key ends
-abbrev pub equals_place : List Event → Option ℕ
-equals_place es = position (λ e. is_before_equals e.kind) es
+-- where a path ends
+abbrev pub path_end : List Event → Option ℕ
+path_end es = position (λ e. ends_path e.kind) es
 
 abbrev pub frame_behind : Span → List Event → List Event → Option (FrameParts × List Event)
 frame_behind leading path (b ∷ a ∷ es) = Some (record { leading = leading; path = path; before_equals = b.span; after_equals = a.span }, es)
@@ -77,7 +79,7 @@ frame_behind leading path _ = None
 
 -- the parts of a pair behind its leading text, and the events behind them
 abbrev pub split_frame : Span → List Event → Option (FrameParts × List Event)
-split_frame leading es = option_and_then (λ at. frame_behind leading (take at es) (drop at es)) (equals_place es)
+split_frame leading es = option_and_then (λ at. frame_behind leading (take at es) (drop at es)) (path_end es)
 
 -- ---- a path
 

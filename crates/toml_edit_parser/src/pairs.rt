@@ -160,8 +160,8 @@ fn split_leading(events: &[Event]) -> Option<(Span, &[Event])>
 }
 
 /// The place of the first event that ends a path.
-fn equals_place(events: &[Event]) -> Option<usize>
-    ensures place { result ≡ position (λ e. spec.is_before_equals e.kind) events.now }
+pub(crate) fn path_end(events: &[Event]) -> Option<usize>
+    ensures place { result ≡ spec.path_end events.now }
     ensures within { IfSome result (λ at. at < length events.now) }
 {
     events.iter().position(|event| ends_path(event.kind))
@@ -169,9 +169,9 @@ fn equals_place(events: &[Event]) -> Option<usize>
 
 /// Whether an event of this kind stands behind the last key of a path.
 fn ends_path(kind: EventKind) -> bool
-    ensures { result ≡ spec.is_before_equals kind }
+    ensures { result ≡ spec.ends_path kind }
 {
-    matches!(kind, EventKind::BeforeEquals)
+    matches!(kind, EventKind::BeforeEquals | EventKind::AfterKey)
 }
 
 /// The parts of a pair behind its leading text, and the events behind them.
@@ -181,7 +181,7 @@ pub(crate) fn split_frame<'a>(
 ) -> Option<(FrameSpans<'a>, &'a [Event])>
     ensures { option_map (λ p. (spec.parts_of p.0, p.1.now)) result ≡ spec.split_frame leading events.now }
 {
-    let (path, signs) = events.split_at(equals_place(events)?);
+    let (path, signs) = events.split_at(path_end(events)?);
     let (before_equals, behind) = split_first(signs)?;
     let (after_equals, rest) = split_first(behind)?;
     let frame = FrameSpans {

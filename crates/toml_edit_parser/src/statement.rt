@@ -1,5 +1,5 @@
 //! The parts of key lines and headers, from their events.
-ghost use Rattle.std.specs.Prelude.{◌≡◌, ◌+◌, ◌<◌, List, ℕ, length, IfErr, IfOk, IfSome, option_map};
+ghost use Rattle.std.specs.Prelude.{◌≡◌, ◌<◌, List, [], ℕ, length, IfErr, IfOk};
 ghost use Rattle.toml_edit_model.specs.Syntax as syntax;
 ghost use Rattle.toml_edit_model.specs.Syntax.{Frame, Header, IsHeader, IsValue, IsFrame, frame_text, statement_text, value_text};
 ghost use Rattle.toml_edit_model.specs.Trivia.{IsLineEnd};
@@ -7,11 +7,13 @@ ghost use Rattle.toml_edit_laws.specs.Standing.{Stands};
 ghost use Rattle.toml_edit_error.specs.Fault.{IfToml};
 ghost use Rattle.toml_edit_syntax.specs.Events.{IsSpanOf};
 ghost use Rattle.toml_edit_syntax.specs.ValueEvents.{shortened};
+ghost use Rattle.toml_edit_parser.specs.PairRead.{path_of};
 ghost use Rattle.toml_edit_parser.specs.StatementParts.{ReadsHeader, ReadsLineParts, header_behind, line_behind};
 ghost use Rattle.toml_edit_parser.specs.ValueRead.{span_at, AreIn};
 ghost use Rattle.toml_edit_tree.specs.View.{item_view};
 
-use crate::pairs::KeyPath;
+use crate::pairs::{KeyPath, MOST_PATH_EVENTS, path_end, split_frame};
+use crate::reader::{raw, read_value, refusal_of_all, split_first};
 use std::alloc::Global;
 use toml_edit_error::ParseFault;
 use toml_edit_syntax::{Event, Span};
@@ -24,6 +26,19 @@ pub struct HeaderSpans<'a> {
     pub path: KeyPath<'a>,
     pub end: usize,
     pub trailing: Span,
+}
+
+/// The path of these events, which begins where the text before it ends, with the text behind it.
+fn path_behind<'a>(prefix: Span, events: &'a [Event], suffix: Span) -> KeyPath<'a>
+    ensures { path_of result ≡ record { prefix = prefix; suffix = suffix; before = record { start = prefix.end; end = prefix.end }; events = events.now } }
+{
+    let start = prefix.end;
+    KeyPath {
+        prefix,
+        suffix,
+        before: Span { start, end: start },
+        events,
+    }
 }
 
 /// The path of the key line behind this text, whose events come first, and the events behind the line. Its value is put in the item's
@@ -46,7 +61,20 @@ pub fn read_key_line<'a>(
     ensures path { IfOk result (λ r. AreIn source.now r.0.events.now) }
     ensures rest { IfOk result (λ r. AreIn source.now r.1.now × (length r.1.now < length events.now)) }
 {
-    Err(ParseFault::Memory)
+    let Some((frame, rest)) = split_frame(leading, events) else {
+        return Err(refusal_of_all(alloc, source, "expected a key"));
+    };
+    if MOST_PATH_EVENTS < frame.path.len() {
+        return Err(refusal_of_all(alloc, source, "recursion limit"));
+    }
+    let (value, rest) = read_value(alloc, source, rest)?;
+    *item = Item::Value(value);
+    let Some((end, rest)) = split_first(rest) else {
+        return Err(refusal_of_all(alloc, source, "expected a newline"));
+    };
+    item.decorate(raw(frame.after_equals), raw(end.span));
+    let path = path_behind(frame.leading, frame.path, frame.before_equals);
+    Ok((path, rest))
 }
 
 /// The parts of the header whose brackets open before these events, and the events behind the header.
@@ -63,5 +91,23 @@ pub fn read_header<'a>(
     ensures path { IfOk result (λ r. AreIn source.now r.0.path.events.now) }
     ensures rest { IfOk result (λ r. AreIn source.now r.1.now × (length r.1.now < length events.now)) }
 {
-    Err(ParseFault::Memory)
+    let Some((opening, inside)) = split_first(events) else {
+        return Err(refusal_of_all(alloc, source, "expected a key"));
+    };
+    let Some(end_of_path) = path_end(inside) else {
+        return Err(refusal_of_all(alloc, source, "expected a key"));
+    };
+    let (path, behind) = inside.split_at(end_of_path);
+    let [closing, brackets, end, rest @ ..] = behind else {
+        return Err(refusal_of_all(alloc, source, "expected a key"));
+    };
+    if MOST_PATH_EVENTS < path.len() {
+        return Err(refusal_of_all(alloc, source, "recursion limit"));
+    }
+    let header = HeaderSpans {
+        path: path_behind(opening.span, path, closing.span),
+        end: brackets.span.end,
+        trailing: end.span,
+    };
+    Ok((header, rest))
 }

@@ -18,7 +18,7 @@ use Rattle.toml_edit_parser.proofs.ElementsLaws.{element_read}
 use Rattle.toml_edit_parser.proofs.ArrayLaws.{end_at, elements_stand, array_ends, array_end_split, array_closed, array_refused}
 use Rattle.toml_edit_parser.proofs.SplitLaws.{before_in, scalar_in}
 use Rattle.toml_edit_parser.proofs.InlineLaws.{inline-closed, inline-refused, inline_ends, pairs_stand}
-use Rattle.toml_edit_parser.proofs.PairLaws.{fewer-still, frame-in, frame-some, leading-in, no-frame, pair-read, path-stands, short-path, the-frame, too-long, value-refused, value-stands}
+use Rattle.toml_edit_parser.proofs.PairLaws.{fewer-still, frame-in, leading-in, no-frame, pair-read, path-some, path-stands, short-path, the-frame, too-long, value-refused, value-stands}
 use Rattle.toml_edit_parser.proofs.ElementsLaws as elements
 use Rattle.toml_edit_parser.proofs.PairsLaws as pairs
 use Rattle.toml_edit_parser.proofs.ViewLaws.{view-Value}
@@ -303,7 +303,7 @@ pub pairs::read_pair-returns-then-frame-gt-MOST_PATH_EVENTS-clause-pair : goal.p
 pairs::read_pair-returns-then-frame-gt-MOST_PATH_EVENTS-clause-pair t c =
     λ f v start level more is value stands below same e.
     let parts = the-frame start f c.args.leading c.args.events.now _ (parts_of c.in-Some.frame) c.in-Some.rest.now same e c.in-Some.ensures in
-    too-long c.args.source.now f v start level (slots_view c.args.slots.now) c.refusal_of_all.result is
+    too-long c.args.source.now f v start level (slots_view c.args.slots.now) c.refusal_of_all.result is.1
     (subst (λ (q : FrameParts). 238 < length q.path) parts.0 c.if-frame-gt-MOST_PATH_EVENTS.true) c.refusal_of_all.ensures
 
 pub pairs::read_pair-returns-clause-pair : goal.pairs::read_pair-returns-clause-pair
@@ -312,7 +312,7 @@ pairs::read_pair-returns-clause-pair t c =
     let s = c.args.source.now in
     let end = value_at_byte start f + length (value_text v) in
     let parts = the-frame start f c.args.leading c.args.events.now _ (parts_of c.in-Some.frame) c.in-Some.rest.now same e c.in-Some.ensures in
-    let short = short-path f.path (start + length f.leading) (frame-some f is)
+    let short = short-path f.path (start + length f.leading) (path-some f.path is.1)
     (subst (λ (q : FrameParts). length q.path ≤ 238) parts.0 c.if-frame-gt-MOST_PATH_EVENTS.false) in
     let h = c.in_ok-value.ensures.value v (value_at_byte start f) level (event After end f.trailing ∷ more) value (value-stands s start f (value_text v) stands) below parts.1 in
     let P : Node → Type 0 = λ n. IsRead v (value_at_byte start f) level (event After end f.trailing ∷ more) n c.in_ok-value.rest.now in

@@ -8,7 +8,7 @@ use Rattle.toml_edit_syntax.specs.declared.event.Event.{Event}
 use Rattle.toml_edit_parser.specs.PairRead.{FrameParts}
 use Rattle.toml_edit_parser.specs.ValueRead.{spanned_raw, split_first}
 use Rattle.toml_edit_tree.specs.View.{item_view, slots_view}
-use Rattle.toml_edit_parser.proofs.PairLaws.{frame-ends, key-decor, path-begins, value-decor}
+use Rattle.toml_edit_parser.proofs.PairLaws.{key-decor, path-begins, path-ends, value-decor}
 use Rattle.toml_edit_parser.proofs.ReadFits.{fits-with_decor}
 use Rattle.toml_edit_parser.proofs.ReadLaws.{same_parts}
 use Rattle.toml_edit_parser.proofs.SplitLaws.{first_in}
@@ -25,10 +25,10 @@ returns-clause-pair c =
     c.raw-2.ensures.raw (ap (λ (x : Event). x.span) first.0)
     ) in
     let own = key-decor start f _ _ (ap (λ (q : FrameParts). spanned_raw q.leading) parts) (ap (λ (q : FrameParts). spanned_raw q.before_equals) parts) in
-    let at = path-begins start f c.args.frame.leading is (ap (λ (q : FrameParts). q.leading) parts) in (
+    let at = path-begins start f.leading f.path c.args.frame.leading is.1 (ap (λ (q : FrameParts). q.leading) parts) in (
       first.1,
       subst (λ (n : Node). add_entry spanned_form (pair_path spanned_form start f v) n (slots_view c.args.slots.now) ≡ Some (slots_view c.add_entry.new.slots)) item
-          (c.in_ok-add_entry.ensures.entry (entry_of spanned_form start f v) f.path (start + length f.leading) [] (frame-ends f is) stands
+          (c.in_ok-add_entry.ensures.entry (entry_of spanned_form start f v) f.path (start + length f.leading) [] (path-ends f.path is.1) stands
           (own, at, ap (λ (q : FrameParts). q.path) parts)),
     )
 
@@ -37,8 +37,8 @@ returns-in_err-add_entry-clause-pair c =
     λ f v start end more is stands parts e.
     let p = err_from_is_err_and c.from_residual.result c.from_residual.ensures.1 in
     let own = key-decor start f _ _ (ap (λ (q : FrameParts). spanned_raw q.leading) parts) (ap (λ (q : FrameParts). spanned_raw q.before_equals) parts) in
-    let at = path-begins start f c.args.frame.leading is (ap (λ (q : FrameParts). q.leading) parts) in
-    rw (p.1, p.2) (c.in_err-add_entry.ensures.entry (entry_of spanned_form start f v) f.path (start + length f.leading) [] (frame-ends f is) stands
+    let at = path-begins start f.leading f.path c.args.frame.leading is.1 (ap (λ (q : FrameParts). q.leading) parts) in
+    rw (p.1, p.2) (c.in_err-add_entry.ensures.entry (entry_of spanned_form start f v) f.path (start + length f.leading) [] (path-ends f.path is.1) stands
     (own, at, ap (λ (q : FrameParts). q.path) parts))
 
 pub returns-clause-fits : goal.returns-clause-fits
