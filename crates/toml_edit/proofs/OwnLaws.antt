@@ -4,13 +4,13 @@ use Rattle.std.proofs.Common.{◌≡◌, sym, ap, subst, ◌∙◌}
 use Rattle.toml_edit_model.specs.Mode.{plain}
 use Rattle.toml_edit_model.specs.Text.{Text}
 use Rattle.toml_edit_model.specs.Syntax.{Document}
-use Rattle.toml_edit_model.specs.Flat.{FlatAs}
-use Rattle.toml_edit_model.specs.Normal.{normal_text}
-use Rattle.toml_edit_model.specs.Print.{print}
+use Rattle.toml_edit_model.specs.Accepted.{AcceptedAs}
 use Rattle.toml_edit_model.specs.Tree.{Tree, SlotsAreWellMade}
 use Rattle.toml_edit_model.specs.TreeOf.{spanned_form, owned_form, IsTreeOf}
 use Rattle.toml_edit_laws.proofs.read_trees.ReadLaws.{owned_trees}
 use Rattle.toml_edit_laws.proofs.print_of_read.PrintOfRead.{plain_print_normal}
+use Rattle.toml_edit_laws.proofs.normal_texts.TreesFit.{texts_fit}
+use Rattle.toml_edit.specs.Documents.{IsOwnedTreeOf}
 use Rattle.toml_edit.proofs.SpanProps.{DecorFits-prop, SlotsFit-prop, RawFits-prop}
 use Rattle.toml_edit_model.specs.OwnedForm.{IsOver, DecorFits, SlotsFit, RawFits, owned_raw, owned_fields, owned_slots, owned_tree}
 
@@ -44,9 +44,9 @@ owned-parts t u x y same root slots trailing =
     ∙ ap (λ r. record (owned_tree u x) { trailing = r }) trailing
     ∙ ap (λ v. owned_tree v x) same
 
--- The tree of an accepted text stays its tree, and prints as the normal text.
-pub stays-tree : (t : Text) (x y : Tree) → y ≡ owned_tree t x → (d : Document) → FlatAs t d → IsTreeOf spanned_form d x
-    → IsTreeOf owned_form d y × (print y ≡ normal_text d)
-stays-tree t x y e d flat is =
-    let cut = flat.cut.cut in
-    let own = subst (IsTreeOf owned_form d) (sym e) (owned_trees plain t d cut x is) in (own, plain_print_normal d cut.0 flat.accepted y own)
+-- The tree of an accepted text stays its tree, fits, and prints as the normal text.
+pub stays-tree : (t : Text) (x y : Tree) → y ≡ owned_tree t x → (d : Document) → AcceptedAs t d → IsTreeOf spanned_form d x → IsOwnedTreeOf d y
+stays-tree t x y e d accepted is =
+    let own = subst (IsTreeOf owned_form d) (sym e) (owned_trees plain t d accepted.0 x is) in
+    let fine = texts_fit plain t d accepted y own in
+    record { tree = own; prints = plain_print_normal d accepted.0.0 accepted.1 y own; fits = fine.0; steady = fine.1 }

@@ -3,8 +3,8 @@ ghost use Rattle.toml_edit_tree.specs.View.{tree_view};
 ghost use Rattle.toml_edit_model.specs.OwnedForm.{IsOver};
 
 use std::alloc::Global;
+use toml_edit_builder as builder;
 use toml_edit_error::ParseFault;
-use toml_edit_parser as parser;
 use toml_edit_repr::{Mem, RawString};
 use toml_edit_tree::{Iter, Table};
 
@@ -51,28 +51,26 @@ pub struct Document<S: SourceText> {
 impl<S: SourceText> Document<S> {
     ghost use Rattle.std.specs.Prelude.{◌≡◌, ◌⊎◌, IfOk, IfErr, IsOk, IsErrOf};
     ghost use Rattle.toml_edit_model.specs.Syntax.{Document as Cut};
-    ghost use Rattle.toml_edit_model.specs.Flat.{FlatAs};
-    ghost use Rattle.toml_edit_model.specs.Normal.{normal_text};
-    ghost use Rattle.toml_edit_model.specs.Print.{print as printed};
-    ghost use Rattle.toml_edit_model.specs.TreeOf.{owned_form, spanned_form, IsTreeOf};
+    ghost use Rattle.toml_edit_model.specs.Accepted.{AcceptedAs};
+    ghost use Rattle.toml_edit_model.specs.TreeOf.{spanned_form, IsTreeOf};
     ghost use Rattle.toml_edit_model.specs.OwnedForm.{owned_tree};
     ghost use Rattle.toml_edit_error.specs.Fault.{IfToml};
     ghost use Rattle.toml_edit.specs.DocumentView.{source, tree_read, tree_owned};
-    ghost use Rattle.toml_edit.specs.Documents.{IsReading};
+    ghost use Rattle.toml_edit.specs.Documents.{IsOwnedTreeOf, IsReading};
     ghost use Rattle.toml_edit_tree.specs.Held.{held, held_left};
-    ghost use Rattle.toml_edit_parser.specs.Parsed.{IsRefusal};
+    ghost use Rattle.toml_edit_builder.specs.DocumentRead.{IsRefusal};
     ghost use Rattle.toml_edit_tree.specs.View.{table_slots, fields_view};
 
-    /// Reads a text. The errors are a `TomlError` for a text that is refused, which names a fault of its first faulty statement, or
-    /// says `not yet` of what isn't read so far; and want of memory.
+    /// Reads a text. The errors are a `TomlError` for a text that is refused, which names a fault of its first faulty statement, or of a
+    /// text outside the grammar what is wrong with its syntax; and want of memory.
     pub fn parse(alloc: Global, raw: S) -> Result<Document<S>, ParseFault>
         ensures accepted { IfOk result (λ x. IsReading (S.content raw) (tree_read x)) }
         ensures source { IfOk result (λ x. source x ≡ S.content raw) }
         // An accepted text is never refused.
-        ensures every { (d : Cut) → FlatAs (S.content raw) d → IsOk result ⊎ IsErrOf result ParseFault.Memory }
+        ensures every { (d : Cut) → AcceptedAs (S.content raw) d → IsOk result ⊎ IsErrOf result ParseFault.Memory }
         ensures refused { IfErr result (λ e. IfToml e (IsRefusal (S.content raw))) }
     {
-        let (slots, trailing) = parser::parse(alloc, raw.text())?;
+        let (slots, trailing) = builder::parse(alloc, raw.text())?;
         Ok(Document {
             raw,
             root: Table::root(slots),
@@ -121,10 +119,9 @@ impl<S: SourceText> Document<S> {
     /// up.
     pub fn into_mut(self, alloc: Global) -> Mem<DocumentMut>
         ensures owned { IfOk result (λ m. tree_owned m ≡ owned_tree (source self) (tree_read self)) }
-        // The tree of an accepted text stays its tree, and prints as the normal text.
-        ensures normal { IfOk result (λ m. (d : Cut) → FlatAs (source self) d
-            → IsTreeOf spanned_form d (tree_read self)
-            → IsTreeOf owned_form d (tree_owned m) × (printed (tree_owned m) ≡ normal_text d)) }
+        // The tree of an accepted text stays its tree, fits, and prints as the normal text.
+        ensures normal { IfOk result (λ m. (d : Cut) → AcceptedAs (source self) d
+            → IsTreeOf spanned_form d (tree_read self) → IsOwnedTreeOf d (tree_owned m)) }
     {
         let Document {
             raw,

@@ -4,3 +4,4 @@ pub mod ItemLaws
 pub mod SwapLaws
 pub mod LoopLaws
 pub mod StatementLaws
+pub mod WholeLaws

@@ -2,3 +2,4 @@
 pub mod TableRead
 pub mod BlockRead
 pub mod StatementRead
+pub mod DocumentRead

@@ -2,11 +2,14 @@
 #![tactic(auto)]
 
 mod block;
+mod document;
 mod last_key;
 mod parser;
 mod path;
 
 #[doc(hidden)]
 pub use block::swap_block;
+#[doc(hidden)]
+pub use document::parse;
 #[doc(hidden)]
 pub use path::{Kind, add_path};

@@ -92,7 +92,7 @@ fn spanned(span: Span) -> RawString
 }
 
 /// The slots of the statements, and the text after the last.
-fn build(
+pub(crate) fn build(
     alloc: Global,
     source: &str,
     events: &[Event],

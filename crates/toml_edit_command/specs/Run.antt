@@ -3,11 +3,11 @@ use Rattle.std.specs.Prelude.{◌≡◌, Bool, false, List, [], ◌∷◌, ◌++
 use Rattle.std.specs.Io.KnownBytes.{Appends}
 use Rattle.toml_edit_model.specs.Text.{Text, newline}
 use Rattle.toml_edit_model.specs.Syntax.{Document}
-use Rattle.toml_edit_model.specs.Flat.{FlatAs}
+use Rattle.toml_edit_model.specs.Accepted.{AcceptedAs}
 use Rattle.toml_edit_model.specs.Normal.{normal_text}
 use Rattle.toml_edit_model.specs.Excerpt.{excerpt}
 use Rattle.toml_edit_error.specs.Report.{Report}
-use Rattle.toml_edit_parser.specs.Parsed.{IsRefusal}
+use Rattle.toml_edit_builder.specs.DocumentRead.{IsRefusal}
 use Rattle.toml_edit_stream.specs.Whole.{AppendsBeginning}
 
 -- the words are the command `print` alone
@@ -16,11 +16,11 @@ IsPrint ws = ws ≡ codes "print" ∷ []
 
 -- the second text is the normal text of the first
 abbrev pub IsPrintOf : Text → Text → Type 0
-IsPrintOf t printed = (d : Document) × FlatAs t d × (printed ≡ normal_text d)
+IsPrintOf t printed = (d : Document) × AcceptedAs t d × (printed ≡ normal_text d)
 
 -- no cut of the text is accepted
 abbrev pub IsRefused : Text → Type 0
-IsRefused t = (d : Document) → FlatAs t d → ⊥
+IsRefused t = (d : Document) → AcceptedAs t d → ⊥
 
 -- the second text is the excerpt of a fault for which the first is refused
 abbrev pub IsExcerptOf : Text → Text → Type 0
@@ -28,15 +28,15 @@ IsExcerptOf t shown = (r : Report) × IsRefusal t r × (shown ≡ excerpt r.inpu
 
 -- the bytes are no text that is accepted
 abbrev pub IsNotAccepted : Text → Type 0
-IsNotAccepted bytes = (d : Document) → IsUtf8 bytes → FlatAs bytes d → ⊥
+IsNotAccepted bytes = (d : Document) → IsUtf8 bytes → AcceptedAs bytes d → ⊥
 
 -- what the output holds grew by the normal text of what was left to read
 abbrev pub Prints : Option Text → Option Text → Option Text → Type 0
-Prints known old new = IfSome known (λ bytes. (d : Document) × FlatAs bytes d × Appends old new (normal_text d))
+Prints known old new = IfSome known (λ bytes. (d : Document) × AcceptedAs bytes d × Appends old new (normal_text d))
 
 -- it grew by a beginning of that text
 abbrev pub PrintsBeginning : Option Text → Option Text → Option Text → Type 0
-PrintsBeginning known old new = IfSome known (λ bytes. (d : Document) × FlatAs bytes d × AppendsBeginning old new (normal_text d))
+PrintsBeginning known old new = IfSome known (λ bytes. (d : Document) × AcceptedAs bytes d × AppendsBeginning old new (normal_text d))
 
 -- the lines that a run tells of its end
 abbrev pub usage_line : Text

@@ -15,9 +15,5 @@ pub mod PairLaws
 pub mod PairsLaws
 pub mod StatementLaws
 pub mod InlineLaws
-pub mod LineLaws
-pub mod BuildLaws
-pub mod UnreadLaws
-pub mod WholeLaws
 pub mod LoneValueLaws
 pub mod ViewLaws

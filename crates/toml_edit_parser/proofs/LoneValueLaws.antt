@@ -1,6 +1,6 @@
 -- A lone value, read as a value over its text and then given its own texts.
 use Rattle.std.proofs.Common.{◌≡◌, ◌⊎◌, inl, inr, refl, sym, ap, ◌∙◌, subst, ℕ, ◌+◌, arith, true, false, List, [], ◌++◌, length, append-nil, Option, Some, Bool, rules}
-use Rattle.std.specs.Prelude.{Contains, Err, IsErrOf, IsOk}
+use Rattle.std.specs.Prelude.{Contains, Result, Ok, Err, IsErrOf, IsOk}
 use Rattle.std.proofs.lemmas.Bool.{false≢true}
 use Rattle.toml_edit_model.specs.Mode.{plain}
 use Rattle.toml_edit_model.specs.Text.{Text, is_empty}
@@ -20,6 +20,10 @@ use Rattle.toml_edit_error.specs.Fault.{IfToml}
 use Rattle.toml_edit_error.specs.declared.toml_error.ParseFault.{ParseFault}
 use Rattle.toml_edit_error.specs.declared.toml_error.ParseFault.TheVariants.{Toml, Memory}
 use Rattle.toml_edit_syntax.specs.declared.event.Event.{Event}
+use Rattle.toml_edit_syntax.specs.declared.event.Span.{Span}
+use Rattle.toml_edit_syntax.specs.declared.lexer.SyntaxFault.{SyntaxFault}
+use Rattle.toml_edit_syntax.specs.declared.lexer.SyntaxFault.TheVariants as faults
+use Rattle.toml_edit_syntax.specs.declared.mistake.Mistake.{Mistake}
 use Rattle.toml_edit_syntax.specs.LoneEvents.{AreLoneEvents, ValueOpensTooMany}
 use Rattle.toml_edit_syntax.specs.ValueEvents.{value_events, are_deep, shortened}
 use Rattle.toml_edit_parser.proofs.ReadLaws.{within_depth}
@@ -166,3 +170,11 @@ brackets_refused t es Memory are short = tt
 pub still_memory : {A B : Type 0} (e : ParseFault) → IsOk {T = A} {E = ParseFault} (Err e) ⊎ IsErrOf {T = A} {E = ParseFault} (Err e) Memory
     → IsOk {T = B} {E = ParseFault} (Err e) ⊎ IsErrOf {T = B} {E = ParseFault} (Err e) Memory
 still_memory e h = elim h [ inl ok ↦ absurd cc | inr is ↦ let f : e ≡ Memory = cc in inr (ap Err f) ]
+
+-- ---- a text with no events
+
+-- a text with such events is read, or else memory ran out
+pub not_text : {A : Type 0} (r : Result A SyntaxFault) (f : SyntaxFault) (mistake : Mistake) (span : Span) → r ≡ Err f → f ≡ faults.Text mistake span → IsOk r ⊎ IsErrOf r faults.Memory → ⊥
+not_text (Ok x) f mistake span e g told = absurd cc
+not_text (Err fault) f mistake span e g (inl h) = absurd cc
+not_text (Err fault) f mistake span e g (inr h) = absurd cc

@@ -1,10 +1,6 @@
 pub mod ScalarRead
 pub mod ValueRead
 pub mod PairRead
-pub mod Lines
-pub mod Unread
-pub mod Parsed
-pub mod Split
 pub mod LoneValue
 pub mod PathRead
 pub mod StatementParts

@@ -9,8 +9,7 @@ ghost use Rattle.toml_edit_parser.specs.ValueRead.{AreIn, IsRead};
 ghost use Rattle.toml_edit_tree.specs.View.{value_view};
 ghost use Rattle.toml_edit_model.specs.OwnedForm.{NodeFits};
 
-use crate::parser::are_cut_short;
-use crate::reader::{read_value, refusal, refusal_of_all};
+use crate::reader::{are_cut_short, read_value, refusal, refusal_of_all};
 use std::alloc::Global;
 use toml_edit_error::ParseFault;
 use toml_edit_syntax::{Event, SyntaxFault, lone_events};

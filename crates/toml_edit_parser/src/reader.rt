@@ -10,7 +10,7 @@ ghost use Rattle.toml_edit_model.specs.TreeOf.{spanned_form, decor_at, span_of};
 ghost use Rattle.toml_edit_laws.specs.Standing.{Stands};
 ghost use Rattle.toml_edit_error.specs.Fault.{IfToml};
 ghost use Rattle.toml_edit_syntax.specs.Events.{IsSpanOf};
-ghost use Rattle.toml_edit_syntax.specs.ValueEvents.{event, value_events, elements_events, close_events, shortened};
+ghost use Rattle.toml_edit_syntax.specs.ValueEvents.{are_deep, event, value_events, elements_events, close_events, shortened};
 ghost use Rattle.toml_edit_parser.specs.ScalarRead.{ReadsScalar};
 ghost use Rattle.toml_edit_syntax.specs.declared.event.EventKind.TheVariants.{After, ArrayClose};
 ghost use Rattle.toml_edit_tree.specs.Containers.{array_node};
@@ -33,6 +33,16 @@ pub(crate) struct Close {
     pub(crate) comma: bool,
     pub(crate) inner: Span,
     pub(crate) end: usize,
+}
+
+/// Whether the events of a text are cut short, at a bracket that is one too many.
+#[doc(hidden)]
+pub fn are_cut_short(events: &[Event]) -> bool
+    ensures { result ≡ are_deep events.now }
+{
+    events
+        .iter()
+        .any(|event| matches!(event.kind, EventKind::TooDeep))
 }
 
 /// The bytes of the span.

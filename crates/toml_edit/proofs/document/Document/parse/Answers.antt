@@ -7,10 +7,10 @@ pub invariant_of-result : goal.invariant_of-result
 invariant_of-result g c =
     record {
       over = ∣ root-over (g.S.SourceText.content c.args.raw) c.text.result.now c.root.result (slots_view c.in_ok-slots.slots) c.in_ok-slots.trailing
-          c.text.ensures c.in_ok-slots.ensures.parsed c.root.ensures.fields c.root.ensures.slots ∣₁;
+          c.text.ensures c.text.utf8 c.in_ok-slots.ensures.parsed c.root.ensures.fields c.root.ensures.slots ∣₁;
     }
 
 pub returns-clause-accepted : goal.returns-clause-accepted
 returns-clause-accepted g c =
     root-reading (g.S.SourceText.content c.args.raw) c.text.result.now c.root.result (slots_view c.in_ok-slots.slots) c.in_ok-slots.trailing
-    c.text.ensures c.in_ok-slots.ensures.parsed c.root.ensures.fields c.root.ensures.slots
+    c.text.ensures c.text.utf8 c.in_ok-slots.ensures.parsed c.root.ensures.fields c.root.ensures.slots

@@ -1,8 +1,7 @@
 -- Reading a lone value.
 use Rattle.std.proofs.Common.{refl}
-use Rattle.toml_edit_parser.proofs.LoneValueLaws.{refused_whole, syntax_refused}
+use Rattle.toml_edit_parser.proofs.LoneValueLaws.{not_text, refused_whole, syntax_refused}
 use Rattle.toml_edit_parser.proofs.ListedLaws.{listed_syntax}
-use Rattle.toml_edit_parser.proofs.WholeLaws.{not_text}
 use Rattle.toml_edit_parser.proofs.from_str.ValueFromStr.from_str.Goals as goal
 
 pub returns-in-Err-Text-clause-every : goal.returns-in-Err-Text-clause-every

@@ -1,8 +1,8 @@
 -- A text with no events has no cut.
 use Rattle.std.proofs.Common.{refl, subst}
 use Rattle.toml_edit_syntax.specs.Faults.{FaultIsIn}
-use Rattle.toml_edit_parser.proofs.WholeLaws.{not_text, wrong_syntax, of_report}
-use Rattle.toml_edit_parser.proofs.parser.parse.Goals as goal
+use Rattle.toml_edit_builder.proofs.WholeLaws.{not_text, wrong_syntax, of_report}
+use Rattle.toml_edit_builder.proofs.document.parse.Goals as goal
 
 pub returns-in-Err-Text-clause-refused : goal.returns-in-Err-Text-clause-refused
 returns-in-Err-Text-clause-refused c =

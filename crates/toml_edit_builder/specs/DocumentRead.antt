@@ -1,0 +1,36 @@
+-- What parsing a text gives: the tree of its one cut, or why it is refused.
+use Rattle.std.specs.Prelude.{◌≡◌, ◌⊎◌, Some}
+use Rattle.toml_edit_model.specs.Text.{Text}
+use Rattle.toml_edit_model.specs.Accepted.{AcceptedAs}
+use Rattle.toml_edit_model.specs.Syntax.{Document, IsCut}
+use Rattle.toml_edit_model.specs.Tree.{Raw, Slots}
+use Rattle.toml_edit_model.specs.TreeOf.{spanned_form, IsTreeOf}
+use Rattle.toml_edit_laws.specs.Building.{IsRefusedBy}
+use Rattle.toml_edit_error.specs.Report.{Report, fault_of}
+use Rattle.toml_edit_syntax.specs.declared.event.Span.{Span}
+use Rattle.toml_edit_syntax.specs.declared.mistake.Mistake.{Mistake}
+use Rattle.toml_edit_syntax.specs.Events.{IsSpanOf, OpensTooMany}
+use Rattle.toml_edit_syntax.specs.Faults.{syntax_message}
+use Rattle.toml_edit_builder.specs.StatementRead.{tree_of}
+
+-- The text has one cut, by which it is accepted, and these slots and this trailing text are the tree of it.
+pub record IsParsed (t : Text) (slots : Slots) (trailing : Raw) : Type 0 where
+  pub document : Document
+  pub accepted : AcceptedAs t document
+  pub only : (other : Document) → IsCut other t → other ≡ document
+  pub tree : IsTreeOf spanned_form document (tree_of slots trailing)
+
+-- the report says what is wrong with the syntax of the text, and marks a place in it
+pub record MarksMistake (t : Text) (r : Report) : Type 0 where
+  pub mistake : Mistake
+  pub message : r.message ≡ syntax_message mistake
+  pub span : Span
+  pub marks : r.span ≡ Some (span.start, span.end)
+  pub within : IsSpanOf t span
+
+-- The report is of the text. Of a text of the grammar it names a fault of the first faulty statement. Of another it says what is wrong
+-- with its syntax, unless too many brackets are open before that.
+pub record IsRefusal (t : Text) (r : Report) : Type 0 where
+  pub input : r.input ≡ t
+  pub names : (d : Document) → IsCut d t → IsRefusedBy d (fault_of r)
+  pub syntax : ((d : Document) → IsCut d t → ⊥) → MarksMistake t r ⊎ OpensTooMany t

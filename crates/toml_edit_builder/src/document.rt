@@ -1,0 +1,87 @@
+//! From a text to its tree.
+ghost use Rattle.std.specs.Prelude.{◌≡◌, ◌⊎◌, true, false, IfOk, IfErr, IsOk, IsErrOf};
+ghost use Rattle.toml_edit_model.specs.Accepted.{AcceptedAs};
+ghost use Rattle.toml_edit_model.specs.Syntax.{Document};
+ghost use Rattle.toml_edit_error.specs.Fault.{IfToml};
+ghost use Rattle.toml_edit_syntax.specs.Events.{AreEventsOf};
+ghost use Rattle.toml_edit_syntax.specs.ValueEvents.{are_deep};
+ghost use Rattle.toml_edit_tree.specs.View.{slots_view};
+ghost use Rattle.toml_edit_parser.specs.ValueRead.{AreIn};
+ghost use Rattle.toml_edit_builder.specs.DocumentRead.{IsParsed, IsRefusal};
+
+use crate::parser::build;
+use std::alloc::Global;
+use toml_edit_error::ParseFault;
+use toml_edit_parser::{are_cut_short, refusal, refusal_of_all};
+use toml_edit_repr::RawString;
+use toml_edit_slots::Slots;
+use toml_edit_syntax::{Event, SyntaxFault, events};
+use toml_edit_tree::Item;
+
+/// What is wrong with a text whose events are cut short.
+fn cut_short(alloc: Global, source: &str, events: &[Event]) -> ParseFault
+    requires cut { AreEventsOf source.now events.now }
+    requires spans { AreIn source.now events.now }
+    requires short { are_deep events.now ≡ true }
+    ensures every { (d : Document) → AcceptedAs source.now d → result ≡ ParseFault.Memory }
+    ensures refused { IfToml result (IsRefusal source.now) }
+{
+    match build(alloc, source, events) {
+        Ok(_) => refusal_of_all(alloc, source, "recursion limit"),
+        Err(fault) => fault,
+    }
+}
+
+/// The slots of a text all of whose events are read, and the text after the last statement.
+fn read_all(
+    alloc: Global,
+    source: &str,
+    events: &[Event],
+) -> Result<(Slots<Item>, RawString), ParseFault>
+    requires cut { AreEventsOf source.now events.now }
+    requires spans { AreIn source.now events.now }
+    requires whole { are_deep events.now ≡ false }
+    ensures parsed { IfOk result (λ r. IsParsed source.now (slots_view r.0) r.1) }
+    ensures every { (d : Document) → AcceptedAs source.now d → IsOk result ⊎ IsErrOf result ParseFault.Memory }
+    ensures refused { IfErr result (λ e. IfToml e (IsRefusal source.now)) }
+{
+    let built = build(alloc, source, events)?;
+    Ok(built)
+}
+
+/// The slots of a text with these events, and the text after the last statement.
+fn parse_events(
+    alloc: Global,
+    source: &str,
+    events: &[Event],
+) -> Result<(Slots<Item>, RawString), ParseFault>
+    requires cut { AreEventsOf source.now events.now }
+    requires spans { AreIn source.now events.now }
+    ensures parsed { IfOk result (λ r. IsParsed source.now (slots_view r.0) r.1) }
+    ensures every { (d : Document) → AcceptedAs source.now d → IsOk result ⊎ IsErrOf result ParseFault.Memory }
+    ensures refused { IfErr result (λ e. IfToml e (IsRefusal source.now)) }
+{
+    if are_cut_short(events) {
+        Err(cut_short(alloc, source, events))
+    } else {
+        read_all(alloc, source, events)
+    }
+}
+
+/// The slots of the root of a text's tree, whose keys and values are spans of the text, and the text after the last statement. The
+/// errors are a `TomlError` for a text that is refused, and want of memory.
+#[doc(hidden)]
+pub fn parse(alloc: Global, source: &str) -> Result<(Slots<Item>, RawString), ParseFault>
+    ensures parsed { IfOk result (λ r. IsParsed source.now (slots_view r.0) r.1) }
+    // An accepted text is never refused.
+    ensures every { (d : Document) → AcceptedAs source.now d → IsOk result ⊎ IsErrOf result ParseFault.Memory }
+    ensures refused { IfErr result (λ e. IfToml e (IsRefusal source.now)) }
+{
+    match events(alloc, source) {
+        Ok(events) => parse_events(alloc, source, events.as_slice()),
+        Err(SyntaxFault::Memory) => Err(ParseFault::Memory),
+        Err(SyntaxFault::Text(mistake, span)) => {
+            Err(refusal(alloc, source, mistake.message(), span))
+        }
+    }
+}
