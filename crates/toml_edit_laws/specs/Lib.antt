@@ -11,6 +11,7 @@ pub mod Extents
 pub mod KeptKeys
 pub mod Building
 pub mod AddPath
+pub mod PlaceOrder
 pub mod AcceptedPrints
 pub mod Reparse
 pub mod PrintOfRead
