@@ -12,6 +12,7 @@ pub mod KeptKeys
 pub mod Building
 pub mod AddPath
 pub mod PlaceOrder
+pub mod InPlace
 pub mod AcceptedPrints
 pub mod Reparse
 pub mod PrintOfRead

@@ -12,7 +12,8 @@ use Rattle.toml_edit_laws.specs.InlineTree.{node_at, with_node}
 use Rattle.toml_edit_laws.specs.TableTree.{with_item, reaching, headed_table, change_last}
 use Rattle.toml_edit_laws.specs.Building.{change_in}
 use Rattle.toml_edit_laws.specs.AddPath.{Addition, a_value, a_table, an_element, makes_dotted, extend_in, inside}
-use Rattle.toml_edit_laws.specs.PlaceOrder.{key_place, NodeIsPlaced, ItemsArePlaced, ArePlaced, replace_slot, add_in_place, put_in_place, StandWithin, IsRealAddition}
+use Rattle.toml_edit_laws.specs.PlaceOrder.{key_place, NodeIsPlaced, ItemsArePlaced, ArePlaced}
+use Rattle.toml_edit_laws.specs.InPlace.{replace_slot, add_in_place, put_in_place, StandWithin, IsRealAddition}
 use Rattle.toml_edit_laws.proofs.common.Tests.{or-left, or-right, or-both, same_text-is, same_text-swap}
 use Rattle.toml_edit_laws.proofs.building.PlacePaths.{found-placed, last-in-place, new-in-place, there-in-place}
 

@@ -11,7 +11,8 @@ use Rattle.toml_edit_laws.specs.InlineTree.{node_at, with_node}
 use Rattle.toml_edit_laws.specs.TableTree.{without_slot, with_item, reaching, headed_table, change_last, extend_below, pass_below, add_line, add_header}
 use Rattle.toml_edit_laws.specs.Building.{change_in}
 use Rattle.toml_edit_laws.specs.AddPath.{Addition, a_value, a_table, an_element, add_path, makes_dotted, extend_in, inside, put_last_key}
-use Rattle.toml_edit_laws.specs.PlaceOrder.{key_place, node_by_place, items_by_place, slots_by_place, NodeIsPlaced, ItemsArePlaced, ArePlaced, replace_slot, add_table, add_in_place, put_in_place, StandWithin, IsRealAddition}
+use Rattle.toml_edit_laws.specs.PlaceOrder.{key_place, node_by_place, items_by_place, slots_by_place, NodeIsPlaced, ItemsArePlaced, ArePlaced}
+use Rattle.toml_edit_laws.specs.InPlace.{replace_slot, add_table, add_in_place, put_in_place, StandWithin, IsRealAddition}
 use Rattle.toml_edit_laws.proofs.common.OptionSteps.{some-is}
 use Rattle.toml_edit_laws.proofs.building.OneKey.{last-put, new-below, there-below, extend-there, pass-there}
 use Rattle.toml_edit_laws.proofs.building.PlaceSlots.{node-order, put-order, last-order, move-order}

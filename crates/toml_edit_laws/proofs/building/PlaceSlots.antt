@@ -8,7 +8,8 @@ use Rattle.toml_edit_model.specs.Tree.{Key, Node, Slots, no_slots, slot, has_key
 use Rattle.toml_edit_laws.specs.FlatTree.{with_slot}
 use Rattle.toml_edit_laws.specs.InlineTree.{node_at, with_node}
 use Rattle.toml_edit_laws.specs.TableTree.{without_slot}
-use Rattle.toml_edit_laws.specs.PlaceOrder.{key_place, slot_by_place, node_by_place, slots_by_place, NodeIsPlaced, ArePlaced, replace_slot}
+use Rattle.toml_edit_laws.specs.PlaceOrder.{key_place, slot_by_place, node_by_place, slots_by_place, NodeIsPlaced, ArePlaced}
+use Rattle.toml_edit_laws.specs.InPlace.{replace_slot}
 use Rattle.toml_edit_laws.proofs.common.Tests.{or-left, or-right, same_text-is, same_text-swap}
 
 lt-true : (a b : ℕ) → nat_lt a b ≡ true → a < b
