@@ -5,3 +5,5 @@ pub mod SwapLaws
 pub mod LoopLaws
 pub mod StatementLaws
 pub mod WholeLaws
+pub mod NamesLaws
+pub mod OpeningLaws

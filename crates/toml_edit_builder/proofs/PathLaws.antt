@@ -95,11 +95,11 @@ IsStep t s (m ∷ n ∷ ms) r = IsKeyOf s true m r.key r.span × ((path : KeyPat
 abbrev own_leaf : Source → Decor
 own_leaf s = statement_leaf spanned_form s s.statement
 
-key_last : (own : Decor) (start : ℕ) (g : Segment) (k : Key) (rest : Option KeyPath) → IsKeyBefore own start g [] k rest → (k ≡ segment_key own start g) × (rest ≡ None)
+pub key_last : (own : Decor) (start : ℕ) (g : Segment) (k : Key) (rest : Option KeyPath) → IsKeyBefore own start g [] k rest → (k ≡ segment_key own start g) × (rest ≡ None)
 key_last own start g k None h = (h, refl)
 key_last own start g k (Some path) h = absurd h
 
-key_passed : (own : Decor) (start : ℕ) (g h : Segment) (p : List Segment) (k : Key) (rest : Option KeyPath) → IsKeyBefore own start g (h ∷ p) k rest
+pub key_passed : (own : Decor) (start : ℕ) (g h : Segment) (p : List Segment) (k : Key) (rest : Option KeyPath) → IsKeyBefore own start g (h ∷ p) k rest
     → (k ≡ segment_key unset start g) × ((path : KeyPath) × (rest ≡ Some path) × IsPathFrom own (next_start start g) (h ∷ p) path)
 key_passed own start g h p k None is = absurd is
 key_passed own start g h p k (Some path) is = (is.0, (path, refl, is.1))
@@ -108,10 +108,10 @@ no_mentions : (s : Source) (start : ℕ) (g : Segment) (p : List Segment) → Ar
 no_mentions s start g [] h = h
 no_mentions s start g (h ∷ p) is = is
 
-end_of : (g h : Segment) (p : List Segment) → IsEndOfPath (g ∷ h ∷ p) → IsEndOfPath (h ∷ p)
+pub end_of : (g h : Segment) (p : List Segment) → IsEndOfPath (g ∷ h ∷ p) → IsEndOfPath (h ∷ p)
 end_of g h p are = record { some = refl; ends = are.ends; spelled = are.spelled.1 }
 
-path_rest : (t : Text) (start : ℕ) (g h : Segment) (p : List Segment) → Stands t start (path_text (g ∷ h ∷ p)) → Stands t (next_start start g) (path_text (h ∷ p))
+pub path_rest : (t : Text) (start : ℕ) (g h : Segment) (p : List Segment) → Stands t start (path_text (g ∷ h ∷ p)) → Stands t (next_start start g) (path_text (h ∷ p))
 path_rest t start g h p is =
     stands-right t (start + length (segment_text g)) (46 ∷ []) (path_text (h ∷ p)) (stands-right t start (segment_text g) _ is)
 
@@ -174,7 +174,7 @@ last-here t r s (m ∷ []) k a ss new is none f =
     goes-same t r _ _ _ _ new new (last-put plain a m ss) (last-clash a m ss) refl (f m is.0)
 last-here t r s (m ∷ n ∷ ms) k a ss new is none f = absurd (let e = sym none ∙ is.1.1 in cc)
 
-same_path : (p q : KeyPath) → ◌≡◌ {A = Option KeyPath} (Some p) (Some q) → p ≡ q
+pub same_path : (p q : KeyPath) → ◌≡◌ {A = Option KeyPath} (Some p) (Some q) → p ≡ q
 same_path p q e = cc
 
 -- a key before the last that is new

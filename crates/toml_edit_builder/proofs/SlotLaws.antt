@@ -2,8 +2,8 @@
 use Rattle.std.proofs.Common.{◌≡◌, ℕ, zero, suc, true, false, List, [], ◌∷◌, cond, Bool, refl, sym, ap, inl, inr, arith, Option, Some, None, option_map, slice_get}
 use Rattle.std.proofs.lemmas.Bool.{cases_Bool}
 use Rattle.std.proofs.lemmas.Option.{same_Some}
-use Rattle.toml_edit_model.specs.Text.{Text}
-use Rattle.toml_edit_model.specs.Tree.{Node, Slots, slot}
+use Rattle.toml_edit_model.specs.Text.{Text, same_text}
+use Rattle.toml_edit_model.specs.Tree.{Node, Slots, no_slots, slot}
 use Rattle.toml_edit_laws.specs.InlineTree.{node_at, with_node}
 use Rattle.toml_edit_laws.specs.TableTree.{without_slot}
 use Rattle.toml_edit_slots.specs.declared.slots.Slot as repr
@@ -80,4 +80,13 @@ none-taken k (x ∷ es) h =
     elim (cases_Bool (is_at k x)) [
       | inl same ↦ absurd (let e = rw same at h in cc)
       | inr other ↦ let f = none-taken k es (rw other at h) in rw other (f.0, ap (λ (ys : List (repr.Slot Item)). x ∷ ys) f.1)
+    ]
+
+-- the item at a key, put there, changes nothing
+pub node-same : (k : Text) (n : Node) (ss : Slots) → node_at k ss ≡ Some n → with_node k n ss ≡ ss
+node-same k n no_slots h = absurd cc
+node-same k n (slot l m ss) h =
+    elim (cases_Bool (same_text k l.name)) [
+      | inl same ↦ rw same (ap (λ (x : Node). slot l x ss) (sym (same_Some m n (rw same at h))))
+      | inr other ↦ rw other (ap (slot l m) (node-same k n ss (rw other at h)))
     ]

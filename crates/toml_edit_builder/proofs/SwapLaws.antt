@@ -7,6 +7,7 @@ use Rattle.toml_edit_laws.specs.InlineTree.{node_at, with_node}
 use Rattle.toml_edit_laws.specs.Building.{slots_in, last_slots, slots_along, Builder}
 use Rattle.toml_edit_laws.specs.AddPath.{put_last, put_in, put_along, last_item, with_last}
 use Rattle.toml_edit_laws.proofs.common.OptionSteps.{some-is}
+use Rattle.toml_edit_builder.proofs.SlotLaws.{node-same}
 use Rattle.toml_edit_laws.proofs.building.Along.{put_put, along_put, put_same}
 use Rattle.std.specs.declared.alloc.Global.{Global}
 use Rattle.toml_edit_tree.specs.declared.array_of_tables.ArrayOfTables.{ArrayOfTables, out-ArrayOfTables, roll-ArrayOfTables}
@@ -25,19 +26,23 @@ pub no-name : (block : List Text) → ◌≡◌ {A = Option (Text × List Text)}
 no-name [] h = refl
 no-name (j ∷ js) h = absurd cc
 
-pub swap-all : (block : List Text) (others ss out new : Slots) → block ≡ [] → out ≡ ss → new ≡ others → Swaps (slots_along block ss) out (put_along block others ss) new
-swap-all block others ss out new p e f = rw p (λ inner h. (e ∙ some-is ss inner h, f))
+pub swap-all : (block : List Text) (others ss out new : Slots) → block ≡ [] → out ≡ ss → new ≡ others
+    → Swaps (slots_along block ss) others ss (put_along block others ss) out new
+swap-all block others ss out new p e f = rw p (λ inner h. (e ∙ some-is ss inner h, f), λ h. absurd cc)
 
-pub swap-none : (block : List Text) (k : Text) (rest : List Text) (others ss out new : Slots) → block ≡ k ∷ rest → node_at k ss ≡ None
-    → Swaps (slots_along block ss) out (put_along block others ss) new
-swap-none block k rest others ss out new p e = rw (p, e) (λ inner h. absurd cc)
+pub swap-none : (block : List Text) (k : Text) (rest : List Text) (others ss out new : Slots) → block ≡ k ∷ rest → node_at k ss ≡ None → out ≡ others → new ≡ ss
+    → Swaps (slots_along block ss) others ss (put_along block others ss) out new
+swap-none block k rest others ss out new p e same stays = rw (p, e) (λ inner h. absurd cc, λ h. (same, stays))
 
 pub swap-there : (block : List Text) (k : Text) (rest : List Text) (others ss out new : Slots) (old changed : Node) → block ≡ k ∷ rest → node_at k ss ≡ Some old
     → new ≡ with_node k changed ss
-    → Swaps (option_and_then (slots_along rest) (slots_in old)) out (put_in (put_along rest others) old) changed
-    → Swaps (slots_along block ss) out (put_along block others ss) new
+    → Swaps (option_and_then (slots_along rest) (slots_in old)) others old (put_in (put_along rest others) old) out changed
+    → Swaps (slots_along block ss) others ss (put_along block others ss) out new
 swap-there block k rest others ss out new old changed p e s f =
-    rw (p, e) (λ inner h. let g = f inner h in (g.0, s ∙ ap (λ (n : Node). with_node k n ss) g.1))
+    rw (p, e) (
+      λ inner h. let g = f.0 inner h in (g.0, s ∙ ap (λ (n : Node). with_node k n ss) g.1),
+      λ h. let g = f.1 h in (g.0, s ∙ ap (λ (n : Node). with_node k n ss) g.1 ∙ node-same k old ss e),
+    )
 
 -- ---- in the last element
 
@@ -52,28 +57,42 @@ last-put put no_items last changed h e = absurd cc
 last-put put (item x no_items) last changed h e = e ∙ ap (λ (n : Node). put_last put (item n no_items)) (sym (some-is x last h))
 last-put put (item x (item m xs)) last changed h e = ap (item x) (last-put put (item m xs) last changed h e)
 
+last-same : (xs : Items) (last : Node) → last_item xs ≡ Some last → with_last last xs ≡ xs
+last-same no_items last h = refl
+last-same (item x no_items) last h = ap (λ (n : Node). item n no_items) (sym (some-is x last h))
+last-same (item x (item m xs)) last h = ap (item x) (last-same (item m xs) last h)
+
+one_item : (n m : Node) → item n no_items ≡ item m no_items → n ≡ m
+one_item n m h = cc
+
 pub swap-last : (block : List Text) (others out : Slots) (e : Extent) (xs ys : Items) (new last changed : Node) → new ≡ tables e ys
     → last_item xs ≡ Some last → ys ≡ with_last changed xs
-    → Swaps (option_and_then (slots_along block) (last_slots (item last no_items))) out (put_last (put_along block others) (item last no_items)) (item changed no_items)
-    → Swaps (option_and_then (slots_along block) (last_slots xs)) out (tables e (put_last (put_along block others) xs)) new
+    → Swaps (option_and_then (slots_along block) (last_slots (item last no_items))) others (item last no_items)
+    (put_last (put_along block others) (item last no_items)) out (item changed no_items)
+    → Swaps (option_and_then (slots_along block) (last_slots xs)) others (tables e xs) (tables e (put_last (put_along block others) xs)) out new
 swap-last block others out e xs ys new last changed is one put f =
-    λ inner h.
-    let g = f inner (ap (option_and_then (slots_along block)) (sym (last-found xs last one)) ∙ h) in
-    (g.0, is ∙ ap (tables e) (put ∙ last-put (put_along block others) xs last changed one g.1))
+    let found = ap (option_and_then (slots_along block)) (sym (last-found xs last one)) in (
+      λ inner h.
+          let g = f.0 inner (found ∙ h) in
+          (g.0, is ∙ ap (tables e) (put ∙ last-put (put_along block others) xs last changed one g.1)),
+      λ h.
+          let g = f.1 (found ∙ h) in
+          (g.0, is ∙ ap (tables e) (put ∙ ap (λ (n : Node). with_last n xs) (one_item changed last g.1) ∙ last-same xs last one)),
+    )
 
 -- ---- between statements
 
 -- what is put back is the whole
 pub whole-again : (ks : List Text) (current root old out new : Slots) → slots_along ks root ≡ Some old
-    → Swaps (slots_along ks root) out (put_along ks current root) new → new ≡ put_along ks current root
-whole-again ks current root old out new there s = (s old there).1
+    → Swaps (slots_along ks root) current root (put_along ks current root) out new → new ≡ put_along ks current root
+whole-again ks current root old out new there s = (s.0 old there).1
 
 -- What is taken out of the whole, where the table of a block is there, is the whole together with what stays.
 pub taken-out : (ks : List Text) (empty whole inner out new : Slots) → slots_along ks whole ≡ Some inner
-    → Swaps (slots_along ks whole) out (put_along ks empty whole) new
+    → Swaps (slots_along ks whole) empty whole (put_along ks empty whole) out new
     → (slots_along ks new ≡ Some empty) × (whole ≡ put_along ks out new)
 taken-out ks empty whole inner out new there s =
-    let (is, left) = s inner there in (
+    let (is, left) = s.0 inner there in (
       ap (slots_along ks) left ∙ along_put ks empty whole inner there,
       sym (ap (put_along ks out) left ∙ put_put ks empty out whole ∙ ap (λ (us : Slots). put_along ks us whole) is ∙ put_same ks whole inner there),
     )

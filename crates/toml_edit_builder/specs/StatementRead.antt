@@ -1,26 +1,33 @@
 -- What reading the statements of a text, one after another, does to what is held of its tree (TOML 1.1.0, "Key/Value Pair", "Table" and
 -- "Array of Tables").
-use Rattle.std.specs.Prelude.{◌≡◌, ℕ, ◌-◌, true, List, [], ◌∷◌, ◌++◌, length, Option, Some, Result, Ok, Err}
+use Rattle.std.specs.Prelude.{◌≡◌, ℕ, ◌+◌, ◌-◌, Bool, true, if◌then◌else◌, List, [], ◌∷◌, ◌++◌, length, map, Option, Some, String, Vec, Result, Ok, Err}
+use Rattle.std.specs.declared.alloc.Global.{Global}
 use Rattle.std.specs.Borrow.{Bor}
 use Rattle.toml_edit_model.specs.Mode.{plain}
 use Rattle.toml_edit_model.specs.Text.{Text}
-use Rattle.toml_edit_model.specs.Syntax.{Statement, IsStatement, Document, document_text}
+use Rattle.toml_edit_model.specs.Syntax.{Segment, Header, Statement, IsStatement, Document, opening_brackets, brackets_text, document_text}
 use Rattle.toml_edit_model.specs.Accepted.{is_accepted}
 use Rattle.toml_edit_model.specs.Faults.{own_faults}
-use Rattle.toml_edit_model.specs.Tree.{Raw, Node, Slots, Tree}
-use Rattle.toml_edit_model.specs.TreeOf.{spanned_form, root_fields, IsTreeOf}
-use Rattle.toml_edit_laws.specs.Building.{slots_along, Builder, added, faults_at, behind, IsStatementNode, IsRefusedBy}
+use Rattle.toml_edit_model.specs.Tree.{Raw, Node, nothing, Slots, Tree}
+use Rattle.toml_edit_model.specs.TreeOf.{spanned_form, header_leaf, root_fields, IsTreeOf}
+use Rattle.toml_edit_laws.specs.Building.{slots_along, Builder, added, clash_at, faults_at, behind, IsStatementNode, IsRefusedBy}
+use Rattle.toml_edit_laws.specs.TableClash.{table_way_faults}
 use Rattle.toml_edit_laws.specs.AddPath.{put_along}
 use Rattle.toml_edit_error.specs.Report.{Report, fault_of}
 use Rattle.toml_edit_error.specs.Fault.{IfToml}
 use Rattle.toml_edit_error.specs.declared.toml_error.ParseFault.{ParseFault}
 use Rattle.toml_edit_syntax.specs.declared.event.Event.{Event}
 use Rattle.toml_edit_syntax.specs.declared.event.EventKind.TheVariants.{Final}
+use Rattle.toml_edit_syntax.specs.declared.event.Span.{Span}
 use Rattle.toml_edit_syntax.specs.ValueEvents.{event, shortened}
 use Rattle.toml_edit_tree.specs.View.{slots_view}
-use Rattle.toml_edit_parser.specs.ValueRead.{NamesOne}
+use Rattle.toml_edit_parser.specs.PathRead.{IsPathFrom}
+use Rattle.toml_edit_parser.specs.ValueRead.{NamesOne, span_at}
 use Rattle.toml_edit_builder.specs.BlockRead.{names}
 use Rattle.toml_edit_builder.specs.declared.parser.Building.{Building}
+use Rattle.toml_edit_builder.specs.declared.path.Kind.{Kind}
+use Rattle.toml_edit_builder.specs.declared.path.Kind.TheVariants as kinds
+use Rattle.toml_edit_builder.specs.declared.statement.HeaderParts.{HeaderParts}
 
 -- a statement of the grammar, whatever ends it
 abbrev pub IsWhole : Statement → Type 0
@@ -49,6 +56,36 @@ pub record IsAdded (b : Builder) (s : Statement) (more : List Event) (new : Buil
 abbrev pub ReadsStatement : Text → Builder → Statement → List Event → Building → Result (Bor (List Event)) ParseFault → Type 0
 ReadsStatement t b s more new (Ok r) = IsAdded b s more new r.now
 ReadsStatement t b s more new (Err e) = IfToml e (NamesOne t (faults_at b s))
+
+-- ---- a header
+
+-- what a header adds, by whether its brackets are two, and where they stand
+abbrev pub kind_of : Bool → Span → Kind
+kind_of is_array brackets = if is_array then kinds.Element brackets else kinds.Table
+
+-- the parts of a header that begins at this byte
+pub record AreHeaderParts (h : Header) (start : ℕ) (parts : HeaderParts) : Type 0 where
+  pub leading : parts.leading ≡ span_at start h.leading
+  pub is_array : parts.is_array ≡ h.is_array
+  pub brackets : parts.brackets ≡ span_at (start + length h.leading) (brackets_text h)
+  pub path : IsPathFrom (header_leaf spanned_form (start + length h.leading + length (opening_brackets h.is_array)) h)
+      (start + length h.leading + length (opening_brackets h.is_array) + length h.opening) h.path parts.path
+  pub trailing : parts.trailing ≡ span_at (start + length h.leading + length (brackets_text h)) h.trailing
+
+-- the names of a path's keys; nothing but want of memory stands in the way
+abbrev pub ReadsNames : List Segment → Result (Vec (String Global) Global) ParseFault → Type 0
+ReadsNames p (Ok v) = names v.items ≡ map (λ s. s.key) p
+ReadsNames p (Err e) = IfToml e (λ r. ⊥)
+
+-- The header's table is added: the builder behind it is what is held.
+pub record IsOpened (b : Builder) (s : Statement) (new : Building) : Type 0 where
+  pub slots : Slots
+  pub added_is : added plain b s nothing ≡ Some slots
+  pub held : (inner : Slots) → slots_along (behind b s slots).block slots ≡ Some inner → IsHeld (behind b s slots) new
+
+abbrev pub OpensBlock : {A : Type 0} → Text → Builder → Statement → Building → Result A ParseFault → Type 0
+OpensBlock t b s new (Ok a) = IsOpened b s new
+OpensBlock t b s new (Err e) = IfToml e (NamesOne t (table_way_faults (clash_at b s)))
 
 -- ---- all statements
 

@@ -21,11 +21,11 @@ fn split_name(block: &[String]) -> Option<(&str, &[String])>
     Some((first.as_str(), rest))
 }
 
-/// Exchanges other slots with those of the table at these names, if there is one.
+/// Exchanges other slots with those of the table at these names; where there is no such table both stay as they are.
 #[cycle(swap)]
 pub fn swap_block(block: &[String], others: &mut Slots<Item>, slots: &mut Slots<Item>)
-    ensures { Swaps (slots_along (names block.now) (slots_view slots.old)) (slots_view others.new)
-        (put_along (names block.now) (slots_view others.old) (slots_view slots.old)) (slots_view slots.new) }
+    ensures { Swaps (slots_along (names block.now) (slots_view slots.old)) (slots_view others.old) (slots_view slots.old)
+        (put_along (names block.now) (slots_view others.old) (slots_view slots.old)) (slots_view others.new) (slots_view slots.new) }
 {
     match split_name(block) {
         None => mem::swap(others, slots),
@@ -39,8 +39,8 @@ pub fn swap_block(block: &[String], others: &mut Slots<Item>, slots: &mut Slots<
 /// The same in the item at a name.
 #[cycle(swap)]
 fn swap_item(block: &[String], others: &mut Slots<Item>, holder: &mut Item)
-    ensures { Swaps (option_and_then (slots_along (names block.now)) (slots_in (item_view holder.old))) (slots_view others.new)
-        (put_in (put_along (names block.now) (slots_view others.old)) (item_view holder.old)) (item_view holder.new) }
+    ensures { Swaps (option_and_then (slots_along (names block.now)) (slots_in (item_view holder.old))) (slots_view others.old) (item_view holder.old)
+        (put_in (put_along (names block.now) (slots_view others.old)) (item_view holder.old)) (slots_view others.new) (item_view holder.new) }
 {
     match holder {
         Item::Table(table) => swap_table(block, others, table),
@@ -52,8 +52,9 @@ fn swap_item(block: &[String], others: &mut Slots<Item>, holder: &mut Item)
 /// The same in a table.
 #[cycle(swap)]
 fn swap_table(block: &[String], others: &mut Slots<Item>, table: &mut Table)
-    ensures { Swaps (slots_along (names block.now) (table_view table.old).slots) (slots_view others.new)
-        (table_of (table_view table.old).fields (put_along (names block.now) (slots_view others.old) (table_view table.old).slots)) (table_node (table_view table.new)) }
+    ensures { Swaps (slots_along (names block.now) (table_view table.old).slots) (slots_view others.old) (table_node (table_view table.old))
+        (table_of (table_view table.old).fields (put_along (names block.now) (slots_view others.old) (table_view table.old).slots))
+        (slots_view others.new) (table_node (table_view table.new)) }
 {
     swap_block(block, others, table.slots_mut())
 }
@@ -61,8 +62,10 @@ fn swap_table(block: &[String], others: &mut Slots<Item>, table: &mut Table)
 /// The same in the last element of an array of tables.
 #[cycle(swap)]
 fn swap_tables(block: &[String], others: &mut Slots<Item>, tables: &mut ArrayOfTables)
-    ensures { Swaps (option_and_then (slots_along (names block.now)) (last_slots (tables_view tables.old).items)) (slots_view others.new)
-        (tables_of (tables_view tables.old).extent (put_last (put_along (names block.now) (slots_view others.old)) (tables_view tables.old).items)) (tables_node (tables_view tables.new)) }
+    ensures { Swaps (option_and_then (slots_along (names block.now)) (last_slots (tables_view tables.old).items)) (slots_view others.old)
+        (tables_node (tables_view tables.old))
+        (tables_of (tables_view tables.old).extent (put_last (put_along (names block.now) (slots_view others.old)) (tables_view tables.old).items))
+        (slots_view others.new) (tables_node (tables_view tables.new)) }
 {
     match tables.values.last_mut() {
         None => {}
@@ -73,8 +76,9 @@ fn swap_tables(block: &[String], others: &mut Slots<Item>, tables: &mut ArrayOfT
 /// The same in an element, if it is a table.
 #[cycle(swap)]
 fn swap_last(block: &[String], others: &mut Slots<Item>, holder: &mut Item)
-    ensures { Swaps (option_and_then (slots_along (names block.now)) (last_slots (item_of (item_view holder.old) no_items))) (slots_view others.new)
-        (put_last (put_along (names block.now) (slots_view others.old)) (item_of (item_view holder.old) no_items)) (item_of (item_view holder.new) no_items) }
+    ensures { Swaps (option_and_then (slots_along (names block.now)) (last_slots (item_of (item_view holder.old) no_items))) (slots_view others.old)
+        (item_of (item_view holder.old) no_items) (put_last (put_along (names block.now) (slots_view others.old)) (item_of (item_view holder.old) no_items))
+        (slots_view others.new) (item_of (item_view holder.new) no_items) }
 {
     match holder {
         Item::Table(table) => swap_table(block, others, table),

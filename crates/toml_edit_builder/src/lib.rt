@@ -6,6 +6,7 @@ mod document;
 mod last_key;
 mod parser;
 mod path;
+mod statement;
 
 #[doc(hidden)]
 pub use block::swap_block;

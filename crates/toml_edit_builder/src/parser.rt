@@ -14,6 +14,7 @@ ghost use Rattle.toml_edit_parser.specs.ValueRead.{AreIn, split_leading};
 ghost use Rattle.toml_edit_builder.specs.StatementRead.{Builds, IsHeld, IsWhole, ReadsStatement};
 
 use crate::block::swap_block;
+use crate::statement::read_statement;
 use std::alloc::Global;
 use toml_edit_error::ParseFault;
 use toml_edit_repr::RawString;
@@ -22,13 +23,15 @@ use toml_edit_syntax::{Event, EventKind, Span};
 use toml_edit_tree::Item;
 
 /// What is held of a tree between statements: the slots of the root, without those of the table that key lines are added to, which are held
-/// by themselves; the keys of that table, and how many headers there were. So a key line costs nothing for the path of its table.
+/// by themselves; the keys of that table, and how many headers there were. So a key line costs nothing for the path of its table. The
+/// item is the one on its way into the tree, and counts for nothing between statements.
 #[derive(Drop)]
-struct Building {
-    root: Slots<Item>,
-    current: Slots<Item>,
-    block: Vec<String>,
-    headers: usize,
+pub(crate) struct Building {
+    pub(crate) root: Slots<Item>,
+    pub(crate) current: Slots<Item>,
+    pub(crate) block: Vec<String>,
+    pub(crate) headers: usize,
+    pub(crate) item: Item,
 }
 
 /// Whether a statement comes first.
@@ -39,23 +42,6 @@ fn starts_statement(events: &[Event]) -> bool
         Some(first) => matches!(first.kind, EventKind::Leading),
         None => false,
     }
-}
-
-/// Adds the statement that comes first, and gives the events behind it.
-fn read_statement<'a>(
-    alloc: Global,
-    source: &str,
-    building: &mut Building,
-    events: &'a [Event],
-) -> Result<&'a [Event], ParseFault>
-    requires spans { AreIn source.now events.now }
-    ensures statement { (b : Builder) (s : Statement) (more : List Event) → IsWhole s → Stands source.now b.start (statement_text s)
-        → IsHeld b building.old → events.now ≡ shortened 0 (statement_events b.start s ++ more)
-        → ReadsStatement source.now b s more building.new result }
-    ensures input { IfErr result (λ e. IfToml e (λ r. r.input ≡ source.now)) }
-    ensures rest { IfOk result (λ r. AreIn source.now r.now × (length r.now < length events.now)) }
-{
-    Err(ParseFault::Memory)
 }
 
 /// The slots of the root.
@@ -106,6 +92,7 @@ pub(crate) fn build(
         current: Slots::new(alloc),
         block: Vec::new(alloc),
         headers: 0,
+        item: Item::None,
     };
     let mut rest = events;
     'statements: while starts_statement(rest) {
@@ -113,31 +100,3 @@ pub(crate) fn build(
     }
     Ok((whole(building), trailing(rest)))
 }
-
-// DRAFT, not checked: the body of read_statement.
-//
-//     let Some((leading, behind)) = split_first(events) else { return Err(refusal_of_all(alloc, source, "expected a key")); };
-//     let Some((opening, inside)) = split_first(behind) else { return Err(refusal_of_all(alloc, source, "expected a key")); };
-//     match opening.kind {
-//         EventKind::HeaderOpen | EventKind::ArrayHeaderOpen => add_header(alloc, source, leading.span, opening, building, inside),
-//         _ => add_line(alloc, source, leading.span, building, behind),
-//     }
-//
-// fn add_line(.., leading: Span, building, events):
-//     let mut item = Item::None;                                        // (or a field of Building, which saves its drops)
-//     let (path, rest) = read_key_line(alloc, source, leading, events, &mut item)?;
-//     add_path(alloc, source, Kind::Line, path, &mut item, &mut building.current)?;
-//     Ok(rest)
-//   events are shortened 0 (line_behind b.start f v more) of StatementParts; line-added, line-clashes, line-held of StatementLaws
-//
-// fn add_header(.., leading: Span, opening: Event, building, events):
-//     let (header, rest) = read_header(alloc, source, leading, opening.span, events)?;      // toml_edit_parser::statement
-//     let block = read_names(alloc, source, header.path.events)?;                            // Vec<String>, one for each Key event
-//     swap_block(building.block.as_slice(), &mut building.current, &mut building.root);      // put-back: the root is the whole
-//     building.headers += 1;                                                                 // requires headers + length events <= isize::MAX
-//     let mut item = Item::Table(Table::headed(Slots::new(alloc), Decor::new(raw(leading), raw(header.trailing)), headers as isize, start, end));
-//     add_path(alloc, source, kind, header.path, &mut item, &mut building.root)?;
-//     building.block = block;
-//     building.current = Slots::new(alloc);
-//     swap_block(building.block.as_slice(), &mut building.current, &mut building.root);      // header-held
-//     Ok(rest)

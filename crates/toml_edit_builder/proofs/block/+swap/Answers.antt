@@ -12,7 +12,7 @@ pub swap_block-returns-in-None-find : goal.swap_block-returns-in-None-find
 swap_block-returns-in-None-find t c =
     swap-none (names c.args.block.now) c.in-Some.first.now (names c.in-Some.rest.now) (slots_view c.args.others.now) (slots_view c.args.slots.now) _ _
     (name-is (names c.args.block.now) _ _ c.in-Some.ensures)
-    (node-none c.in-Some.first.now c.args.slots.now (sym c.in-None-find.ensures.place))
+    (node-none c.in-Some.first.now c.args.slots.now (sym c.in-None-find.ensures.place)) refl refl
 
 pub swap_block-returns-in-Some-find : goal.swap_block-returns-in-Some-find
 swap_block-returns-in-Some-find t c =

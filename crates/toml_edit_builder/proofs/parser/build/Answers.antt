@@ -1,6 +1,7 @@
 -- The loop over statements, turn by turn.
-use Rattle.std.proofs.Common.{sym, ap, refl, ◌∙◌}
+use Rattle.std.proofs.Common.{sym, ap, refl, ◌∙◌, arith}
 use Rattle.std.proofs.lemmas.Result.{err_from_is_err_and}
+use Rattle.toml_edit_tree.specs.declared.item.Item.TheVariants as items
 use Rattle.toml_edit_tree.specs.View.{slots_view}
 use Rattle.toml_edit_builder.proofs.LoopLaws.{held_first, at_start, next, is-whole, stands-here, more, goes_on, refused, ended, built}
 use Rattle.toml_edit_builder.specs.declared.parser.Building.{Building}
@@ -10,8 +11,9 @@ pub statements-init : goal.statements-init
 statements-init c =
     record {
       spans = c.requires;
+      count = omega arith;
       progress = λ d cut e.
-          let held : Building = record { root = c.new.result; current = c.new-2.result; block = c.new-3.result; headers = 0 } in
+          let held : Building = record { root = c.new.result; current = c.new-2.result; block = c.new-3.result; headers = 0; item = items.None } in
           at_start c.args.source.now d c.args.events.now held cut e
           (held_first d.has_mark held (ap slots_view c.new.ensures) (ap slots_view c.new-2.ensures) c.new-3.ensures.items refl);
     }
@@ -20,6 +22,7 @@ pub statements-preserved : goal.statements-preserved
 statements-preserved c =
     record {
       spans = c.in_ok-rest.ensures.rest.0;
+      count = let kept = c.in_ok-rest.ensures.count in let before = c.statements.invariant.count in omega (arith, kept, before);
       progress = λ d cut e.
           let t = c.args.source.now in
           let n = next t d c.statements.rest.now c.statements.building (c.statements.invariant.progress d cut e) (sym c.starts_statement.ensures ∙ c.statements-test.true) in

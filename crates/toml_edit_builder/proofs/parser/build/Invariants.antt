@@ -1,4 +1,4 @@
-use Rattle.std.proofs.Common.{◌≡◌, length}
+use Rattle.std.proofs.Common.{◌≡◌, ◌+◌, ◌<◌, ◌^◌, length}
 use Rattle.toml_edit_model.specs.Syntax.{Document, IsCut}
 use Rattle.toml_edit_syntax.specs.Events.{events_of}
 use Rattle.toml_edit_syntax.specs.ValueEvents.{shortened}
@@ -11,6 +11,7 @@ abbrev pub invariant-statements : goal.invariant-statements
 invariant-statements l =
     record {
       spans : AreIn l.source l.rest;
+      count : l.building.headers + length l.rest < 2 ^ 63;
       progress : (d : Document) → IsCut d l.source → l.events ≡ shortened 0 (events_of d) → Progress l.source d l.rest l.building;
     }
 

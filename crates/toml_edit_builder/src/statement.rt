@@ -1,0 +1,238 @@
+//! One statement after another, from its events into the tables of a document.
+ghost use Rattle.std.specs.Prelude.{◌≡◌, ◌+◌, ◌<◌, ◌≤◌, ◌^◌, ◌++◌, ◌∷◌, Bool, List, ℕ, suc, pos, length, IfErr, IfOk, OnOk, option_map};
+ghost use Rattle.toml_edit_model.specs.Syntax as syntax;
+ghost use Rattle.toml_edit_model.specs.Syntax.{Frame, Header, Segment, Statement, brackets_text, key_line, opening_brackets, path_text, statement_text};
+ghost use Rattle.toml_edit_model.specs.Text.{Text};
+ghost use Rattle.toml_edit_model.specs.Tree.{Decor};
+ghost use Rattle.toml_edit_laws.specs.Building.{Builder, source_at};
+ghost use Rattle.toml_edit_laws.specs.Standing.{Stands};
+ghost use Rattle.toml_edit_error.specs.Fault.{IfToml};
+ghost use Rattle.toml_edit_syntax.specs.Events.{IsSpanOf, statement_events};
+ghost use Rattle.toml_edit_syntax.specs.ValueEvents.{shortened};
+ghost use Rattle.toml_edit_tree.specs.View.{item_view};
+ghost use Rattle.toml_edit_parser.specs.PairRead.{IsEndOfPath};
+ghost use Rattle.toml_edit_parser.specs.PathRead.{IsPathFrom};
+ghost use Rattle.toml_edit_parser.specs.StatementParts.{header_behind, line_behind};
+ghost use Rattle.toml_edit_parser.specs.ValueRead.{AreIn, span_at};
+ghost use Rattle.toml_edit_builder.specs.StatementRead.{AreHeaderParts, IsHeld, IsWhole, OpensBlock, ReadsNames, ReadsStatement, kind_of};
+ghost use Rattle.toml_edit_builder.specs.TableRead.{IsHeaded};
+
+use crate::block::swap_block;
+use crate::parser::Building;
+use crate::path::{Kind, add_path};
+use std::alloc::Global;
+use toml_edit_error::ParseFault;
+use toml_edit_parser::{
+    KeyPath, PathKey, next_key, raw, read_header, read_key_line, refusal_of_all, split_first,
+};
+use toml_edit_repr::Decor;
+use toml_edit_slots::Slots;
+use toml_edit_syntax::{Event, EventKind, Span};
+use toml_edit_tree::{Item, Table};
+
+/// Where the parts of a header stand: the text before it, its brackets, the key inside them, and the text behind them.
+#[derive(Clone, Copy)]
+pub(crate) struct HeaderParts<'a> {
+    pub(crate) leading: Span,
+    pub(crate) is_array: bool,
+    pub(crate) brackets: Span,
+    pub(crate) path: KeyPath<'a>,
+    pub(crate) trailing: Span,
+}
+
+/// Adds the statement that comes first, and gives the events behind it. After an error what is held is to be given up.
+pub(crate) fn read_statement<'a>(
+    alloc: Global,
+    source: &str,
+    building: &mut Building,
+    events: &'a [Event],
+) -> Result<&'a [Event], ParseFault>
+    requires spans { AreIn source.now events.now }
+    requires count { building.old.headers + length events.now < 2 ^ 63 }
+    ensures statement { (b : Builder) (s : Statement) (more : List Event) → IsWhole s → Stands source.now b.start (statement_text s)
+        → IsHeld b building.old → events.now ≡ shortened 0 (statement_events b.start s ++ more)
+        → ReadsStatement source.now b s more building.new result }
+    ensures input { IfErr result (λ e. IfToml e (λ r. r.input ≡ source.now)) }
+    ensures rest { IfOk result (λ r. AreIn source.now r.now × (length r.now < length events.now)) }
+    ensures count { IfOk result (λ r. building.new.headers + length r.now ≤ building.old.headers + length events.now) }
+{
+    let Some((leading, behind)) = split_first(events) else {
+        return Err(refusal_of_all(alloc, source, "expected a key"));
+    };
+    let Some((opening, inside)) = split_first(behind) else {
+        return Err(refusal_of_all(alloc, source, "expected a key"));
+    };
+    match opening.kind {
+        EventKind::HeaderOpen => add_header(
+            alloc,
+            source,
+            leading.span,
+            false,
+            opening.span,
+            building,
+            inside,
+        ),
+        EventKind::ArrayHeaderOpen => add_header(
+            alloc,
+            source,
+            leading.span,
+            true,
+            opening.span,
+            building,
+            inside,
+        ),
+        _ => add_line(alloc, source, leading.span, building, behind),
+    }
+}
+
+/// Adds the key line behind this text, and gives the events behind it.
+fn add_line<'a>(
+    alloc: Global,
+    source: &str,
+    leading: Span,
+    building: &mut Building,
+    events: &'a [Event],
+) -> Result<&'a [Event], ParseFault>
+    requires leading { IsSpanOf source.now leading }
+    requires spans { AreIn source.now events.now }
+    ensures line { (b : Builder) (f : Frame) (v : syntax.Value) (end : Text) (more : List Event) → IsWhole (key_line f v end)
+        → Stands source.now b.start (statement_text (key_line f v end)) → IsHeld b building.old → leading ≡ span_at b.start f.leading
+        → events.now ≡ shortened 0 (line_behind b.start f v more) → ReadsStatement source.now b (key_line f v end) more building.new result }
+    ensures input { IfErr result (λ e. IfToml e (λ r. r.input ≡ source.now)) }
+    ensures rest { IfOk result (λ r. AreIn source.now r.now × (length r.now < length events.now)) }
+    ensures count { OnOk result (building.new.headers ≡ building.old.headers) }
+{
+    let (path, rest) = read_key_line(alloc, source, leading, events, &mut building.item)?;
+    add_path(
+        alloc,
+        source,
+        Kind::Line,
+        path,
+        &mut building.item,
+        &mut building.current,
+    )?;
+    Ok(rest)
+}
+
+/// Adds the header behind this text and its opening brackets, and gives the events behind it. The key lines that follow are its table's.
+fn add_header<'a>(
+    alloc: Global,
+    source: &str,
+    leading: Span,
+    is_array: bool,
+    opening: Span,
+    building: &mut Building,
+    events: &'a [Event],
+) -> Result<&'a [Event], ParseFault>
+    requires spans { AreIn source.now events.now }
+    requires count { building.old.headers + length events.now < 2 ^ 63 }
+    ensures header { (b : Builder) (h : Header) (end : Text) (more : List Event) → IsWhole (syntax.header h end)
+        → Stands source.now b.start (statement_text (syntax.header h end)) → IsHeld b building.old → leading ≡ span_at b.start h.leading
+        → is_array ≡ h.is_array → opening ≡ span_at (b.start + length h.leading) (opening_brackets h.is_array)
+        → events.now ≡ shortened 0 (header_behind b.start h more) → ReadsStatement source.now b (syntax.header h end) more building.new result }
+    ensures input { IfErr result (λ e. IfToml e (λ r. r.input ≡ source.now)) }
+    ensures rest { IfOk result (λ r. AreIn source.now r.now × (length r.now < length events.now)) }
+    ensures count { OnOk result (building.new.headers ≡ building.old.headers + 1) }
+{
+    let (header, rest) = read_header(alloc, source, events)?;
+    let brackets = Span {
+        start: opening.start,
+        end: header.end,
+    };
+    let parts = HeaderParts {
+        leading,
+        is_array,
+        brackets,
+        path: header.path,
+        trailing: header.trailing,
+    };
+    open_block(alloc, source, parts, building)?;
+    Ok(rest)
+}
+
+/// Adds the table of a header to the whole, and takes the table's slots out of it.
+fn open_block(
+    alloc: Global,
+    source: &str,
+    header: HeaderParts<'_>,
+    building: &mut Building,
+) -> Result<(), ParseFault>
+    requires path { AreIn source.now header.path.events.now }
+    requires count { building.old.headers + 1 < 2 ^ 63 }
+    ensures opens { (b : Builder) (h : Header) (end : Text) → IsWhole (syntax.header h end)
+        → Stands source.now b.start (statement_text (syntax.header h end)) → IsHeld b building.old → AreHeaderParts h b.start header.entry
+        → OpensBlock source.now b (syntax.header h end) building.new result }
+    ensures input { IfErr result (λ e. IfToml e (λ r. r.input ≡ source.now)) }
+    ensures count { OnOk result (building.new.headers ≡ building.old.headers + 1) }
+{
+    swap_block(
+        building.block.as_slice(),
+        &mut building.current,
+        &mut building.root,
+    );
+    building.headers += 1;
+    building.block = read_names(alloc, source, header.path)?;
+    head_item(alloc, header, building.headers as isize, &mut building.item);
+    add_path(
+        alloc,
+        source,
+        header_kind(header),
+        header.path,
+        &mut building.item,
+        &mut building.root,
+    )?;
+    swap_block(
+        building.block.as_slice(),
+        &mut building.current,
+        &mut building.root,
+    );
+    Ok(())
+}
+
+/// What a header adds.
+fn header_kind(header: HeaderParts<'_>) -> Kind
+    ensures { result ≡ kind_of header.entry.is_array header.entry.brackets }
+{
+    if header.is_array {
+        Kind::Element(header.brackets)
+    } else {
+        Kind::Table
+    }
+}
+
+/// Puts the table of a header, the one of this number, in the item's place, as yet without slots.
+fn head_item(alloc: Global, header: HeaderParts<'_>, position: isize, item: &mut Item)
+    ensures { (b : Builder) (h : Header) (end : Text) → AreHeaderParts h b.start header.entry → position ≡ pos (suc b.headers)
+        → IsHeaded (source_at b (syntax.header h end)) (item_view item.new) }
+{
+    *item = headed_item(alloc, header, position);
+}
+
+/// The table of a header, the one of this number, as yet without slots.
+fn headed_item(alloc: Global, header: HeaderParts<'_>, position: isize) -> Item
+    ensures { (b : Builder) (h : Header) (end : Text) → AreHeaderParts h b.start header.entry → position ≡ pos (suc b.headers)
+        → IsHeaded (source_at b (syntax.header h end)) (item_view result) }
+{
+    let decor = Decor::new(raw(header.leading), raw(header.trailing));
+    let Span { start, end } = header.brackets;
+    Item::Table(Table::headed(Slots::new(alloc), decor, position, start, end))
+}
+
+/// The names of the keys of a path.
+fn read_names(alloc: Global, source: &str, path: KeyPath<'_>) -> Result<Vec<String>, ParseFault>
+    requires { AreIn source.now path.events.now }
+    ensures names { (own : Decor) (p : List Segment) (start : ℕ) → IsEndOfPath p → Stands source.now start (path_text p)
+        → IsPathFrom own start p path.entry → ReadsNames p result }
+    ensures input { IfErr result (λ e. IfToml e (λ r. r.input ≡ source.now)) }
+{
+    let mut names = Vec::new(alloc);
+    let mut left = path;
+    'keys: loop {
+        let PathKey { key, rest, .. } = next_key(alloc, source, left)?;
+        names.push(String::from(key))?;
+        match rest {
+            Some(inside) => left = inside,
+            None => return Ok(names),
+        }
+    }
+}
