@@ -1,5 +1,6 @@
 -- From the events of a text to what parsing it answers.
-use Rattle.std.proofs.Common.{◌≡◌, ◌⊎◌, Result, Ok, Err, IsOk, IsErrOf, inl, inr, Bool, true, false, List, [], ◌∷◌, ◌++◌, refl, sym, ap, ◌∙◌, subst, None, Some, arith}
+use Rattle.std.proofs.Common.{◌≡◌, ◌≤◌, ◌⊎◌, Result, Ok, Err, IsOk, IsErrOf, inl, inr, Bool, true, false, List, [], ◌∷◌, ◌++◌, refl, sym, ap, ◌∙◌, subst, None, Some, arith}
+use Rattle.std.proofs.lemmas.Bool.Decides.{nat_tests}
 use Rattle.std.proofs.lemmas.Bool.{false≢true, leb-true, cases_Bool}
 use Rattle.std.specs.Prelude.{◌&&◌, nat_le}
 use Rattle.std.specs.List.{list_any}
@@ -81,7 +82,7 @@ module _ (t : Text) (es : List Event) (h : AreEventsOf t es) where
   -- an accepted text is not refused
   pub not_refused : (e : ParseFault) → IsRefusedSo e → (d : Document) → AcceptedAs t d → e ≡ Memory
   not_refused (Toml r) told d (cut, accepted) = absurd (false≢true (sym (told d cut (h.every d cut)).1.refused ∙ accepted))
-  not_refused Memory told d as = refl
+  not_refused Memory told d accepted = refl
 
   -- a text with events has a cut, unless too many brackets are open
   opens : ((d : Document) → IsCut d t → ⊥) → OpensTooMany t
