@@ -40,7 +40,7 @@ impl Model for Key {
 impl Key {
     ghost use Rattle.std.specs.Borrow.{sem};
     ghost use Rattle.toml_edit_model.specs.Tree.{span, HasTrueSpelling};
-    ghost use Rattle.toml_edit_model.specs.SlotLists.{new_key, reset_key};
+    ghost use Rattle.toml_edit_model.specs.Keys.{new_key, reset_key};
     ghost use Rattle.toml_edit_model.specs.Spelling.{SpellsKey};
     ghost use Rattle.toml_edit_key.specs.LendingParts.{LendsLeaf, LendsDotted};
     ghost use Rattle.toml_edit_repr.specs.Views.{range_of};

@@ -18,3 +18,4 @@ pub mod read_trees
 pub mod print_by_visits
 pub mod commands
 pub mod reading
+pub mod slots

@@ -20,3 +20,7 @@ pub mod TreesOfTexts
 pub mod WholeTexts
 pub mod EditedTrees
 pub mod LoneTexts
+pub mod KeyedSlots
+pub mod Containers
+pub mod Sorts
+pub mod Calls

@@ -6,7 +6,7 @@ use Rattle.std.proofs.lemmas.Option.{none-some, same_Some, slice_get_cases, slic
 use Rattle.std.specs.List.{position_or_len, IsDistinct, AllByRecursion}
 use Rattle.toml_edit_model.specs.Text.{Text, same_text}
 use Rattle.toml_edit_model.specs.Tree.{Key}
-use Rattle.toml_edit_model.specs.SlotLists.{new_key, reset_key}
+use Rattle.toml_edit_model.specs.Keys.{new_key, reset_key}
 use Rattle.toml_edit_slots.specs.declared.slots.Slot.{Slot}
 use Rattle.toml_edit_slots.specs.Slots.{is_at, names, AreApart, place, lookup, lookup_slot, put, without, items_of, with_item, on_key}
 

@@ -3,7 +3,7 @@ use Rattle.std.specs.Prelude.{ℕ, zero, suc, Bool, List, [], ◌∷◌, Option,
 use Rattle.std.specs.List.{IsDistinct}
 use Rattle.toml_edit_model.specs.Text.{Text, same_text}
 use Rattle.toml_edit_model.specs.Tree.{Key}
-use Rattle.toml_edit_model.specs.SlotLists.{new_key, reset_key}
+use Rattle.toml_edit_model.specs.Keys.{new_key, reset_key}
 use Rattle.toml_edit_slots.specs.declared.slots.Slot.{Slot}
 
 -- the place of the first of these texts that is this one

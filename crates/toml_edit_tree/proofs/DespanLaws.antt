@@ -4,7 +4,7 @@ use denote.Param.Weighed.{most, at_most}
 use Rattle.std.proofs.Common.{◌≡◌, ℕ, zero, suc, ◌<◌, ◌≤◌, max, List, [], ◌∷◌, length, map, Some, get_or, set, slice_get, option_map, refl, sym, ap, arith}
 use Rattle.std.specs.Prelude.{Result, Ok, Err, OnOk}
 use Rattle.std.proofs.lemmas.Option.{same_Some}
-use Rattle.toml_edit_model.specs.SlotLists.{new_key}
+use Rattle.toml_edit_model.specs.Keys.{new_key}
 use Rattle.toml_edit_model.specs.Spelling.{SpellsKey}
 use Rattle.toml_edit_model.specs.Text.{Text}
 use Rattle.toml_edit_model.specs.Tree.{Key, Node, Slots, TableFields, HasTrueSpelling, IsWellMade, ItemsAreWellMade, SlotsAreWellMade, item, slot, table}

@@ -5,7 +5,7 @@ ghost use Rattle.std.specs.Option.{option_copied};
 ghost use Rattle.std.specs.Cow.{cow_str_bytes, IsBorrowedStr};
 ghost use Rattle.toml_edit_model.specs.Tree.{owned, key_text};
 ghost use Rattle.toml_edit_model.specs.DefaultSpelling.{key_spelling};
-ghost use Rattle.toml_edit_model.specs.SlotLists.{reset_key};
+ghost use Rattle.toml_edit_model.specs.Keys.{reset_key};
 ghost use Rattle.toml_edit_repr.specs.Views.{text_of};
 ghost use Rattle.toml_edit_key.specs.KeyMutView.{lent_key, key_of};
 

@@ -3,7 +3,7 @@ ghost use Rattle.std.specs.Prelude.{◌≡◌, Some, IsSome, IsOkAnd, IfOk, opti
 ghost use Rattle.std.specs.Cow.{cow_str_bytes, IsBorrowedStr};
 ghost use Rattle.toml_edit_model.specs.Tree.{owned, key_text};
 ghost use Rattle.toml_edit_model.specs.DefaultSpelling.{key_spelling};
-ghost use Rattle.toml_edit_model.specs.SlotLists.{new_key};
+ghost use Rattle.toml_edit_model.specs.Keys.{new_key};
 ghost use Rattle.toml_edit_repr.specs.Views.{text_of};
 
 use super::Key;

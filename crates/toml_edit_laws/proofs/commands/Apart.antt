@@ -6,7 +6,9 @@ use Rattle.std.specs.Str.Parse.{digits_value}
 use Rattle.toml_edit_model.specs.Text.{Text, same_text}
 use Rattle.toml_edit_model.specs.Tree.{Key, Node, nothing, leaf, list, inline, table, tables, Items, Slots, no_slots, slot, Tree, is_value_node}
 use Rattle.toml_edit_model.specs.Conversions.{new_inline}
-use Rattle.toml_edit_model.specs.SlotLists.{Slot, slot_list, item_list, slot_of, changed, new_key}
+use Rattle.toml_edit_model.specs.Keys.{new_key}
+use Rattle.toml_edit_model.specs.SlotLists.{Slot, slot_list, slot_of, changed}
+use Rattle.toml_edit_model.specs.Lists.{item_list}
 use Rattle.toml_edit_laws.specs.Locality.{is_table, slots_from, items_from, changed_item}
 use Rattle.toml_edit_laws.specs.Commands.{Answer, done, mapped, number_of, item_in, kept_item, at_number, element_of, present, second, child, and_then, item_below, missing, change_slot, change_element, below, set_below, remove_below, root_item, slots_in, with_slots, item_at}
 use Rattle.toml_edit_laws.specs.CommandLaws.{are_apart, SetKeepsItems, RemoveKeepsItems}

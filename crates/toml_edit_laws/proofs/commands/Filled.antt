@@ -8,7 +8,8 @@ use Rattle.toml_edit_model.specs.Paths.{at_key, at_element, Mention, Source, all
 use Rattle.toml_edit_model.specs.Tree.{Key, Extent, TableFields, Node, nothing, leaf, list, inline, table, tables, Items, no_items, item, Slots, no_slots, slot, is_value_node}
 use Rattle.toml_edit_model.specs.TreeOf.{owned_in, Entry, value_start, entries, IsValueNode, AreElementNodes, AreEntrySlots, IsLineNode, IsNodeOf, AreElementsOf, AreSlotsOf}
 use Rattle.toml_edit_model.specs.HeaderOrder.{Visit, visit_of}
-use Rattle.toml_edit_model.specs.SlotLists.{Slot, slot_list, item_list, slot_of, is_item}
+use Rattle.toml_edit_model.specs.SlotLists.{Slot, slot_list, slot_of}
+use Rattle.toml_edit_model.specs.Lists.{item_list, is_item}
 use Rattle.toml_edit_laws.specs.Locality.{Turn, into_table, into_element, is_table, Leads, root_visit, tables_in}
 use Rattle.toml_edit_laws.specs.Commands.{element_of, present, second, child, item_below}
 use Rattle.toml_edit_laws.specs.CommandLaws.{Goes, ReadHasNoPlaceholders, PathsHaveWays}

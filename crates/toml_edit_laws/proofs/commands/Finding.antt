@@ -10,7 +10,9 @@ use Rattle.toml_edit_model.specs.Syntax.{value_text}
 use Rattle.toml_edit_model.specs.Tree.{Decor, Node, nothing, leaf, list, inline, table, tables, Items, Slots, no_slots, slot, is_value_node}
 use Rattle.toml_edit_model.specs.Print.{value_of}
 use Rattle.toml_edit_model.specs.Conversions.{new_inline, with_decor}
-use Rattle.toml_edit_model.specs.SlotLists.{Slot, slot_list, item_list, slot_of, changed, new_key, is_item}
+use Rattle.toml_edit_model.specs.Keys.{new_key}
+use Rattle.toml_edit_model.specs.SlotLists.{Slot, slot_list, slot_of, changed}
+use Rattle.toml_edit_model.specs.Lists.{item_list, is_item}
 use Rattle.toml_edit_laws.specs.Locality.{into_table, into_element, is_table, slots_from, items_from, changed_item}
 use Rattle.toml_edit_laws.specs.Commands.{Refusal, no_such_path, Answer, done, refused, mapped, element_of, present, second, child, and_then, item_below, missing, change_slot, change_element, below, set_here, set_below, drop_slot, drop_element, remove_child, remove_below, root_item, with_slots, shown_item, shown_or, get_text}
 use Rattle.toml_edit_laws.specs.CommandLaws.{OneTextNames, DecimalsName, WaysHavePaths, GetAfterSet, RemoveFinds, RemovedWasThere, RemoveRefuses}

@@ -5,7 +5,8 @@ use Rattle.toml_edit_model.specs.Text.{Text, same_text}
 use Rattle.toml_edit_model.specs.Paths.{to_key, to_element}
 use Rattle.toml_edit_model.specs.Tree.{Node, table, tables, Slots}
 use Rattle.toml_edit_model.specs.HeaderOrder.{Visit, visit_of}
-use Rattle.toml_edit_model.specs.SlotLists.{Slot, slot_list, item_list, slot_of, changed}
+use Rattle.toml_edit_model.specs.SlotLists.{Slot, slot_list, slot_of, changed}
+use Rattle.toml_edit_model.specs.Lists.{item_list}
 use Rattle.toml_edit_laws.specs.Locality.{Turn, into_table, into_element, Leads, is_table, slots_from, items_from, on_slots, on_items, in_table, in_tables, changed_item, along, tables_in}
 use Rattle.toml_edit_laws.specs.Commands.{Answer, done, mapped, number_of, item_in, kept_item, at_number, element_of, change_slot, change_element, below}
 use Rattle.toml_edit_laws.specs.CommandLaws.{Goes}

@@ -4,7 +4,9 @@ use Rattle.std.specs.Prelude.{if◌then◌else◌}
 use Rattle.toml_edit_model.specs.Text.{Text}
 use Rattle.toml_edit_model.specs.Tree.{Decor, Key, Node, nothing, leaf, list, inline, table, tables, Items, Slots, no_slots, slot, Tree, is_value_node, IsWellMade, ItemsAreWellMade, SlotsAreWellMade}
 use Rattle.toml_edit_model.specs.Conversions.{new_inline, with_decor}
-use Rattle.toml_edit_model.specs.SlotLists.{Slot, slot_list, item_list, slot_of, changed, new_key, without_key}
+use Rattle.toml_edit_model.specs.Keys.{new_key}
+use Rattle.toml_edit_model.specs.SlotLists.{Slot, slot_list, slot_of, changed, without_key}
+use Rattle.toml_edit_model.specs.Lists.{item_list}
 use Rattle.toml_edit_laws.specs.Locality.{is_table, slots_from, items_from, changed_item, without_item}
 use Rattle.toml_edit_laws.specs.Commands.{Answer, done, mapped, number_of, item_in, kept_item, at_number, element_of, present, missing, change_slot, change_element, below, set_here, set_below, drop_slot, drop_element, remove_child, remove_below, root_item, slots_in, with_slots}
 use Rattle.toml_edit_laws.specs.CommandLaws.{OneSlot, OneItem, OnlyChild, OnlyAt, OnlyTreeAt, SetKeepsTheRest, OneSlotLess, OneItemLess, IsWithout, RemoveKeepsTheRest}

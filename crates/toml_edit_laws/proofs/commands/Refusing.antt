@@ -3,7 +3,9 @@ use Rattle.std.proofs.Common.{◌≡◌, refl, sym, ◌∙◌, ap, subst, ℕ, t
 use Rattle.toml_edit_model.specs.Text.{Text}
 use Rattle.toml_edit_model.specs.Tree.{Node, nothing, leaf, list, inline, table, tables, no_slots, slot, is_value_node}
 use Rattle.toml_edit_model.specs.Conversions.{new_inline}
-use Rattle.toml_edit_model.specs.SlotLists.{Slot, slot_list, item_list, slot_of, changed, new_key, is_item}
+use Rattle.toml_edit_model.specs.Keys.{new_key}
+use Rattle.toml_edit_model.specs.SlotLists.{Slot, slot_list, slot_of, changed}
+use Rattle.toml_edit_model.specs.Lists.{item_list, is_item}
 use Rattle.toml_edit_laws.specs.Locality.{is_table, slots_from, items_from, changed_item}
 use Rattle.toml_edit_laws.specs.Commands.{Refusal, no_such_path, wrong_kind, Answer, done, refused, element_of, present, second, child, and_then, item_below, change_slot, change_element, set_here, set_below, root_item, with_slots}
 use Rattle.toml_edit_laws.specs.CommandLaws.{made_below, is_listing, Stops, IsWhy, SetRefuses}

@@ -5,7 +5,8 @@ use Rattle.toml_edit_model.specs.Mode.{Mode}
 use Rattle.toml_edit_model.specs.Text.{Text}
 use Rattle.toml_edit_model.specs.Tree.{Key, Node, nothing, leaf, list, inline, table, tables, Tree, is_value_node}
 use Rattle.toml_edit_model.specs.Fits.{is_dotted_inline}
-use Rattle.toml_edit_model.specs.SlotLists.{Slot, slot_list, item_list, slot_of, changed, without_key, is_item}
+use Rattle.toml_edit_model.specs.SlotLists.{Slot, slot_list, slot_of, changed, without_key}
+use Rattle.toml_edit_model.specs.Lists.{item_list, is_item}
 use Rattle.toml_edit_laws.specs.Locality.{root_visit, edited, slots_from, items_from, is_table, in_tables, without_item, statements}
 use Rattle.toml_edit_laws.specs.Commands.{done, mapped, element_of, change_slot, present, drop_slot, drop_element, remove_child, remove_below, below, with_slots}
 use Rattle.toml_edit_laws.specs.CommandLaws.{text_with, RemoveDrops, RemoveElementDrops, RemoveChanges}

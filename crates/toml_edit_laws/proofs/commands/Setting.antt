@@ -11,7 +11,9 @@ use Rattle.toml_edit_model.specs.HeaderOrder.{Visit}
 use Rattle.toml_edit_model.specs.Fits.{is_dotted_inline, is_steady_in}
 use Rattle.toml_edit_model.specs.Print.{Printed, printed, printed_line, printed_table, value_of, line_statement}
 use Rattle.toml_edit_model.specs.Conversions.{with_decor}
-use Rattle.toml_edit_model.specs.SlotLists.{Slot, slot_list, item_list, slot_of, changed, new_key}
+use Rattle.toml_edit_model.specs.Keys.{new_key}
+use Rattle.toml_edit_model.specs.SlotLists.{Slot, slot_list, slot_of, changed}
+use Rattle.toml_edit_model.specs.Lists.{item_list}
 use Rattle.toml_edit_laws.specs.Locality.{Turn, root_visit, edited, slots_from, items_from, is_plain_value, value_line, statements, OneChanges, OneMore, StaysSteady}
 use Rattle.toml_edit_laws.specs.Commands.{Answer, done, refused, mapped, element_of, change_slot, change_element, below, root_item, set_below, with_slots}
 use Rattle.toml_edit_laws.specs.CommandLaws.{IsRead, NamesTable, text_with, ChangesStatement, SetChanges, made_below, AddsStatement, SetAdds}

@@ -3,7 +3,8 @@ use Rattle.std.proofs.Common.{◌≡◌, refl, ◌∙◌, ap, Bool, true, false,
 use Rattle.std.specs.Prelude.{if◌then◌else◌}
 use Rattle.toml_edit_model.specs.Text.{Text, same_text}
 use Rattle.toml_edit_model.specs.Tree.{Key, Node, nothing}
-use Rattle.toml_edit_model.specs.SlotLists.{Slot, slot_of, changed, has_slot, put, reset_key, new_key}
+use Rattle.toml_edit_model.specs.Keys.{reset_key, new_key}
+use Rattle.toml_edit_model.specs.SlotLists.{Slot, slot_of, changed, has_slot, put}
 use Rattle.toml_edit_laws.specs.Locality.{written, CallsOnPresent, CallsOnAbsent}
 use Rattle.toml_edit_laws.proofs.common.Tests.{if-true, if-false, same_text-refl, same_text-is}
 use Rattle.toml_edit_laws.proofs.common.OptionSteps.{some-is}

@@ -10,7 +10,8 @@ use Rattle.toml_edit_model.specs.Paths.{at_key, at_element, Path, to_key, to_ele
 use Rattle.toml_edit_model.specs.Tree.{Key, Extent, TableFields, Node, table, tables, Items, Slots, SlotsAreWellMade, Tree}
 use Rattle.toml_edit_model.specs.HeaderOrder.{Visit, visit_of, node_walk, items_walk, slots_walk}
 use Rattle.toml_edit_model.specs.Print.{Line, table_lines, below, printed}
-use Rattle.toml_edit_model.specs.SlotLists.{Slot, slot_list, item_list, slot_of, changed}
+use Rattle.toml_edit_model.specs.SlotLists.{Slot, slot_list, slot_of, changed}
+use Rattle.toml_edit_model.specs.Lists.{item_list}
 use Rattle.toml_edit_laws.specs.Locality.{Turn, Leads, root_visit, edited, on_slots, on_items, in_tables, slots_from, items_from, without_item, tables_in, outside, statements, RemovedElement, framed}
 use Rattle.toml_edit_laws.proofs.common.Tests.{if-false}
 use Rattle.toml_edit_laws.proofs.common.PathLaws.{is_front, front-refl, front-more}

@@ -8,7 +8,8 @@ use Rattle.toml_edit_model.specs.Paths.{Path, to_key}
 use Rattle.toml_edit_model.specs.Tree.{Key, Node, Items, no_items, item, Slots, no_slots, slot, has_key, IsWellMade, SlotsAreWellMade}
 use Rattle.toml_edit_model.specs.HeaderOrder.{node_walk, slots_walk}
 use Rattle.toml_edit_model.specs.Print.{table_lines}
-use Rattle.toml_edit_model.specs.SlotLists.{Slot, slot_list, item_list, slot_of, changed, without_key}
+use Rattle.toml_edit_model.specs.SlotLists.{Slot, slot_list, slot_of, changed, without_key}
+use Rattle.toml_edit_model.specs.Lists.{item_list}
 use Rattle.toml_edit_laws.specs.Locality.{slots_from, items_from, changed_item, without_item}
 use Rattle.toml_edit_laws.proofs.common.Tests.{or-left, or-right, same_text-is}
 use Rattle.toml_edit_laws.proofs.locality.Under.{slot_lines}

@@ -11,7 +11,8 @@ use Rattle.toml_edit_model.specs.Print.{print}
 use Rattle.toml_edit_model.specs.Syntax.{document_text}
 use Rattle.toml_edit_model.specs.Flat.{flat_document}
 use Rattle.toml_edit_model.specs.SlotLists.{Slot, inserted}
-use Rattle.toml_edit_model.specs.Conversions.{formatted_items, formatted_slots, made_value, item_display}
+use Rattle.toml_edit_model.specs.Lists.{slots_from, items_from}
+use Rattle.toml_edit_model.specs.Conversions.{formatted_items, formatted, made_value, item_display}
 use Rattle.toml_edit_model.specs.examples.Parts.{one_value, plain_key, plain_int, owned_decor, plain_list, table_at, table_placed, root_of, all_true}
 use Rattle.toml_edit_model.specs.examples.Cuts.{empty_trivia, empty_end}
 use Rattle.toml_edit_model.specs.examples.Fits.{FitsAs, fits, plain_line, dotted_root}
@@ -178,15 +179,18 @@ orders_hold = refl
 -- ---- calls of containers
 
 -- `a = [ 1,`, LF, ` 2,`, LF, `]`, and `fmt` of the array
-formatted_array : item_display (plain_list (formatted_items true (item (leaf (integer (pos 1)) (Some (owned (codes "1"))) (owned_decor (codes " ") []))
-    (item (leaf (integer (pos 2)) (Some (owned (codes "2"))) (owned_decor (codes "\n ") [])) no_items))))
+formatted_array : item_display (plain_list (items_from (formatted_items (leaf (integer (pos 1)) (Some (owned (codes "1"))) (owned_decor (codes " ") [])
+    ∷ leaf (integer (pos 2)) (Some (owned (codes "2"))) (owned_decor (codes "\n ") []) ∷ []))))
     ≡ codes "[1, 2]"
 formatted_array = refl
 
 -- `fmt` of a table: the decors of keys and values go, spellings stay, and a table's key keeps its decor
-formatted_table : print (root_of (formatted_slots (slot (record (plain_key (codes "a")) { spelling = Some (owned (codes "'a'")); leaf = owned_decor (codes "# c\n") [] })
-    (leaf (integer (pos 16)) (Some (owned (codes "0x10"))) (owned_decor [] (codes " # d")))
-    (slot (record (plain_key (codes "b")) { leaf = owned_decor (codes " ") (codes " ") }) (table_placed 1 no_slots) no_slots))))
+formatted_table : print (root_of (slots_from (formatted (
+    record {
+      key = record (plain_key (codes "a")) { spelling = Some (owned (codes "'a'")); leaf = owned_decor (codes "# c\n") [] };
+      item = leaf (integer (pos 16)) (Some (owned (codes "0x10"))) (owned_decor [] (codes " # d"));
+    }
+    ∷ record { key = record (plain_key (codes "b")) { leaf = owned_decor (codes " ") (codes " ") }; item = table_placed 1 no_slots } ∷ []))))
     ≡ codes "'a' = 0x10\n[ b ]\n"
 unfolding print
 formatted_table = refl
