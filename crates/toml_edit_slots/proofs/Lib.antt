@@ -1,3 +1,6 @@
 -- Lemmas of this crate.
 pub mod IndexLaws
 pub mod SlotLaws
+pub mod KeptLaws
+pub mod ClosureLaws
+pub mod SeenLaws

@@ -3,6 +3,7 @@ use Rattle.std.proofs.Common.{◌≡◌, Result, Ok, Err, OnOk, ℕ, zero, suc, 
 use Rattle.std.proofs.lemmas.Bool.{cases_Bool}
 use Rattle.std.proofs.lemmas.Cmp.{nat_list_eq_equiv}
 use Rattle.std.proofs.lemmas.Option.{none-some, same_Some, slice_get_cases, slice_get-get_or, slice_get_within, get_or_from_slice_get}
+use Rattle.std.proofs.lemmas.Slice.Eq.{bytes_eq-Decides}
 use Rattle.std.specs.List.{position_or_len, IsDistinct, AllByRecursion}
 use Rattle.toml_edit_model.specs.Text.{Text, same_text}
 use Rattle.toml_edit_model.specs.Tree.{Key}
@@ -162,7 +163,8 @@ module _ {T : Type 0} where
   items_of-get (s ∷ es) zero d h = refl
   items_of-get (s ∷ es) (suc i) d h = items_of-get es i d (omega arith)
 
-none_named : {T : Type 0} (t k : Text) (es : List (Slot T)) → same_text t k ≡ true → AllByRecursion (λ y. same_text k y ≡ false) (names es) → place t es ≡ None
+-- equal texts have no place among names that the one is apart from
+pub none_named : {T : Type 0} (t k : Text) (es : List (Slot T)) → same_text t k ≡ true → AllByRecursion (λ y. same_text k y ≡ false) (names es) → place t es ≡ None
 none_named t k [] same all = refl
 none_named t k (s ∷ es) same all =
     elim (cases_Bool (is_at t s)) [
@@ -281,3 +283,15 @@ pub on_key-is : {T : Type 0} (h : Key → Key) (es : List (Slot T)) (i : ℕ) (d
 on_key-is h [] i d k e p = refl
 on_key-is h (s ∷ es) zero d k e p = ap (λ l. l ∷ es) (λ j. record { key = (p ∙ ap (λ (x : Slot _). h x.key) e) j; item = (e j).item })
 on_key-is h (s ∷ es) (suc i) d k e p = ap (λ l. s ∷ l) (on_key-is h es i d k e p)
+
+-- the slot at the place of a text has its name
+pub named-at : {T : Type 0} (t : Text) (es : List (Slot T)) (i : ℕ) (d : Slot T) → place t es ≡ Some i → (get_or es i d).key.name ≡ t
+named-at t [] i d h = absurd (none-some i h)
+named-at t (s ∷ es) i d h =
+    elim (cases_Bool (is_at t s)) [
+      | inl same ↦
+          let e : 0 ≡ i = same_Some 0 i (rw same at h) in
+          let is : t ≡ s.key.name = (bytes_eq-Decides t s.key.name).0 same in
+          rw (← e) (sym is)
+      | inr other ↦ let (j, at, e) = some_next (place t es) i (rw other at h) in rw e (named-at t es j d at)
+    ]

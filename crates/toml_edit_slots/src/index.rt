@@ -3,7 +3,7 @@ ghost use Rattle.std.specs.Prelude.{◌≡◌, ◌<◌, ◌++◌, ◌∷◌, [],
 ghost use Rattle.std.specs.HashMap.{get_by_text};
 ghost use Rattle.toml_edit_model.specs.Text.{Text};
 ghost use Rattle.toml_edit_slots.specs.Slots.{AreApart, is_at, names, place, place_in};
-ghost use Rattle.toml_edit_slots.specs.SlotIndex.{IsIndexed, IsIndexOf, IsRightBefore, IsPutAt};
+ghost use Rattle.toml_edit_slots.specs.SlotIndex.{IsIndexed, IsIndexOf, IsRightBefore, IsPutAt, HasTexts, MayIndex, stands_at};
 
 use crate::slots::Slot;
 use indexmap::IndexMap;
@@ -116,5 +116,51 @@ fn move_down<T>(places: &mut IndexMap<String, usize>, entries: &[Slot<T>], gap: 
         if let Some(place) = places.get_mut(name) {
             *place = at - 1;
         }
+    }
+}
+
+/// Makes it the index of these slots: it has their names, and may have more. It takes no memory.
+pub(crate) fn index_those<T>(
+    index: &mut Option<Box<IndexMap<String, usize>>>,
+    entries: &[Slot<T>],
+)
+    requires apart { AreApart entries.now }
+    requires named { MayIndex index.old (names entries.now) }
+    ensures { IsIndexed index.new (names entries.now) }
+{
+    if let Some(places) = index {
+        renumber(places, entries);
+        drop_others(places, entries);
+    }
+}
+
+/// Puts the places of these slots right. The index has their names.
+fn renumber<T>(places: &mut IndexMap<String, usize>, entries: &[Slot<T>])
+    requires apart { AreApart entries.now }
+    requires named { HasTexts places.old (names entries.now) }
+    ensures { IsRightBefore (length entries.now) places.new (names entries.now) }
+{
+    for at in 0..entries.len() {
+        if let Some(place) = places.get_mut(entries[at].key.get()) {
+            *place = at;
+        }
+    }
+}
+
+/// Takes out what is the place of none of these slots.
+fn drop_others<T>(places: &mut IndexMap<String, usize>, entries: &[Slot<T>])
+    requires { IsRightBefore (length entries.now) places.old (names entries.now) }
+    ensures { IsIndexOf places.new (names entries.now) }
+{
+    places.retain(|name, place| is_named_at(entries, *place, name));
+}
+
+/// Whether the slot at the place has the name.
+fn is_named_at<T>(entries: &[Slot<T>], at: usize, name: &str) -> bool
+    ensures { result ≡ stands_at (names entries.now) at name.now }
+{
+    match entries.get(at) {
+        Some(slot) => slot.key.get() == name,
+        None => false,
     }
 }

@@ -10,6 +10,9 @@ use std::mem;
 use toml_edit_key::Key;
 use toml_edit_repr::Mem;
 
+mod insert;
+mod whole;
+
 /// Want of memory, with the value that found no place.
 #[derive(Debug, Drop)]
 pub struct NoMemory<T>(pub T);
@@ -72,6 +75,8 @@ impl<T> Slots<T> {
     ghost use Rattle.toml_edit_slots.specs.Lending.{LendsItem, LendsFound};
     ghost use Rattle.toml_edit_slots.specs.Slots.{AreApart, place, lookup, lookup_slot, put, without, items_of, on_key, names};
     ghost use Rattle.toml_edit_model.specs.OwnedForm.{KeyFits, owned_raw, owned_key};
+    ghost use Rattle.toml_edit_model.specs.Slots.{inserted, without as without_seen};
+    ghost use Rattle.toml_edit_slots.specs.Seen.{seen};
 
     /// No slots, which take no memory yet.
     pub fn new(alloc: Global) -> Slots<T>
@@ -174,6 +179,7 @@ impl<T> Slots<T> {
     pub fn insert(&mut self, alloc: Global, text: &str, item: T) -> Result<Option<T>, NoMemory<T>>
         ensures old { IfOk result (λ old. old ≡ lookup text.now self.old) }
         ensures slots { OnOk result (self.new ≡ put text.now item self.old) }
+        ensures seen { OnOk result (seen self.new ≡ inserted text.now item (seen self.old)) }
         ensures present { IsSome (place text.now self.old) → IsOk result }
         ensures back { IfErr result (λ refused. refused.0 ≡ item) }
         ensures err { OnErr result (self.new ≡ self.old) }
@@ -200,6 +206,7 @@ impl<T> Slots<T> {
     pub fn remove(&mut self, text: &str) -> Option<Slot<T>>
         ensures slot { result ≡ lookup_slot text.now self.old }
         ensures slots { self.new ≡ without text.now self.old }
+        ensures seen { seen self.new ≡ without_seen text.now (seen self.old) }
         ensures absent { place text.now self.new ≡ None }
     {
         let at = self.find(text)?;

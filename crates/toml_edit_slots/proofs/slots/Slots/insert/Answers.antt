@@ -1,8 +1,10 @@
 -- An item under a name.
-use Rattle.std.proofs.Common.{◌≡◌, rules, sym, subst, set}
-use Rattle.toml_edit_slots.specs.Slots.{put}
+use Rattle.std.proofs.Common.{◌≡◌, rules, sym, ap, subst, ◌∙◌, set}
+use Rattle.toml_edit_slots.specs.Slots.{AreApart, put}
+use Rattle.toml_edit_slots.specs.Seen.{seen}
 use Rattle.toml_edit_slots.specs.SlotIndex.{IsIndexed}
 use Rattle.toml_edit_slots.proofs.SlotLaws.{lookup_slot-absent, lookup_slot-present, put-absent, put-present, names-put, apart-put}
+use Rattle.toml_edit_slots.proofs.SeenLaws.{inserted-seen}
 use Rattle.toml_edit_slots.proofs.slots.Slots.insert.Goals as goal
 
 pub invariant_of-self : goal.invariant_of-self
@@ -27,3 +29,11 @@ returns-in-Ok-push-clause-old g c = rw (lookup_slot-absent c.args.text.now c.arg
 
 pub returns-in-Ok-push-clause-slots : goal.returns-in-Ok-push-clause-slots
 returns-in-Ok-push-clause-slots g c = rw (put-absent c.args.text.now c.args.self.now c.args.item (sym c.in-None.ensures.place)) (search rules)
+
+pub returns-in-Some-clause-seen : goal.returns-in-Some-clause-seen
+returns-in-Some-clause-seen g c =
+    ap seen (returns-in-Some-clause-slots g c) ∙ inserted-seen c.args.text.now c.args.item c.args.self.now (subst AreApart c.self.view_is c.self.invariant.0)
+
+pub returns-in-Ok-push-clause-seen : goal.returns-in-Ok-push-clause-seen
+returns-in-Ok-push-clause-seen g c =
+    ap seen (returns-in-Ok-push-clause-slots g c) ∙ inserted-seen c.args.text.now c.args.item c.args.self.now (subst AreApart c.self.view_is c.self.invariant.0)

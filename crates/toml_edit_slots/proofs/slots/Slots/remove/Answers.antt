@@ -1,9 +1,11 @@
 -- A slot taken out.
 use Rattle.std.proofs.Common.{◌≡◌, ◌∙◌, rules, sym, ap, subst, remove}
-use Rattle.toml_edit_slots.specs.Slots.{names, without}
+use Rattle.toml_edit_slots.specs.Slots.{AreApart, names, without}
+use Rattle.toml_edit_slots.specs.Seen.{seen}
 use Rattle.toml_edit_slots.specs.SlotIndex.{IsIndexed}
 use Rattle.toml_edit_slots.proofs.IndexLaws.{names-removed}
 use Rattle.toml_edit_slots.proofs.SlotLaws.{lookup_slot-absent, lookup_slot-present, without-absent, without-present, apart-without, place-without}
+use Rattle.toml_edit_slots.proofs.SeenLaws.{without-none-seen, without-seen}
 use Rattle.toml_edit_slots.proofs.slots.Slots.remove.Goals as goal
 
 pub returns-in_err-at-clause-slot : goal.returns-in_err-at-clause-slot
@@ -32,3 +34,9 @@ returns-clause-absent g c =
     let t = c.args.text.now in
     let es = c.self.inside.entries.items in
     rw (c.remove.ensures.items, ← without-present t es c.in_ok-at.at (rw c.self.view_is (sym c.in_ok-at.ensures.place))) (place-without t es c.self.invariant.0)
+
+pub returns-in_err-at-clause-seen : goal.returns-in_err-at-clause-seen
+returns-in_err-at-clause-seen g c = sym (without-none-seen c.args.text.now c.args.self.now (sym c.in_err-at.ensures.place))
+
+pub returns-clause-seen : goal.returns-clause-seen
+returns-clause-seen g c = ap seen (returns-clause-slots g c) ∙ without-seen c.args.text.now c.args.self.now (subst AreApart c.self.view_is c.self.invariant.0)

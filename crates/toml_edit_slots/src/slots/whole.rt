@@ -1,0 +1,93 @@
+//! Calls that go over all slots.
+ghost use Rattle.std.specs.Prelude.{◌≡◌, [], IsPermutation, OnOk, OnErr};
+ghost use Rattle.std.specs.Iterator.{ExtendsWithItems, IsFinite};
+ghost use Rattle.toml_edit_model.specs.Retaining.{RetainsBy};
+ghost use Rattle.toml_edit_slots.specs.Closures.{SaysOfSlot, SortsAs};
+ghost use Rattle.toml_edit_slots.specs.Seen.{Adds, seen, slot_seen};
+
+use super::{Slot, Slots};
+use crate::index::index_those;
+use std::alloc::AllocError;
+use std::cmp::Ordering;
+use toml_edit_key::Key;
+
+impl<T> Slots<T> {
+    /// Keeps the slots of which the closure says `true` at the name and the item. The others go, and the order stays. It takes no memory.
+    pub fn retain<F: Fn(&str, &T) -> bool>(&mut self, keep: F)
+    where
+        T: Drop,
+        F: Drop,
+        requires { F.IsAlwaysCallable keep }
+        ensures { RetainsBy (SaysOfSlot F.Fn keep) (seen self.old) (seen self.new) }
+    {
+        retain_entries(&mut self.entries, keep);
+        index_those(&mut self.index, &self.entries);
+    }
+
+    /// Sorts the slots by the closure, which sees keys and items. Ties keep their order. The only error is want of memory, and then the slots
+    /// stay.
+    pub fn sort_by<F: FnMut(&Slot<T>, &Slot<T>) -> Ordering>(
+        &mut self,
+        compare: F,
+    ) -> Result<(), AllocError>
+    where
+        F: Drop,
+        requires { F.IsAlwaysCallable compare }
+        ensures permutation { IsPermutation (seen self.old) (seen self.new) }
+        ensures sorted { OnOk result (SortsAs F.FnMut compare (seen self.old) (seen self.new)) }
+        ensures err { OnErr result (self.new ≡ self.old) }
+    {
+        let sorted = self.entries.sort_by(compare);
+        index_those(&mut self.index, &self.entries);
+        sorted
+    }
+
+    /// Takes all slots out.
+    pub fn clear(&mut self)
+    where
+        T: Drop,
+        ensures { self.new ≡ [] }
+    {
+        self.entries.clear();
+        self.index = None;
+    }
+
+    /// Puts pairs in, one after another: a key that is there stays with its place, and gets the item; a new one goes last. The only error is
+    /// want of memory: then some first pairs are there, and the others are gone.
+    #[tactic(auto, using(crate::proofs::SeenLaws::extended_last))]
+    pub fn extend<U: IntoIterator<Item = (Key, T)>>(&mut self, pairs: U) -> Result<(), AllocError>
+    where
+        T: Drop,
+        requires { (it : U.IntoIter) → U.into_iter_gives pairs it → U.IntoIter.can_next it × IsFinite (U.IntoIter.remaining it) }
+        ensures { ExtendsWithItems U.into_iter_gives U.IntoIter.next_gives Adds pairs self.old self.new result }
+    {
+        for (key, item) in pairs {
+            self.extend_one(key, item)?;
+        }
+        Ok(())
+    }
+
+    /// All slots in their order.
+    pub fn into_vec(self) -> Vec<Slot<T>>
+        ensures { result.items ≡ self }
+    {
+        let Slots { entries, index } = self;
+        drop(index);
+        entries
+    }
+}
+
+/// Keeps the slots that pass, in a list of its own.
+fn retain_entries<T: Drop, F: Fn(&str, &T) -> bool>(entries: &mut Vec<Slot<T>>, keep: F)
+where
+    F: Drop,
+    requires { F.IsAlwaysCallable keep }
+    ensures { RetainsBy (λ slot. SaysOfSlot F.Fn keep (slot_seen (λ x. x) slot)) entries.old.items entries.new.items }
+{
+    entries.retain(
+        |slot|
+            requires { F.IsAlwaysCallable keep }
+            ensures { SaysOfSlot F.Fn keep (slot_seen (λ x. x) slot.entry.now) result }
+        { keep(slot.key.get(), &slot.item) },
+    );
+}
