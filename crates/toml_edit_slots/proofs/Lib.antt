@@ -4,3 +4,4 @@ pub mod SlotLaws
 pub mod KeptLaws
 pub mod ClosureLaws
 pub mod SeenLaws
+pub mod OrderLaws

@@ -2,6 +2,7 @@
 #![tactic(auto)]
 
 mod index;
+mod order;
 pub mod slots;
 
 pub use slots::{NoMemory, Slot, Slots};

@@ -2,7 +2,8 @@
 ghost use Rattle.std.specs.Prelude.{◌≡◌, ◌<◌, ◌↔◌, ℕ, IsTrue, [], ◌∷◌, ◌++◌, None, Some, IsSome, IsOk, length, IfOk, IfErr, IfSome, OnOk, OnErr, slice_get, option_and_then, option_map, take};
 ghost use Rattle.std.specs.Option.{ForSome, option_copied, option_copied_mut};
 
-use crate::index::{add_place, close_gap, find_place};
+use crate::index::{add_place, close_gap, find_place, index_those};
+use crate::order::{is_in_order, sort_entries};
 use indexmap::IndexMap;
 use std::alloc::{AllocError, Global};
 use std::marker::Model;
@@ -74,6 +75,8 @@ impl<T> Slots<T> {
     ghost use Rattle.toml_edit_model.specs.Spelling.{SpellsKey};
     ghost use Rattle.toml_edit_slots.specs.Lending.{LendsItem, LendsFound};
     ghost use Rattle.toml_edit_slots.specs.Slots.{AreApart, place, lookup, lookup_slot, put, without, items_of, on_key, names};
+    ghost use Rattle.toml_edit_slots.specs.InPlace.{by_place, replaced};
+    ghost use Rattle.toml_edit_model.specs.Order.{sorted_by};
     ghost use Rattle.toml_edit_model.specs.OwnedForm.{KeyFits, owned_raw, owned_key};
     ghost use Rattle.toml_edit_model.specs.Slots.{inserted, without as without_seen};
     ghost use Rattle.toml_edit_slots.specs.Seen.{seen};
@@ -212,6 +215,29 @@ impl<T> Slots<T> {
         let at = self.find(text)?;
         close_gap(&mut self.index, &self.entries, text, at);
         Some(self.entries.remove(at))
+    }
+
+    /// Puts a slot in the place of that of its name, which is the answer.
+    pub fn replace(&mut self, at: usize, slot: Slot<T>) -> Slot<T>
+        requires { place slot.key.name self.old ≡ Some at }
+        ensures slot { Some result ≡ slice_get self.old at }
+        ensures slots { self.new ≡ replaced slot self.old }
+    {
+        mem::replace(&mut self.entries[at], slot)
+    }
+
+    /// Puts the slots in the order in which the spellings of their keys begin in the source; those that begin nowhere come first. Slots
+    /// that stand so take one pass. The only error is want of memory: the slots stay.
+    pub fn sort_by_place(&mut self) -> Mem<()>
+        ensures ok { OnOk result (self.new ≡ sorted_by by_place self.old) }
+        ensures err { OnErr result (self.new ≡ self.old) }
+    {
+        if is_in_order(&self.entries) {
+            return Ok(());
+        }
+        sort_entries(&mut self.entries)?;
+        index_those(&mut self.index, &self.entries);
+        Ok(())
     }
 
     /// Turns the spans of `source` in the key at the place into the texts that stand there. The only error is want of memory, and

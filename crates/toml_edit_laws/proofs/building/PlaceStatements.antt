@@ -56,10 +56,12 @@ within-path mode s low high start (g ∷ f ∷ p) (m ∷ ms) spelled are l h =
     let size = segment-length g in
     let some = some-bytes g.key g.spelled spelled.0 in
     let whole : length (path_text (g ∷ f ∷ p)) ≡ length (segment_text g) + suc (length (path_text (f ∷ p))) =
-      length-append (segment_text g) (codes "." ++ path_text (f ∷ p)) in
-    let next : next_start start g ≡ start + length (segment_text g) + 1 = refl in
-    (omega (arith, begins, l), omega (arith, begins, size, some, whole, h),
-    within-path mode s low high (next_start start g) (f ∷ p) ms spelled.1 are.3 (omega (arith, next, l)) (omega (arith, next, whole, h)))
+    length-append (segment_text g) (codes "." ++ path_text (f ∷ p)) in
+    let next : next_start start g ≡ start + length (segment_text g) + 1 = refl in (
+      omega (arith, begins, l),
+      omega (arith, begins, size, some, whole, h),
+      within-path mode s low high (next_start start g) (f ∷ p) ms spelled.1 are.3 (omega (arith, next, l)) (omega (arith, next, whole, h)),
+    )
 
 -- ---- a statement
 
