@@ -123,7 +123,13 @@ impl RawString {
         ensures err { OnErr result (self.new ≡ self.old) }
     {
         if let Inner::Span(start, end) = &self.inner {
-            *self = RawString::from_text(alloc, &source[*start..*end])?;
+            let text = &source[*start..*end];
+            // Most sides are one space.
+            if text != " " {
+                *self = RawString::from_text(alloc, text)?;
+            } else {
+                self.inner = Inner::Space;
+            }
         }
         Ok(())
     }
