@@ -21,7 +21,8 @@ use toml_edit_repr::{Decor, Mem, RawString};
 #[cycle(tree)]
 #[derive(Debug, Drop)]
 pub struct Array {
-    pub(crate) values: Vec<Item>,
+    #[doc(hidden)]
+    pub values: Vec<Item>,
     pub(crate) decor: Decor,
     pub(crate) trailing: RawString,
     pub(crate) trailing_comma: bool,

@@ -26,7 +26,8 @@ use toml_edit_slots::{Slot, Slots};
 #[cycle(tree)]
 #[derive(Debug, Drop)]
 pub struct InlineTable {
-    pub(crate) items: Slots<Item>,
+    #[doc(hidden)]
+    pub items: Slots<Item>,
     pub(crate) decor: Decor,
     pub(crate) dotted: bool,
     pub(crate) trailing: RawString,

@@ -1,0 +1,43 @@
+//! Whether a document fits.
+ghost use Rattle.std.specs.Prelude.{◌≡◌, ◌↔◌, IsTrue, None, is_some};
+ghost use Rattle.toml_edit_model.specs.Fits.{Fits};
+ghost use Rattle.toml_edit_tree.specs.View.{fields_view, table_slots, tree_view};
+ghost use Rattle.toml_edit_fits.specs.OrderTests as tests;
+
+use crate::order::{Marks, order_slots};
+use crate::table::parts_fit;
+use toml_edit_repr::RawString;
+use toml_edit_tree::Table;
+
+/// The marks before the tables below the root.
+fn root_marks(root: &Table) -> Marks
+    ensures { result ≡ tests.root_marks (fields_view root.now) }
+{
+    let seen = if root.is_dotted() {
+        0
+    } else {
+        root.position().unwrap_or(0)
+    };
+    Marks {
+        seen,
+        highest: None,
+    }
+}
+
+/// Whether each element's headers, its own first, stand before the next element's.
+fn headers_are_ordered(root: &Table) -> bool
+    ensures order { result ≡ is_some (tests.order_slots None (tests.root_marks (fields_view root.now)) (table_slots root.now)) }
+    ensures apart { IsTrue result → tests.SlotsAreApart (table_slots root.now) }
+{
+    order_slots(None, root_marks(root), &root.slots).is_some()
+}
+
+/// Whether the document with this root and this trailing text fits: what is printed around keys, values and headers suits its place,
+/// neither the root nor an element of an array of tables is dotted, the headers of each element stand before those of the next, and paths
+/// and values are within the limits. It takes no memory, and time by the size of the tree.
+#[doc(hidden)]
+pub fn tree_fits(root: &Table, trailing: &RawString) -> bool
+    ensures { IsTrue result ↔ Fits (tree_view root.now trailing.now) }
+{
+    parts_fit(root, trailing) && headers_are_ordered(root)
+}

@@ -1,0 +1,12 @@
+//! Whether a document fits: whether its print is accepted with the meaning that the tree shows.
+#![tactic(auto)]
+
+mod fits;
+mod order;
+mod route;
+mod table;
+mod trivia;
+mod value;
+
+#[doc(hidden)]
+pub use fits::tree_fits;

@@ -1,0 +1,162 @@
+//! Whether the headers of elements stand in order: an element's own before all below it, and all of these before the next element's.
+ghost use Rattle.std.specs.Prelude.{◌≡◌, IfSome};
+ghost use Rattle.toml_edit_tree.specs.View.{fields_view, item_view, items_view, slots_view, table_slots};
+ghost use Rattle.toml_edit_fits.specs.OrderTests as tests;
+
+use crate::table::has_header;
+use toml_edit_slots::Slots;
+use toml_edit_tree::{Item, Table};
+
+/// A walk over the tables: the position last seen, and the latest place of a header so far in the array of tables that the walk is in.
+#[derive(Clone, Copy)]
+pub(crate) struct Marks {
+    pub(crate) seen: isize,
+    pub(crate) highest: Option<isize>,
+}
+
+/// Whether the place is not before this one, if there is one.
+fn reaches(low: Option<isize>, place: isize) -> bool
+    ensures { result ≡ tests.reaches low place }
+{
+    match low {
+        Some(low) => low <= place,
+        None => true,
+    }
+}
+
+/// The later one of two places, if there are two.
+fn later(high: Option<isize>, place: isize) -> Option<isize>
+    ensures { result ≡ tests.later high place }
+{
+    match high {
+        Some(high) => {
+            if high <= place {
+                Some(place)
+            } else {
+                Some(high)
+            }
+        }
+        None => Some(place),
+    }
+}
+
+/// The later one of two places, of those that there are.
+fn latest(high: Option<isize>, other: Option<isize>) -> Option<isize>
+    ensures { result ≡ tests.latest high other }
+{
+    match other {
+        Some(place) => later(high, place),
+        None => high,
+    }
+}
+
+/// The place of a table, where it isn't dotted: its position, or the one last seen.
+fn place_in(marks: Marks, table: &Table) -> isize
+    ensures { result ≡ tests.place_in marks (fields_view table.now) }
+{
+    table.position().unwrap_or(marks.seen)
+}
+
+/// One more table is entered, in an element whose header has the place `low`, if it is in one. `None` where its header is too late, or is
+/// before one that it has to follow.
+fn enter(is_element: bool, low: Option<isize>, marks: Marks, table: &Table) -> Option<Marks>
+    ensures { result ≡ tests.enter is_element low marks (fields_view table.now) (table_slots table.now) }
+{
+    if table.is_dotted() {
+        return Some(marks);
+    }
+    let place = place_in(marks, table);
+    if !has_header(is_element, table) {
+        return Some(Marks {
+            seen: place,
+            highest: marks.highest,
+        });
+    }
+    if reaches(low, place) && (!is_element || reaches(marks.highest, place)) {
+        Some(Marks {
+            seen: place,
+            highest: later(marks.highest, place),
+        })
+    } else {
+        None
+    }
+}
+
+/// The place that the headers below a table may not be before, if there is one.
+fn first_below(is_element: bool, low: Option<isize>, marks: Marks, table: &Table) -> Option<isize>
+    ensures { result ≡ tests.first_below is_element low marks (fields_view table.now) }
+{
+    if is_element && !table.is_dotted() {
+        Some(place_in(marks, table))
+    } else {
+        low
+    }
+}
+
+/// The marks behind the tables below these slots, or `None` where a header isn't in order.
+#[cycle(order)]
+pub(crate) fn order_slots(low: Option<isize>, marks: Marks, slots: &Slots<Item>) -> Option<Marks>
+    ensures marks { result ≡ tests.order_slots low marks (slots_view slots.now) }
+    ensures apart { IfSome result (λ marks. tests.SlotsAreApart (slots_view slots.now)) }
+{
+    let mut last = marks;
+    let entries = slots.as_slice();
+    'slots: for slot in entries {
+        last = order_node(low, last, &slot.item)?;
+    }
+    Some(last)
+}
+
+/// The same of a slot: the table in it, or the elements, and the tables below.
+#[cycle(order)]
+fn order_node(low: Option<isize>, marks: Marks, item: &Item) -> Option<Marks>
+    ensures marks { result ≡ tests.order_node low marks (item_view item.now) }
+    ensures apart { IfSome result (λ marks. tests.NodeIsApart (item_view item.now)) }
+{
+    match item {
+        Item::Table(table) => {
+            let entered = enter(false, low, marks, table)?;
+            order_slots(low, entered, &table.slots)
+        }
+        Item::ArrayOfTables(tables) => {
+            let before = Marks {
+                seen: marks.seen,
+                highest: None,
+            };
+            let last = order_items(low, before, &tables.values)?;
+            Some(Marks {
+                seen: last.seen,
+                highest: latest(marks.highest, last.highest),
+            })
+        }
+        Item::None | Item::Value(_) => Some(marks),
+    }
+}
+
+/// The same of the elements of an array of tables.
+#[cycle(order)]
+fn order_items(low: Option<isize>, marks: Marks, items: &Vec<Item>) -> Option<Marks>
+    ensures marks { result ≡ tests.order_items low marks (items_view items.now.items) }
+    ensures apart { IfSome result (λ marks. tests.ItemsAreApart (items_view items.now.items)) }
+{
+    let mut last = marks;
+    'items: for item in items {
+        last = order_item(low, last, item)?;
+    }
+    Some(last)
+}
+
+/// The same of an item of an array of tables. One that is no table is passed over.
+#[cycle(order)]
+fn order_item(low: Option<isize>, marks: Marks, item: &Item) -> Option<Marks>
+    ensures marks { result ≡ tests.order_item low marks (item_view item.now) }
+    ensures apart { IfSome result (λ marks. tests.ItemIsApart (item_view item.now)) }
+{
+    match item {
+        Item::Table(table) => {
+            let entered = enter(true, low, marks, table)?;
+            order_slots(first_below(true, low, marks, table), entered, &table.slots)
+        }
+        Item::None | Item::Value(_) | Item::ArrayOfTables(_) => Some(marks),
+    }
+}

@@ -1,0 +1,78 @@
+//! The keys of a path, one after the other, and what stands around a key and its value.
+ghost use Rattle.std.specs.Prelude.{◌≡◌};
+ghost use Rattle.toml_edit_fits.specs.FitTests as tests;
+
+use crate::trivia::{ends_line, is_white, is_whole};
+use toml_edit_key::Key;
+use toml_edit_repr::Decor;
+
+/// The most keys in a path, and the most brackets that are open at once.
+pub(crate) const NESTING_LIMIT: usize = 80;
+
+/// The keys before a key in its path: how many more the path may have, and whether those before are short enough, with white space alone
+/// at their dots.
+#[derive(Clone, Copy)]
+pub(crate) struct Route {
+    pub(crate) room: usize,
+    pub(crate) fits: bool,
+}
+
+/// No keys.
+pub(crate) fn no_keys() -> Route
+    ensures { result ≡ tests.no_keys }
+{
+    Route {
+        room: NESTING_LIMIT,
+        fits: true,
+    }
+}
+
+/// Whether the key may end the path.
+pub(crate) fn key_fits(route: Route, key: &Key) -> bool
+    ensures { result ≡ tests.key_fits route key.now }
+{
+    route.fits
+        && route.room > 0
+        && (route.room == NESTING_LIMIT || is_white(key.dotted_decor().prefix()))
+}
+
+/// The path with one more key, before another.
+pub(crate) fn then_key(route: Route, key: &Key) -> Route
+    ensures { result ≡ tests.then_key route key.now }
+{
+    Route {
+        room: route.room.saturating_sub(1),
+        fits: key_fits(route, key) && is_white(key.dotted_decor().suffix()),
+    }
+}
+
+/// Whether what stands behind a value suits its place, where so many more brackets may be opened: trivia in brackets, and elsewhere the end
+/// of a line.
+fn may_follow(room: usize, decor: &Decor) -> bool
+    ensures { result ≡ tests.may_follow room decor.now }
+{
+    if room == NESTING_LIMIT {
+        ends_line(decor.suffix())
+    } else {
+        is_whole(decor.suffix())
+    }
+}
+
+/// Whether what stands around a key and its value, of this decor, suits its place, and the path is short enough.
+pub(crate) fn pair_fits(room: usize, route: Route, key: &Key, decor: &Decor) -> bool
+    ensures { result ≡ tests.pair_fits room route key.now decor.now }
+{
+    let leaf = key.leaf_decor();
+    key_fits(route, key)
+        && is_whole(leaf.prefix())
+        && is_white(leaf.suffix())
+        && is_white(decor.prefix())
+        && may_follow(room, decor)
+}
+
+/// Whether what stands around an element of an array is trivia.
+pub(crate) fn element_fits(decor: &Decor) -> bool
+    ensures { result ≡ tests.element_fits decor.now }
+{
+    is_whole(decor.prefix()) && is_whole(decor.suffix())
+}

@@ -1,0 +1,132 @@
+//! Whether tables fit, but for the order of their headers.
+ghost use Rattle.std.specs.Prelude.{◌≡◌, ◌&&◌};
+ghost use Rattle.toml_edit_laws.specs.PrintByVisits as visits;
+ghost use Rattle.toml_edit_tree.specs.View.{fields_view, item_view, items_view, slots_view, table_slots};
+ghost use Rattle.toml_edit_fits.specs.FitTests as tests;
+
+use crate::route::{Route, key_fits, no_keys, then_key};
+use crate::trivia::{ends_line, has_newline, is_final, is_white, is_whole};
+use crate::value::lines_fit;
+use toml_edit_key::Key;
+use toml_edit_repr::{Decor, RawString};
+use toml_edit_slots::Slots;
+use toml_edit_tree::{Item, Table, table_has_lines};
+
+/// Whether a table below the root has a header.
+pub(crate) fn has_header(is_element: bool, table: &Table) -> bool
+    ensures { result ≡ visits.has_own_header is_element (fields_view table.now) (table_slots table.now) }
+{
+    is_element || !table.is_implicit() || table_has_lines(table)
+}
+
+/// Whether what stands around the last key in a header's brackets, of this decor, suits its place.
+fn brackets_fit(decor: &Decor) -> bool
+    ensures { result ≡ tests.brackets_fit decor.now }
+{
+    if has_newline(decor.prefix()) {
+        is_whole(decor.prefix())
+    } else {
+        is_white(decor.prefix()) && is_white(decor.suffix())
+    }
+}
+
+/// Whether what stands in and around a header suits its place, and its path is short enough.
+fn header_fits(route: Route, key: &Key, decor: &Decor) -> bool
+    ensures { result ≡ tests.header_fits route key.now decor.now }
+{
+    key_fits(route, key)
+        && brackets_fit(key.leaf_decor())
+        && is_whole(decor.prefix())
+        && ends_line(decor.suffix())
+}
+
+/// Whether the header and the lines of a table fit. A dotted table has neither, and is no element.
+fn table_fits(route: Route, key: &Key, is_element: bool, table: &Table) -> bool
+    ensures { result ≡ tests.table_fits route key.now is_element (fields_view table.now) (table_slots table.now) }
+{
+    if table.is_dotted() {
+        return !is_element;
+    }
+    (!has_header(is_element, table) || header_fits(route, key, table.decor()))
+        && lines_fit(no_keys(), &table.slots)
+}
+
+/// Whether the tables below these slots fit.
+#[cycle(tables)]
+fn tables_fit(route: Route, slots: &Slots<Item>) -> bool
+    ensures { result ≡ tests.tables_fit route (slots_view slots.now) }
+{
+    let entries = slots.as_slice();
+    'slots: for slot in entries {
+        if !node_fits(route, &slot.key, &slot.item) {
+            return false;
+        }
+    }
+    true
+}
+
+/// Whether the tables of a slot fit: itself, or its elements, and those below.
+#[cycle(tables)]
+fn node_fits(route: Route, key: &Key, item: &Item) -> bool
+    ensures { result ≡ tests.node_fits route key.now (item_view item.now) }
+{
+    match item {
+        Item::Table(table) => entered_fits(route, key, false, table),
+        Item::ArrayOfTables(tables) => elements_fit(route, key, &tables.values),
+        Item::None | Item::Value(_) => true,
+    }
+}
+
+/// Whether the elements of an array of tables fit, and the tables below them.
+#[cycle(tables)]
+fn elements_fit(route: Route, key: &Key, items: &Vec<Item>) -> bool
+    ensures { result ≡ tests.elements_fit route key.now (items_view items.now.items) }
+{
+    'items: for item in items {
+        if !as_element_fits(route, key, item) {
+            return false;
+        }
+    }
+    true
+}
+
+/// Whether an item of an array of tables fits. One that is no table isn't printed.
+#[cycle(tables)]
+fn as_element_fits(route: Route, key: &Key, item: &Item) -> bool
+    ensures { result ≡ tests.as_element_fits route key.now (item_view item.now) }
+{
+    match item {
+        Item::Table(table) => entered_fits(route, key, true, table),
+        Item::None | Item::Value(_) | Item::ArrayOfTables(_) => true,
+    }
+}
+
+/// Whether a table fits, and those below it.
+#[cycle(tables)]
+fn entered_fits(route: Route, key: &Key, is_element: bool, table: &Table) -> bool
+    ensures { result
+        ≡ (tests.table_fits route key.now is_element (fields_view table.now) (table_slots table.now)
+        && tests.tables_fit (tests.then_key route key.now) (table_slots table.now)) }
+{
+    table_fits(route, key, is_element, table) && tables_fit(then_key(route, key), &table.slots)
+}
+
+/// Whether what stands around the root suits its place, and its lines fit. The root is not dotted.
+fn root_fits(root: &Table, trailing: &RawString) -> bool
+    ensures { result ≡ tests.root_fits (fields_view root.now) (table_slots root.now) trailing.now }
+{
+    !root.is_dotted()
+        && lines_fit(no_keys(), &root.slots)
+        && is_whole(root.decor().prefix())
+        && is_whole(root.decor().suffix())
+        && is_final(Some(trailing))
+}
+
+/// Whether all of a document fits but the order of its headers: what is printed suits its place, no element and not the root is dotted,
+/// and paths and values are within their limits.
+pub(crate) fn parts_fit(root: &Table, trailing: &RawString) -> bool
+    ensures { result
+        ≡ (tests.root_fits (fields_view root.now) (table_slots root.now) trailing.now && tests.tables_fit tests.no_keys (table_slots root.now)) }
+{
+    root_fits(root, trailing) && tables_fit(no_keys(), &root.slots)
+}

@@ -1,0 +1,134 @@
+//! Whether values and lines fit.
+ghost use Rattle.std.specs.Prelude.{◌≡◌};
+ghost use Rattle.toml_edit_tree.specs.View.{item_view, items_view, slots_view, value_view};
+ghost use Rattle.toml_edit_fits.specs.FitTests as tests;
+
+use crate::route::{NESTING_LIMIT, Route, element_fits, no_keys, pair_fits, then_key};
+use crate::trivia::is_whole;
+use toml_edit_key::Key;
+use toml_edit_slots::Slots;
+use toml_edit_tree::{Item, Value};
+
+/// Whether what is printed inside a value suits its place, and no more than so many brackets are opened in it, and its keys are short.
+#[cycle(value)]
+pub(crate) fn value_fits(room: usize, value: &Value) -> bool
+    ensures { result ≡ tests.value_fits room (value_view value.now) }
+{
+    match value {
+        Value::Array(array) => {
+            room > 0 && is_whole(Some(array.trailing())) && items_fit(room - 1, &array.values)
+        }
+        Value::InlineTable(table) => {
+            room > 0
+                && is_whole(Some(table.trailing()))
+                && inside_fits(room - 1, no_keys(), &table.items)
+        }
+        Value::String(_)
+        | Value::Integer(_)
+        | Value::Float(_)
+        | Value::Boolean(_)
+        | Value::Datetime(_) => true,
+    }
+}
+
+/// Whether the elements of an array do.
+#[cycle(value)]
+fn items_fit(room: usize, items: &Vec<Item>) -> bool
+    ensures { result ≡ tests.items_fit room (items_view items.now.items) }
+{
+    'items: for item in items {
+        if !item_fits(room, item) {
+            return false;
+        }
+    }
+    true
+}
+
+/// Whether an item of an array does. One that is no value isn't printed.
+#[cycle(value)]
+fn item_fits(room: usize, item: &Item) -> bool
+    ensures { result ≡ tests.item_fits room (item_view item.now) }
+{
+    match item {
+        Item::Value(value) => element_fits(value.decor()) && value_fits(room, value),
+        Item::None | Item::Table(_) | Item::ArrayOfTables(_) => true,
+    }
+}
+
+/// Whether the pairs in an inline table do, with the keys so far.
+#[cycle(value)]
+fn inside_fits(room: usize, route: Route, slots: &Slots<Item>) -> bool
+    ensures { result ≡ tests.inside_fits room route (slots_view slots.now) }
+{
+    let entries = slots.as_slice();
+    'slots: for slot in entries {
+        if !pair_slot_fits(room, route, &slot.key, &slot.item) {
+            return false;
+        }
+    }
+    true
+}
+
+/// Whether a slot of an inline table does: its pair, or the pairs in a table.
+#[cycle(value)]
+fn pair_slot_fits(room: usize, route: Route, key: &Key, item: &Item) -> bool
+    ensures { result ≡ tests.pair_slot_fits room route key.now (item_view item.now) }
+{
+    match item {
+        Item::Value(value) => pair_value_fits(room, route, key, value),
+        Item::Table(table) => inside_fits(room, then_key(route, key), &table.slots),
+        Item::None | Item::ArrayOfTables(_) => true,
+    }
+}
+
+/// Whether the pair of a value does, or those in a dotted inline table.
+#[cycle(value)]
+fn pair_value_fits(room: usize, route: Route, key: &Key, value: &Value) -> bool
+    ensures { result ≡ tests.pair_slot_fits room route key.now (value_view value.now) }
+{
+    match value {
+        Value::InlineTable(table) => {
+            if table.is_dotted() {
+                inside_fits(room, then_key(route, key), &table.items)
+            } else {
+                pair_fits(room, route, key, value.decor()) && value_fits(room, value)
+            }
+        }
+        Value::String(_)
+        | Value::Integer(_)
+        | Value::Float(_)
+        | Value::Boolean(_)
+        | Value::Datetime(_)
+        | Value::Array(_) => {
+            pair_fits(room, route, key, value.decor()) && value_fits(room, value)
+        }
+    }
+}
+
+/// Whether the lines of a table fit, with the keys so far.
+#[cycle(lines)]
+pub(crate) fn lines_fit(route: Route, slots: &Slots<Item>) -> bool
+    ensures { result ≡ tests.lines_fit route (slots_view slots.now) }
+{
+    let entries = slots.as_slice();
+    'slots: for slot in entries {
+        if !slot_fits(route, &slot.key, &slot.item) {
+            return false;
+        }
+    }
+    true
+}
+
+/// Whether the lines of a slot of a table do: of a value, or of a dotted table.
+#[cycle(lines)]
+fn slot_fits(route: Route, key: &Key, item: &Item) -> bool
+    ensures { result ≡ tests.slot_fits route key.now (item_view item.now) }
+{
+    match item {
+        Item::Value(value) => pair_value_fits(NESTING_LIMIT, route, key, value),
+        Item::Table(table) => {
+            !table.is_dotted() || lines_fit(then_key(route, key), &table.slots)
+        }
+        Item::None | Item::ArrayOfTables(_) => true,
+    }
+}
