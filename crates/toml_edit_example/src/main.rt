@@ -1,10 +1,10 @@
-//! The example of the README: reads a document from standard input, and prints it with a word on its `retries`.
+//! The example of the README: reads a package manifest from standard input, and prints it with a word on its package.
 #![tactic(auto)]
 
 use anyhow::Result;
 use std::alloc::Global;
 use std::io;
-use toml_edit::{Document, Item, ParseFault, Value};
+use toml_edit::{Document, Item, ParseFault, SourceText, Value};
 
 // The print of the document that the text is.
 fn printed(alloc: Global, text: &str) -> Result<String, ParseFault> {
@@ -13,23 +13,23 @@ fn printed(alloc: Global, text: &str) -> Result<String, ParseFault> {
     Ok(document.print(alloc)?)
 }
 
-// The integer that the document holds under `retries`.
-fn retries(alloc: Global, text: &str) -> Result<Option<i64>, ParseFault> {
-    let document = Document::parse(alloc, text)?;
-    Ok(
-        document
-            .as_table()
-            .get("retries")
-            .and_then(Item::as_value)
-            .and_then(Value::as_integer),
-    )
+// What the manifest says of its package under this key, if that is a string.
+fn of_package<'a, S: SourceText>(manifest: &'a Document<S>, key: &str) -> Option<&'a str> {
+    manifest
+        .as_table()
+        .get("package")
+        .and_then(Item::as_table)?
+        .get(key)
+        .and_then(Item::as_value)
+        .and_then(Value::as_str)
 }
 
 fn main(rt: HostRuntime) -> Result<()> {
     let text = io::read_to_string(rt.alloc(), rt.stdin())?;
     print!(rt; "{}", printed(rt.alloc(), text.as_str())?)?;
-    if let Some(times) = retries(rt.alloc(), text.as_str())? {
-        println!(rt; "# tried {times} times")?;
+    let manifest = Document::parse(rt.alloc(), text.as_str())?;
+    if let Some(version) = of_package(&manifest, "version") {
+        println!(rt; "# version {version}")?;
     }
     Ok(())
 }
