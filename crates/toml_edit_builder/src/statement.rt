@@ -102,15 +102,9 @@ fn add_line<'a>(
     ensures rest { IfOk result (λ r. AreIn source.now r.now × (length r.now < length events.now)) }
     ensures count { OnOk result (building.new.headers ≡ building.old.headers) }
 {
-    let (path, rest) = read_key_line(alloc, source, leading, events, &mut building.item)?;
-    add_path(
-        alloc,
-        source,
-        Kind::Line,
-        path,
-        &mut building.item,
-        &mut building.current,
-    )?;
+    let Building { item, current, .. } = building;
+    let (path, rest) = read_key_line(alloc, source, leading, events, item)?;
+    add_path(alloc, source, Kind::Line, path, item, current)?;
     Ok(rest)
 }
 
