@@ -1,4 +1,6 @@
 pub mod SpanProps
+pub mod RootLaws
 pub mod OwnLaws
 pub mod OverLaws
+pub mod TakenLaws
 pub mod HeaderLaws

@@ -1,14 +1,17 @@
 -- What parsing gives is a tree over its text, and a reading of it.
-use Rattle.std.proofs.Common.{◌≡◌, sym, ap, subst, ◌∙◌}
+use Rattle.std.proofs.Common.{◌≡◌, refl, sym, ap, subst, ◌∙◌}
 use Rattle.std.specs.Str.{IsUtf8}
 use Rattle.toml_edit_model.specs.Mode.{plain}
 use Rattle.toml_edit_model.specs.Text.{Text}
-use Rattle.toml_edit_model.specs.Tree.{Raw, Slots, Tree}
+use Rattle.toml_edit_model.specs.Tree.{Raw, Slots}
 use Rattle.toml_edit_model.specs.TreeOf.{spanned_form, root_fields}
 use Rattle.toml_edit_model.specs.OwnedForm.{IsOver}
 use Rattle.toml_edit_laws.proofs.read_trees.MeaningOfTrees.{trees_mean}
 use Rattle.toml_edit_laws.proofs.read_trees.ReadLaws.{owned_trees, trees_over, spans_cut_spellings}
+use Rattle.toml_edit_tree.specs.declared.item.Item.TheVariants as items
 use Rattle.toml_edit_tree.specs.declared.table.Table.{Table}
+use Rattle.toml_edit.specs.Roots.{tree_under}
+use Rattle.toml_edit.proofs.RootLaws.{tree-under}
 use Rattle.toml_edit_tree.specs.View.{table_slots, fields_view, tree_view}
 use Rattle.toml_edit_builder.specs.DocumentRead.{IsParsed}
 use Rattle.toml_edit_builder.specs.StatementRead.{tree_of}
@@ -34,24 +37,25 @@ module _ (t : Text) (slots : Slots) (trailing : Raw) (utf8 : IsUtf8 t) (h : IsPa
         meaning = trees_mean h.document h.accepted.0.0 h.accepted.1 spanned_form (tree_of slots trailing) h.tree;
       }
 
--- ---- a root table of these slots
+-- ---- a root that holds these slots
 
 -- the tree of the root that holds what was parsed
 root-tree : (root : Table) (slots : Slots) (trailing : Raw) → fields_view root ≡ root_fields spanned_form → table_slots root ≡ slots
-    → tree_of slots trailing ≡ tree_view root trailing
+    → tree_of slots trailing ≡ tree_under (items.Table root) trailing
 root-tree root slots trailing fields same =
-    sym (ap (λ f. record (tree_view root trailing) { root = f }) fields ∙ ap (λ ss. tree_of ss trailing) same)
+    sym
+    (tree-under (items.Table root) root trailing refl ∙ ap (λ f. record (tree_view root trailing) { root = f }) fields ∙ ap (λ ss. tree_of ss trailing) same)
 
 -- what was parsed, of a text that is this one
 module _ (t u : Text) (root : Table) (slots : Slots) (trailing : Raw) (same : u ≡ t) (utf8 : IsUtf8 u) (h : IsParsed u slots trailing)
     (fields : fields_view root ≡ root_fields spanned_form) (held : table_slots root ≡ slots) where
   -- The root's tree is over the text.
-  pub root-over : IsOver t (tree_view root trailing)
+  pub root-over : IsOver t (tree_under (items.Table root) trailing)
   root-over =
       subst (IsOver t) (root-tree root slots trailing fields held) (subst (λ v. IsOver v (tree_of slots trailing)) same (over u slots trailing utf8 h))
 
   -- It is the text's one reading.
-  pub root-reading : IsReading t (tree_view root trailing)
+  pub root-reading : IsReading t (tree_under (items.Table root) trailing)
   root-reading =
       subst (IsReading t) (root-tree root slots trailing fields held)
       (subst (λ v. IsReading v (tree_of slots trailing)) same (reading u slots trailing utf8 h))

@@ -10,7 +10,8 @@ use Rattle.toml_edit_model.specs.TreeOf.{spanned_form, owned_form, IsTreeOf}
 use Rattle.toml_edit_laws.proofs.read_trees.ReadLaws.{owned_trees}
 use Rattle.toml_edit_laws.proofs.print_of_read.PrintOfRead.{plain_print_normal}
 use Rattle.toml_edit_laws.proofs.normal_texts.TreesFit.{texts_fit}
-use Rattle.toml_edit.specs.Documents.{IsOwnedTreeOf}
+use Rattle.toml_edit.specs.Documents.{IsOwnedReading, IsOwnedTreeOf, IsReading}
+use Rattle.toml_edit_laws.proofs.read_trees.MeaningOfTrees.{trees_mean}
 use Rattle.toml_edit.proofs.SpanProps.{DecorFits-prop, SlotsFit-prop, RawFits-prop}
 use Rattle.toml_edit_model.specs.OwnedForm.{IsOver, DecorFits, SlotsFit, RawFits, owned_raw, owned_fields, owned_slots, owned_tree}
 
@@ -50,3 +51,16 @@ stays-tree t x y e d accepted is =
     let own = subst (IsTreeOf owned_form d) (sym e) (owned_trees plain t d accepted.0 x is) in
     let fine = texts_fit plain t d accepted y own in
     record { tree = own; prints = plain_print_normal d accepted.0.0 accepted.1 y own; fits = fine.0; steady = fine.1 }
+
+-- What is made of a reading of a text is one that owns its texts.
+pub own-reading : (t u : Text) (x y : Tree) → u ≡ t → IsReading t x
+    → ((d : Document) → AcceptedAs u d → IsTreeOf spanned_form d x → IsOwnedTreeOf d y) → IsOwnedReading t y
+own-reading t u x y same r stays =
+    let own = stays r.document (subst (λ v. AcceptedAs v r.document) (sym same) r.accepted) r.tree in
+    record {
+      document = r.document;
+      accepted = r.accepted;
+      only = r.only;
+      tree = own;
+      meaning = trees_mean r.document r.accepted.0.0 r.accepted.1 owned_form y own.tree;
+    }

@@ -1,17 +1,22 @@
 -- What a text is read as.
-use Rattle.std.specs.Prelude.{◌≡◌, true}
+use Rattle.std.specs.Prelude.{◌≡◌, true, [], Some, pos}
 use Rattle.toml_edit_model.specs.Text.{Text}
 use Rattle.toml_edit_model.specs.Accepted.{AcceptedAs}
 use Rattle.toml_edit_model.specs.Syntax.{Document, IsCut}
 use Rattle.toml_edit_model.specs.Fits.{Fits, is_steady}
 use Rattle.toml_edit_model.specs.Meaning.{SameFacts, meaning}
 use Rattle.toml_edit_model.specs.Normal.{normal_text}
-use Rattle.toml_edit_model.specs.Print.{print}
+use Rattle.toml_edit_model.specs.Print.{print, printed_document}
 use Rattle.toml_edit_model.specs.Shown.{shown_meaning}
-use Rattle.toml_edit_model.specs.Tree.{Tree}
+use Rattle.toml_edit_model.specs.Tree.{owned, no_slots, Tree}
 use Rattle.toml_edit_model.specs.TreeOf.{spanned_form, owned_form, IsTreeOf}
 use Rattle.toml_edit_model.specs.OwnedForm.{owned_tree}
+use Rattle.toml_edit_tree.specs.TableLending.{new_table}
 use Rattle.toml_edit_laws.specs.ReadTrees.{HaveCutSpellings}
+
+-- nothing, below a root that is the first of all headers
+abbrev pub new_tree : Tree
+new_tree = record { root = record new_table { position = Some (pos 0) }; slots = no_slots; trailing = owned [] }
 
 -- The text has one cut, by which it is accepted, and this is the tree of that cut over the text: what its spans cut from the text makes
 -- the tree with owned texts, and the span of each key and each scalar cuts its spelling. It means what the text means.
@@ -30,3 +35,17 @@ pub record IsOwnedTreeOf (d : Document) (x : Tree) : Type 0 where
   pub prints : print x ≡ normal_text d
   pub fits : Fits x
   pub steady : is_steady x ≡ true
+
+-- The text has one cut, by which it is accepted, and this tree, which owns its texts, is of that cut. It means what the text means.
+pub record IsOwnedReading (t : Text) (x : Tree) : Type 0 where
+  pub document : Document
+  pub accepted : AcceptedAs t document
+  pub only : (other : Document) → IsCut other t → other ≡ document
+  pub tree : IsOwnedTreeOf document x
+  pub meaning : SameFacts (shown_meaning x) (meaning document)
+
+-- The tree fits, and what it prints is accepted and means what the document means.
+pub record PrintsMeaningOf (d : Document) (x : Tree) : Type 0 where
+  pub fits : Fits x
+  pub accepted : AcceptedAs (print x) (printed_document x)
+  pub meaning : SameFacts (meaning (printed_document x)) (meaning d)

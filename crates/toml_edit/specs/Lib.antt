@@ -1,3 +1,4 @@
+pub mod Roots
 pub mod DocumentView
 pub mod Documents
 pub mod HeadersView

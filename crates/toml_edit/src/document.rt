@@ -1,12 +1,14 @@
 //! Documents: as they were read, over their text, and as they can be printed.
-ghost use Rattle.toml_edit_tree.specs.View.{tree_view};
+ghost use Rattle.std.specs.Prelude.{◌≡◌, true};
+ghost use Rattle.toml_edit.specs.Roots.{is_table, tree_under};
 ghost use Rattle.toml_edit_model.specs.OwnedForm.{IsOver};
 
+use crate::root::table_of;
 use std::alloc::Global;
 use toml_edit_builder as builder;
 use toml_edit_error::ParseFault;
 use toml_edit_repr::{Mem, RawString};
-use toml_edit_tree::{Iter, Table};
+use toml_edit_tree::{Item, Iter, Table};
 
 /// What holds the text of a document: the same text each time.
 pub trait SourceText: Drop {
@@ -42,24 +44,27 @@ impl SourceText for String {
 #[derive(Debug, Drop)]
 pub struct Document<S: SourceText> {
     raw: S,
-    root: Table,
+    root: Item,
     trailing: RawString,
+    ghost rooted: { is_table root ≡ true },
     // Each span cuts a text from the source, and each spelling so cut is true.
-    ghost over: { ∥ IsOver (S.content raw) (tree_view root trailing) ∥₁ },
+    ghost over: { ∥ IsOver (S.content raw) (tree_under root trailing) ∥₁ },
 }
 
 impl<S: SourceText> Document<S> {
-    ghost use Rattle.std.specs.Prelude.{◌≡◌, ◌⊎◌, IfOk, IfErr, IsOk, IsErrOf};
+    ghost use Rattle.std.specs.Prelude.{◌≡◌, ◌⊎◌, [], IfOk, IfErr, IsOk, IsErrOf};
     ghost use Rattle.toml_edit_model.specs.Syntax.{Document as Cut};
     ghost use Rattle.toml_edit_model.specs.Accepted.{AcceptedAs};
+    ghost use Rattle.toml_edit_model.specs.Tree.{owned};
     ghost use Rattle.toml_edit_model.specs.TreeOf.{spanned_form, IsTreeOf};
     ghost use Rattle.toml_edit_model.specs.OwnedForm.{owned_tree};
     ghost use Rattle.toml_edit_error.specs.Fault.{IfToml};
     ghost use Rattle.toml_edit.specs.DocumentView.{source, tree_read, tree_owned};
-    ghost use Rattle.toml_edit.specs.Documents.{IsOwnedTreeOf, IsReading};
+    ghost use Rattle.toml_edit.specs.Documents.{IsOwnedTreeOf, IsReading, PrintsMeaningOf};
+    ghost use Rattle.toml_edit.specs.Roots.{root_node};
     ghost use Rattle.toml_edit_tree.specs.Held.{held, held_left};
     ghost use Rattle.toml_edit_builder.specs.DocumentRead.{IsRefusal};
-    ghost use Rattle.toml_edit_tree.specs.View.{table_slots, fields_view};
+    ghost use Rattle.toml_edit_tree.specs.View.{item_view, table_slots, tree_view, fields_view};
 
     /// Reads a text. The errors are a `TomlError` for a text that is refused, which names a fault of its first faulty statement, or of a
     /// text outside the grammar what is wrong with its syntax; and want of memory.
@@ -73,9 +78,16 @@ impl<S: SourceText> Document<S> {
         let (slots, trailing) = builder::parse(alloc, raw.text())?;
         Ok(Document {
             raw,
-            root: Table::root(slots),
+            root: Item::Table(Table::root(slots)),
             trailing,
         })
+    }
+
+    /// The root table, as an item.
+    pub fn as_item(&self) -> &Item
+        ensures { item_view result.now ≡ root_node (tree_read self.now) }
+    {
+        &self.root
     }
 
     /// The root table.
@@ -83,14 +95,17 @@ impl<S: SourceText> Document<S> {
         ensures fields { fields_view result.now ≡ (tree_read self.now).root }
         ensures slots { table_slots result.now ≡ (tree_read self.now).slots }
     {
-        &self.root
+        match &self.root {
+            Item::Table(table) => table,
+            _ => unreachable!(),
+        }
     }
 
     /// The keys' texts and the items of the root in order, without placeholders.
     pub fn iter(&self) -> Iter<'_>
         ensures { held_left result ≡ held (tree_read self.now).slots }
     {
-        self.root.iter()
+        self.as_table().iter()
     }
 
     /// What follows the last statement.
@@ -107,12 +122,25 @@ impl<S: SourceText> Document<S> {
         self.raw.text()
     }
 
-    /// The root table alone.
+    /// The root table alone, as an item. Its texts stay spans, for which a print has the default spellings and decors.
+    pub fn into_item(self) -> Item
+        ensures root { item_view result ≡ root_node (tree_read self) }
+        // Made the root of a document, it prints a text that means what the text that was read means.
+        ensures print { (d : Cut) → AcceptedAs (source self) d → IsTreeOf spanned_form d (tree_read self)
+            → PrintsMeaningOf d (record (tree_read self) { trailing = owned [] }) }
+    {
+        self.root
+    }
+
+    /// The root table alone. Its texts stay spans, for which a print has the default spellings and decors.
     pub fn into_table(self) -> Table
         ensures fields { fields_view result ≡ (tree_read self).root }
         ensures slots { table_slots result ≡ (tree_read self).slots }
+        // Made the root of a document, it prints a text that means what the text that was read means.
+        ensures print { (d : Cut) → AcceptedAs (source self) d → IsTreeOf spanned_form d (tree_read self)
+            → PrintsMeaningOf d (tree_view result (owned [])) }
     {
-        self.root
+        table_of(self.root)
     }
 
     /// The document with its spans turned into the texts that they cut. The only error is want of memory, which gives the document
@@ -125,37 +153,121 @@ impl<S: SourceText> Document<S> {
     {
         let Document {
             raw,
-            mut root,
+            root,
             mut trailing,
         } = self;
-        root.despan(alloc, raw.text())?;
+        let mut table = table_of(root);
+        table.despan(alloc, raw.text())?;
         trailing.despan(alloc, raw.text())?;
-        Ok(DocumentMut { root, trailing })
+        Ok(DocumentMut {
+            root: Item::Table(table),
+            trailing,
+        })
+    }
+}
+
+impl Document<&'static str> {
+    ghost use Rattle.std.specs.Prelude.{◌≡◌, []};
+    ghost use Rattle.toml_edit.specs.DocumentView.{source, tree_read};
+    ghost use Rattle.toml_edit.specs.Documents.{new_tree};
+
+    /// No text, and a root without slots, which is the first of all headers.
+    pub fn new(alloc: Global) -> Document<&'static str>
+        ensures source { source result ≡ [] }
+        ensures tree { tree_read result ≡ new_tree }
+    {
+        let mut root = Table::new(alloc);
+        root.set_position(Some(0));
+        Document {
+            raw: "",
+            root: Item::Table(root),
+            trailing: RawString::default(),
+        }
+    }
+}
+
+impl Document<String> {
+    ghost use Rattle.std.specs.Prelude.{◌≡◌, ◌⊎◌, IfOk, IfErr, IsOk, IsErrOf};
+    ghost use Rattle.toml_edit_model.specs.Syntax.{Document as Cut};
+    ghost use Rattle.toml_edit_model.specs.Accepted.{AcceptedAs};
+    ghost use Rattle.toml_edit_error.specs.Fault.{IfToml};
+    ghost use Rattle.toml_edit.specs.DocumentView.{source, tree_read};
+    ghost use Rattle.toml_edit.specs.Documents.{IsReading};
+    ghost use Rattle.toml_edit_builder.specs.DocumentRead.{IsRefusal};
+
+    /// Reads a text, of which it holds a copy. The errors are those of `parse`.
+    pub fn from_str(alloc: Global, text: &str) -> Result<Document<String>, ParseFault>
+        ensures accepted { IfOk result (λ x. IsReading text.now (tree_read x)) }
+        ensures source { IfOk result (λ x. source x ≡ text.now) }
+        // An accepted text is never refused.
+        ensures every { (d : Cut) → AcceptedAs text.now d → IsOk result ⊎ IsErrOf result ParseFault.Memory }
+        ensures refused { IfErr result (λ e. IfToml e (IsRefusal text.now)) }
+    {
+        let raw = String::from_str(alloc, text)?;
+        Document::parse(alloc, raw)
     }
 }
 
 /// A document that holds its own texts.
 #[derive(Debug, Drop)]
 pub struct DocumentMut {
-    pub(crate) root: Table,
+    root: Item,
     pub(crate) trailing: RawString,
+    ghost rooted: { is_table root ≡ true },
 }
 
 impl DocumentMut {
-    ghost use Rattle.std.specs.Prelude.{◌≡◌, IfOk, string_bytes};
+    ghost use Rattle.std.specs.Prelude.{◌≡◌, ◌⊎◌, IfOk, IfErr, IsOk, IsErrOf, string_bytes};
+    ghost use Rattle.toml_edit_model.specs.Syntax.{Document as Cut};
+    ghost use Rattle.toml_edit_model.specs.Accepted.{AcceptedAs};
     ghost use Rattle.toml_edit_model.specs.Print.{print as printed};
     ghost use Rattle.std.specs.Borrow.{sem};
+    ghost use Rattle.toml_edit_error.specs.Fault.{IfToml};
     ghost use Rattle.toml_edit.specs.DocumentLending.{LendsRoot};
     ghost use Rattle.toml_edit.specs.DocumentView.{tree_owned};
+    ghost use Rattle.toml_edit.specs.Documents.{IsOwnedReading, new_tree};
+    ghost use Rattle.toml_edit.specs.Roots.{root_node};
+    ghost use Rattle.toml_edit_builder.specs.DocumentRead.{IsRefusal};
     ghost use Rattle.toml_edit_tree.specs.Held.{held, held_left};
-    ghost use Rattle.toml_edit_tree.specs.View.{table_slots, fields_view};
+    ghost use Rattle.toml_edit_tree.specs.View.{item_view, table_slots, fields_view};
+
+    /// A root without slots, which is the first of all headers, and nothing behind it.
+    pub fn new(alloc: Global) -> DocumentMut
+        ensures { tree_owned result ≡ new_tree }
+    {
+        let mut root = Table::new(alloc);
+        root.set_position(Some(0));
+        DocumentMut::from(root)
+    }
+
+    /// Reads a text. The errors are those of `Document::parse`.
+    pub fn from_str(alloc: Global, text: &str) -> Result<DocumentMut, ParseFault>
+        ensures accepted { IfOk result (λ m. IsOwnedReading text.now (tree_owned m)) }
+        // An accepted text is never refused.
+        ensures every { (d : Cut) → AcceptedAs text.now d → IsOk result ⊎ IsErrOf result ParseFault.Memory }
+        ensures refused { IfErr result (λ e. IfToml e (IsRefusal text.now)) }
+    {
+        let document = Document::parse(alloc, text)?;
+        let owned = document.into_mut(alloc)?;
+        Ok(owned)
+    }
+
+    /// The root table, as an item.
+    pub fn as_item(&self) -> &Item
+        ensures { item_view result.now ≡ root_node (tree_owned self.now) }
+    {
+        &self.root
+    }
 
     /// The root table.
     pub fn as_table(&self) -> &Table
         ensures fields { fields_view result.now ≡ (tree_owned self.now).root }
         ensures slots { table_slots result.now ≡ (tree_owned self.now).slots }
     {
-        &self.root
+        match &self.root {
+            Item::Table(table) => table,
+            _ => unreachable!(),
+        }
     }
 
     /// The root table, to be changed.
@@ -164,7 +276,17 @@ impl DocumentMut {
         ensures fields { fields_view result.now ≡ (tree_owned self.old).root }
         ensures slots { table_slots result.now ≡ (tree_owned self.old).slots }
     {
-        &mut self.root
+        match &mut self.root {
+            Item::Table(table) => table,
+            _ => unreachable!(),
+        }
+    }
+
+    /// The root table alone, as an item.
+    pub fn into_item(self) -> Item
+        ensures { item_view result ≡ root_node (tree_owned self) }
+    {
+        self.root
     }
 
     /// The root table alone.
@@ -172,14 +294,14 @@ impl DocumentMut {
         ensures fields { fields_view result ≡ (tree_owned self).root }
         ensures slots { table_slots result ≡ (tree_owned self).slots }
     {
-        self.root
+        table_of(self.root)
     }
 
     /// The keys' texts and the items of the root in order, without placeholders.
     pub fn iter(&self) -> Iter<'_>
         ensures { held_left result ≡ held (tree_owned self.now).slots }
     {
-        self.root.iter()
+        self.as_table().iter()
     }
 
     /// What follows the last statement.
@@ -194,6 +316,18 @@ impl DocumentMut {
         ensures { tree_owned self.new ≡ record (tree_owned self.old) { trailing = trailing } }
     {
         self.trailing = trailing;
+    }
+
+    /// An equal copy. The only error is want of memory.
+    pub fn clone(&self, alloc: Global) -> Mem<DocumentMut>
+        ensures { IfOk result (λ copy. tree_owned copy ≡ tree_owned self.now) }
+    {
+        let root = self.as_table().clone(alloc)?;
+        let trailing = self.trailing.clone(alloc)?;
+        Ok(DocumentMut {
+            root: Item::Table(root),
+            trailing,
+        })
     }
 
     /// The text of the document. The only error is want of memory.
@@ -215,7 +349,7 @@ impl From<Table> for DocumentMut {
 
     fn from(root: Table) -> DocumentMut {
         DocumentMut {
-            root,
+            root: Item::Table(root),
             trailing: RawString::default(),
         }
     }

@@ -30,7 +30,7 @@ impl fmt::Display for DocumentMut {
     ghost output = { λ d. Some (print (tree_owned d)) };
 
     fn fmt<W: Write>(&self, f: &mut Formatter<W>) -> fmt::Result {
-        write_document(f, &self.root, &self.trailing)
+        write_document(f, self.as_table(), &self.trailing)
     }
 }
 

@@ -5,6 +5,7 @@ pub mod document;
 mod encode;
 mod headers;
 pub mod laws;
+mod root;
 
 pub use document::{Document, DocumentMut, SourceText};
 pub use toml_edit_datetime::{Date, Datetime, DatetimeFault, FloatText, Offset, Time};

@@ -1,0 +1,35 @@
+-- The item that is the root of a document.
+use denote.Struct.Props.{props}
+use Rattle.std.proofs.Common.{◌≡◌, ap, subst, ◌∙◌, true, rules}
+use Rattle.toml_edit_model.specs.Tree.{Raw, table}
+use Rattle.toml_edit_tree.specs.View.{item_view, fields_view, table_slots, tree_view}
+use Rattle.toml_edit_tree.specs.declared.item.Item.{Item, the_lemmas}
+use Rattle.toml_edit_tree.specs.declared.item.Item.TheVariants as items
+use Rattle.toml_edit_tree.specs.declared.table.Table.{Table}
+use Rattle.toml_edit.specs.Roots.{is_table, tree_at, tree_under}
+use Rattle.toml_edit.specs.declared.document.DocumentMut.{DocumentMut}
+
+-- what a table is seen as
+pub view-table : (t : Table) → item_view (items.Table t) ≡ table (fields_view t) (table_slots t)
+view-table t = search (rules, the_lemmas)
+
+-- the tree under a table
+pub tree-under : (x : Item) (t : Table) (r : Raw) → x ≡ items.Table t → tree_under x r ≡ tree_view t r
+tree-under x t r e = ap (λ y. tree_under y r) e ∙ ap (λ n. tree_at n r) (view-table t)
+
+-- ---- documents with the same parts are the same
+
+one-proof : (x : Item) → IsProp (is_table x ≡ true)
+one-proof x = hlevel props
+
+abbrev document : (x : Item) (r : Raw) → is_table x ≡ true → DocumentMut
+document x r h = record { root = x; trailing = r; rooted = h }
+
+same-root : (x y : Item) (r : Raw) (p : is_table x ≡ true) (q : is_table y ≡ true) → x ≡ y → document x r p ≡ document y r q
+same-root x y r p q e =
+    subst (λ (z : Item). (h : is_table z ≡ true) → document x r p ≡ document z r h) e
+    (λ h. ap (λ (g : is_table x ≡ true). document x r g) (one-proof x p h)) q
+
+pub same-parts : (a b : DocumentMut) → a.root ≡ b.root → a.trailing ≡ b.trailing → a ≡ b
+same-parts a b e f =
+    subst (λ (r : Raw). a ≡ document b.root r b.rooted) f (same-root a.root b.root a.trailing a.rooted b.rooted e)

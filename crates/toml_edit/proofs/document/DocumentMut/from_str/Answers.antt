@@ -1,0 +1,9 @@
+-- A document that was read and made to own its texts.
+use Rattle.toml_edit.specs.DocumentView.{source, tree_read, tree_owned}
+use Rattle.toml_edit.proofs.OwnLaws.{own-reading}
+use Rattle.toml_edit.proofs.document.DocumentMut.from_str.Goals as goal
+
+pub returns-clause-accepted : goal.returns-clause-accepted
+returns-clause-accepted c =
+    own-reading c.args.text.now (source c.in_ok-document.document) (tree_read c.in_ok-document.document) (tree_owned c.in_ok-owned.owned)
+    c.in_ok-document.ensures.source c.in_ok-document.ensures.accepted c.in_ok-owned.ensures.normal
