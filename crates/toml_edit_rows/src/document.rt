@@ -1,26 +1,44 @@
 //! Rows on the text of a document.
 use crate::row::Row;
 use crate::said::Answer;
-use crate::steps::{Subject, behind, word};
+use crate::steps::{Asked, Subject, behind, copied, word};
 use crate::{events, refusal, run, steps, table};
 use serde_json::Value as Json;
-use toml_edit::{Document, DocumentMut, Mem, ParseFault, RawString};
+use toml_edit::{Document, DocumentMut, Mem, ParseFault, RawString, SourceText};
 
 pub fn answer(row: Row<'_>, out: &mut Answer) {
     match row.question {
         "events" => events::all(row.text(), out),
         "last_event" => events::last(row.text(), out),
         "every_cut_ends" => run::every_cut_ends(row.text(), out),
-        "reads" => steps::read(Document::parse(out.alloc, row.text()), row, out),
-        "root_prints" => root(Document::parse(out.alloc, row.text()), row, out),
-        _ => owned(Document::parse(out.alloc, row.text()), row, out),
+        "from_str_prints" => steps::read(DocumentMut::from_str(out.alloc, row.text()), row, out),
+        "document_from_str_prints" => owned(Document::from_str(out.alloc, row.text()), row, out),
+        _ => read(Document::parse(out.alloc, row.text()), row, out),
     }
 }
 
-impl Subject for Document<&str> {
+/// Rows on an empty document.
+pub fn empty(row: Row<'_>, out: &mut Answer) {
+    match row.question {
+        "reads" => steps::stepped(Document::new(out.alloc), row, out),
+        _ => steps::stepped(DocumentMut::new(out.alloc), row, out),
+    }
+}
+
+/// Asks of the document as it was read, of its root, or of the document after it owns its texts.
+fn read(read: Result<Document<&str>, ParseFault>, row: Row<'_>, out: &mut Answer) {
+    match row.question {
+        "reads" => steps::read(read, row, out),
+        "into_item" | "root_prints" => root(read, row, out),
+        _ => owned(read, row, out),
+    }
+}
+
+impl<S: SourceText> Subject for Document<S> {
     fn call(&mut self, words: &[Json], out: &mut Answer) {
         match word(words, 0) {
             "raw" => out.text(self.raw()),
+            "as_item" => table::ask_item(self.as_item(), behind(words, 1), out),
             "trailing" => out.raw(Some(self.trailing())),
             "iter" => table::names(self.iter(), out),
             _ => table::ask(self.as_table(), words, out),
@@ -32,29 +50,35 @@ impl Subject for Document<&str> {
     }
 }
 
-/// Asks of the document that is made of the root alone, whose texts are spans.
+/// Asks of the root as an item, or of the document that is made of it, whose texts are spans.
 fn root(read: Result<Document<&str>, ParseFault>, row: Row<'_>, out: &mut Answer) {
     match read {
+        Ok(document) if row.question == "into_item" => {
+            steps::stepped(document.into_item(), row, out);
+        }
         Ok(document) => steps::stepped(DocumentMut::from(document.into_table()), row, out),
         Err(fault) => refusal::answer(&fault, row.question, out),
     }
 }
 
 /// Asks of the document after it owns its texts.
-fn owned(read: Result<Document<&str>, ParseFault>, row: Row<'_>, out: &mut Answer) {
+fn owned<S: SourceText>(read: Result<Document<S>, ParseFault>, row: Row<'_>, out: &mut Answer) {
     match read {
-        Ok(document) if row.question == "owned_root_prints" => {
-            owned_root(document.into_mut(out.alloc), row, out);
-        }
-        Ok(document) => steps::made(document.into_mut(out.alloc), row, out),
+        Ok(document) => owning(document.into_mut(out.alloc), row, out),
         Err(fault) => refusal::answer(&fault, row.question, out),
     }
 }
 
-/// Asks of the document that is made of the root of one that owns its texts.
-fn owned_root(made: Mem<DocumentMut>, row: Row<'_>, out: &mut Answer) {
+/// Asks of the document, of its root as an item, or of the document that is made of its root.
+fn owning(made: Mem<DocumentMut>, row: Row<'_>, out: &mut Answer) {
     match made {
-        Ok(document) => steps::stepped(DocumentMut::from(document.into_table()), row, out),
+        Ok(document) if row.question == "owned_into_item" => {
+            steps::stepped(document.into_item(), row, out);
+        }
+        Ok(document) if row.question == "owned_root_prints" => {
+            steps::stepped(DocumentMut::from(document.into_table()), row, out);
+        }
+        Ok(document) => steps::stepped(document, row, out),
         Err(_) => out.refuse(),
     }
 }
@@ -62,24 +86,35 @@ fn owned_root(made: Mem<DocumentMut>, row: Row<'_>, out: &mut Answer) {
 impl Subject for DocumentMut {
     fn call(&mut self, words: &[Json], out: &mut Answer) {
         match word(words, 0) {
-            "iter" => table::names(self.iter(), out),
-            "trailing" => out.raw(Some(self.trailing())),
-            "to_string" => out.shown(self),
+            "clone" => copied(self.clone(out.alloc), behind(words, 1), out),
             "as_table_mut" => table::change(self.as_table_mut(), behind(words, 1), out),
             "set_trailing" => {
                 if let Ok(raw) = out.given(RawString::from_text(out.alloc, word(words, 1))) {
                     self.set_trailing(raw);
                 }
             }
-            _ => table::ask(self.as_table(), words, out),
+            _ => self.ask(words, out),
         }
     }
 
     fn answer(&self, question: &str, out: &mut Answer) {
         match question {
-            "prints" | "root_prints" | "owned_root_prints" => out.made(self.print(out.alloc)),
             "settles" => settles(self.print(out.alloc), out),
+            _ if question.ends_with("prints") => out.made(self.print(out.alloc)),
             _ => refusal::of_accepted(question, out),
+        }
+    }
+}
+
+impl Asked for DocumentMut {
+    fn ask(&self, words: &[Json], out: &mut Answer) {
+        match word(words, 0) {
+            "iter" => table::names(self.iter(), out),
+            "trailing" => out.raw(Some(self.trailing())),
+            "to_string" => out.shown(self),
+            "print" => out.made(self.print(out.alloc)),
+            "as_item" => table::ask_item(self.as_item(), behind(words, 1), out),
+            _ => table::ask(self.as_table(), words, out),
         }
     }
 }
@@ -93,17 +128,14 @@ fn settles(printed: Mem<String>, out: &mut Answer) {
 }
 
 fn comes_back(text: &str, out: &mut Answer) {
-    match Document::parse(out.alloc, text) {
-        Ok(document) => prints_as(document.into_mut(out.alloc), text, out),
+    match DocumentMut::from_str(out.alloc, text) {
+        Ok(document) => prints_as(document, text, out),
         Err(fault) => refusal::answer(&fault, "settles", out),
     }
 }
 
-fn prints_as(made: Mem<DocumentMut>, text: &str, out: &mut Answer) {
-    match made {
-        Ok(document) => is_text(document.print(out.alloc), text, out),
-        Err(_) => out.refuse(),
-    }
+fn prints_as(document: DocumentMut, text: &str, out: &mut Answer) {
+    is_text(document.print(out.alloc), text, out);
 }
 
 fn is_text(printed: Mem<String>, text: &str, out: &mut Answer) {

@@ -38,7 +38,7 @@ pub fn of_accepted(question: &str, out: &mut Answer) {
     match question {
         "is_refused" => out.truth(false),
         "refused" | "at" | "error" | "fault" => out.text("not refused"),
-        "steps" | "reads" => {}
+        "steps" | "reads" | "into_item" | "owned_into_item" => {}
         _ => out.no_such(question),
     }
 }

@@ -4,8 +4,9 @@ use crate::{date_time, document, key, run, scalar, table, tokens, value};
 use serde_json::Value as Json;
 
 /// The kinds of rows. A row is of a kind if it has a member of this name, which says what is asked.
-const KINDS: [&str; 19] = [
+const KINDS: [&str; 20] = [
     "text",
+    "document",
     "value",
     "string",
     "owned_string",
@@ -47,10 +48,9 @@ impl<'a> Row<'a> {
 
     /// The steps that come before the question.
     pub fn steps(self) -> &'a [Json] {
-        if self.question == "reads" {
-            items_of(self.json.get("reads"))
-        } else {
-            items_of(self.json.get("steps"))
+        match self.question {
+            "reads" | "into_item" | "owned_into_item" => items_of(self.json.get(self.question)),
+            _ => items_of(self.json.get("steps")),
         }
     }
 }
@@ -154,6 +154,7 @@ fn is_wanted(came: &str, wanted: &Json) -> bool {
 fn answer(row: Row<'_>, out: &mut Answer) {
     match row.kind {
         "text" => document::answer(row, out),
+        "document" => document::empty(row, out),
         "value" => value::answer(row, out),
         "key" | "name" | "path" => key::answer(row, out),
         "token" => tokens::answer(row, out),

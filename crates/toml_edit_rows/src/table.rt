@@ -117,7 +117,8 @@ fn ask_found(item: Option<&Item>, words: &[Json], out: &mut Answer) {
     }
 }
 
-fn ask_item(item: &Item, words: &[Json], out: &mut Answer) {
+/// Asks of an item, or of what is in it.
+pub fn ask_item(item: &Item, words: &[Json], out: &mut Answer) {
     match word(words, 0) {
         "clone" => copied(item.clone(out.alloc), behind(words, 1), out),
         _ => item.ask(words, out),
