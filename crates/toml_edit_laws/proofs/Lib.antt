@@ -4,7 +4,6 @@ pub mod spellings
 pub mod values
 pub mod mentions
 pub mod inline_tables
-pub mod flat
 pub mod adding
 pub mod clashes
 pub mod building

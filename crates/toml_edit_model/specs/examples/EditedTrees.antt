@@ -9,7 +9,6 @@ use Rattle.toml_edit_model.specs.Tree.{owned, span, unset, Node, nothing, leaf, 
 use Rattle.toml_edit_model.specs.Shown.{shown_meaning}
 use Rattle.toml_edit_model.specs.Print.{print}
 use Rattle.toml_edit_model.specs.Syntax.{document_text}
-use Rattle.toml_edit_model.specs.Flat.{flat_document}
 use Rattle.toml_edit_model.specs.SlotLists.{Slot, inserted}
 use Rattle.toml_edit_model.specs.Lists.{slots_from, items_from}
 use Rattle.toml_edit_model.specs.Conversions.{formatted_items, formatted, made_value, item_display}
@@ -246,8 +245,3 @@ inserted_present = refl
 
 inserted_absent : inserted (codes "c") (plain_int 3) two_slots ≡ two_slots ++ ((plain_key (codes "c"), plain_int 3) ∷ [])
 inserted_absent = refl
-
--- a flat line: `a= 1`
-flat_line : document_text (flat_document false (record { leading = []; key = codes "a"; spelled = codes "a"; before_equals = []; after_equals = codes " "; value = one_value; trailing = []; end = codes "\n" } ∷ []) [])
-    ≡ codes "a= 1\n"
-flat_line = refl
