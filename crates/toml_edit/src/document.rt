@@ -7,6 +7,7 @@ use crate::root::table_of;
 use std::alloc::Global;
 use toml_edit_builder as builder;
 use toml_edit_error::ParseFault;
+use toml_edit_fits::tree_fits;
 use toml_edit_repr::{Mem, RawString};
 use toml_edit_tree::{Item, Iter, Table};
 
@@ -217,7 +218,8 @@ pub struct DocumentMut {
 }
 
 impl DocumentMut {
-    ghost use Rattle.std.specs.Prelude.{◌≡◌, ◌⊎◌, IfOk, IfErr, IsOk, IsErrOf, string_bytes};
+    ghost use Rattle.std.specs.Prelude.{◌≡◌, ◌↔◌, ◌⊎◌, IfOk, IfErr, IsOk, IsErrOf, IsTrue, string_bytes};
+    ghost use Rattle.toml_edit_model.specs.Fits.{Fits};
     ghost use Rattle.toml_edit_model.specs.Syntax.{Document as Cut};
     ghost use Rattle.toml_edit_model.specs.Accepted.{AcceptedAs};
     ghost use Rattle.toml_edit_model.specs.Print.{print as printed};
@@ -328,6 +330,17 @@ impl DocumentMut {
             root: Item::Table(root),
             trailing,
         })
+    }
+
+    /// Whether the document fits: what is printed around keys, values and headers suits its place; neither the root nor an element of an
+    /// array of tables is dotted; in the order of headers each element's, its own first, stand before the next element's; a path has at
+    /// most 80 keys, and no more than 80 brackets of a value are open at once (TOML, "Key/Value Pair" to "Array of Tables"). The print of
+    /// a document that fits is accepted, and means what its tree shows. This takes no memory: there is no error.
+    pub fn fits(&self, _alloc: Global) -> Mem<bool>
+        ensures fits { IfOk result (λ fits. IsTrue fits ↔ Fits (tree_owned self.now)) }
+        ensures free { IsOk result }
+    {
+        Ok(tree_fits(self.as_table(), &self.trailing))
     }
 
     /// The text of the document. The only error is want of memory.
