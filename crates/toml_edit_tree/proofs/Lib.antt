@@ -1,5 +1,6 @@
 pub mod HeldLaws
 pub mod DespanLaws
+pub mod OrderLaws
 pub mod KeyTextLaws
 pub mod ElementTextLaws
 pub mod PairTextLaws

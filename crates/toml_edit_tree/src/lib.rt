@@ -8,6 +8,7 @@ mod despan;
 mod encode;
 pub mod inline_table;
 pub mod item;
+mod order;
 pub mod table;
 pub mod value;
 
@@ -17,5 +18,7 @@ pub use array_of_tables::{ArrayOfTables, ArrayOfTablesIter};
 pub use encode::{Path, table_has_lines, write_path, write_table_lines};
 pub use inline_table::{InlineTable, InlineTableIter};
 pub use item::Item;
+#[doc(hidden)]
+pub use order::put_in_order;
 pub use table::{Iter, Table};
 pub use value::Value;

@@ -1,0 +1,61 @@
+//! The slots of tables, put in the order in which their keys begin in the source, in place.
+ghost use Rattle.std.specs.Prelude.{◌≡◌, OnOk};
+ghost use Rattle.toml_edit_laws.specs.PlaceOrder.{items_by_place, node_by_place, slots_by_place};
+ghost use Rattle.toml_edit_tree.specs.Containers.{table_node, tables_node};
+ghost use Rattle.toml_edit_tree.specs.View.{item_view, items_view, slots_view, table_view, tables_view};
+
+use crate::array_of_tables::ArrayOfTables;
+use crate::item::Item;
+use crate::table::Table;
+use toml_edit_repr::Mem;
+use toml_edit_slots::Slots;
+
+/// Puts these slots, and those of each table below them, in the order in which the spellings of their keys begin in the source. Values stay
+/// as they are. The only error is want of memory; then some tables may be in order and others not.
+#[cycle(order)]
+pub fn put_in_order(slots: &mut Slots<Item>) -> Mem<()>
+    ensures { OnOk result (slots_view slots.new ≡ slots_by_place (slots_view slots.old)) }
+{
+    for at in 0..slots.len() {
+        let item = slots.item_mut(at);
+        order_item(item)?;
+    }
+    slots.sort_by_place()?;
+    Ok(())
+}
+
+#[cycle(order)]
+fn order_item(item: &mut Item) -> Mem<()>
+    ensures { OnOk result (item_view item.new ≡ node_by_place (item_view item.old)) }
+{
+    match item {
+        Item::None => Ok(()),
+        Item::Value(_) => Ok(()),
+        Item::Table(table) => order_table(table),
+        Item::ArrayOfTables(tables) => order_tables(tables),
+    }
+}
+
+#[cycle(order)]
+fn order_table(table: &mut Table) -> Mem<()>
+    ensures { OnOk result (table_node (table_view table.new) ≡ node_by_place (table_node (table_view table.old))) }
+{
+    put_in_order(&mut table.slots)
+}
+
+#[cycle(order)]
+fn order_tables(tables: &mut ArrayOfTables) -> Mem<()>
+    ensures { OnOk result (tables_node (tables_view tables.new) ≡ node_by_place (tables_node (tables_view tables.old))) }
+{
+    order_items(&mut tables.values)
+}
+
+#[cycle(order)]
+fn order_items(items: &mut Vec<Item>) -> Mem<()>
+    ensures { OnOk result (items_view items.new.items ≡ items_by_place (items_view items.old.items)) }
+{
+    for at in 0..items.len() {
+        order_item(&mut items[at])?;
+    }
+    Ok(())
+}
