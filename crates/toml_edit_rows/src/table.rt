@@ -106,6 +106,17 @@ fn change_item(item: &mut Item, words: &[Json], out: &mut Answer) {
             Some(tables) => ask_tables(tables, rest, out),
             None => out.text("none"),
         },
+        _ => change_value(item, words, out),
+    }
+}
+
+/// Does a step with the value that an item holds, or asks of the item.
+fn change_value(item: &mut Item, words: &[Json], out: &mut Answer) {
+    let call = word(words, 0);
+    match item {
+        Item::Value(value) if call.starts_with("set_") || call.ends_with("_mut") => {
+            value.call(words, out);
+        }
         _ => ask_item(item, words, out),
     }
 }
