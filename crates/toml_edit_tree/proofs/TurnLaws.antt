@@ -36,7 +36,7 @@ value-open (Value-F.InlineTable t) = search (rules, the_lemmas)
 rolled : (v : Value) → v ≡ roll-Value (out-Value v)
 rolled v = search (rules, the_lemmas)
 
-value-node : (x : Item) (v : Value) → x ≡ items.Value v → is_value_node (item_view x) ≡ true
+pub value-node : (x : Item) (v : Value) → x ≡ items.Value v → is_value_node (item_view x) ≡ true
 value-node x v is =
     ap (λ y. is_value_node (item_view y)) is ∙ ap is_value_node (view-Value v)
     ∙ ap (λ w. is_value_node (value_view w)) (rolled v) ∙ value-open (out-Value v)

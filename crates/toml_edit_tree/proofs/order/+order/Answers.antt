@@ -27,7 +27,7 @@ order_items-order_item-requires t c =
     let here : get_or first at x ≡ x = sym (same item_view node_by_place items first at c.loop-at.invariant within x) ∙ sym c.index_mut.ensures.value in
     let first_within : at < length first = omega (arith, long, within) in
     let deep : size-Item x ≤ most item_depth first = rw (← here) (deepest_item first at x first_within) in
-    omega (arith, c.requires.1, deep)
+    omega (arith, c.requires, deep)
 
 pub order_items-loop-at-preserved : goal.order_items-loop-at-preserved
 order_items-loop-at-preserved t c =
@@ -67,7 +67,7 @@ put_in_order-order_item-requires t c =
     ap (λ y. y.item) (sym (same (on_item item_view) ordered_slot es first at c.loop-at.invariant within no_slot)) ∙ sym there in
     let first_within : at < length first = omega (arith, long, within) in
     let deep : size-Item x ≤ most slot_depth first = rw (← here) (deepest first at no_slot first_within) in
-    omega (arith, c.requires.1, deep)
+    omega (arith, c.requires, deep)
 
 pub put_in_order-loop-at-preserved : goal.put_in_order-loop-at-preserved
 put_in_order-loop-at-preserved t c =
