@@ -29,7 +29,7 @@ pub fn empty(row: Row<'_>, out: &mut Answer) {
 fn read(read: Result<Document<&str>, ParseFault>, row: Row<'_>, out: &mut Answer) {
     match row.question {
         "reads" => steps::read(read, row, out),
-        "into_item" | "root_prints" => root(read, row, out),
+        "into_item" | "root_prints" | "root_fits" => root(read, row, out),
         _ => owned(read, row, out),
     }
 }
@@ -100,6 +100,7 @@ impl Subject for DocumentMut {
     fn answer(&self, question: &str, out: &mut Answer) {
         match question {
             "settles" => settles(self.print(out.alloc), out),
+            "fits" | "root_fits" => out.told(self.fits(out.alloc)),
             _ if question.ends_with("prints") => out.made(self.print(out.alloc)),
             _ => refusal::of_accepted(question, out),
         }

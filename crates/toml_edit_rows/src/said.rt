@@ -71,6 +71,14 @@ impl Answer {
         self.text(truth(holds));
     }
 
+    /// Tells a truth value, where there was memory to find it.
+    pub fn told(&mut self, holds: Mem<bool>) {
+        match holds {
+            Ok(holds) => self.truth(holds),
+            Err(_) => self.refuse(),
+        }
+    }
+
     pub fn text_or_none(&mut self, found: Option<&str>) {
         self.text(found.unwrap_or("none"));
     }
