@@ -12,13 +12,17 @@ use Rattle.toml_edit_tree.specs.declared.item.Item.TheVariants as items
 use Rattle.toml_edit_tree.specs.declared.item.Item.TheViews.{roll-Value}
 use Rattle.toml_edit_tree.specs.declared.table.Table.{Table}
 use Rattle.toml_edit_tree.specs.declared.value.Value.{Value, out-Value}
-use Rattle.toml_edit_tree.specs.View.{item_view, items_view, tables_view, value_view}
+use Rattle.toml_edit_tree.specs.Containers.{table_node}
+use Rattle.toml_edit_tree.specs.View.{item_view, items_view, table_view, tables_view, value_view}
 
 pub view-None : item_view items.None ≡ nothing
 view-None = search (rules, the_lemmas)
 
 pub view-Value : (v : Value) → item_view (items.Value v) ≡ value_view v
 view-Value v = search (rules, the_lemmas)
+
+pub view-Table : (t : Table) → item_view (items.Table t) ≡ table_node (table_view t)
+view-Table t = search (rules, the_lemmas)
 
 value_open : (o : Value-F Item Value Array ArrayOfTables InlineTable Table) → is_value_node (value_view (roll-Value o)) ≡ true
 value_open (Value-F.String f) = search (rules, the_lemmas)

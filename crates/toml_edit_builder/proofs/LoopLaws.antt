@@ -7,6 +7,7 @@ use Rattle.toml_edit_model.specs.Accepted.{is_accepted}
 use Rattle.toml_edit_model.specs.Tree.{Raw, Slots, no_slots}
 use Rattle.toml_edit_model.specs.TreeOf.{spanned_form, IsTreeOf}
 use Rattle.toml_edit_laws.specs.Building.{Builder, first_builder, faults_at, behind, StandsBefore, IsRefusedBy}
+use Rattle.toml_edit_laws.specs.PlaceOrder.{slots_by_place, ArePlaced}
 use Rattle.toml_edit_laws.specs.Standing.{Stands}
 use Rattle.toml_edit_laws.proofs.common.StandingLaws.{stands-left, stands-right, stands-whole}
 use Rattle.toml_edit_laws.proofs.building.Run.{stands_first, stands_next, stands_last, stands_block, stands_refused}
@@ -34,7 +35,8 @@ held_first m h root current block headers =
       headers = sym headers;
       left = slots_view h.root;
       there = refl;
-      slots = sym current;
+      slots = sym (ap slots_by_place current);
+      placed = subst (ArePlaced (first_builder m).start) (sym current) tt;
     }
 
 -- The builder stands before the statements that are left, which stand behind it in the text, and is what is held.

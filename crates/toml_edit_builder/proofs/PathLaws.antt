@@ -11,13 +11,15 @@ use Rattle.toml_edit_model.specs.Tree.{Decor, unset, Key, Extent, TableFields, N
 use Rattle.toml_edit_model.specs.TreeOf.{spanned_form, key_at, key_extent, made_by_path, header_fields, statement_leaf, brackets_from, brackets_to}
 use Rattle.toml_edit_laws.specs.FlatTree.{with_slot}
 use Rattle.toml_edit_laws.specs.InlineTree.{add_last, node_at, with_node}
-use Rattle.toml_edit_laws.specs.TableTree.{without_slot, change_table, change_last}
+use Rattle.toml_edit_laws.specs.TableTree.{change_table, change_last}
 use Rattle.toml_edit_laws.specs.TableClash.{clash_in_last, table_clash, element_clash, table_way_message, table_way_fault}
-use Rattle.toml_edit_laws.specs.AddPath.{Addition, a_value, a_table, an_element, add_path, path_clash, makes_dotted, inside, clash_inside, last_item, with_last, put_last_key, last_key_clash, AreMentionsOf, IsMentionOf}
+use Rattle.toml_edit_laws.specs.AddPath.{Addition, a_value, a_table, an_element, path_clash, makes_dotted, inside, clash_inside, last_item, with_last, last_key_clash, AreMentionsOf, IsMentionOf}
+use Rattle.toml_edit_laws.specs.InPlace.{add_in_place, put_in_place, replace_slot}
 use Rattle.toml_edit_laws.specs.Standing.{Stands}
 use Rattle.toml_edit_laws.proofs.common.Tests.{if-true}
 use Rattle.toml_edit_laws.proofs.common.StandingLaws.{stands-right}
-use Rattle.toml_edit_laws.proofs.building.OneKey.{nothing-new, new-below, there-below, there-clash, last-changed, last-met, last-put, last-clash}
+use Rattle.toml_edit_laws.proofs.building.OneKey.{nothing-new, there-clash, last-changed, last-met, last-clash}
+use Rattle.toml_edit_laws.proofs.building.PlacePaths.{last-in-place, new-in-place, there-in-place}
 use Rattle.toml_edit_error.specs.Report.{Report, fault_of}
 use Rattle.toml_edit_error.specs.Fault.{IfToml}
 use Rattle.toml_edit_error.specs.declared.toml_error.ParseFault.{ParseFault}
@@ -167,11 +169,11 @@ step-of t s ms path r told f =
 pub last-here : {A : Type 0} (t : Text) (r : Result A ParseFault) (s : Source) (ms : List (Mention Source)) (k : PathKey) (a : Addition) (ss new : Slots)
     → IsStep t s ms k → k.rest ≡ None
     → ((m : Mention Source) → IsKeyOf s false m k.key k.span
-    → Goes t (put_last_key plain a m ss (node_at m.segment.key ss)) (last_key_clash a m (node_at m.segment.key ss)) new r)
-    → Goes t (add_path plain a ms ss) (path_clash a ms ss) new r
+    → Goes t (put_in_place plain a m ss (node_at m.segment.key ss)) (last_key_clash a m (node_at m.segment.key ss)) new r)
+    → Goes t (add_in_place plain a ms ss) (path_clash a ms ss) new r
 last-here t r s [] k a ss new is none f = absurd is
 last-here t r s (m ∷ []) k a ss new is none f =
-    goes-same t r _ _ _ _ new new (last-put plain a m ss) (last-clash a m ss) refl (f m is.0)
+    goes-same t r _ _ _ _ new new (last-in-place plain a m ss) (last-clash a m ss) refl (f m is.0)
 last-here t r s (m ∷ n ∷ ms) k a ss new is none f = absurd (let e = sym none ∙ is.1.1 in cc)
 
 pub same_path : (p q : KeyPath) → ◌≡◌ {A = Option KeyPath} (Some p) (Some q) → p ≡ q
@@ -181,16 +183,16 @@ same_path p q e = cc
 pub new-here : {A : Type 0} (t : Text) (r : Result A ParseFault) (s : Source) (ms : List (Mention Source)) (k : PathKey) (path : KeyPath) (a : Addition) (ss new : Slots)
     → IsStep t s ms k → k.rest ≡ Some path → node_at k.key.name ss ≡ None
     → ((q : List (Mention Source)) → IsPathOf t s q path
-    → Goes t (option_map (λ inner. with_slot ss k.key (table (made_by_path spanned_form (makes_dotted a) (Some (k.span.start, k.span.end))) inner)) (add_path plain a q no_slots)) None new r)
-    → Goes t (add_path plain a ms ss) (path_clash a ms ss) new r
+    → Goes t (option_map (λ inner. with_slot ss k.key (table (made_by_path spanned_form (makes_dotted a) (Some (k.span.start, k.span.end))) inner)) (add_in_place plain a q no_slots)) None new r)
+    → Goes t (add_in_place plain a ms ss) (path_clash a ms ss) new r
 new-here t r s [] k path a ss new is some free f = absurd is
 new-here t r s (m ∷ []) k path a ss new is some free f = absurd (let e = sym some ∙ is.1 in cc)
 new-here t r s (m ∷ n ∷ ms) k path a ss new is some free f =
     let same = same_path path is.1.0 (sym some ∙ is.1.1) in
-    let inner = add_path plain a (n ∷ ms) no_slots in
+    let inner = add_in_place plain a (n ∷ ms) no_slots in
     let there = ap (λ (x : Key). x.name) is.0.key in
     goes-same t r _ _ _ _ new new
-    (new-below plain a m n ms ss (ap (λ (x : Text). node_at x ss) (sym there) ∙ free)
+    (new-in-place plain a m n ms ss (ap (λ (x : Text). node_at x ss) (sym there) ∙ free)
     ∙ ap (λ (x : Key). option_map (λ us. with_slot ss x (table (made_by_path spanned_form (makes_dotted a) (key_extent spanned_form m)) us)) inner) (sym is.0.key)
     ∙ ap (λ (x : Span). option_map (λ us. with_slot ss k.key (table (made_by_path spanned_form (makes_dotted a) (Some (x.start, x.end))) us)) inner) (sym is.0.spelled))
     refl refl
@@ -200,16 +202,16 @@ new-here t r s (m ∷ n ∷ ms) k path a ss new is some free f =
 pub there-here : {A : Type 0} (t : Text) (r : Result A ParseFault) (s : Source) (ms : List (Mention Source)) (k : PathKey) (path : KeyPath) (a : Addition) (old changed : Node)
     (ss new : Slots) → IsStep t s ms k → k.rest ≡ Some path → node_at k.key.name ss ≡ Some old → new ≡ with_node k.key.name changed ss
     → ((m : Mention Source) (q : List (Mention Source)) → IsKeyOf s true m k.key k.span → IsPathOf t s q path
-    → Goes t (inside a (add_path plain a q) old) (clash_inside a m (path_clash a q) old) changed r)
-    → Goes t (add_path plain a ms ss) (path_clash a ms ss) new r
+    → Goes t (inside a (add_in_place plain a q) old) (clash_inside a m (path_clash a q) old) changed r)
+    → Goes t (add_in_place plain a ms ss) (path_clash a ms ss) new r
 there-here t r s [] k path a old changed ss new is some there put f = absurd is
 there-here t r s (m ∷ []) k path a old changed ss new is some there put f = absurd (let e = sym some ∙ is.1 in cc)
 there-here t r s (m ∷ n ∷ ms) k path a old changed ss new is some there put f =
     let same = same_path path is.1.0 (sym some ∙ is.1.1) in
     let named = ap (λ (x : Key). x.name) is.0.key in
     let here = ap (λ (x : Text). node_at x ss) (sym named) ∙ there in
-    goes-same t r _ _ _ _ new _ (there-below plain a m n ms ss old here) (there-clash a m n ms ss old here) (put ∙ ap (λ (x : Text). with_node x changed ss) named)
-    (goes-on t r (λ (x : Node). with_node m.segment.key x ss) (inside a (add_path plain a (n ∷ ms)) old) (clash_inside a m (path_clash a (n ∷ ms)) old) changed
+    goes-same t r _ _ _ _ new _ (there-in-place plain a m n ms ss old here) (there-clash a m n ms ss old here) (put ∙ ap (λ (x : Text). with_node x changed ss) named)
+    (goes-on t r (λ (x : Node). with_node m.segment.key x ss) (inside a (add_in_place plain a (n ∷ ms)) old) (clash_inside a m (path_clash a (n ∷ ms)) old) changed
     (f m (n ∷ ms) is.0 (subst (IsPathOf t s (n ∷ ms)) (sym same) is.1.2)))
 
 -- below a new key nothing stands in the way
@@ -282,19 +284,18 @@ there : (s : Source) (passes : Bool) (m : Mention Source) (k : Key) (at : Span) 
 there s passes m k at ss o is h = ap (λ (x : Key). node_at x.name ss) (sym is.key) ∙ h
 
 -- the table of a header at a new key
-pub table-new : (s : Source) (m : Mention Source) (k : Key) (at : Span) (n : Node) (ss less new : Slots) → IsKeyOf s false m k at → IsHeaded s n
-    → node_at k.name ss ≡ None → less ≡ ss → new ≡ with_slot less k n → put_last_key plain a_table m ss (node_at m.segment.key ss) ≡ Some new
-table-new s m k at n ss less new is head free same put =
-    ap (put_last_key plain a_table m ss) (there s false m k at ss None is free)
+pub table-new : (s : Source) (m : Mention Source) (k : Key) (at : Span) (n : Node) (ss new : Slots) → IsKeyOf s false m k at → IsHeaded s n
+    → node_at k.name ss ≡ None → new ≡ with_slot ss k n → put_in_place plain a_table m ss (node_at m.segment.key ss) ≡ Some new
+table-new s m k at n ss new is head free put =
+    ap (put_in_place plain a_table m ss) (there s false m k at ss None is free)
     ∙ ap (λ (x : Source). Some (with_slot ss (key_at spanned_form m) (table (header_fields spanned_form x x.statement) no_slots))) is.source
     ∙ ap (λ (x : Node). Some (with_slot ss (key_at spanned_form m) x)) (sym head)
     ∙ ap (λ (x : Key). Some (with_slot ss x n)) (sym is.key)
-    ∙ ap (λ (x : Slots). Some (with_slot x k n)) (sym same)
     ∙ ap (λ (x : Slots). Some x) (sym put)
 
 open_step : (m : Mention Source) (old : Node) (ss : Slots)
-    → put_last_key plain a_table m ss (Some old)
-    ≡ option_map (with_slot (without_slot m.segment.key ss) (key_at spanned_form m)) (opened (header_fields spanned_form m.source m.source.statement) old)
+    → put_in_place plain a_table m ss (Some old)
+    ≡ option_map (λ x. replace_slot m.segment.key (key_at spanned_form m) x ss) (opened (header_fields spanned_form m.source m.source.statement) old)
 open_step m nothing ss = refl
 open_step m (leaf s x d) ss = refl
 open_step m (list f xs) ss = refl
@@ -303,32 +304,31 @@ open_step m (tables e xs) ss = refl
 open_step m (table f inner) ss = by_test (f.is_implicit && not f.is_dotted)
   where
     by_test : (b : Bool)
-        → (if b then Some (with_slot (without_slot m.segment.key ss) (key_at spanned_form m) (table (header_fields spanned_form m.source m.source.statement) inner)) else None)
-        ≡ option_map (with_slot (without_slot m.segment.key ss) (key_at spanned_form m)) (if b then Some (table (header_fields spanned_form m.source m.source.statement) inner) else None)
+        → (if b then Some (replace_slot m.segment.key (key_at spanned_form m) (table (header_fields spanned_form m.source m.source.statement) inner) ss) else None)
+        ≡ option_map (λ x. replace_slot m.segment.key (key_at spanned_form m) x ss) (if b then Some (table (header_fields spanned_form m.source m.source.statement) inner) else None)
     by_test true = refl
     by_test false = refl
 
 -- and at a key that is there
-pub table-there : {A : Type 0} (t : Text) (r : Result A ParseFault) (s : Source) (m : Mention Source) (k : Key) (at : Span) (old : Node) (ss less new : Slots)
-    → IsKeyOf s false m k at → node_at k.name ss ≡ Some old → less ≡ without_slot k.name ss
-    → Goes t (option_map (with_slot less k) (opened (header_fields spanned_form s s.statement) old)) (table_clash m (Some old)) new r
+pub table-there : {A : Type 0} (t : Text) (r : Result A ParseFault) (s : Source) (m : Mention Source) (k : Key) (at : Span) (old : Node) (ss new : Slots)
+    → IsKeyOf s false m k at → node_at k.name ss ≡ Some old
+    → Goes t (option_map (λ x. replace_slot k.name k x ss) (opened (header_fields spanned_form s s.statement) old)) (table_clash m (Some old)) new r
     → PutsLast t a_table m ss new r
-table-there t r s m k at old ss less new is here took g =
+table-there t r s m k at old ss new is here g =
     let o = there s false m k at ss (Some old) is here in
     goes-same t r _ _ _ _ new new
-    (ap (put_last_key plain a_table m ss) o ∙ open_step m old ss
-    ∙ ap (λ (x : Source). option_map (with_slot (without_slot m.segment.key ss) (key_at spanned_form m)) (opened (header_fields spanned_form x x.statement) old)) is.source
-    ∙ ap (λ (x : Key). option_map (with_slot (without_slot x.name ss) x) (opened (header_fields spanned_form s s.statement) old)) (sym is.key)
-    ∙ ap (λ (x : Slots). option_map (with_slot x k) (opened (header_fields spanned_form s s.statement) old)) (sym took))
+    (ap (put_in_place plain a_table m ss) o ∙ open_step m old ss
+    ∙ ap (λ (x : Source). option_map (λ y. replace_slot m.segment.key (key_at spanned_form m) y ss) (opened (header_fields spanned_form x x.statement) old)) is.source
+    ∙ ap (λ (x : Key). option_map (λ y. replace_slot x.name x y ss) (opened (header_fields spanned_form s s.statement) old)) (sym is.key))
     (ap (table_clash m) o) refl g
 
 -- the array of tables of a header in double brackets at a new key
 pub element-new : (s : Source) (m : Mention Source) (k : Key) (at brackets : Span) (n : Node) (ss new : Slots) → IsKeyOf s false m k at
     → IsItemFor (kinds.Element brackets) s n → node_at k.name ss ≡ None
     → new ≡ with_slot ss k (tables (Some (brackets.start, brackets.end)) (item n no_items))
-    → put_last_key plain an_element m ss (node_at m.segment.key ss) ≡ Some new
+    → put_in_place plain an_element m ss (node_at m.segment.key ss) ≡ Some new
 element-new s m k at brackets n ss new is head free put =
-    ap (put_last_key plain an_element m ss) (there s false m k at ss None is free)
+    ap (put_in_place plain an_element m ss) (there s false m k at ss None is free)
     ∙ ap (λ (x : Source). Some (with_slot ss (key_at spanned_form m)
     (tables (Some (brackets_from spanned_form x x.statement, brackets_to spanned_form x x.statement)) (item (table (header_fields spanned_form x x.statement) no_slots) no_items)))) is.source
     ∙ ap (λ (x : Span). Some (with_slot ss (key_at spanned_form m) (tables (Some (x.start, x.end)) (item (table (header_fields spanned_form s s.statement) no_slots) no_items)))) (sym head.1)
@@ -337,7 +337,7 @@ element-new s m k at brackets n ss new is head free put =
     ∙ ap (λ (x : Slots). Some x) (sym put)
 
 element_step : (m : Mention Source) (old : Node) (ss : Slots)
-    → put_last_key plain an_element m ss (Some old)
+    → put_in_place plain an_element m ss (Some old)
     ≡ option_map (λ x. with_node m.segment.key x ss)
     (with_element (brackets_to spanned_form m.source m.source.statement) (table (header_fields spanned_form m.source m.source.statement) no_slots) old)
 element_step m nothing ss = refl
@@ -354,7 +354,7 @@ pub element-there : {A : Type 0} (t : Text) (r : Result A ParseFault) (s : Sourc
 element-there t r s m k at brackets n old changed ss new is head here put g =
     let o = there s false m k at ss (Some old) is here in
     goes-same t r _ _ _ _ new _
-    (ap (put_last_key plain an_element m ss) o ∙ element_step m old ss
+    (ap (put_in_place plain an_element m ss) o ∙ element_step m old ss
     ∙ ap (λ (x : Source). option_map (λ (y : Node). with_node m.segment.key y ss) (with_element (brackets_to spanned_form x x.statement) (table (header_fields spanned_form x x.statement) no_slots) old)) is.source
     ∙ ap (λ (x : Span). option_map (λ (y : Node). with_node m.segment.key y ss) (with_element x.end (table (header_fields spanned_form s s.statement) no_slots) old)) (sym head.1)
     ∙ ap (λ (x : Node). option_map (λ (y : Node). with_node m.segment.key y ss) (with_element brackets.end x old)) (sym head.0))
@@ -371,14 +371,14 @@ dotted-kind (kinds.Element brackets) n = refl
 
 -- the table of a new key
 pub below-put : (kind : Kind) (n : Node) (ms : List (Mention Source)) (k : Key) (at : Span) (ss less inner new : Slots) (b : Bool) (x : Node) → less ≡ no_slots
-    → add_path plain (addition_for kind n) ms less ≡ Some inner → b ≡ is_line kind → x ≡ table (made_by_path spanned_form b (Some (at.start, at.end))) inner
+    → add_in_place plain (addition_for kind n) ms less ≡ Some inner → b ≡ is_line kind → x ≡ table (made_by_path spanned_form b (Some (at.start, at.end))) inner
     → new ≡ with_slot ss k x
     → option_map (λ us. with_slot ss k (table (made_by_path spanned_form (makes_dotted (addition_for kind n)) (Some (at.start, at.end))) us))
-    (add_path plain (addition_for kind n) ms no_slots) ≡ Some new
+    (add_in_place plain (addition_for kind n) ms no_slots) ≡ Some new
 below-put kind n ms k at ss less inner new b x none added line held put =
     let a = addition_for kind n in
     let h = λ (us : Slots). with_slot ss k (table (made_by_path spanned_form (makes_dotted a) (Some (at.start, at.end))) us) in
-    ap (λ (z : Slots). option_map h (add_path plain a ms z)) (sym none)
+    ap (λ (z : Slots). option_map h (add_in_place plain a ms z)) (sym none)
     ∙ ap (option_map h) added
     ∙ ap (λ (d : Bool). Some (with_slot ss k (table (made_by_path spanned_form d (Some (at.start, at.end))) inner))) (dotted-kind kind n ∙ sym line)
     ∙ ap (λ (y : Node). Some (with_slot ss k y)) (sym held)
@@ -387,9 +387,9 @@ below-put kind n ms k at ss less inner new b x none added line held put =
 -- in the slots of a table
 pub in-slots : {A : Type 0} (t : Text) (r : Result A ParseFault) (a : Addition) (ms : List (Mention Source)) (held left : TableView) (old new : Slots) → old ≡ held.slots
     → left ≡ record { fields = held.fields; slots = new } → AddsPath t a ms old new r
-    → Goes t (change_table (add_path plain a ms) (table_node held)) (path_clash a ms held.slots) (table_node left) r
+    → Goes t (change_table (add_in_place plain a ms) (table_node held)) (path_clash a ms held.slots) (table_node left) r
 in-slots t r a ms held left old new was is h =
-    rw (is, ← was) (goes-on t r (table held.fields) (add_path plain a ms old) (path_clash a ms old) new h)
+    rw (is, ← was) (goes-on t r (table held.fields) (add_in_place plain a ms old) (path_clash a ms old) new h)
 
 -- in a table: a header goes on in any
 pub header-in : {A : Type 0} (t : Text) (r : Result A ParseFault) (kind : Kind) (n : Node) (m : Mention Source) (ms : List (Mention Source)) (held left : TableView) (old new : Slots)
@@ -397,9 +397,9 @@ pub header-in : {A : Type 0} (t : Text) (r : Result A ParseFault) (kind : Kind) 
     → AddsInside t (addition_for kind n) m ms (table_node held) (table_node left) r
 header-in t r kinds.Line n m ms held left old new line was is h = absurd cc
 header-in t r kinds.Table n m ms held left old new line was is h =
-    rw (is, ← was) (goes-on t r (table held.fields) (add_path plain a_table ms old) (path_clash a_table ms old) new h)
+    rw (is, ← was) (goes-on t r (table held.fields) (add_in_place plain a_table ms old) (path_clash a_table ms old) new h)
 header-in t r (kinds.Element brackets) n m ms held left old new line was is h =
-    rw (is, ← was) (goes-on t r (table held.fields) (add_path plain an_element ms old) (path_clash an_element ms old) new h)
+    rw (is, ← was) (goes-on t r (table held.fields) (add_in_place plain an_element ms old) (path_clash an_element ms old) new h)
 
 -- and a key line in one without a header, which is dotted from then on
 pub line-in : {A : Type 0} (t : Text) (r : Result A ParseFault) (kind : Kind) (n : Node) (m : Mention Source) (ms : List (Mention Source)) (held dotted left : TableView) (old new : Slots)
@@ -411,12 +411,12 @@ line-in t r kinds.Line n m ms held dotted left old new line implicit made was is
     let left_is : table_node left ≡ table f new = ap table_node is ∙ ap (λ (v : TableView). table v.fields new) made in
     let old_is : old ≡ held.slots = was ∙ ap (λ (v : TableView). v.slots) made in
     goes-same t r _ _ _ _ (table_node left) (table f new)
-    (if-true held.fields.is_implicit (option_map (table f) (add_path plain (a_value n) ms held.slots)) None implicit
-    ∙ ap (λ (us : Slots). option_map (table f) (add_path plain (a_value n) ms us)) (sym old_is))
+    (if-true held.fields.is_implicit (option_map (table f) (add_in_place plain (a_value n) ms held.slots)) None implicit
+    ∙ ap (λ (us : Slots). option_map (table f) (add_in_place plain (a_value n) ms us)) (sym old_is))
     (if-true held.fields.is_implicit (path_clash (a_value n) ms held.slots) (Some (m, table_node held)) implicit
     ∙ ap (path_clash (a_value n) ms) (sym old_is))
     left_is
-    (goes-on t r (table f) (add_path plain (a_value n) ms old) (path_clash (a_value n) ms old) new h)
+    (goes-on t r (table f) (add_in_place plain (a_value n) ms old) (path_clash (a_value n) ms old) new h)
 line-in t r kinds.Table n m ms held dotted left old new line implicit made was is h = absurd cc
 line-in t r (kinds.Element brackets) n m ms held dotted left old new line implicit made was is h = absurd cc
 
@@ -444,10 +444,10 @@ empty-stops (kinds.Element brackets) n m further held line none = ap (clash_in_l
 -- in the last element of one
 last-in : {A : Type 0} (t : Text) (r : Result A ParseFault) (a : Addition) (m : Mention Source) (ms : List (Mention Source)) (e : Extent) (xs ys : Items) (last changed : Node)
     → last_item xs ≡ Some last → ys ≡ with_last changed xs
-    → Goes t (change_table (add_path plain a ms) last) (clash_in_last (m, tables e xs) (path_clash a ms) (item last no_items)) changed r
-    → Goes t (option_map (tables e) (change_last (add_path plain a ms) xs)) (clash_in_last (m, tables e xs) (path_clash a ms) xs) (tables e ys) r
+    → Goes t (change_table (add_in_place plain a ms) last) (clash_in_last (m, tables e xs) (path_clash a ms) (item last no_items)) changed r
+    → Goes t (option_map (tables e) (change_last (add_in_place plain a ms) xs)) (clash_in_last (m, tables e xs) (path_clash a ms) xs) (tables e ys) r
 last-in t r a m ms e xs ys last changed is put h =
-    let change = add_path plain a ms in
+    let change = add_in_place plain a ms in
     let way = clash_in_last (m, tables e xs) (path_clash a ms) (item last no_items) in
     goes-same t r _ _ _ _ (tables e ys) _
     (ap (option_map (tables e)) (last-changed change xs
@@ -458,7 +458,7 @@ last-in t r a m ms e xs ys last changed is put h =
 
 pub tables-in : {A : Type 0} (t : Text) (r : Result A ParseFault) (kind : Kind) (n : Node) (m : Mention Source) (ms : List (Mention Source)) (held left : TablesView) (last changed : Node)
     → is_line kind ≡ false → last_item held.items ≡ Some last → left ≡ record { extent = held.extent; items = with_last changed held.items }
-    → Goes t (change_table (add_path plain (addition_for kind n) ms) last) (clash_in_last (m, tables_node held) (path_clash (addition_for kind n) ms) (item last no_items)) changed r
+    → Goes t (change_table (add_in_place plain (addition_for kind n) ms) last) (clash_in_last (m, tables_node held) (path_clash (addition_for kind n) ms) (item last no_items)) changed r
     → AddsInside t (addition_for kind n) m ms (tables_node held) (tables_node left) r
 tables-in t r kinds.Line n m ms held left last changed line is put h = absurd cc
 tables-in t r kinds.Table n m ms held left last changed line is put h =

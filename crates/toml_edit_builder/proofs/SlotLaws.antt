@@ -3,11 +3,12 @@ use Rattle.std.proofs.Common.{◌≡◌, ℕ, zero, suc, true, false, List, [], 
 use Rattle.std.proofs.lemmas.Bool.{cases_Bool}
 use Rattle.std.proofs.lemmas.Option.{same_Some}
 use Rattle.toml_edit_model.specs.Text.{Text, same_text}
-use Rattle.toml_edit_model.specs.Tree.{Node, Slots, no_slots, slot}
+use Rattle.toml_edit_model.specs.Tree.{Key, Node, Slots, no_slots, slot}
 use Rattle.toml_edit_laws.specs.InlineTree.{node_at, with_node}
-use Rattle.toml_edit_laws.specs.TableTree.{without_slot}
+use Rattle.toml_edit_laws.specs.InPlace.{replace_slot}
 use Rattle.toml_edit_slots.specs.declared.slots.Slot as repr
-use Rattle.toml_edit_slots.specs.Slots.{is_at, items_of, lookup_slot, place, with_item, without}
+use Rattle.toml_edit_slots.specs.Slots.{is_at, items_of, place, with_item}
+use Rattle.toml_edit_slots.specs.InPlace.{replaced}
 use Rattle.toml_edit_tree.specs.declared.item.Item.{Item}
 use Rattle.toml_edit_tree.specs.View.{item_view, slots_view}
 
@@ -55,31 +56,28 @@ pub with-place : (k : Text) (es : List (repr.Slot Item)) (at : ℕ) (y : Item) �
 with-place k [] at y h = absurd cc
 with-place k (e ∷ es) at y h = with_some (is_at k e) e es (place k es) at y (with_node k (item_view y) (slots_view es)) h (λ j same. with-place k es j y same)
 
--- the slots without that of a key
-pub without-view : (k : Text) (es : List (repr.Slot Item)) → slots_view (without k es) ≡ without_slot k (slots_view es)
-without-view k [] = refl
-without-view k (s ∷ es) =
-    elim (cases_Bool (is_at k s)) [
+-- the places of keys stay, where an item changes
+pub place-with : (k : Text) (es : List (repr.Slot Item)) (at : ℕ) (y : Item) → place k (with_item at y es) ≡ place k es
+place-with k [] at y = refl
+place-with k (e ∷ es) zero y = refl
+place-with k (e ∷ es) (suc at) y = ap (λ (i : Option ℕ). cond (is_at k e) (Some 0) (option_map suc i)) (place-with k es at y)
+
+-- a slot in the place of that of its name
+pub replaced-view : (s : repr.Slot Item) (es : List (repr.Slot Item)) → slots_view (replaced s es) ≡ replace_slot s.key.name s.key (item_view s.item) (slots_view es)
+replaced-view s [] = refl
+replaced-view s (e ∷ es) =
+    elim (cases_Bool (is_at s.key.name e)) [
       | inl same ↦ rw same refl
-      | inr other ↦ rw other (ap (slot s.key (item_view s.item)) (without-view k es))
+      | inr other ↦ rw other (ap (slot e.key (item_view e.item)) (replaced-view s es))
     ]
 
--- what is taken out is the item at the key
-pub node-taken : (k : Text) (es : List (repr.Slot Item)) (s : repr.Slot Item) → Some s ≡ lookup_slot k es → node_at k (slots_view es) ≡ Some (item_view s.item)
-node-taken k [] s h = absurd cc
-node-taken k (x ∷ es) s h =
-    elim (cases_Bool (is_at k x)) [
-      | inl same ↦ rw same (ap (option_map (λ (y : repr.Slot Item). item_view y.item)) (sym (rw same at h)))
-      | inr other ↦ rw other (node-taken k es s (rw other at h))
-    ]
-
--- and where nothing is, no item stands there, and the slots are as they were
-pub none-taken : (k : Text) (es : List (repr.Slot Item)) → None ≡ lookup_slot k es → (node_at k (slots_view es) ≡ None) × (without k es ≡ es)
-none-taken k [] h = (refl, refl)
-none-taken k (x ∷ es) h =
-    elim (cases_Bool (is_at k x)) [
-      | inl same ↦ absurd (let e = rw same at h in cc)
-      | inr other ↦ let f = none-taken k es (rw other at h) in rw other (f.0, ap (λ (ys : List (repr.Slot Item)). x ∷ ys) f.1)
+-- whatever item stood there
+pub replaced-put : (k : Text) (l : Key) (x y : Node) (ss : Slots) → replace_slot k l x (with_node k y ss) ≡ replace_slot k l x ss
+replaced-put k l x y no_slots = refl
+replaced-put k l x y (slot j m ss) =
+    elim (cases_Bool (same_text k j.name)) [
+      | inl same ↦ rw (same, same) refl
+      | inr other ↦ rw (other, other) (ap (slot j m) (replaced-put k l x y ss))
     ]
 
 -- the item at a key, put there, changes nothing

@@ -1,5 +1,5 @@
 -- What a statement does to the whole, by what it does to what is held.
-use Rattle.std.proofs.Common.{◌≡◌, ℕ, ◌+◌, ◌-◌, Bool, true, false, refl, sym, ap, subst, ◌∙◌, List, [], ◌∷◌, ◌++◌, length, append_assoc, arith, Option, Some, None, String, Vec}
+use Rattle.std.proofs.Common.{◌≡◌, ℕ, ◌+◌, ◌-◌, ◌≤◌, Bool, true, false, refl, sym, ap, subst, ◌∙◌, List, [], ◌∷◌, ◌++◌, length, append_assoc, arith, Option, Some, None, String, Vec}
 use Rattle.std.specs.declared.alloc.Global.{Global}
 use Rattle.std.specs.Prelude.{map, option_map, option_and_then, Contains}
 use Rattle.std.proofs.lemmas.List.Elements.{Contains-append_left, Contains-append_right, Contains-push}
@@ -12,12 +12,19 @@ use Rattle.toml_edit_model.specs.Tree.{Node, nothing, Slots}
 use Rattle.toml_edit_model.specs.TreeOf.{spanned_form, frame_leaf, header_leaf, brackets_from, brackets_to}
 use Rattle.toml_edit_laws.specs.TableTree.{add_line, add_header}
 use Rattle.toml_edit_laws.specs.TableClash.{line_clash, header_clash, table_way_fault, table_way_faults}
-use Rattle.toml_edit_laws.specs.Building.{slots_along, change_along, Builder, source_at, mentions_at, added, clash_at, faults_at, behind}
-use Rattle.toml_edit_laws.specs.AddPath.{add_path, path_clash, put_along}
+use Rattle.toml_edit_laws.specs.Building.{slots_along, Builder, source_at, mentions_at, added, clash_at, faults_at, behind, IsStatementNode}
+use Rattle.toml_edit_laws.specs.AddPath.{Addition, a_value, add_path, path_clash, put_along}
+use Rattle.toml_edit_laws.specs.PlaceOrder.{slots_by_place, ArePlaced}
+use Rattle.toml_edit_laws.specs.InPlace.{add_in_place, StandWithin, IsRealAddition}
 use Rattle.toml_edit_laws.specs.Standing.{Stands}
-use Rattle.toml_edit_laws.proofs.common.OptionSteps.{some-is}
+use Rattle.toml_edit_laws.proofs.common.OptionSteps.{map_some, some-is}
 use Rattle.toml_edit_laws.proofs.common.StandingLaws.{stands-left, stands-right}
-use Rattle.toml_edit_laws.proofs.building.Along.{along_put, change_put}
+use Rattle.toml_edit_laws.proofs.building.Along.{along_put, put_put}
+use Rattle.toml_edit_laws.proofs.building.Descent.{along_lens}
+use Rattle.toml_edit_laws.proofs.building.PlacePaths.{adds_in_order}
+use Rattle.toml_edit_laws.proofs.building.PlaceKept.{later, stays_placed}
+use Rattle.toml_edit_laws.proofs.building.PlaceBlocks.{along_in_order, along_placed, clashes_in_order, put_in_order, put_placed}
+use Rattle.toml_edit_laws.proofs.building.PlaceStatements.{addition_real, statement_within}
 use Rattle.toml_edit_laws.proofs.building.PathMentions.{line-mentions, header-mentions}
 use Rattle.toml_edit_error.specs.Report.{fault_of}
 use Rattle.toml_edit_error.specs.Fault.{IfToml}
@@ -40,53 +47,99 @@ use Rattle.toml_edit_builder.specs.declared.statement.HeaderParts.{HeaderParts}
 use Rattle.toml_edit_builder.specs.StatementRead.{AreHeaderParts, IsAdded, IsHeld, IsOpened, IsWhole, kind_of}
 use Rattle.toml_edit_builder.proofs.SwapLaws.{whole-again, taken-out}
 
+-- the slots of the whole, as they stand
+abbrev pub whole_of : Builder → Building → Slots
+whole_of b h = put_along b.block (slots_view h.current) (slots_view h.root)
+
 module _ (b : Builder) (old : Building) (held : IsHeld b old) where
+  -- ---- the slots of the block's table, in the whole and in order
+
+  here : slots_along b.block (whole_of b old) ≡ Some (slots_view old.current)
+  here = along_put b.block (slots_view old.current) (slots_view old.root) held.left held.there
+
+  ordered-here : slots_along b.block b.slots ≡ Some (slots_by_place (slots_view old.current))
+  ordered-here =
+      ap (slots_along b.block) held.slots
+      ∙ along_in_order b.block b.start (whole_of b old) held.placed
+      ∙ ap (option_map slots_by_place) here
+
+  current-placed : ArePlaced b.start (slots_view old.current)
+  current-placed = along_placed b.block b.start (whole_of b old) (slots_view old.current) here held.placed
+
+  put-there : (new : Slots) → put_along b.block (slots_by_place new) b.slots ≡ slots_by_place (put_along b.block new (slots_view old.root))
+  put-there new =
+      ap (put_along b.block (slots_by_place new)) held.slots
+      ∙ put_in_order b.block b.start new (whole_of b old) held.placed
+      ∙ ap slots_by_place (put_put b.block (slots_view old.current) new (slots_view old.root))
+
   -- ---- a key line is added to the slots of its table
 
   module _ (f : Frame) (v : Value) (end : Text) where
     abbrev ms : List (Mention Source)
     ms = mentions_at b (key_line f v end)
 
-    pub line-added : (n : Node) (new : Slots) → add_line plain ms n (slots_view old.current) ≡ Some new
-        → added plain b (key_line f v end) n ≡ Some (put_along b.block new (slots_view old.root))
-    line-added n new e =
-        ap (change_along b.block (add_line plain ms n)) held.slots
-        ∙ change_put b.block (add_line plain ms n) (slots_view old.current) (slots_view old.root) held.left held.there
-        ∙ ap (option_map (λ us. put_along b.block us (slots_view old.root))) e
+    abbrev behind_line : ℕ
+    behind_line = b.start + length (statement_text (key_line f v end))
 
-    pub line-clashes : clash_at b (key_line f v end) ≡ line_clash ms (slots_view old.current)
+    pub line-clashes : option_map table_way_fault (clash_at b (key_line f v end)) ≡ option_map table_way_fault (line_clash ms (slots_view old.current))
     line-clashes =
-        ap (λ ss. option_and_then (line_clash ms) (slots_along b.block ss)) held.slots
-        ∙ ap (option_and_then (line_clash ms)) (along_put b.block (slots_view old.current) (slots_view old.root) held.left held.there)
+        ap (λ o. option_map table_way_fault (option_and_then (line_clash ms) o)) ordered-here
+        ∙ clashes_in_order (a_value nothing) ms b.start (slots_view old.current) current-placed
 
-    pub line-held : (new : Building) → new.block ≡ old.block → new.headers ≡ old.headers → slots_view new.root ≡ slots_view old.root
-        → IsHeld (behind b (key_line f v end) (put_along b.block (slots_view new.current) (slots_view old.root))) new
-    line-held new block headers root =
-        record {
-          block = held.block ∙ sym (ap (λ (v : Vec (String Global) Global). names v.items) block);
-          headers = held.headers ∙ sym headers;
-          left = held.left;
-          there = ap (slots_along b.block) root ∙ held.there;
-          slots = sym (ap (put_along b.block (slots_view new.current)) root);
-        }
+    module _ (is : IsWhole (key_line f v end)) (n : Node) (node : IsStatementNode plain b.start (key_line f v end) n) where
+      within : StandWithin plain b.start behind_line ms
+      within = statement_within plain (λ x. Unit {0}) b (key_line f v end) is
+
+      pub line-added : (new : Slots) → add_line plain ms n (slots_view old.current) ≡ Some new
+          → added plain b (key_line f v end) n ≡ Some (slots_by_place (put_along b.block new (slots_view old.root)))
+      line-added new e =
+          along_lens b.block (add_line plain ms n) b.slots (slots_by_place (slots_view old.current)) ordered-here
+          ∙ ap (option_map (λ us. put_along b.block us b.slots))
+          (adds_in_order plain (a_value n) ms b.start behind_line (slots_view old.current) (addition_real plain b.start (key_line f v end) n node) within current-placed
+          ∙ ap (option_map slots_by_place) e)
+          ∙ ap (λ (us : Slots). Some us) (put-there new)
+
+      pub line-held : (new : Building) → add_line plain ms n (slots_view old.current) ≡ Some (slots_view new.current) → new.block ≡ old.block → new.headers ≡ old.headers
+          → slots_view new.root ≡ slots_view old.root
+          → IsHeld (behind b (key_line f v end) (slots_by_place (put_along b.block (slots_view new.current) (slots_view old.root)))) new
+      line-held new e block headers root =
+          let on : b.start ≤ b.start + length (statement_text (key_line f v end)) = omega arith in
+          let kept =
+          stays_placed plain (a_value n) ms b.start behind_line (slots_view old.current) (slots_view new.current) on
+          (addition_real plain b.start (key_line f v end) n node) within current-placed e in
+          record {
+            block = held.block ∙ sym (ap (λ (v : Vec (String Global) Global). names v.items) block);
+            headers = held.headers ∙ sym headers;
+            left = held.left;
+            there = ap (slots_along b.block) root ∙ held.there;
+            slots = ap (λ us. slots_by_place (put_along b.block (slots_view new.current) us)) (sym root);
+            placed =
+                subst (ArePlaced behind_line)
+                (put_put b.block (slots_view old.current) (slots_view new.current) (slots_view old.root) ∙ ap (put_along b.block (slots_view new.current)) (sym root))
+                (put_placed b.block behind_line (slots_view new.current) (whole_of b old) kept (later b.start behind_line (whole_of b old) on held.placed));
+          }
 
   -- ---- a header is added to the whole, and the slots of its table are taken out
 
-  -- with the slots of the last block put back, that is what is held
+  -- with the slots of the last block put back, that is the whole
   pub put-back : (out new : Slots) → Swaps (slots_along b.block (slots_view old.root)) (slots_view old.current) (slots_view old.root)
       (put_along b.block (slots_view old.current) (slots_view old.root)) out new
-      → new ≡ b.slots
-  put-back out new s = whole-again b.block (slots_view old.current) (slots_view old.root) held.left out new held.there s ∙ sym held.slots
+      → new ≡ whole_of b old
+  put-back out new s = whole-again b.block (slots_view old.current) (slots_view old.root) held.left out new held.there s
 
 -- what is held once the slots of the header's table are taken out of the whole
-pub header-held : (b : Builder) (h : Header) (end : Text) (whole empty : Slots) (new : Building)
+pub header-held : (b : Builder) (h : Header) (end : Text) (whole empty : Slots) (new : Building) → ArePlaced (b.start + length (statement_text (header h end))) whole
     → (behind b (header h end) whole).block ≡ names new.block.items → (behind b (header h end) whole).headers ≡ new.headers
     → Swaps (slots_along (behind b (header h end) whole).block whole) empty whole (put_along (behind b (header h end) whole).block empty whole)
     (slots_view new.current) (slots_view new.root)
-    → (inner : Slots) → slots_along (behind b (header h end) whole).block whole ≡ Some inner → IsHeld (behind b (header h end) whole) new
-header-held b h end whole empty new block headers s inner there =
-    let (left, is) = taken-out (behind b (header h end) whole).block empty whole inner (slots_view new.current) (slots_view new.root) there s in
-    record { block = block; headers = headers; left = empty; there = left; slots = is }
+    → (inner : Slots) → slots_along (behind b (header h end) whole).block (slots_by_place whole) ≡ Some inner
+    → IsHeld (behind b (header h end) (slots_by_place whole)) new
+header-held b h end whole empty new placed block headers s inner there =
+    let ks = (behind b (header h end) whole).block in
+    let after = b.start + length (statement_text (header h end)) in
+    let (us, found, _) = map_some (slots_along ks whole) slots_by_place inner (sym (along_in_order ks after whole placed) ∙ there) in
+    let (left, is) = taken-out ks empty whole us (slots_view new.current) (slots_view new.root) found s in
+    record { block = block; headers = headers; left = empty; there = left; slots = ap slots_by_place is; placed = subst (ArePlaced after) is placed }
 
 -- ---- faults
 
@@ -181,17 +234,17 @@ module _ (b : Builder) (f : Frame) (v : Value) (end : Text) (old : Building) (he
   abbrev line : Statement
   line = key_line f v end
 
-  pub line-is-added : (more : List Event) (n : Node) (path : KeyPath) (rest : List Event) (new : Building) → IsLineRead f v b.start more n path rest
+  pub line-is-added : (more : List Event) (n : Node) (path : KeyPath) (rest : List Event) (new : Building) → IsWhole line → IsLineRead f v b.start more n path rest
       → add_line plain (mentions_at b line) n (slots_view old.current) ≡ Some (slots_view new.current) → new.block ≡ old.block → new.headers ≡ old.headers
       → slots_view new.root ≡ slots_view old.root → IsAdded b line more new rest
-  line-is-added more n path rest new read adds block headers root =
+  line-is-added more n path rest new is read adds block headers root =
       record {
         node = n;
         is_node = read.node;
-        slots = put_along b.block (slots_view new.current) (slots_view old.root);
+        slots = slots_by_place (put_along b.block (slots_view new.current) (slots_view old.root));
         faultless = read.faultless end;
-        added_is = line-added b old held f v end n (slots_view new.current) adds;
-        held = λ inner there. line-held b old held f v end new block headers root;
+        added_is = line-added b old held f v end is n read.node (slots_view new.current) adds;
+        held = λ inner there. line-held b old held f v end is n read.node new adds block headers root;
         rest_is = read.rest_is;
       }
 
@@ -200,8 +253,8 @@ module _ (b : Builder) (f : Frame) (v : Value) (end : Text) (old : Building) (he
       → IfToml e (λ r. (r.input ≡ t) × (option_map table_way_fault (line_clash (mentions_at b line) (slots_view old.current)) ≡ Some (fault_of r)))
       → IfToml e (NamesOne t (faults_at b line))
   line-stopped t e h =
-      subst (λ (way : Option (Mention Source × Node)). IfToml e (NamesOne t (own_faults b.start line ++ table_way_faults way))) (sym (line-clashes b old held f v end))
-      (way-named t (own_faults b.start line) (line_clash (mentions_at b line) (slots_view old.current)) e h)
+      way-named t (own_faults b.start line) (clash_at b line) e
+      (subst (λ (o : Option Fault). IfToml e (λ r. (r.input ≡ t) × (o ≡ Some (fault_of r)))) (sym (line-clashes b old held f v end)) h)
 
 -- the item of a header
 pub header-item : (s : Source) (h : Header) (end : Text) (n : Node) (is_array : Bool) (brackets : Span) → s.statement ≡ header h end
@@ -216,38 +269,54 @@ header_added : (is_array : Bool) (brackets : Span) (n : Node) (ms : List (Mentio
 header_added true brackets n _ ss = (refl, refl)
 header_added false brackets n _ ss = (refl, refl)
 
+header_real : (is_array : Bool) (brackets : Span) (n : Node) → IsRealAddition (addition_for (kind_of is_array brackets) n)
+header_real true brackets n = tt
+header_real false brackets n = tt
+
 module _ (b : Builder) (h : Header) (end : Text) (kind : Kind) (parts : HeaderParts) (n : Node) (ss : Slots) (at : AreHeaderParts h b.start parts)
-    (kind_is : kind ≡ kind_of parts.is_array parts.brackets) (whole : ss ≡ b.slots) where
+    (kind_is : kind ≡ kind_of parts.is_array parts.brackets) (old : Building) (held : IsHeld b old) (whole : ss ≡ whole_of b old) where
   abbrev head : Statement
   head = header h end
+
+  abbrev adding : Addition
+  adding = addition_for (kind_of parts.is_array parts.brackets) n
 
   -- what stands in its way is named
   pub header-stopped : (t : Text) (e : ParseFault)
       → IfToml e (λ r. (r.input ≡ t) × (option_map table_way_fault (path_clash (addition_for kind n) (mentions_at b head) ss) ≡ Some (fault_of r)))
       → IfToml e (NamesOne t (table_way_faults (clash_at b head)))
   header-stopped t e h' =
-      let way : path_clash (addition_for kind n) (mentions_at b head) ss ≡ clash_at b head =
-      ap (λ (k : Kind). path_clash (addition_for k n) (mentions_at b head) ss) kind_is
-      ∙ (header_added parts.is_array parts.brackets n (mentions_at b head) ss).1
-      ∙ ap (λ (x : Bool). header_clash x (mentions_at b head) ss) at.is_array
-      ∙ ap (header_clash h.is_array (mentions_at b head)) whole in
-      subst (λ (w : Option (Mention Source × Node)). IfToml e (NamesOne t (table_way_faults w))) way
-      (way-named t [] (path_clash (addition_for kind n) (mentions_at b head) ss) e h')
+      let fault_at : Slots → Option Fault = λ us. option_map table_way_fault (path_clash adding (mentions_at b head) us) in
+      let way : option_map table_way_fault (path_clash (addition_for kind n) (mentions_at b head) ss) ≡ option_map table_way_fault (clash_at b head) =
+      ap (λ (k : Kind). option_map table_way_fault (path_clash (addition_for k n) (mentions_at b head) ss)) kind_is
+      ∙ ap fault_at whole
+      ∙ sym (clashes_in_order adding (mentions_at b head) b.start (whole_of b old) held.placed)
+      ∙ ap fault_at (sym held.slots)
+      ∙ ap (option_map table_way_fault)
+      ((header_added parts.is_array parts.brackets n (mentions_at b head) b.slots).1 ∙ ap (λ (x : Bool). header_clash x (mentions_at b head) b.slots) at.is_array) in
+      way-named t [] (clash_at b head) e (subst (λ (o : Option Fault). IfToml e (λ r. (r.input ≡ t) × (o ≡ Some (fault_of r)))) way h')
 
-  pub header-is-opened : (old new : Building) (empty out : Slots) → IsHeld b old → add_path plain (addition_for kind n) (mentions_at b head) ss ≡ Some out
+  pub header-is-opened : (new : Building) (empty out : Slots) → IsWhole head → add_in_place plain (addition_for kind n) (mentions_at b head) ss ≡ Some out
       → names new.block.items ≡ map (λ g. g.key) h.path → new.headers ≡ old.headers + 1
       → Swaps (slots_along (names new.block.items) out) empty out (put_along (names new.block.items) empty out) (slots_view new.current) (slots_view new.root)
       → IsOpened b head new
-  header-is-opened old new empty out held adds block headers swaps =
+  header-is-opened new empty out is adds block headers swaps =
+      let ms = mentions_at b head in
+      let after = b.start + length (statement_text head) in
+      let on : b.start ≤ b.start + length (statement_text (header h end)) = omega arith in
+      let real = header_real parts.is_array parts.brackets n in
+      let within = statement_within plain (λ x. Unit {0}) b head is in
+      let in_place : add_in_place plain adding ms (whole_of b old) ≡ Some out =
+      sym (ap (λ (k : Kind). add_in_place plain (addition_for k n) ms ss) kind_is ∙ ap (add_in_place plain adding ms) whole) ∙ adds in
       record {
-        slots = out;
+        slots = slots_by_place out;
         added_is =
-            sym (ap (λ (k : Kind). add_path plain (addition_for k n) (mentions_at b head) ss) kind_is
-            ∙ (header_added parts.is_array parts.brackets n (mentions_at b head) ss).0
-            ∙ ap (λ (x : Bool). add_header plain x (mentions_at b head) ss) at.is_array
-            ∙ ap (add_header plain h.is_array (mentions_at b head)) whole)
-            ∙ adds;
-        held = header-held b h end out empty new (sym block) (let one = held.headers in omega (arith, one, headers))
+            sym ((header_added parts.is_array parts.brackets n ms b.slots).0 ∙ ap (λ (x : Bool). add_header plain x ms b.slots) at.is_array)
+            ∙ ap (add_path plain adding ms) held.slots
+            ∙ adds_in_order plain adding ms b.start after (whole_of b old) real within held.placed
+            ∙ ap (option_map slots_by_place) in_place;
+        held = header-held b h end out empty new (stays_placed plain adding ms b.start after (whole_of b old) out on real within held.placed in_place)
+            (sym block) (let one = held.headers in omega (arith, one, headers))
             (subst (λ (ks : List Text). Swaps (slots_along ks out) empty out (put_along ks empty out) (slots_view new.current) (slots_view new.root)) block swaps);
       }
 

@@ -13,6 +13,7 @@ use Rattle.toml_edit_model.specs.TreeOf.{spanned_form, header_leaf, root_fields,
 use Rattle.toml_edit_laws.specs.Building.{slots_along, Builder, added, clash_at, faults_at, behind, IsStatementNode, IsRefusedBy}
 use Rattle.toml_edit_laws.specs.TableClash.{table_way_faults}
 use Rattle.toml_edit_laws.specs.AddPath.{put_along}
+use Rattle.toml_edit_laws.specs.PlaceOrder.{slots_by_place, ArePlaced}
 use Rattle.toml_edit_error.specs.Report.{Report, fault_of}
 use Rattle.toml_edit_error.specs.Fault.{IfToml}
 use Rattle.toml_edit_error.specs.declared.toml_error.ParseFault.{ParseFault}
@@ -34,13 +35,15 @@ abbrev pub IsWhole : Statement → Type 0
 IsWhole s = IsStatement (λ end. Unit {0}) s
 
 -- What is held between statements: the slots of the root, without those of the table of the last block, which are held by themselves,
--- the keys of that block, and how many headers there were.
+-- the keys of that block, and how many headers there were. Where a header headed a table that was only passed through, the table stands
+-- where it was: put in the order of their keys, they are the builder's slots.
 pub record IsHeld (b : Builder) (h : Building) : Type 0 where
   pub block : b.block ≡ names h.block.items
   pub headers : b.headers ≡ h.headers
   pub left : Slots
   pub there : slots_along b.block (slots_view h.root) ≡ Some left
-  pub slots : b.slots ≡ put_along b.block (slots_view h.current) (slots_view h.root)
+  pub slots : b.slots ≡ slots_by_place (put_along b.block (slots_view h.current) (slots_view h.root))
+  pub placed : ArePlaced b.start (put_along b.block (slots_view h.current) (slots_view h.root))
 
 -- The statement is right and is added: the builder behind it is what is held. These events follow.
 pub record IsAdded (b : Builder) (s : Statement) (more : List Event) (new : Building) (rest : List Event) : Type 0 where

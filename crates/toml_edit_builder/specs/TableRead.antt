@@ -12,7 +12,8 @@ use Rattle.toml_edit_laws.specs.Standing.{Stands}
 use Rattle.toml_edit_laws.specs.InlineTree.{node_at}
 use Rattle.toml_edit_laws.specs.TableTree.{reaching, with_item}
 use Rattle.toml_edit_laws.specs.TableClash.{table_way_fault}
-use Rattle.toml_edit_laws.specs.AddPath.{Addition, a_value, a_table, an_element, add_path, path_clash, inside, clash_inside, put_last_key, last_key_clash, AreMentionsOf}
+use Rattle.toml_edit_laws.specs.AddPath.{Addition, a_value, a_table, an_element, path_clash, inside, clash_inside, last_key_clash, AreMentionsOf}
+use Rattle.toml_edit_laws.specs.InPlace.{add_in_place, put_in_place}
 use Rattle.toml_edit_error.specs.Report.{fault_of}
 use Rattle.toml_edit_error.specs.Fault.{IfToml}
 use Rattle.toml_edit_error.specs.declared.toml_error.ParseFault.{ParseFault}
@@ -74,15 +75,15 @@ Goes t want way new (Err e) = IfToml e (λ r. (r.input ≡ t) × (option_map tab
 
 -- adding something at the end of a path below these slots
 abbrev pub AddsPath : {A : Type 0} → Text → Addition → List (Mention Source) → Slots → Slots → Result A ParseFault → Type 0
-AddsPath t a ms old new result = Goes t (add_path plain a ms old) (path_clash a ms old) new result
+AddsPath t a ms old new result = Goes t (add_in_place plain a ms old) (path_clash a ms old) new result
 
 -- adding it below a key with this item, where these mentions are the path behind the key
 abbrev pub AddsInside : {A : Type 0} → Text → Addition → Mention Source → List (Mention Source) → Node → Node → Result A ParseFault → Type 0
-AddsInside t a m ms old new result = Goes t (inside a (add_path plain a ms) old) (clash_inside a m (path_clash a ms) old) new result
+AddsInside t a m ms old new result = Goes t (inside a (add_in_place plain a ms) old) (clash_inside a m (path_clash a ms) old) new result
 
 -- adding it at the last key of a path
 abbrev pub PutsLast : {A : Type 0} → Text → Addition → Mention Source → Slots → Slots → Result A ParseFault → Type 0
-PutsLast t a m old new result = Goes t (put_last_key plain a m old (node_at m.segment.key old)) (last_key_clash a m (node_at m.segment.key old)) new result
+PutsLast t a m old new result = Goes t (put_in_place plain a m old (node_at m.segment.key old)) (last_key_clash a m (node_at m.segment.key old)) new result
 
 -- the table of a header with these fields, with the slots of the table that is there, if that was only passed through so far
 abbrev pub opened : TableFields → Node → Option Node

@@ -1,9 +1,10 @@
 //! The last key of a path: what is put there, and what stands in its way.
-ghost use Rattle.std.specs.Prelude.{◌≡◌, false, None, Some, OnOk, IfErr, option_map};
+ghost use Rattle.std.specs.Prelude.{◌≡◌, ◌<◌, false, None, Some, OnOk, IfErr, length};
 ghost use Rattle.toml_edit_model.specs.Paths.{Mention, Source};
 ghost use Rattle.toml_edit_model.specs.Tree.{TableFields, item as item_of, no_items, no_slots, table as table_of, tables as tables_of};
 ghost use Rattle.toml_edit_laws.specs.AddPath.{a_table, a_value, an_element};
 ghost use Rattle.toml_edit_laws.specs.FlatTree.{with_slot};
+ghost use Rattle.toml_edit_laws.specs.InPlace.{replace_slot};
 ghost use Rattle.toml_edit_laws.specs.TableClash.{element_clash, table_clash};
 ghost use Rattle.toml_edit_error.specs.Fault.{IfToml};
 ghost use Rattle.toml_edit_slots.specs.Slots.{place};
@@ -21,7 +22,7 @@ use toml_edit_error::ParseFault;
 use toml_edit_key::Key;
 use toml_edit_parser::{add_last, push_item, refusal};
 use toml_edit_repr::Mem;
-use toml_edit_slots::Slots;
+use toml_edit_slots::{Slot, Slots};
 use toml_edit_syntax::Span;
 use toml_edit_tree::{ArrayOfTables, Item, Table};
 
@@ -47,7 +48,7 @@ pub(crate) fn put_last(
     }
 }
 
-/// Puts the table of a header last. It takes the slots of the table that is there, if that was only passed through so far.
+/// Puts the table of a header last, or in the place of the table that is there, with its slots, if that was only passed through so far.
 fn put_table(
     alloc: Global,
     source: &str,
@@ -61,35 +62,45 @@ fn put_table(
         → PutsLast source.now a_table m (slots_view slots.old) (slots_view slots.new) result }
     ensures input { IfErr result (λ e. IfToml e (λ r. r.input ≡ source.now)) }
 {
-    match slots.remove(key.get()) {
+    match slots.find(key.get()) {
         None => {
             push_item(slots, key, mem::replace(item, Item::None))?;
             Ok(())
         }
-        Some(slot) => put_opened(alloc, source, key, at, slot.into_item(), item, slots),
+        Some(there) => put_opened(alloc, source, key, at, there, item, slots),
     }
 }
 
-/// Puts the table of a header last, with the slots of what stood at its key, whose slot was taken out.
+/// Puts the table of a header in the place of the table that stands at its key, with its slots, if that was only passed through so far. So
+/// no slot moves: the slots are put in order behind all statements.
 fn put_opened(
     alloc: Global,
     source: &str,
     key: Key,
     at: Span,
-    there: Item,
+    there: usize,
     item: &mut Item,
     slots: &mut Slots<Item>,
 ) -> Result<(), ParseFault>
     requires at { IsSpanOf source.now at }
-    requires absent { place key.name slots.old ≡ None }
-    ensures put { (g : TableFields) (s : Source) (m : Mention Source) → item_view item.old ≡ table_of g no_slots → IsKeyOf s false m key at
-        → Goes source.now (option_map (with_slot (slots_view slots.old) key) (opened g (item_view there))) (table_clash m (Some (item_view there)))
-        (slots_view slots.new) result }
+    requires there { place key.name slots.old ≡ Some there }
+    requires within { there < length slots.old }
+    ensures put { (s : Source) (m : Mention Source) → IsHeaded s (item_view item.old) → IsKeyOf s false m key at
+        → PutsLast source.now a_table m (slots_view slots.old) (slots_view slots.new) result }
     ensures input { IfErr result (λ e. IfToml e (λ r. r.input ≡ source.now)) }
 {
-    open_item(alloc, source, at, there, item)?;
-    push_item(slots, key, mem::replace(item, Item::None))?;
+    open_item(alloc, source, at, slots.item_mut(there), item)?;
+    put_slot(key, there, mem::replace(item, Item::None), slots);
     Ok(())
+}
+
+/// Puts a slot in the place of that of its name, which goes.
+fn put_slot(key: Key, there: usize, item: Item, slots: &mut Slots<Item>)
+    requires { place key.name slots.old ≡ Some there }
+    ensures { slots_view slots.new ≡ replace_slot key.name key (item_view item) (slots_view slots.old) }
+{
+    let past = slots.replace(there, Slot { key, item });
+    drop(past);
 }
 
 /// Moves the slots of what stands at the key of a header into the header's table, if it is a table that was only passed through so far.
@@ -97,20 +108,17 @@ fn open_item(
     alloc: Global,
     source: &str,
     at: Span,
-    there: Item,
+    there: &mut Item,
     item: &mut Item,
 ) -> Result<(), ParseFault>
     requires { IsSpanOf source.now at }
     ensures opened { (g : TableFields) (s : Source) (m : Mention Source) (k : Key) → item_view item.old ≡ table_of g no_slots → IsKeyOf s false m k at
-        → Goes source.now (opened g (item_view there)) (table_clash m (Some (item_view there))) (item_view item.new) result }
+        → Goes source.now (opened g (item_view there.old)) (table_clash m (Some (item_view there.old))) (item_view item.new) result }
     ensures input { IfErr result (λ e. IfToml e (λ r. r.input ≡ source.now)) }
 {
     match there {
         Item::Table(table) => open_table(alloc, source, at, table, item),
-        other => {
-            drop(other);
-            Err(refusal(alloc, source, "duplicate key", at))
-        }
+        _ => Err(refusal(alloc, source, "duplicate key", at)),
     }
 }
 
@@ -119,20 +127,27 @@ fn open_table(
     alloc: Global,
     source: &str,
     at: Span,
-    there: Table,
+    there: &mut Table,
     item: &mut Item,
 ) -> Result<(), ParseFault>
     requires { IsSpanOf source.now at }
     ensures opened { (g : TableFields) (s : Source) (m : Mention Source) (k : Key) → item_view item.old ≡ table_of g no_slots → IsKeyOf s false m k at
-        → Goes source.now (opened g (table_node (table_view there))) (table_clash m (Some (table_node (table_view there)))) (item_view item.new) result }
+        → Goes source.now (opened g (table_node (table_view there.old))) (table_clash m (Some (table_node (table_view there.old)))) (item_view item.new) result }
     ensures input { IfErr result (λ e. IfToml e (λ r. r.input ≡ source.now)) }
 {
     if there.is_implicit() && !there.is_dotted() {
-        fill(item, there.into_slots());
+        fill(item, taken_slots(alloc, there));
         Ok(())
     } else {
         Err(refusal(alloc, source, "duplicate key", at))
     }
+}
+
+/// The slots of a table, taken out of it.
+fn taken_slots(alloc: Global, table: &mut Table) -> Slots<Item>
+    ensures { slots_view result ≡ (table_view table.old).slots }
+{
+    mem::replace(table.slots_mut(), Slots::new(alloc))
 }
 
 /// Puts these slots into an item that is a table, in place of its own.

@@ -4,6 +4,7 @@ ghost use Rattle.toml_edit_model.specs.Syntax.{Document, Statement, IsCut, state
 ghost use Rattle.toml_edit_model.specs.Text.{Text};
 ghost use Rattle.toml_edit_model.specs.TreeOf.{span_of};
 ghost use Rattle.toml_edit_laws.specs.Building.{Builder};
+ghost use Rattle.toml_edit_laws.specs.PlaceOrder.{slots_by_place};
 ghost use Rattle.toml_edit_laws.specs.Standing.{Stands};
 ghost use Rattle.toml_edit_error.specs.Fault.{IfToml};
 ghost use Rattle.toml_edit_syntax.specs.Events.{events_of, statement_events};
@@ -20,7 +21,7 @@ use toml_edit_error::ParseFault;
 use toml_edit_repr::RawString;
 use toml_edit_slots::Slots;
 use toml_edit_syntax::{Event, EventKind, Span};
-use toml_edit_tree::Item;
+use toml_edit_tree::{Item, put_in_order};
 
 /// What is held of a tree between statements: the slots of the root, without those of the table that key lines are added to, which are held
 /// by themselves; the keys of that table, and how many headers there were. So a key line costs nothing for the path of its table. The
@@ -44,9 +45,9 @@ fn starts_statement(events: &[Event]) -> bool
     }
 }
 
-/// The slots of the root.
+/// The slots of the root, which are still to be put in order.
 fn whole(mut building: Building) -> Slots<Item>
-    ensures { (b : Builder) → IsHeld b building → slots_view result ≡ b.slots }
+    ensures { (b : Builder) → IsHeld b building → slots_by_place (slots_view result) ≡ b.slots }
 {
     swap_block(
         building.block.as_slice(),
@@ -98,5 +99,7 @@ pub(crate) fn build(
     'statements: while starts_statement(rest) {
         rest = read_statement(alloc, source, &mut building, rest)?;
     }
-    Ok((whole(building), trailing(rest)))
+    let mut slots = whole(building);
+    put_in_order(&mut slots)?;
+    Ok((slots, trailing(rest)))
 }

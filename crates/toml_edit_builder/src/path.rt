@@ -5,7 +5,7 @@ ghost use Rattle.toml_edit_model.specs.Paths.{Mention, Source};
 ghost use Rattle.toml_edit_model.specs.Roles.{Role, extends};
 ghost use Rattle.toml_edit_model.specs.Tree.{Node, item as item_of, no_items, no_slots, table as table_of, tables as tables_of};
 ghost use Rattle.toml_edit_model.specs.TreeOf.{made_by_path, spanned_form};
-ghost use Rattle.toml_edit_laws.specs.AddPath as model;
+ghost use Rattle.toml_edit_laws.specs.InPlace as model;
 ghost use Rattle.toml_edit_laws.specs.AddPath.{Addition, makes_dotted, path_clash};
 ghost use Rattle.toml_edit_laws.specs.FlatTree.{with_slot};
 ghost use Rattle.toml_edit_laws.specs.TableClash.{clash_in_last, table_way_message};
@@ -89,7 +89,7 @@ fn add_below(
     ensures added { (s : Source) (ms : List (Mention Source)) → IsItemFor kind s (item_view item.old) → IsPathOf source.now s ms path.entry
         → Goes source.now (option_map (λ inner. with_slot (slots_view slots.old) key
         (table_of (made_by_path spanned_form (makes_dotted (addition_for kind (item_view item.old))) (Some (span.start, span.end))) inner))
-        (model.add_path plain (addition_for kind (item_view item.old)) ms no_slots)) None (slots_view slots.new) result }
+        (model.add_in_place plain (addition_for kind (item_view item.old)) ms no_slots)) None (slots_view slots.new) result }
     ensures input { IfErr result (λ e. IfToml e (λ r. r.input ≡ source.now)) }
 {
     let mut inner = Slots::new(alloc);
@@ -217,7 +217,7 @@ fn add_in_element(
     requires path { AreIn source.now path.events.now }
     ensures added { (s : Source) (m : Mention Source) (ms : List (Mention Source)) (k : Key) (way : Node) → IsItemFor kind s (item_view item.old)
         → IsKeyOf s true m k span → IsPathOf source.now s ms path.entry → spec.AreTables way
-        → Goes source.now (change_table (model.add_path plain (addition_for kind (item_view item.old)) ms) (item_view holder.old))
+        → Goes source.now (change_table (model.add_in_place plain (addition_for kind (item_view item.old)) ms) (item_view holder.old))
         (clash_in_last (m, way) (path_clash (addition_for kind (item_view item.old)) ms) (item_of (item_view holder.old) no_items)) (item_view holder.new) result }
     ensures input { IfErr result (λ e. IfToml e (λ r. r.input ≡ source.now)) }
 {
@@ -239,7 +239,7 @@ fn add_in_slots(
 ) -> Result<(), ParseFault>
     requires { AreIn source.now path.events.now }
     ensures added { (s : Source) (ms : List (Mention Source)) → IsItemFor kind s (item_view item.old) → IsPathOf source.now s ms path.entry
-        → Goes source.now (change_table (model.add_path plain (addition_for kind (item_view item.old)) ms) (table_node (table_view table.old)))
+        → Goes source.now (change_table (model.add_in_place plain (addition_for kind (item_view item.old)) ms) (table_node (table_view table.old)))
         (path_clash (addition_for kind (item_view item.old)) ms (table_view table.old).slots) (table_node (table_view table.new)) result }
     ensures input { IfErr result (λ e. IfToml e (λ r. r.input ≡ source.now)) }
 {

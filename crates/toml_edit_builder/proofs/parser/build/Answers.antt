@@ -46,5 +46,5 @@ returns-clause-built c =
     λ d cut e.
     let t = c.args.source.now in
     let end = ended t d c.statements.rest.now c.statements.building (c.statements.invariant.progress d cut e) (sym c.starts_statement.ensures ∙ c.statements-test.false) in
-    built d c.statements.rest.now c.statements.building (slots_view c.whole.result) c.trailing.result cut.0 end
-    (c.whole.ensures end.builder end.held) (c.trailing.ensures _ d.final end.rest_is)
+    built d c.statements.rest.now c.statements.building (slots_view c.put_in_order.new.slots) c.trailing.result cut.0 end
+    (c.in_ok-put_in_order.ensures ∙ c.whole-slots.ensures end.builder end.held) (c.trailing.ensures _ d.final end.rest_is)

@@ -33,5 +33,5 @@ returns-clause-line c =
     let t = c.args.source.now in
     let s = key_line f v end in
     let read = c.in_ok-path.ensures.line f v b.start more is.0 is.1 (frame-stands t b f v end is stands) leading e in
-    line-is-added b f v end c.args.building.now held more _ c.in_ok-path.path _ _ read
+    line-is-added b f v end c.args.building.now held more _ c.in_ok-path.path _ _ is read
     (c.in_ok-add_path.ensures.added (source_at b s) (mentions_at b s) tt (line-path t b f v end is stands c.in_ok-path.path read.path_is)) refl refl refl

@@ -35,7 +35,7 @@ returns-in_err-add_path-clause-opens c =
     (put_along ks (slots_view old.current) (slots_view old.root)) (slots_view c.swap_block.new.others) (slots_view c.swap_block.new.slots)) same c.swap_block.ensures in
     let number : old.headers + 1 ≡ suc b.headers = let one = held.headers in omega (arith, one) in
     let head = header-item s h end n c.args.header.is_array c.args.header.brackets refl at.brackets (c.head_item.ensures b h end at (to_z_pos w64 (old.headers + 1) c.requires.count ∙ ap pos number)) in
-    rw (q.1, q.2) (header-stopped b h end c.header_kind.result c.args.header n (slots_view c.swap_block.new.slots) at c.header_kind.ensures
+    rw (q.1, q.2) (header-stopped b h end c.header_kind.result c.args.header n (slots_view c.swap_block.new.slots) at c.header_kind.ensures old held
     (put-back b old held (slots_view c.swap_block.new.others) (slots_view c.swap_block.new.slots) back) t c.in_err-add_path.field-0.0
     (c.in_err-add_path.ensures.added s (mentions_at b (header h end)) (subst (λ (k : Kind). IsItemFor k s n) (sym c.header_kind.ensures) head)
     (header-path t b h end is stands c.args.header at)))
@@ -54,8 +54,8 @@ returns-clause-opens c =
     let head = header-item s h end n c.args.header.is_array c.args.header.brackets refl at.brackets (c.head_item.ensures b h end at (to_z_pos w64 (old.headers + 1) c.requires.count ∙ ap pos number)) in
     let empty = slots_view c.swap_block.new.others in
     let out = slots_view c.add_path.new.slots in
-    header-is-opened b h end c.header_kind.result c.args.header n (slots_view c.swap_block.new.slots) at c.header_kind.ensures
-    (put-back b old held (slots_view c.swap_block.new.others) (slots_view c.swap_block.new.slots) back) old _ empty out held
+    header-is-opened b h end c.header_kind.result c.args.header n (slots_view c.swap_block.new.slots) at c.header_kind.ensures old held
+    (put-back b old held (slots_view c.swap_block.new.others) (slots_view c.swap_block.new.slots) back) _ empty out is
     (c.in_ok-add_path.ensures.added s (mentions_at b (header h end)) (subst (λ (k : Kind). IsItemFor k s n) (sym c.header_kind.ensures) head)
     (header-path t b h end is stands c.args.header at))
     (c.in_ok-building.ensures.names _ h.path _ (key-ends t b h end is stands) (key-stands t b h end is stands) at.path)
