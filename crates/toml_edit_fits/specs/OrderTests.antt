@@ -51,8 +51,8 @@ marks_of seen highest = record { seen = seen; highest = highest }
 abbrev pub place_in : Marks → TableFields → ℤ
 place_in m f = unwrap_or f.position m.seen
 
--- One more table is entered, which is none before the first place: not before its array's element that it is in, and an element not before
--- the headers of the elements before it.
+-- One more table is entered; none, where its header stands before that of the element that it is in, or, of an element, before those of
+-- the elements before it.
 abbrev pub enter : Bool → Option ℤ → Marks → TableFields → Slots → Option Marks
 enter is_element low m f ss =
     if f.is_dotted then Some m
