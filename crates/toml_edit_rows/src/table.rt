@@ -32,25 +32,132 @@ impl Subject for Item {
     }
 }
 
+/// What the words at the front of a step go to.
+#[derive(Clone, Copy)]
+enum Place<'v> {
+    Table(&'v Table),
+    Item(&'v Item),
+    Tables(&'v ArrayOfTables),
+    /// Nothing stands there: this is said of it.
+    Nowhere(&'static str),
+}
+
+/// Goes down as far as the words at the front say, and gives the words behind them.
+fn down<'v, 'a>(place: Place<'v>, words: &'a [Json]) -> (Place<'v>, &'a [Json]) {
+    let mut place = place;
+    let mut words = words;
+    for _ in 0..words.len() {
+        let Some((inner, used)) = step(place, words) else {
+            break;
+        };
+        place = inner;
+        words = behind(words, used);
+    }
+    (place, words)
+}
+
+/// What the first words go to, and how many they are, if they go down.
+fn step<'v>(place: Place<'v>, words: &[Json]) -> Option<(Place<'v>, usize)> {
+    let call = word(words, 0);
+    match place {
+        Place::Table(table) if call == "get" => Some((item_at(table, word(words, 1)), 2)),
+        Place::Item(item) if call == "as_table" => Some((table_of(item), 1)),
+        Place::Item(item) if call == "as_array_of_tables" => Some((tables_of(item), 1)),
+        Place::Tables(tables) if call == "iter" => Some((element(tables, word(words, 1)), 2)),
+        _ => None,
+    }
+}
+
+fn item_at<'v>(table: &'v Table, name: &str) -> Place<'v> {
+    match table.get(name) {
+        Some(item) => Place::Item(item),
+        None => Place::Nowhere("none"),
+    }
+}
+
+fn table_of(item: &Item) -> Place<'_> {
+    match item.as_table() {
+        Some(table) => Place::Table(table),
+        None => Place::Nowhere("no table"),
+    }
+}
+
+fn tables_of(item: &Item) -> Place<'_> {
+    match item.as_array_of_tables() {
+        Some(tables) => Place::Tables(tables),
+        None => Place::Nowhere("no array of tables"),
+    }
+}
+
+/// The table that stands at a place of what the iterator gives.
+fn element<'v>(tables: &'v ArrayOfTables, at: &str) -> Place<'v> {
+    let mut left = at.parse::<usize>().ok();
+    for table in tables.iter() {
+        match left {
+            Some(0) => return Place::Table(table),
+            Some(more) => left = more.checked_sub(1),
+            None => {}
+        }
+    }
+    Place::Nowhere("none")
+}
+
 /// Asks of a table, or of what is in it.
 pub fn ask(table: &Table, words: &[Json], out: &mut Answer) {
-    match word(words, 0) {
-        "clone" => copied(table.clone(out.alloc), behind(words, 1), out),
-        "get" => ask_found(table.get(word(words, 1)), behind(words, 2), out),
-        _ => ask_plain(table, words, out),
+    ask_from(Place::Table(table), words, out);
+}
+
+/// Asks of an item, or of what is in it.
+pub fn ask_item(item: &Item, words: &[Json], out: &mut Answer) {
+    ask_from(Place::Item(item), words, out);
+}
+
+fn ask_from(place: Place<'_>, words: &[Json], out: &mut Answer) {
+    let (place, words) = down(place, words);
+    let rest = behind(words, 1);
+    match place {
+        Place::Table(table) if word(words, 0) == "clone" => {
+            copied(table.clone(out.alloc), rest, out);
+        }
+        Place::Item(item) if word(words, 0) == "clone" => copied(item.clone(out.alloc), rest, out),
+        Place::Tables(tables) if word(words, 0) == "clone" => {
+            copied(tables.clone(out.alloc), rest, out);
+        }
+        _ => tell(place, words, out),
     }
 }
 
 impl Asked for Table {
     fn ask(&self, words: &[Json], out: &mut Answer) {
-        match word(words, 0) {
-            "get" => ask_found(self.get(word(words, 1)), behind(words, 2), out),
-            _ => ask_plain(self, words, out),
-        }
+        let (place, words) = down(Place::Table(self), words);
+        tell(place, words, out);
     }
 }
 
-fn ask_plain(table: &Table, words: &[Json], out: &mut Answer) {
+impl Asked for Item {
+    fn ask(&self, words: &[Json], out: &mut Answer) {
+        let (place, words) = down(Place::Item(self), words);
+        tell(place, words, out);
+    }
+}
+
+impl Asked for ArrayOfTables {
+    fn ask(&self, words: &[Json], out: &mut Answer) {
+        let (place, words) = down(Place::Tables(self), words);
+        tell(place, words, out);
+    }
+}
+
+fn tell(place: Place<'_>, words: &[Json], out: &mut Answer) {
+    match place {
+        Place::Table(table) => tell_table(table, words, out),
+        Place::Item(item) => tell_item(item, words, out),
+        Place::Tables(tables) => tell_tables(tables, words, out),
+        Place::Nowhere(told) => out.text(told),
+    }
+}
+
+fn tell_table(table: &Table, words: &[Json], out: &mut Answer) {
     match word(words, 0) {
         "iter" => names(table.iter(), out),
         "key" => key::ask_found(table.key(word(words, 1)), behind(words, 2), out),
@@ -59,6 +166,35 @@ fn ask_plain(table: &Table, words: &[Json], out: &mut Answer) {
         "position" => out.shown_or_none(table.position().as_ref()),
         "decor" => value::ask_decor(table.decor(), word(words, 1), out),
         "span" => out.span(table.span()),
+        call => out.no_such(call),
+    }
+}
+
+/// Tells of which kind an item is; any other call is one of the value that it holds.
+fn tell_item(item: &Item, words: &[Json], out: &mut Answer) {
+    match word(words, 0) {
+        "is_none" => out.truth(item.is_none()),
+        "is_value" => out.truth(item.is_value()),
+        "is_table" => out.truth(item.is_table()),
+        "is_array_of_tables" => out.truth(item.is_array_of_tables()),
+        "type_name" => out.text(item.type_name()),
+        "as_value" => tell_value(item.as_value(), behind(words, 1), out),
+        _ => tell_value(item.as_value(), words, out),
+    }
+}
+
+fn tell_value(found: Option<&Value>, words: &[Json], out: &mut Answer) {
+    match found {
+        Some(found) => value::ask(found, words, out),
+        None => out.text("no value"),
+    }
+}
+
+fn tell_tables(tables: &ArrayOfTables, words: &[Json], out: &mut Answer) {
+    match word(words, 0) {
+        "len" => out.shown(&tables.len()),
+        "is_empty" => out.truth(tables.is_empty()),
+        "span" => out.span(tables.span()),
         call => out.no_such(call),
     }
 }
@@ -75,15 +211,20 @@ pub fn names(items: Iter<'_>, out: &mut Answer) {
     }
 }
 
-/// Does a step with a table. Of a call that changes it the answer is empty.
+/// Does a step with a table, or with an item of it. Of a call that changes something the answer is empty.
 pub fn change(table: &mut Table, words: &[Json], out: &mut Answer) {
-    let rest = behind(words, 1);
     match word(words, 0) {
         "get_mut" => change_found(table.get_mut(word(words, 1)), behind(words, 2), out),
+        _ => change_here(table, words, out),
+    }
+}
+
+fn change_here(table: &mut Table, words: &[Json], out: &mut Answer) {
+    match word(words, 0) {
         "set_implicit" => table.set_implicit(word(words, 1) == "true"),
         "set_dotted" => table.set_dotted(word(words, 1) == "true"),
         "set_position" => table.set_position(word(words, 1).parse::<isize>().ok()),
-        "decor_mut" => value::change_decor(table.decor_mut(), rest, out),
+        "decor_mut" => value::change_decor(table.decor_mut(), behind(words, 1), out),
         _ => ask(table, words, out),
     }
 }
@@ -95,15 +236,16 @@ fn change_found(item: Option<&mut Item>, words: &[Json], out: &mut Answer) {
     }
 }
 
+/// Does a step with an item: with its table, its array of tables, its value, or with the item itself.
 fn change_item(item: &mut Item, words: &[Json], out: &mut Answer) {
     let rest = behind(words, 1);
     match word(words, 0) {
         "as_table_mut" => match item.as_table_mut() {
-            Some(table) => change(table, rest, out),
+            Some(table) => change_here(table, rest, out),
             None => out.text("none"),
         },
         "as_array_of_tables_mut" => match item.as_array_of_tables_mut() {
-            Some(tables) => ask_tables(tables, rest, out),
+            Some(tables) => ask_from(Place::Tables(tables), rest, out),
             None => out.text("none"),
         },
         _ => change_value(item, words, out),
@@ -119,97 +261,4 @@ fn change_value(item: &mut Item, words: &[Json], out: &mut Answer) {
         }
         _ => ask_item(item, words, out),
     }
-}
-
-fn ask_found(item: Option<&Item>, words: &[Json], out: &mut Answer) {
-    match item {
-        Some(item) => ask_item(item, words, out),
-        None => out.text("none"),
-    }
-}
-
-/// Asks of an item, or of what is in it.
-pub fn ask_item(item: &Item, words: &[Json], out: &mut Answer) {
-    match word(words, 0) {
-        "clone" => copied(item.clone(out.alloc), behind(words, 1), out),
-        _ => item.ask(words, out),
-    }
-}
-
-impl Asked for Item {
-    fn ask(&self, words: &[Json], out: &mut Answer) {
-        match word(words, 0) {
-            "as_table" => ask_table(self.as_table(), behind(words, 1), out),
-            "as_array_of_tables" => {
-                ask_array(self.as_array_of_tables(), behind(words, 1), out);
-            }
-            "as_value" => ask_value(self.as_value(), behind(words, 1), out),
-            _ => ask_kind(self, words, out),
-        }
-    }
-}
-
-/// Asks of which kind an item is; any other call is one of the value that it holds.
-fn ask_kind(item: &Item, words: &[Json], out: &mut Answer) {
-    match word(words, 0) {
-        "is_none" => out.truth(item.is_none()),
-        "is_value" => out.truth(item.is_value()),
-        "is_table" => out.truth(item.is_table()),
-        "is_array_of_tables" => out.truth(item.is_array_of_tables()),
-        "type_name" => out.text(item.type_name()),
-        _ => ask_value(item.as_value(), words, out),
-    }
-}
-
-fn ask_value(found: Option<&Value>, words: &[Json], out: &mut Answer) {
-    match found {
-        Some(found) => value::ask(found, words, out),
-        None => out.text("no value"),
-    }
-}
-
-fn ask_table(found: Option<&Table>, words: &[Json], out: &mut Answer) {
-    match found {
-        Some(table) => ask(table, words, out),
-        None => out.text("no table"),
-    }
-}
-
-fn ask_array(found: Option<&ArrayOfTables>, words: &[Json], out: &mut Answer) {
-    match found {
-        Some(tables) => ask_tables(tables, words, out),
-        None => out.text("no array of tables"),
-    }
-}
-
-fn ask_tables(tables: &ArrayOfTables, words: &[Json], out: &mut Answer) {
-    match word(words, 0) {
-        "clone" => copied(tables.clone(out.alloc), behind(words, 1), out),
-        _ => tables.ask(words, out),
-    }
-}
-
-impl Asked for ArrayOfTables {
-    fn ask(&self, words: &[Json], out: &mut Answer) {
-        match word(words, 0) {
-            "len" => out.shown(&self.len()),
-            "is_empty" => out.truth(self.is_empty()),
-            "span" => out.span(self.span()),
-            "iter" => ask_element(self, behind(words, 1), out),
-            call => out.no_such(call),
-        }
-    }
-}
-
-/// Asks of the table that stands at a place of what the iterator gives.
-fn ask_element(tables: &ArrayOfTables, words: &[Json], out: &mut Answer) {
-    let mut left = word(words, 0).parse::<usize>().ok();
-    for table in tables.iter() {
-        match left {
-            Some(0) => return ask(table, behind(words, 1), out),
-            Some(more) => left = more.checked_sub(1),
-            None => {}
-        }
-    }
-    out.text("none");
 }
