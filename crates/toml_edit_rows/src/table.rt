@@ -24,7 +24,12 @@ fn item(alloc: Global, kind: &str) -> Option<Item> {
 
 impl Subject for Item {
     fn call(&mut self, words: &[Json], out: &mut Answer) {
-        change_item(self, words, out);
+        match self {
+            Item::Table(table) if word(words, 0) == "as_table_mut" => {
+                change(table, behind(words, 1), out);
+            }
+            _ => change_item(self, words, out),
+        }
     }
 
     fn answer(&self, question: &str, out: &mut Answer) {
