@@ -120,10 +120,7 @@ fn move_down<T>(places: &mut IndexMap<String, usize>, entries: &[Slot<T>], gap: 
 }
 
 /// Makes it the index of these slots: it has their names, and may have more. It takes no memory.
-pub(crate) fn index_those<T>(
-    index: &mut Option<Box<IndexMap<String, usize>>>,
-    entries: &[Slot<T>],
-)
+pub(crate) fn index_those<T>(index: &mut Option<Box<IndexMap<String, usize>>>, entries: &[Slot<T>])
     requires apart { AreApart entries.now }
     requires named { MayIndex index.old (names entries.now) }
     ensures { IsIndexed index.new (names entries.now) }
