@@ -295,3 +295,34 @@ named-at t (s ∷ es) i d h =
           rw (← e) (sym is)
       | inr other ↦ let (j, at, e) = some_next (place t es) i (rw other at h) in rw e (named-at t es j d at)
     ]
+
+-- ---- a key changed in its slot, where its name stays
+module _ {T : Type 0} (h : Key → Key) where
+  pub on_key-set : (es : List (Slot T)) (i : ℕ) (d : Slot T) → on_key i h es ≡ set es i (record { key = h (get_or es i d).key; item = (get_or es i d).item })
+  on_key-set [] i d = refl
+  on_key-set (s ∷ es) zero d = refl
+  on_key-set (s ∷ es) (suc i) d = ap (λ l. s ∷ l) (on_key-set es i d)
+
+  pub names-on_key : ((k : Key) → (h k).name ≡ k.name) → (es : List (Slot T)) (i : ℕ) → names (on_key i h es) ≡ names es
+  names-on_key e [] i = refl
+  names-on_key e (s ∷ es) zero = ap (λ n. n ∷ names es) (e s.key)
+  names-on_key e (s ∷ es) (suc i) = ap (λ l. s.key.name ∷ l) (names-on_key e es i)
+
+  pub apart-on_key : ((k : Key) → (h k).name ≡ k.name) → (es : List (Slot T)) (i : ℕ) → AreApart es → AreApart (on_key i h es)
+  apart-on_key e es i a = subst (IsDistinct same_text) (sym (names-on_key e es i)) a
+
+-- what is read of the slot at a place
+pub read-at : {T X : Type 0} (f : Slot T → X) (es : List (Slot T)) (i : ℕ) (d : Slot T) → i < length es → option_map f (slice_get es i) ≡ Some (f (get_or es i d))
+read-at f [] i d h = absurd (omega (arith, h))
+read-at f (s ∷ es) zero d h = refl
+read-at f (s ∷ es) (suc i) d h = read-at f es i d (omega (arith, h))
+
+-- a slot of slots that are apart is that of its name
+pub place-own : {T : Type 0} (es : List (Slot T)) (i : ℕ) (d : Slot T) → i < length es → AreApart es → place (get_or es i d).key.name es ≡ Some i
+unfolding IsDistinct
+place-own [] i d h a = absurd (omega (arith, h))
+place-own (s ∷ es) zero d h a = rw (nat_list_eq_equiv.refl s.key.name) refl
+place-own (s ∷ es) (suc i) d h a =
+    let u = (get_or es i d).key.name in
+    let other : same_text u s.key.name ≡ false = nat_list_eq_equiv.symm u s.key.name ∙ all_at (λ y. same_text s.key.name y ≡ false) es i d (omega (arith, h)) a.0 in
+    rw (other, place-own es i d (omega (arith, h)) a.1) refl

@@ -1,5 +1,5 @@
 -- The index of a table's slots.
-use Rattle.std.specs.Prelude.{◌≡◌, ℕ, ◌<◌, ◌≤◌, Bool, true, false, List, Option, None, Some, is_some, String, length, slice_get, if◌then◌else◌}
+use Rattle.std.specs.Prelude.{◌≡◌, ℕ, ◌<◌, ◌≤◌, Bool, true, false, List, [], ◌∷◌, ◌++◌, Option, None, Some, is_some, String, length, slice_get, if◌then◌else◌}
 use Rattle.std.specs.Global.{Box}
 use Rattle.std.specs.declared.alloc.Global.{Global}
 use Rattle.std.specs.HashMap.{HashMap, get_by_text}
@@ -10,6 +10,10 @@ use Rattle.toml_edit_slots.specs.Slots.{place_in}
 -- the text stands at the place
 abbrev pub stands_at : List Text → ℕ → Text → Bool
 stands_at us k t = option_map_or (λ u. same_text u t) (slice_get us k) false
+
+-- these texts, with one more behind them if it is none of them
+abbrev pub with_text : Text → List Text → List Text
+with_text t us = if is_some (place_in t us) then us else us ++ t ∷ []
 
 module _ {S : Type 0} where
   -- each text stands there with the place where it first is among these

@@ -1,9 +1,9 @@
 //! The index of a table's slots: from the name of each key to the place of its slot.
-ghost use Rattle.std.specs.Prelude.{◌≡◌, ◌<◌, ◌++◌, ◌∷◌, [], None, Some, is_some, length, position, remove, IfOk, OnOk, OnErr};
+ghost use Rattle.std.specs.Prelude.{◌≡◌, ◌<◌, ◌++◌, ◌∷◌, [], None, Some, true, is_some, length, position, remove, IfOk, OnOk, OnErr};
 ghost use Rattle.std.specs.HashMap.{get_by_text};
 ghost use Rattle.toml_edit_model.specs.Text.{Text};
 ghost use Rattle.toml_edit_slots.specs.Slots.{AreApart, is_at, names, place, place_in};
-ghost use Rattle.toml_edit_slots.specs.SlotIndex.{IsIndexed, IsIndexOf, IsRightBefore, IsPutAt, HasTexts, MayIndex, stands_at};
+ghost use Rattle.toml_edit_slots.specs.SlotIndex.{IsIndexed, IsIndexOf, IsRightBefore, IsPutAt, HasTexts, MayIndex, stands_at, with_text};
 
 use crate::slots::Slot;
 use indexmap::IndexMap;
@@ -39,7 +39,7 @@ fn walk<T>(entries: &[Slot<T>], name: &str) -> Option<usize>
 }
 
 /// Notes that the slot of a new name comes behind the others. The only error is want of memory: the index stays.
-pub(crate) fn add_place<T>(
+fn add_place<T>(
     index: &mut Option<Box<IndexMap<String, usize>>>,
     alloc: Global,
     entries: &[Slot<T>],
@@ -52,7 +52,8 @@ pub(crate) fn add_place<T>(
     ensures err { OnErr result (IsIndexed index.new (names entries.now)) }
 {
     if let Some(places) = index {
-        return put_place(places, alloc, name, entries.len());
+        put_place(places, alloc, name, entries.len())?;
+        return Ok(());
     }
     if entries.len() < FEW {
         return Ok(());
@@ -75,14 +76,85 @@ fn index_of<T>(alloc: Global, entries: &[Slot<T>]) -> Mem<IndexMap<String, usize
     Ok(places)
 }
 
-/// Puts the place of a name into an index. The only error is want of memory: the index stays.
-fn put_place(places: &mut IndexMap<String, usize>, alloc: Global, name: &str, at: usize) -> Mem<()>
+/// Notes that the slot of a name comes behind the others, if the name is new; the answer is the place where it stands already, if it does.
+/// The only error is want of memory, at a new name: the index stays.
+pub(crate) fn add_new_place<T>(
+    index: &mut Option<Box<IndexMap<String, usize>>>,
+    alloc: Global,
+    entries: &[Slot<T>],
+    name: &str,
+) -> Mem<Option<usize>>
+    requires apart { AreApart entries.now }
+    requires indexed { IsIndexed index.old (names entries.now) }
+    ensures place { IfOk result (λ there. there ≡ place name.now entries.now) }
+    ensures ok { OnOk result (IsIndexed index.new (with_text name.now (names entries.now))) }
+    ensures new { OnErr result (place name.now entries.now ≡ None) }
+    ensures err { OnErr result (IsIndexed index.new (names entries.now)) }
+{
+    if let Some(places) = index {
+        return put_new_place(places, alloc, name, entries.len());
+    }
+    match walk(entries, name) {
+        Some(at) => Ok(Some(at)),
+        None => {
+            add_place(index, alloc, entries, name)?;
+            Ok(None)
+        }
+    }
+}
+
+/// Puts the place of a name into an index, if the name is new; the answer is the place that it has already, if it does. The only error
+/// is want of memory, at a new name. The name is hashed once where it is new and there is memory.
+#[inline(always)]
+fn put_new_place(
+    places: &mut IndexMap<String, usize>,
+    alloc: Global,
+    name: &str,
+    at: usize,
+) -> Mem<Option<usize>>
+    ensures place { IfOk result (λ there. there ≡ get_by_text places.old name.now) }
+    ensures put { OnOk result (get_by_text places.old name.now ≡ None → IsPutAt at name.now places.old places.new) }
+    ensures new { OnErr result (get_by_text places.old name.now ≡ None) }
+    ensures stays { OnErr result ((t : Text) → get_by_text places.new t ≡ get_by_text places.old t) }
+    ensures present { is_some (get_by_text places.old name.now) ≡ true → (t : Text) → get_by_text places.new t ≡ get_by_text places.old t }
+{
+    match put_place(places, alloc, name, at) {
+        Ok(None) => Ok(None),
+        Ok(Some(there)) => {
+            put_back(places, name, there);
+            Ok(Some(there))
+        }
+        Err(refused) => match places.get(name) {
+            Some(there) => Ok(Some(*there)),
+            None => Err(refused),
+        },
+    }
+}
+
+/// Puts another place of a name into an index that has the name.
+fn put_back(places: &mut IndexMap<String, usize>, name: &str, at: usize)
+    requires { is_some (get_by_text places.old name.now) ≡ true }
+    ensures { IsPutAt at name.now places.old places.new }
+{
+    if let Some(place) = places.get_mut(name) {
+        *place = at;
+    }
+}
+
+/// Puts the place of a name into an index, and answers the one that it had. The only error is want of memory: the index stays.
+fn put_place(
+    places: &mut IndexMap<String, usize>,
+    alloc: Global,
+    name: &str,
+    at: usize,
+) -> Mem<Option<usize>>
+    ensures old { IfOk result (λ old. old ≡ get_by_text places.old name.now) }
     ensures ok { OnOk result (IsPutAt at name.now places.old places.new) }
     ensures err { OnErr result ((t : Text) → get_by_text places.new t ≡ get_by_text places.old t) }
 {
     let text = String::from_str(alloc, name)?;
-    places.insert(text, at)?;
-    Ok(())
+    let old = places.insert(text, at)?;
+    Ok(old)
 }
 
 /// Takes out the place of a name whose slot is about to be taken out, and moves the places behind it down by one. It takes no memory.

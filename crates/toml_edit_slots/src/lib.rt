@@ -5,4 +5,5 @@ mod index;
 mod order;
 pub mod slots;
 
-pub use slots::{NoMemory, Slot, Slots};
+pub use slots::entry::{Entry, OccupiedEntry, VacantEntry};
+pub use slots::{NoMemory, Refused, Slot, Slots};

@@ -2,7 +2,7 @@
 ghost use Rattle.std.specs.Prelude.{◌≡◌, ◌<◌, ◌↔◌, ℕ, IsTrue, [], ◌∷◌, ◌++◌, None, Some, IsSome, IsOk, length, IfOk, IfErr, IfSome, OnOk, OnErr, slice_get, option_and_then, option_map, take};
 ghost use Rattle.std.specs.Option.{ForSome, option_copied, option_copied_mut};
 
-use crate::index::{add_place, close_gap, find_place, index_those};
+use crate::index::{add_new_place, close_gap, find_place, index_those};
 use crate::order::{is_in_order, sort_entries};
 use indexmap::IndexMap;
 use std::alloc::{AllocError, Global};
@@ -11,7 +11,10 @@ use std::mem;
 use toml_edit_key::Key;
 use toml_edit_repr::Mem;
 
+mod at;
+pub mod entry;
 mod insert;
+mod unset;
 mod whole;
 
 /// Want of memory, with the value that found no place.
@@ -21,6 +24,32 @@ pub struct NoMemory<T>(pub T);
 impl<T: Drop> From<NoMemory<T>> for AllocError {
     fn from(_refused: NoMemory<T>) -> AllocError {
         AllocError
+    }
+}
+
+/// Why a slot was not put in, with the slot.
+#[derive(Debug, Drop)]
+pub enum Refused<T> {
+    /// A slot of its name stands already, at this place.
+    Present(usize, T),
+    /// Want of memory.
+    NoMemory(T),
+}
+
+impl<T> Refused<T> {
+    ghost use Rattle.std.specs.Prelude.{Option};
+    ghost use Rattle.toml_edit_slots.specs.Refusals.{IsRefusal};
+
+    /// The place of the slot that has the name, if that is why. The slot that comes back goes.
+    pub fn place(self) -> Option<usize>
+    where
+        T: Drop,
+        ensures { (slot : T) (there : Option ℕ) → IsRefusal slot there self → result ≡ there }
+    {
+        match self {
+            Refused::Present(at, _) => Some(at),
+            Refused::NoMemory(_) => None,
+        }
     }
 }
 
@@ -74,6 +103,7 @@ impl<T> Slots<T> {
     ghost use Rattle.toml_edit_model.specs.Tree.{HasTrueSpelling};
     ghost use Rattle.toml_edit_model.specs.Spelling.{SpellsKey};
     ghost use Rattle.toml_edit_slots.specs.Lending.{LendsItem, LendsFound};
+    ghost use Rattle.toml_edit_slots.specs.Refusals.{IsRefusal};
     ghost use Rattle.toml_edit_slots.specs.Slots.{AreApart, place, lookup, lookup_slot, put, without, items_of, on_key, names};
     ghost use Rattle.toml_edit_slots.specs.InPlace.{by_place, replaced};
     ghost use Rattle.toml_edit_model.specs.Order.{sorted_by};
@@ -164,16 +194,45 @@ impl<T> Slots<T> {
         ensures back { IfErr result (λ refused. refused.0 ≡ slot) }
         ensures err { OnErr result (self.new ≡ self.old) }
     {
+        match self.try_push(slot) {
+            Ok(()) => Ok(()),
+            Err(Refused::Present(_, slot)) => Err(NoMemory(slot)),
+            Err(Refused::NoMemory(slot)) => Err(NoMemory(slot)),
+        }
+    }
+
+    /// Puts a slot last if its name is new, which takes one look-up. The errors are the place of a slot that has the name already, and want
+    /// of memory at a new name: the slots stay, and the error has the slot.
+    #[inline(always)]
+    pub fn try_push(&mut self, slot: Slot<T>) -> Result<(), Refused<Slot<T>>>
+        ensures slots { OnOk result (self.new ≡ self.old ++ slot ∷ []) }
+        ensures new { OnOk result (place slot.key.name self.old ≡ None) }
+        ensures refused { IfErr result (IsRefusal slot (place slot.key.name self.old)) }
+        ensures err { OnErr result (self.new ≡ self.old) }
+    {
         let alloc = *self.entries.allocator();
         if self.entries.reserve(1).is_err() {
-            return Err(NoMemory(slot));
+            return Err(self.refused(slot));
         }
-        match add_place(&mut self.index, alloc, &self.entries, slot.key.get()) {
-            Ok(()) => {
+        match add_new_place(&mut self.index, alloc, &self.entries, slot.key.get()) {
+            Ok(None) => {
                 self.entries.push_reserved(slot);
                 Ok(())
             }
-            Err(_) => Err(NoMemory(slot)),
+            Ok(Some(at)) => Err(Refused::Present(at, slot)),
+            Err(_) => Err(Refused::NoMemory(slot)),
+        }
+    }
+
+    /// Why a slot is not put in where there is no memory: its name may stand already.
+    #[cold]
+    #[inline(never)]
+    fn refused(&self, slot: Slot<T>) -> Refused<Slot<T>>
+        ensures { IsRefusal slot (place slot.key.name self.now) result }
+    {
+        match self.find(slot.key.get()) {
+            Some(at) => Refused::Present(at, slot),
+            None => Refused::NoMemory(slot),
         }
     }
 

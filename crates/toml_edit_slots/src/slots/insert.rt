@@ -1,6 +1,6 @@
 //! Slots that are put in and taken out by a key.
 ghost use Rattle.std.specs.Prelude.{◌≡◌, ◌<◌, OnOk, OnErr, IfOk, IfErr, None, Some, length, option_map, slice_get};
-ghost use Rattle.toml_edit_model.specs.Slots.{inserted_formatted, lookup, lookup_slot, place, put, with_item, without};
+ghost use Rattle.toml_edit_model.specs.Slots.{AreApart, inserted_formatted, lookup, lookup_slot, place, put, with_item, without};
 ghost use Rattle.toml_edit_slots.specs.Seen.{pair_read, pair_seen, seen};
 ghost use Rattle.toml_edit_slots.specs.Slots as code;
 
@@ -84,8 +84,11 @@ impl<T> Slots<T> {
 
     /// The key of the name with its item, if there is one.
     pub fn get_key_value(&self, name: &str) -> Option<(&Key, &T)>
-        ensures { option_map pair_read result ≡ lookup_slot name.now (seen self.now) }
+        ensures slot { option_map pair_read result ≡ lookup_slot name.now (seen self.now) }
+        // No two keys have one name.
+        ensures apart { AreApart (seen self.now) }
     {
+        let _ = &self.entries;
         let at = self.find(name)?;
         self.key_value_at(at)
     }

@@ -1,13 +1,14 @@
 //! Calls that go over all slots.
-ghost use Rattle.std.specs.Prelude.{◌≡◌, [], IsPermutation, OnOk, OnErr};
-ghost use Rattle.std.specs.Iterator.{ExtendsWithItems, IsFinite};
+ghost use Rattle.std.specs.Prelude.{◌≡◌, List, [], IsPermutation, IfOk, OnOk, OnErr};
+ghost use Rattle.std.specs.Iterator.{Drains, ExtendsWithItems, IsFinite};
 ghost use Rattle.toml_edit_model.specs.Retaining.{RetainsBy};
+ghost use Rattle.toml_edit_model.specs.Sorting.{IsSortOf, name_lt};
 ghost use Rattle.toml_edit_slots.specs.Closures.{SaysOfSlot, SortsAs};
 ghost use Rattle.toml_edit_slots.specs.Seen.{Adds, seen, slot_seen};
 
 use super::{Slot, Slots};
 use crate::index::index_those;
-use std::alloc::AllocError;
+use std::alloc::{AllocError, Global};
 use std::cmp::Ordering;
 use toml_edit_key::Key;
 
@@ -42,6 +43,15 @@ impl<T> Slots<T> {
         sorted
     }
 
+    /// Sorts the slots by the bytes of their names. The only error is want of memory, and then the slots stay.
+    pub fn sort_by_name(&mut self) -> Result<(), AllocError>
+        ensures permutation { IsPermutation (seen self.old) (seen self.new) }
+        ensures sorted { OnOk result (IsSortOf name_lt (seen self.old) (seen self.new)) }
+        ensures err { OnErr result (self.new ≡ self.old) }
+    {
+        self.sort_by(|one, other| one.key.cmp(&other.key))
+    }
+
     /// Takes all slots out.
     pub fn clear(&mut self)
     where
@@ -65,6 +75,22 @@ impl<T> Slots<T> {
             self.extend_one(key, item)?;
         }
         Ok(())
+    }
+
+    /// The slots of these pairs, put in one after another: a key that is there stays with its place, and gets the item; a new one goes
+    /// last. The only error is want of memory.
+    pub fn from_iter<U: IntoIterator<Item = (Key, T)>>(
+        alloc: Global,
+        pairs: U,
+    ) -> Result<Slots<T>, AllocError>
+    where
+        T: Drop,
+        requires { (it : U.IntoIter) → U.into_iter_gives pairs it → U.IntoIter.can_next it × IsFinite (U.IntoIter.remaining it) }
+        ensures { IfOk result (λ slots. (it : U.IntoIter) × (ps : List _) × U.into_iter_gives pairs it × Drains U.IntoIter.next_gives it ps × Adds [] ps slots) }
+    {
+        let mut slots = Slots::new(alloc);
+        slots.extend(pairs)?;
+        Ok(slots)
     }
 
     /// All slots in their order.

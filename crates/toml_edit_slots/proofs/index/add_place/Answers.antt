@@ -2,7 +2,6 @@
 use Rattle.std.proofs.Common.{[], ◌∷◌, ◌++◌, sym, subst}
 use Rattle.toml_edit_slots.specs.Slots.{names}
 use Rattle.toml_edit_slots.specs.SlotIndex.{IsIndexed, IsIndexOf}
-use Rattle.toml_edit_slots.proofs.SlotLaws.{on_ok}
 use Rattle.toml_edit_slots.proofs.IndexLaws.{index-slot}
 use Rattle.toml_edit_slots.proofs.index.add_place.Goals as goal
 
@@ -11,9 +10,9 @@ returns-in-Some-clause-ok g c =
     let es = c.args.entries.now in
     let was = c.deref_mut.result.now in
     let is : IsIndexOf was (names es) = subst (λ m. IsIndexOf m (names es)) (sym c.deref_mut.ensures.value) (subst (λ x. IsIndexed x (names es)) c.in-Some.is c.requires.indexed) in
-    on_ok c.put_place.result (λ put. index-slot es was c.put_place.new.places c.args.name.now c.requires.new is put) c.put_place.ensures.ok
+    index-slot es was c.put_place.new.places c.args.name.now c.requires.new is c.in_ok-put_place.ensures.ok
 
 pub returns-clause-ok : goal.returns-clause-ok
 returns-clause-ok g c =
     let es = c.args.entries.now in
-    subst (λ m. IsIndexOf m (names es ++ c.args.name.now ∷ [])) (sym c.in_ok-new.ensures.ok) (index-slot es c.in_ok-places.places c.put_place-2.new.places c.args.name.now c.requires.new c.in_ok-places.ensures c.in_ok-put_place.ensures.ok)
+    subst (λ m. IsIndexOf m (names es ++ c.args.name.now ∷ [])) (sym c.in_ok-new.ensures.ok) (index-slot es c.in_ok-places.places c.put_place-2.new.places c.args.name.now c.requires.new c.in_ok-places.ensures c.in_ok-put_place-2.ensures.ok)

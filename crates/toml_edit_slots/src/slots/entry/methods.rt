@@ -1,0 +1,232 @@
+//! What is done with an entry.
+ghost use Rattle.std.specs.Prelude.{◌≡◌, None, Some, IsSome, IsOk, IfOk, IfErr, IfSome, if◌then◌else◌, length, nat_lt, option_map};
+ghost use Rattle.std.specs.Borrow.{sem};
+ghost use Rattle.std.specs.Option.{unwrap_or, UnwrapsOrElse};
+ghost use Rattle.toml_edit_model.specs.Keys.{new_key, reset_key};
+ghost use Rattle.toml_edit_model.specs.Slots.{without};
+ghost use Rattle.toml_edit_slots.specs.Entries.{entry_item, entry_key, entry_place, entry_ref, slots_with, with_entry_key, EntryLends, EntryLendsOk, IsEntryOf, OccupiedLends, OccupiedLendsDotted, OccupiedLendsLeaf, RestsIfAbsent, RestsIfRefused};
+ghost use Rattle.toml_edit_slots.specs.Seen.{seen};
+ghost use Rattle.toml_edit_slots.specs.Slots.{place};
+ghost use Rattle.toml_edit_slots.specs.declared.slots.entry.Entry.TheVariants.{Occupied, Vacant};
+
+use super::{Entry, OccupiedEntry, VacantEntry};
+use crate::slots::{NoMemory, Slot, Slots};
+use toml_edit_key::Key;
+use toml_edit_repr::{Decor, Mem};
+
+impl<T> Slots<T> {
+    /// The entry of the name; a new one has a key of the name alone. The only error is want of memory, at a new name: the slots stay.
+    pub fn entry(&mut self, name: &str) -> Mem<Entry<'_, T>>
+        ensures* refused { sem 𝓛 (RestsIfRefused T.row self.entry result) }
+        ensures same_slots { IfOk result (λ e. (entry_ref e).ghost_name ≡ self.entry.ghost_name) }
+        ensures entry { IfOk result (IsEntryOf self.old (new_key name.now)) }
+    {
+        let alloc = *self.entries.allocator();
+        if let Some(at) = self.find(name) {
+            return Ok(Entry::Occupied(OccupiedEntry { slots: self, at }));
+        }
+        match Key::from_text(alloc, name) {
+            Ok(key) => Ok(Entry::Vacant(VacantEntry { slots: self, key })),
+            Err(refused) => Err(refused),
+        }
+    }
+
+    /// The entry of the key's name; a new one has a copy of the key. The only error is want of memory, at a new name: the slots stay.
+    pub fn entry_format(&mut self, key: &Key) -> Mem<Entry<'_, T>>
+        ensures* refused { sem 𝓛 (RestsIfRefused T.row self.entry result) }
+        ensures same_slots { IfOk result (λ e. (entry_ref e).ghost_name ≡ self.entry.ghost_name) }
+        ensures entry { IfOk result (IsEntryOf self.old key.now) }
+    {
+        let alloc = *self.entries.allocator();
+        if let Some(at) = self.find(key.get()) {
+            return Ok(Entry::Occupied(OccupiedEntry { slots: self, at }));
+        }
+        match key.clone(alloc) {
+            Ok(key) => Ok(Entry::Vacant(VacantEntry { slots: self, key })),
+            Err(refused) => Err(refused),
+        }
+    }
+}
+
+impl<T> Slots<T> {
+    /// The entry of the slot at the place, if there is one, to change its item or what stands around its key.
+    pub fn key_value_at_mut(&mut self, at: usize) -> Option<OccupiedEntry<'_, T>>
+        ensures* absent { sem 𝓛 (RestsIfAbsent T.row self.entry result) }
+        ensures same_slots { IfSome result (λ e. (entry_ref (Occupied e)).ghost_name ≡ self.entry.ghost_name) }
+        ensures slots { IfSome result (λ e. (entry_ref (Occupied e)).now ≡ self.old) }
+        ensures place { option_map (λ e. entry_place (Occupied e)) result ≡ if nat_lt at (length self.old) then Some at else None }
+    {
+        if at < self.len() {
+            Some(OccupiedEntry { slots: self, at })
+        } else {
+            None
+        }
+    }
+
+    /// The same of the slot of the name, if there is one.
+    pub fn get_key_value_mut(&mut self, name: &str) -> Option<OccupiedEntry<'_, T>>
+        ensures* absent { sem 𝓛 (RestsIfAbsent T.row self.entry result) }
+        ensures same_slots { IfSome result (λ e. (entry_ref (Occupied e)).ghost_name ≡ self.entry.ghost_name) }
+        ensures slots { IfSome result (λ e. (entry_ref (Occupied e)).now ≡ self.old) }
+        ensures place { option_map (λ e. entry_place (Occupied e)) result ≡ place name.now self.old }
+    {
+        match self.find(name) {
+            Some(at) => Some(OccupiedEntry { slots: self, at }),
+            None => None,
+        }
+    }
+}
+
+impl<'a, T> OccupiedEntry<'a, T> {
+    /// The key that is there.
+    pub fn key(&self) -> &Key
+        ensures { Some result.now ≡ entry_key (Occupied self.now) }
+    {
+        &self.slots.as_slice()[self.at].key
+    }
+
+    /// The item that is there.
+    pub fn get(&self) -> &T
+        ensures { Some result.now ≡ entry_item (Occupied self.now) }
+    {
+        &self.slots.as_slice()[self.at].item
+    }
+
+    /// The item that is there, to be changed, for as long as the slots are lent.
+    pub fn into_mut(self) -> &'a mut T
+        ensures* writes_back { sem 𝓛 (EntryLends T.row (Occupied self.entry) result) }
+        ensures item { Some result.now ≡ entry_item (Occupied self.entry) }
+    {
+        let OccupiedEntry { slots, at } = self;
+        slots.item_mut(at)
+    }
+
+    /// The item that is there, to be changed.
+    pub fn get_mut(&mut self) -> &mut T
+        ensures* writes_back { sem 𝓛 (OccupiedLends T.row self.entry result) }
+        ensures item { Some result.now ≡ entry_item (Occupied self.old) }
+    {
+        let at = self.at;
+        self.slots.item_mut(at)
+    }
+
+    /// What stands around the key where it ends a path, to be changed.
+    pub fn leaf_decor_mut(&mut self) -> &mut Decor
+        ensures* writes_back { sem 𝓛 (OccupiedLendsLeaf T.row self.entry result) }
+        ensures decor { option_map (λ key. key.leaf) (entry_key (Occupied self.old)) ≡ Some result.now }
+    {
+        let at = self.at;
+        self.slots.leaf_decor_mut(at)
+    }
+
+    /// What stands around the key where it ends no path, to be changed.
+    pub fn dotted_decor_mut(&mut self) -> &mut Decor
+        ensures* writes_back { sem 𝓛 (OccupiedLendsDotted T.row self.entry result) }
+        ensures decor { option_map (λ key. key.dotted) (entry_key (Occupied self.old)) ≡ Some result.now }
+    {
+        let at = self.at;
+        self.slots.dotted_decor_mut(at)
+    }
+
+    /// Gives the key its default spelling, and unsets its decors.
+    pub fn fmt_key(&mut self)
+        ensures same_slots { (entry_ref (Occupied self.new)).ghost_name ≡ (entry_ref (Occupied self.old)).ghost_name }
+        ensures same_place { entry_place (Occupied self.new) ≡ entry_place (Occupied self.old) }
+        ensures slots { (entry_ref (Occupied self.new)).now ≡ (with_entry_key self.old reset_key).slots.now }
+    {
+        self.slots.fmt_key(self.at);
+    }
+
+    /// Takes the slot out, and answers its item. The others keep their order. It takes no memory.
+    pub fn remove(self) -> T
+        ensures item { Some result ≡ entry_item (Occupied self.entry) }
+        ensures removed { IfSome (entry_key (Occupied self.entry)) (λ key. seen self.exit.0.now ≡ without key.name (seen (entry_ref (Occupied self.entry)).now)) }
+    {
+        let at = self.at;
+        self.slots.remove_at(at).into_item()
+    }
+
+    /// Puts another item here, and answers the one that was there.
+    pub fn insert(&mut self, item: T) -> T
+        ensures same_slots { (entry_ref (Occupied self.new)).ghost_name ≡ (entry_ref (Occupied self.old)).ghost_name }
+        ensures same_place { entry_place (Occupied self.new) ≡ entry_place (Occupied self.old) }
+        ensures item { Some result ≡ entry_item (Occupied self.old) }
+        ensures slots { (entry_ref (Occupied self.new)).now ≡ slots_with (Occupied self.old) item }
+        ensures holds { entry_item (Occupied self.new) ≡ Some item }
+    {
+        self.slots.replace_item(self.at, item)
+    }
+}
+
+impl<'a, T> VacantEntry<'a, T> {
+    /// The key that a slot would get.
+    pub fn key(&self) -> &Key
+        ensures { Some result.now ≡ entry_key (Vacant self.now) }
+    {
+        &self.key
+    }
+
+    /// Puts the key last with the item, which it lends. The only error is want of memory: the slots stay, and the error has the item.
+    pub fn insert(self, item: T) -> Result<&'a mut T, NoMemory<T>>
+        ensures* writes_back { sem 𝓛 (EntryLendsOk T.row (Vacant self.entry) result) }
+        ensures item { IfOk result (λ x. x.now ≡ item) }
+        ensures back { IfErr result (λ refused. refused.0 ≡ item) }
+    {
+        let VacantEntry { slots, key } = self;
+        let at = slots.len();
+        match slots.push(Slot { key, item }) {
+            Ok(()) => Ok(slots.item_mut(at)),
+            Err(refused) => Err(NoMemory(refused.0.into_item())),
+        }
+    }
+}
+
+impl<'a, T> Entry<'a, T> {
+    /// The key that is there, or that a slot would get.
+    pub fn key(&self) -> &Key
+        ensures { Some result.now ≡ entry_key self.now }
+    {
+        match self {
+            Entry::Occupied(entry) => entry.key(),
+            Entry::Vacant(entry) => entry.key(),
+        }
+    }
+
+    /// The item that is there, or else this one, put last with the key. The only error is want of memory, at a new key: the slots stay, and
+    /// the error has the item.
+    pub fn or_insert(self, item: T) -> Result<&'a mut T, NoMemory<T>>
+    where
+        T: Drop,
+        ensures* writes_back { sem 𝓛 (EntryLendsOk T.row self.entry result) }
+        ensures item { IfOk result (λ x. x.now ≡ unwrap_or (entry_item self.entry) item) }
+        ensures present { IsSome (entry_item self.entry) → IsOk result }
+        ensures back { IfErr result (λ refused. refused.0 ≡ item) }
+    {
+        match self {
+            Entry::Occupied(entry) => {
+                drop(item);
+                Ok(entry.into_mut())
+            }
+            Entry::Vacant(entry) => entry.insert(item),
+        }
+    }
+    /// The item that is there, or else the closure's answer, put last with the key. The closure is called for a new key alone. The only
+    /// error is want of memory, at a new key: the slots stay, and the error has the answer.
+    pub fn or_insert_with<F: FnOnce() -> T>(self, default: F) -> Result<&'a mut T, NoMemory<T>>
+    where
+        F: Drop,
+        requires { entry_item self ≡ None → F.pre default }
+        ensures* writes_back { sem 𝓛 (EntryLendsOk T.row self.entry result) }
+        ensures item { IfOk result (λ x. UnwrapsOrElse (entry_item self.entry) (F.post default) x.now) }
+        ensures present { IsSome (entry_item self.entry) → IsOk result }
+        ensures back { IfErr result (λ refused. F.post default refused.0) }
+    {
+        match self {
+            Entry::Occupied(entry) => {
+                drop(default);
+                Ok(entry.into_mut())
+            }
+            Entry::Vacant(entry) => entry.insert(default()),
+        }
+    }
+}
