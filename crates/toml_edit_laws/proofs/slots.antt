@@ -5,3 +5,4 @@ pub mod Lists
 pub mod Retains
 pub mod Sorts
 pub mod OneSort
+pub mod DeepSorts

@@ -56,6 +56,14 @@ impl RawString {
                 inner: Inner::Space,
             });
         }
+        RawString::from_longer(alloc, text)
+    }
+
+    /// The same of a text that is mostly longer than one space.
+    fn from_longer(alloc: Global, text: &str) -> Mem<RawString>
+        ensures ok { IfOk result (λ raw. raw ≡ owned text.now) }
+        ensures free { IsTrue (is_free text.now) → IsOk result }
+    {
         if let Ok(short) = ArrayString::from(text) {
             return Ok(RawString {
                 inner: Inner::Short(short),
@@ -117,6 +125,7 @@ impl RawString {
     }
 
     /// Turns a span of `source` into the text that stands there. The only error is want of memory.
+    #[inline(always)]
     pub fn despan(&mut self, alloc: Global, source: &str) -> Mem<()>
         requires { RawFits source.now self.old }
         ensures ok { OnOk result (self.new ≡ owned_raw source.now self.old) }
@@ -126,11 +135,20 @@ impl RawString {
             let text = &source[*start..*end];
             // Most sides are one space.
             if text != " " {
-                *self = RawString::from_text(alloc, text)?;
-            } else {
-                self.inner = Inner::Space;
+                return self.become_text(alloc, text);
             }
+            self.inner = Inner::Space;
         }
+        Ok(())
+    }
+
+    /// Becomes the text. It stands apart, so that one space is put in place.
+    #[inline(never)]
+    fn become_text(&mut self, alloc: Global, text: &str) -> Mem<()>
+        ensures ok { OnOk result (self.new ≡ owned text.now) }
+        ensures err { OnErr result (self.new ≡ self.old) }
+    {
+        *self = RawString::from_longer(alloc, text)?;
         Ok(())
     }
 }

@@ -103,38 +103,22 @@ impl Hash for Repr {
 }
 
 /// What stands before and after a key or a value. A side that is unset is printed as its place wants it.
-#[derive(Debug, Drop)]
+#[derive(Drop)]
 pub struct Decor {
-    prefix: Option<RawString>,
-    suffix: Option<RawString>,
+    // Each side beside whether it is set: two sides that are options would take a word more. One that is unset is empty.
+    prefix: RawString,
+    suffix: RawString,
+    has_prefix: bool,
+    has_suffix: bool,
 }
 
 impl Model for Decor {
     ghost use Rattle.toml_edit_model.specs.Tree.{Decor as DecorView};
+    ghost use Rattle.std.specs.Bool.{then_some};
 
     ghost Value = { DecorView };
 
-    ghost view = { λ a. record { prefix = a.prefix; suffix = a.suffix } };
-}
-
-fn despan_side(alloc: Global, side: &mut Option<RawString>, source: &str) -> Mem<()>
-    requires { OptionFits source.now side.old }
-    ensures ok { OnOk result (side.new ≡ option_map (owned_raw source.now) side.old) }
-    ensures err { OnErr result (side.new ≡ side.old) }
-{
-    match side {
-        None => Ok(()),
-        Some(raw) => raw.despan(alloc, source),
-    }
-}
-
-fn clone_side(alloc: Global, side: &Option<RawString>) -> Mem<Option<RawString>>
-    ensures { IfOk result (λ copy. copy ≡ side.now) }
-{
-    match side {
-        None => Ok(None),
-        Some(raw) => Ok(Some(raw.clone(alloc)?)),
-    }
+    ghost view = { λ a. record { prefix = then_some a.has_prefix a.prefix; suffix = then_some a.has_suffix a.suffix } };
 }
 
 impl Decor {
@@ -143,8 +127,10 @@ impl Decor {
         ensures { result ≡ record { prefix = Some prefix; suffix = Some suffix } }
     {
         Decor {
-            prefix: Some(prefix),
-            suffix: Some(suffix),
+            prefix,
+            suffix,
+            has_prefix: true,
+            has_suffix: true,
         }
     }
 
@@ -153,8 +139,10 @@ impl Decor {
         ensures { IfOk result (λ copy. copy ≡ self.now) }
     {
         Ok(Decor {
-            prefix: clone_side(alloc, &self.prefix)?,
-            suffix: clone_side(alloc, &self.suffix)?,
+            prefix: self.prefix.clone(alloc)?,
+            suffix: self.suffix.clone(alloc)?,
+            has_prefix: self.has_prefix,
+            has_suffix: self.has_suffix,
         })
     }
 
@@ -162,36 +150,45 @@ impl Decor {
     pub fn clear(&mut self)
         ensures { self.new ≡ unset }
     {
-        self.prefix = None;
-        self.suffix = None;
+        *self = Decor::default();
     }
 
     /// What stands before.
     pub fn prefix(&self) -> Option<&RawString>
         ensures { option_copied result ≡ self.now.prefix }
     {
-        self.prefix.as_ref()
+        if self.has_prefix {
+            Some(&self.prefix)
+        } else {
+            None
+        }
     }
 
     /// Sets what stands before.
     pub fn set_prefix(&mut self, prefix: RawString)
         ensures { self.new ≡ record self.old { prefix = Some prefix } }
     {
-        self.prefix = Some(prefix);
+        self.prefix = prefix;
+        self.has_prefix = true;
     }
 
     /// What stands after.
     pub fn suffix(&self) -> Option<&RawString>
         ensures { option_copied result ≡ self.now.suffix }
     {
-        self.suffix.as_ref()
+        if self.has_suffix {
+            Some(&self.suffix)
+        } else {
+            None
+        }
     }
 
     /// Sets what stands after.
     pub fn set_suffix(&mut self, suffix: RawString)
         ensures { self.new ≡ record self.old { suffix = Some suffix } }
     {
-        self.suffix = Some(suffix);
+        self.suffix = suffix;
+        self.has_suffix = true;
     }
 
     /// Turns spans of `source` into the texts that stand there. The only error is want of memory, and then either side may be
@@ -200,8 +197,22 @@ impl Decor {
         requires { DecorFits source.now self.old }
         ensures { OnOk result (self.new ≡ owned_decor source.now self.old) }
     {
-        despan_side(alloc, &mut self.prefix, source)?;
-        despan_side(alloc, &mut self.suffix, source)
+        if self.has_prefix {
+            self.prefix.despan(alloc, source)?;
+        }
+        if self.has_suffix {
+            self.suffix.despan(alloc, source)?;
+        }
+        Ok(())
+    }
+}
+
+impl fmt::Debug for Decor {
+    fn fmt<W: Write>(&self, f: &mut Formatter<W>) -> fmt::Result {
+        f.debug_struct("Decor")
+            .field("prefix", &self.prefix())
+            .field("suffix", &self.suffix())
+            .finish()
     }
 }
 
@@ -210,8 +221,10 @@ impl Default for Decor {
 
     fn default() -> Decor {
         Decor {
-            prefix: None,
-            suffix: None,
+            prefix: RawString::default(),
+            suffix: RawString::default(),
+            has_prefix: false,
+            has_suffix: false,
         }
     }
 }
@@ -229,7 +242,7 @@ impl PartialEq for Decor {
         ensures answer { result ≡ same_decor self.now other.now }
         ensures exact { IsTrue result ↔ (self.now ≡ other.now) }
     {
-        self.prefix == other.prefix && self.suffix == other.suffix
+        self.prefix() == other.prefix() && self.suffix() == other.suffix()
     }
 }
 
@@ -248,8 +261,8 @@ impl Hash for Decor {
     ghost respects_eq = { decor_hash_respects };
 
     fn hash<H: Hasher>(&self, state: &mut H) {
-        self.prefix.hash(state);
-        self.suffix.hash(state);
+        self.prefix().hash(state);
+        self.suffix().hash(state);
     }
 }
 

@@ -67,6 +67,7 @@ pub fn read_to_end<I: Input>(alloc: Global, input: &mut I) -> Result<Vec<u8>, Re
     for _ in 0..u64::MAX {
         let count = input.read(&mut chunk)?;
         if count == 0 {
+            bytes.shrink_to_fit();
             return Ok(bytes);
         }
         bytes.extend_from_slice(&chunk[..count])?;
