@@ -1,11 +1,16 @@
 pub mod HeldLaws
 pub mod DespanLaws
 pub mod OrderLaws
+pub mod ConvertLaws
 pub mod KeyTextLaws
 pub mod ElementTextLaws
 pub mod PairTextLaws
 pub mod TurnLaws
 pub mod ViewLaws
 pub mod ContainerLaws
+pub mod SlotsLaws
 pub mod InPlace
 pub mod ValueLines
+pub mod ElementLaws
+pub mod RetainLaws
+pub mod FormatLaws

@@ -1,11 +1,10 @@
 -- Slots and elements put in the order of their places.
-use Rattle.std.proofs.Common.{◌≡◌, ℕ, zero, suc, ◌<◌, Bool, true, false, List, [], ◌∷◌, length, map, get_or, set, refl, sym, ap, ◌∙◌, inl, inr, arith, nat_le, nat_lt, Some, slice_get}
-use Rattle.std.specs.Prelude.{if◌then◌else◌}
+use Rattle.std.proofs.Common.{◌≡◌, ℕ, zero, suc, ◌<◌, true, false, List, [], ◌∷◌, length, map, get_or, set, refl, sym, ap, ◌∙◌, inl, inr, arith, nat_le, nat_lt, Some, slice_get}
 use Rattle.std.proofs.lemmas.Bool.{cases_Bool}
 use Rattle.std.proofs.lemmas.Bool.Decides.{nat_tests}
 use Rattle.std.proofs.lemmas.Option.{same_Some}
 use Rattle.toml_edit_model.specs.Order.{insert_by, sorted_by}
-use Rattle.toml_edit_model.specs.Tree.{Key, Node, Items, item, Slots, no_slots, slot}
+use Rattle.toml_edit_model.specs.Tree.{Node, item, Slots, no_slots, slot}
 use Rattle.toml_edit_laws.specs.PlaceOrder.{key_place, node_by_place, items_by_place, slot_by_place, slots_by_place}
 use Rattle.toml_edit_laws.proofs.building.PlacePaths.{value-order}
 use Rattle.toml_edit_slots.specs.declared.slots.Slot.{Slot}

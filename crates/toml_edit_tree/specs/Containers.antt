@@ -1,5 +1,5 @@
 -- Arrays, inline tables, tables and arrays of tables as contracts see them, and what their calls answer.
-use Rattle.std.specs.Prelude.{ℕ, ℤ, zero, suc, Bool, false, List, [], ◌∷◌, Option, Some, None, if◌then◌else◌}
+use Rattle.std.specs.Prelude.{ℕ, ℤ, Bool, false, List, [], ◌∷◌, Option, Some, None, if◌then◌else◌}
 use Rattle.std.specs.declared.ops.Range.{Range}
 use Rattle.toml_edit_model.specs.Text.{Text, same_text}
 use Rattle.toml_edit_model.specs.Tree.{Raw, Decor, Key, Extent, unset, ArrayFields, InlineFields, TableFields, Node, list, inline, table, tables, Items, no_items, item, Slots, no_slots, slot, is_value_node}
@@ -46,19 +46,9 @@ slots_from (s ∷ es) = slot s.key s.item (slots_from es)
 
 -- ---- arrays
 
--- how many there are, placeholders among them
-abbrev pub count_of : Items → ℕ
-count_of no_items = 0
-count_of (item n xs) = suc (count_of xs)
-
 -- the item, where it is a value
 abbrev pub value_in : Node → Option Node
 value_in n = if is_value_node n then Some n else None
-
-abbrev pub value_at : ℕ → Items → Option Node
-value_at i no_items = None
-value_at zero (item n xs) = value_in n
-value_at (suc i) (item n xs) = value_at i xs
 
 -- the values in order
 abbrev pub values_in : Items → List Node

@@ -5,3 +5,9 @@ pub mod Casts
 pub mod Containers
 pub mod ContainerParts
 pub mod TableLending
+pub mod Elements
+pub mod ElementLending
+pub mod ElementClosures
+pub mod ElementParts
+pub mod SlotsOf
+pub mod Converting

@@ -1,5 +1,6 @@
 -- The tree that an item, a table and a document stand for.
 use Rattle.std.specs.Prelude.{List, map, string_bytes}
+use Rattle.std.specs.Bool.{then_some}
 use Rattle.toml_edit_model.specs.Scalars.{string, integer, float, boolean, datetime}
 use Rattle.toml_edit_datetime.specs.DatetimeView.{datetime_view}
 use Rattle.toml_edit_model.specs.Tree.{Raw, Node, nothing, leaf, Items, Slots, TableFields, Tree}
@@ -40,7 +41,7 @@ array_step a =
 abbrev pub inline_step : InlineTable-F Node Node ArrayView TablesView InlineView TableView → InlineView
 inline_step t =
     record {
-      fields = record { decor = t.decor; is_dotted = t.dotted; comma = t.trailing_comma; trailing = t.trailing; extent = t.span };
+      fields = record { decor = t.decor; is_dotted = t.dotted; comma = t.trailing_comma; trailing = t.trailing; extent = then_some t.is_read t.span };
       slots = slots_from t.items;
     }
 

@@ -1,21 +1,29 @@
 //! Arrays.
-ghost use Rattle.std.specs.Prelude.{◌≡◌, ◌↔◌, IsTrue, IfOk, option_map};
+ghost use Rattle.std.specs.Prelude.{◌≡◌, ◌↔◌, [], IsTrue, IfOk, length, option_map};
 ghost use Rattle.std.specs.Borrow.{sem};
 ghost use Rattle.std.specs.Iterator.{YieldsFirstBy, item_count};
+ghost use Rattle.toml_edit_model.specs.ArrayCalls.{value_at};
 ghost use Rattle.toml_edit_model.specs.Conversions.{new_array};
 ghost use Rattle.toml_edit_model.specs.Tree.{no_items};
 ghost use Rattle.toml_edit_tree.specs.ContainerParts.{value_read, values_left, LendsArrayDecor};
-ghost use Rattle.toml_edit_tree.specs.Containers.{array_node, array_with_comma, array_with_trailing, count_of, range_in, spanned_array, value_at, values_in};
+ghost use Rattle.toml_edit_tree.specs.Containers.{array_node, array_with_comma, array_with_trailing, range_in, spanned_array, values_in};
+ghost use Rattle.toml_edit_tree.specs.Elements.{items_of};
 ghost use Rattle.toml_edit_tree.specs.View.{array_view, items_view, value_view};
 
 use crate::copy::copy_array;
 use crate::encode::write_array;
 use crate::item::Item;
 use crate::value::Value;
+pub use iter::ArrayIntoIter;
 use std::alloc::Global;
 use std::ops::Range;
 use std::{fmt, slice};
 use toml_edit_repr::{Decor, Mem, RawString};
+
+mod edit;
+mod iter;
+mod replace;
+mod whole;
 
 /// An array: its values in order, with what stands around them (TOML, "Array"). A slot may be a placeholder, which isn't printed.
 #[cycle(tree)]
@@ -66,21 +74,21 @@ impl Array {
 
     /// How many slots there are, placeholders among them.
     pub fn len(&self) -> usize
-        ensures { result ≡ count_of (array_view self.now).items }
+        ensures { result ≡ length (items_of self.now) }
     {
         self.values.len()
     }
 
     /// Whether there are no slots.
     pub fn is_empty(&self) -> bool
-        ensures { IsTrue result ↔ ((array_view self.now).items ≡ no_items) }
+        ensures { IsTrue result ↔ (items_of self.now ≡ []) }
     {
         self.len() == 0
     }
 
     /// The value at the place, or `None` where there is no slot or the slot holds no value.
     pub fn get(&self, at: usize) -> Option<&Value>
-        ensures { option_map (λ v. value_view v.now) result ≡ value_at at (array_view self.now).items }
+        ensures { option_map (λ v. value_view v.now) result ≡ value_at at (items_of self.now) }
     {
         self.values.get(at)?.as_value()
     }

@@ -1,19 +1,25 @@
 //! Arrays of tables.
-ghost use Rattle.std.specs.Prelude.{◌≡◌, ◌↔◌, None, Some, IsTrue, IfOk, OnOk};
+ghost use Rattle.std.specs.Prelude.{◌≡◌, ◌↔◌, [], None, Some, IsTrue, IfOk, OnOk, length};
 ghost use Rattle.std.specs.Iterator.{YieldsFirstBy, item_count};
 ghost use Rattle.toml_edit_model.specs.Tree.{no_items};
 ghost use Rattle.toml_edit_laws.specs.TableTree.{reaching, with_item};
 ghost use Rattle.toml_edit_tree.specs.ContainerParts.{table_read, tables_left};
-ghost use Rattle.toml_edit_tree.specs.Containers.{count_of, elements_in, range_in};
+ghost use Rattle.toml_edit_tree.specs.Containers.{elements_in, range_in};
+ghost use Rattle.toml_edit_tree.specs.Elements.{tables_of};
 ghost use Rattle.toml_edit_tree.specs.View.{item_view, items_view, tables_view};
 
 use crate::copy::copy_tables;
 use crate::item::Item;
 use crate::table::Table;
+pub use iter::ArrayOfTablesIntoIter;
 use std::alloc::Global;
 use std::ops::Range;
 use std::slice;
 use toml_edit_repr::Mem;
+
+mod edit;
+mod iter;
+mod whole;
 
 /// An array of tables: its elements in order, each with a header in double brackets (TOML, "Array of Tables"). A slot may hold no table,
 /// and then isn't printed.
@@ -65,14 +71,14 @@ impl ArrayOfTables {
 
     /// How many slots there are, those without a table among them.
     pub fn len(&self) -> usize
-        ensures { result ≡ count_of (tables_view self.now).items }
+        ensures { result ≡ length (tables_of self.now) }
     {
         self.values.len()
     }
 
     /// Whether there are no slots.
     pub fn is_empty(&self) -> bool
-        ensures { IsTrue result ↔ ((tables_view self.now).items ≡ no_items) }
+        ensures { IsTrue result ↔ (tables_of self.now ≡ []) }
     {
         self.len() == 0
     }

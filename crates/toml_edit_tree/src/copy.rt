@@ -68,6 +68,7 @@ pub(crate) fn copy_inline(table: &InlineTable, alloc: Global) -> Mem<InlineTable
         dotted: table.dotted,
         trailing,
         trailing_comma: table.trailing_comma,
+        is_read: table.is_read,
         span: table.span,
     })
 }

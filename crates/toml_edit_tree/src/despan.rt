@@ -68,7 +68,7 @@ fn despan_inline(table: &mut InlineTable, alloc: Global, source: &str) -> Mem<()
     despan_slots(&mut table.items, alloc, source)?;
     table.decor.despan(alloc, source)?;
     table.trailing.despan(alloc, source)?;
-    table.span = None;
+    table.is_read = false;
     Ok(())
 }
 

@@ -29,10 +29,13 @@ pub struct InlineTable {
     #[doc(hidden)]
     pub items: Slots<Item>,
     pub(crate) decor: Decor,
-    pub(crate) dotted: bool,
     pub(crate) trailing: RawString,
+    // The flags stand together, and the span, which is one if the table was read, isn't an option: each would take a word more, and no
+    // value is larger than this one.
+    pub(crate) dotted: bool,
     pub(crate) trailing_comma: bool,
-    pub(crate) span: Option<(usize, usize)>,
+    pub(crate) is_read: bool,
+    pub(crate) span: (usize, usize),
 }
 
 impl InlineTable {
@@ -46,7 +49,8 @@ impl InlineTable {
             dotted: false,
             trailing: RawString::default(),
             trailing_comma: false,
-            span: None,
+            is_read: false,
+            span: (0, 0),
         }
     }
 
@@ -68,7 +72,8 @@ impl InlineTable {
             dotted: false,
             trailing,
             trailing_comma,
-            span: Some((start, end)),
+            is_read: true,
+            span: (start, end),
         }
     }
 
@@ -83,7 +88,8 @@ impl InlineTable {
             dotted: true,
             trailing: RawString::default(),
             trailing_comma: false,
-            span: Some((start, end)),
+            is_read: true,
+            span: (start, end),
         }
     }
 
@@ -213,7 +219,10 @@ impl InlineTable {
     pub fn span(&self) -> Option<Range<usize>>
         ensures { result ≡ range_in (inline_view self.now).fields.extent }
     {
-        let (start, end) = self.span?;
+        if !self.is_read {
+            return None;
+        }
+        let (start, end) = self.span;
         Some(start..end)
     }
 

@@ -5,6 +5,7 @@ ghost use Rattle.toml_edit_model.specs.Tree.{nothing, is_value_node};
 ghost use Rattle.toml_edit_model.specs.Conversions.{with_decor};
 ghost use Rattle.toml_edit_tree.specs.Casts.{both_sides, type_of};
 ghost use Rattle.toml_edit_tree.specs.ContainerParts.{LendsTable, LendsTables};
+ghost use Rattle.toml_edit_tree.specs.ElementLending.{LendsValue};
 ghost use Rattle.toml_edit_tree.specs.Containers.{table_in, table_node, tables_in, tables_node, value_in};
 ghost use Rattle.toml_edit_tree.specs.View.{item_view, table_view, tables_view, value_view};
 
@@ -55,6 +56,17 @@ impl Item {
     {
         match self {
             Item::Value(value) => Some(value),
+            _ => None,
+        }
+    }
+
+    /// The value, to be changed, if it is one.
+    pub fn as_value_mut(&mut self) -> Option<&mut Value>
+        ensures* writes_back { sem 𝓛 (LendsValue self.entry result) }
+        ensures value { option_map (λ v. value_view v.now) result ≡ value_in (item_view self.old) }
+    {
+        match self {
+            Item::Value(lent) => Some(lent),
             _ => None,
         }
     }

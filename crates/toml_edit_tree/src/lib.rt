@@ -3,8 +3,10 @@
 
 pub mod array;
 pub mod array_of_tables;
+mod convert;
 mod copy;
 mod despan;
+mod elements;
 mod encode;
 pub mod inline_table;
 pub mod item;
@@ -12,13 +14,13 @@ mod order;
 pub mod table;
 pub mod value;
 
-pub use array::{Array, ArrayIter};
-pub use array_of_tables::{ArrayOfTables, ArrayOfTablesIter};
+pub use array::{Array, ArrayIntoIter, ArrayIter};
+pub use array_of_tables::{ArrayOfTables, ArrayOfTablesIntoIter, ArrayOfTablesIter};
 #[doc(hidden)]
 pub use encode::{Path, table_has_lines, write_path, write_table_lines};
 pub use inline_table::{InlineTable, InlineTableIter};
 pub use item::Item;
 #[doc(hidden)]
 pub use order::put_in_order;
-pub use table::{Iter, Table};
+pub use table::{IntoIter, Iter, Table};
 pub use value::Value;

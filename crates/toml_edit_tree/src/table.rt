@@ -24,6 +24,12 @@ use toml_edit_key::Key;
 use toml_edit_repr::{Decor, Mem};
 use toml_edit_slots::{Slot, Slots};
 
+mod change;
+mod iterate;
+mod look_up;
+
+pub use iterate::IntoIter;
+
 /// A table: its slots in order, and what is kept of its header (TOML, "Table"). A slot may be a placeholder, which isn't printed.
 #[cycle(tree)]
 #[derive(Debug, Drop)]
@@ -104,14 +110,6 @@ impl Table {
             position: Some(position),
             span: Some((start, end)),
         }
-    }
-
-    /// The slots.
-    #[doc(hidden)]
-    pub fn slots(&self) -> &Slots<Item>
-        ensures { slots_view result.now ≡ table_slots self.now }
-    {
-        &self.slots
     }
 
     /// The slots, to be changed.

@@ -1,6 +1,6 @@
 -- Each turn writes the lines of a slot.
 use Rattle.std.proofs.Common.{◌<◌, [], ◌∷◌, ◌++◌, length, rules, arith}
-use Rattle.std.proofs.Output.{has_written_append, has_written_of_eq}
+use Rattle.std.proofs.Output.{has_written_append}
 use Rattle.toml_edit_tree.specs.Printing.{keys_on, lines_in_table, lines_text}
 use Rattle.toml_edit_tree.specs.View.{item_view}
 use Rattle.toml_edit_tree.proofs.TurnLaws.{table-turn}

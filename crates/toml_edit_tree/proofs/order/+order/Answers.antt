@@ -1,8 +1,8 @@
 -- Each place in order.
 use denote.Param.Weighed.{most}
-use Rattle.std.proofs.Common.{◌≡◌, ◌<◌, ◌≤◌, ◌+◌, length, map, get_or, set, arith, sym, ap, subst, ◌∙◌}
+use Rattle.std.proofs.Common.{◌≡◌, ◌<◌, ◌≤◌, ◌+◌, length, map, get_or, arith, sym, ap, subst, ◌∙◌}
 use Rattle.toml_edit_laws.specs.PlaceOrder.{node_by_place}
-use Rattle.toml_edit_slots.specs.Slots.{on_item, with_item}
+use Rattle.toml_edit_slots.specs.Slots.{on_item}
 use Rattle.toml_edit_tree.specs.Containers.{items_from}
 use Rattle.toml_edit_tree.specs.declared.item.Item.{size-Item}
 use Rattle.toml_edit_tree.specs.View.{item_view, slots_view}

@@ -1,0 +1,28 @@
+-- What the iterators that own their arrays have left, and what `extend` leaves.
+use Rattle.std.specs.Prelude.{◌≡◌, List, ◌++◌, map}
+use Rattle.std.specs.Vec.Iter.{into_iter_items}
+use Rattle.toml_edit_model.specs.Tree.{Node}
+use Rattle.toml_edit_tree.specs.Containers.{TableView, elements_in, table_node, values_in}
+use Rattle.toml_edit_tree.specs.Elements.{array_fields, extent_of, items_of, tables_of}
+use Rattle.toml_edit_tree.specs.View.{items_view, table_view, value_view}
+use Rattle.toml_edit_tree.specs.declared.array.Array.{Array}
+use Rattle.toml_edit_tree.specs.declared.array.iter.ArrayIntoIter.{ArrayIntoIter}
+use Rattle.toml_edit_tree.specs.declared.array_of_tables.ArrayOfTables.{ArrayOfTables}
+use Rattle.toml_edit_tree.specs.declared.array_of_tables.iter.ArrayOfTablesIntoIter.{ArrayOfTablesIntoIter}
+use Rattle.toml_edit_tree.specs.declared.table.Table.{Table}
+use Rattle.toml_edit_tree.specs.declared.value.Value.{Value}
+
+-- what an iterator has left
+abbrev pub owned_values : ArrayIntoIter → List Node
+owned_values it = values_in (items_view (into_iter_items it.items))
+
+abbrev pub owned_tables : ArrayOfTablesIntoIter → List TableView
+owned_tables it = elements_in (items_view (into_iter_items it.items))
+
+-- an array with more values at its end
+abbrev pub AddsValues : Array → List Value → Array → Type 0
+AddsValues old vs new = (items_of new ≡ items_of old ++ map value_view vs) × (array_fields new ≡ array_fields old)
+
+-- an array of tables with more tables
+abbrev pub AddsTables : ArrayOfTables → List Table → ArrayOfTables → Type 0
+AddsTables old ts new = (tables_of new ≡ tables_of old ++ map (λ t. table_node (table_view t)) ts) × (extent_of new ≡ extent_of old)

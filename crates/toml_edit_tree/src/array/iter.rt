@@ -1,0 +1,76 @@
+//! Arrays as sequences of values.
+ghost use Rattle.std.specs.Prelude.{◌≡◌};
+ghost use Rattle.std.specs.Iterator.{ExtendsWithItems, IsFinite, YieldsFirstBy, item_count};
+ghost use Rattle.toml_edit_tree.specs.ContainerParts.{values_left};
+ghost use Rattle.toml_edit_tree.specs.Containers.{values_in};
+ghost use Rattle.toml_edit_tree.specs.ElementParts.{AddsValues, owned_values};
+ghost use Rattle.toml_edit_tree.specs.View.{array_view, value_view};
+
+use super::{Array, ArrayIter};
+use crate::item::Item;
+use crate::value::Value;
+use std::vec;
+use toml_edit_repr::Mem;
+
+impl Array {
+    /// Puts values last, one after another. The only error is want of memory: then some first ones are there, and the others are gone.
+    #[tactic(auto, using(crate::proofs::ElementLaws::value_last))]
+    pub fn extend<U: IntoIterator<Item = Value>>(&mut self, values: U) -> Mem<()>
+        requires { (it : U.IntoIter) → U.into_iter_gives values it → U.IntoIter.can_next it × IsFinite (U.IntoIter.remaining it) }
+        ensures { ExtendsWithItems U.into_iter_gives U.IntoIter.next_gives AddsValues values self.old self.new result }
+    {
+        for value in values {
+            self.push(value)?;
+        }
+        Ok(())
+    }
+}
+
+impl<'a> IntoIterator for &'a Array {
+    type Item = &'a Value;
+
+    type IntoIter = ArrayIter<'a>;
+
+    ghost into_iter_gives = { λ array it. values_left it ≡ values_in (array_view array.now).items };
+
+    fn into_iter(self) -> ArrayIter<'a> {
+        self.iter()
+    }
+}
+
+/// The values of an array that was given up, in order.
+#[derive(Drop)]
+pub struct ArrayIntoIter {
+    items: vec::IntoIter<Item>,
+}
+
+impl IntoIterator for Array {
+    type Item = Value;
+
+    type IntoIter = ArrayIntoIter;
+
+    ghost into_iter_gives = { λ array it. owned_values it ≡ values_in (array_view array).items };
+
+    fn into_iter(self) -> ArrayIntoIter {
+        ArrayIntoIter {
+            items: self.values.into_iter(),
+        }
+    }
+}
+
+impl Iterator for ArrayIntoIter {
+    type Item = Value;
+
+    ghost next_gives = { YieldsFirstBy value_view owned_values };
+
+    ghost remaining = { item_count owned_values };
+
+    fn next(&mut self) -> Option<Value> {
+        while let Some(item) = self.items.next() {
+            if let Item::Value(value) = item {
+                return Some(value);
+            }
+        }
+        None
+    }
+}

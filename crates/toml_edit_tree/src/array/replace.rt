@@ -1,0 +1,51 @@
+//! A value of an array, with another in its place and decor.
+ghost use Rattle.std.specs.Prelude.{◌≡◌, IsSome, IfErr, IfOk, OnErr, OnOk, Some, option_map};
+ghost use Rattle.toml_edit_model.specs.ArrayCalls.{replaced_at, value_at};
+ghost use Rattle.toml_edit_model.specs.Conversions.{with_decor};
+ghost use Rattle.toml_edit_model.specs.Tree.{node_decor};
+ghost use Rattle.toml_edit_tree.specs.Elements.{array_fields, items_of};
+ghost use Rattle.toml_edit_tree.specs.View.{array_view, value_view};
+
+use super::Array;
+use crate::value::Value;
+use toml_edit_repr::{Decor, Mem};
+use toml_edit_slots::NoMemory;
+
+impl Array {
+    /// Puts the value in the place of the one there, which is the answer, and gives it a copy of what stood around that one. The only error
+    /// is want of memory for the copy: the array stays, and the error has the value.
+    pub fn replace(&mut self, at: usize, value: Value) -> Result<Value, NoMemory<Value>>
+        requires { IsSome (value_at at (items_of self.old)) }
+        ensures value { IfOk result (λ old. Some (value_view old) ≡ value_at at (items_of self.old)) }
+        ensures items { OnOk result (items_of self.new ≡ replaced_at at (value_view value) (items_of self.old)) }
+        ensures fields { array_fields self.new ≡ array_fields self.old }
+        ensures err { OnErr result (array_view self.new ≡ array_view self.old) }
+        ensures back { IfErr result (λ refused. refused.0 ≡ value) }
+    {
+        match self.copied_decor(at) {
+            Ok(decor) => Ok(self.replace_formatted(at, redecorated(value, decor))),
+            Err(_) => Err(NoMemory(value)),
+        }
+    }
+
+    /// A copy of what stands around the value at the place.
+    fn copied_decor(&self, at: usize) -> Mem<Decor>
+        requires { IsSome (value_at at (items_of self.now)) }
+        ensures { IfOk result (λ decor. Some decor ≡ option_map node_decor (value_at at (items_of self.now))) }
+    {
+        let alloc = *self.values.allocator();
+        match self.get(at) {
+            Some(value) => value.decor().clone(alloc),
+            None => unreachable!(),
+        }
+    }
+}
+
+/// The value with this decor in place of its own.
+fn redecorated(value: Value, decor: Decor) -> Value
+    ensures { value_view result ≡ with_decor decor (value_view value) }
+{
+    let mut value = value;
+    *value.decor_mut() = decor;
+    value
+}

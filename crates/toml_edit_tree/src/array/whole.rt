@@ -1,0 +1,92 @@
+//! Calls that go over all values of an array.
+ghost use Rattle.std.specs.Prelude.{◌≡◌, ◌∷◌, List, Some};
+ghost use Rattle.toml_edit_model.specs.Conversions.{element_decor, formatted_array, formatted_from, formatted_items};
+ghost use Rattle.toml_edit_model.specs.Iterating.{values};
+ghost use Rattle.toml_edit_model.specs.Retaining.{RetainsBy};
+ghost use Rattle.toml_edit_model.specs.Tree.{Node, is_value_node};
+ghost use Rattle.toml_edit_tree.specs.ElementClosures.{KeepsOnly, SaysOfValue};
+ghost use Rattle.toml_edit_tree.specs.Elements.{array_fields, items_of, listed};
+ghost use Rattle.toml_edit_tree.specs.View.{item_view};
+
+use super::Array;
+use crate::item::Item;
+use crate::value::Value;
+use std::alloc::Global;
+use toml_edit_repr::RawString;
+
+impl Array {
+    /// Keeps the values of which the closure says `true`, in their order. The others go, and every slot that holds no value. It takes no
+    /// memory.
+    pub fn retain<F: Fn(&Value) -> bool>(&mut self, keep: F)
+    where
+        F: Drop,
+        requires { F.IsAlwaysCallable keep }
+        ensures kept { RetainsBy (SaysOfValue F.Fn keep) (values (items_of self.old)) (items_of self.new) }
+        ensures fields { array_fields self.new ≡ array_fields self.old }
+    {
+        retain_values(&mut self.values, keep);
+    }
+
+    /// Leaves nothing around the first value, one space before each of the others, no comma after the last, and nothing before the closing
+    /// bracket. It takes no memory.
+    pub fn fmt(&mut self)
+        ensures items { items_of self.new ≡ formatted_items (items_of self.old) }
+        ensures fields { array_fields self.new ≡ formatted_array (array_fields self.old) }
+    {
+        format_items(&mut self.values);
+        self.trailing_comma = false;
+        self.trailing = RawString::default();
+    }
+}
+
+/// Keeps the values that pass.
+fn retain_values<F: Fn(&Value) -> bool>(items: &mut Vec<Item>, keep: F)
+where
+    F: Drop,
+    requires { F.IsAlwaysCallable keep }
+    ensures { RetainsBy (SaysOfValue F.Fn keep) (values (listed items.old.items)) (listed items.new.items) }
+{
+    items.retain(
+        |item|
+            requires { F.IsAlwaysCallable keep }
+            ensures { KeepsOnly is_value_node (SaysOfValue F.Fn keep) (item_view item.entry.now) result }
+        {
+            match item.as_value() {
+                Some(value) => keep(value),
+                None => false,
+            }
+        },
+    );
+}
+
+/// Puts nothing around the first value, and one space before each of the others. It takes no memory.
+pub(crate) fn format_items(items: &mut Vec<Item>)
+    ensures { listed items.new.items ≡ formatted_items (listed items.old.items) }
+{
+    let alloc = *items.allocator();
+    let mut is_first = true;
+    for at in 0..items.len() {
+        is_first = format_item(&mut items[at], alloc, is_first);
+    }
+}
+
+/// Does so with one item, and tells whether the next value is the first.
+fn format_item(item: &mut Item, alloc: Global, is_first: bool) -> bool
+    ensures { (others : List Node) → formatted_from is_first (item_view item.old ∷ others) ≡ item_view item.new ∷ formatted_from result others }
+{
+    if !item.is_value() {
+        return is_first;
+    }
+    item.decorate(space_before(alloc, is_first), RawString::default());
+    false
+}
+
+/// Nothing, or one space, which take no memory.
+fn space_before(alloc: Global, is_first: bool) -> RawString
+    ensures { Some result ≡ (element_decor is_first).prefix }
+{
+    match RawString::from_text(alloc, if is_first { "" } else { " " }) {
+        Ok(space) => space,
+        Err(_) => unreachable!(),
+    }
+}

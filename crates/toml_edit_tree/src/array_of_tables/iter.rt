@@ -1,0 +1,76 @@
+//! Arrays of tables as sequences of tables.
+ghost use Rattle.std.specs.Prelude.{◌≡◌};
+ghost use Rattle.std.specs.Iterator.{ExtendsWithItems, IsFinite, YieldsFirstBy, item_count};
+ghost use Rattle.toml_edit_tree.specs.ContainerParts.{tables_left};
+ghost use Rattle.toml_edit_tree.specs.Containers.{elements_in};
+ghost use Rattle.toml_edit_tree.specs.ElementParts.{AddsTables, owned_tables};
+ghost use Rattle.toml_edit_tree.specs.View.{tables_view, table_view};
+
+use super::{ArrayOfTables, ArrayOfTablesIter};
+use crate::item::Item;
+use crate::table::Table;
+use std::vec;
+use toml_edit_repr::Mem;
+
+impl ArrayOfTables {
+    /// Puts tables last, one after another. The only error is want of memory: then some first ones are there, and the others are gone.
+    #[tactic(auto, using(crate::proofs::ElementLaws::table_last))]
+    pub fn extend<U: IntoIterator<Item = Table>>(&mut self, tables: U) -> Mem<()>
+        requires { (it : U.IntoIter) → U.into_iter_gives tables it → U.IntoIter.can_next it × IsFinite (U.IntoIter.remaining it) }
+        ensures { ExtendsWithItems U.into_iter_gives U.IntoIter.next_gives AddsTables tables self.old self.new result }
+    {
+        for table in tables {
+            self.push(table)?;
+        }
+        Ok(())
+    }
+}
+
+impl<'a> IntoIterator for &'a ArrayOfTables {
+    type Item = &'a Table;
+
+    type IntoIter = ArrayOfTablesIter<'a>;
+
+    ghost into_iter_gives = { λ array it. tables_left it ≡ elements_in (tables_view array.now).items };
+
+    fn into_iter(self) -> ArrayOfTablesIter<'a> {
+        self.iter()
+    }
+}
+
+/// The tables of an array of tables that was given up, in order.
+#[derive(Drop)]
+pub struct ArrayOfTablesIntoIter {
+    items: vec::IntoIter<Item>,
+}
+
+impl IntoIterator for ArrayOfTables {
+    type Item = Table;
+
+    type IntoIter = ArrayOfTablesIntoIter;
+
+    ghost into_iter_gives = { λ array it. owned_tables it ≡ elements_in (tables_view array).items };
+
+    fn into_iter(self) -> ArrayOfTablesIntoIter {
+        ArrayOfTablesIntoIter {
+            items: self.values.into_iter(),
+        }
+    }
+}
+
+impl Iterator for ArrayOfTablesIntoIter {
+    type Item = Table;
+
+    ghost next_gives = { YieldsFirstBy table_view owned_tables };
+
+    ghost remaining = { item_count owned_tables };
+
+    fn next(&mut self) -> Option<Table> {
+        while let Some(item) = self.items.next() {
+            if let Item::Table(table) = item {
+                return Some(table);
+            }
+        }
+        None
+    }
+}

@@ -1,0 +1,46 @@
+//! Calls that go over all tables of an array of tables.
+ghost use Rattle.std.specs.Prelude.{◌≡◌};
+ghost use Rattle.toml_edit_model.specs.Iterating.{elements};
+ghost use Rattle.toml_edit_model.specs.Retaining.{RetainsBy};
+ghost use Rattle.toml_edit_model.specs.Shown.{is_table_node};
+ghost use Rattle.toml_edit_tree.specs.ElementClosures.{KeepsOnly, SaysOfTable};
+ghost use Rattle.toml_edit_tree.specs.Elements.{extent_of, listed, tables_of};
+ghost use Rattle.toml_edit_tree.specs.View.{item_view};
+
+use super::ArrayOfTables;
+use crate::item::Item;
+use crate::table::Table;
+
+impl ArrayOfTables {
+    /// Keeps the tables of which the closure says `true`, in their order. The others go, and every slot that holds no table. It takes no
+    /// memory.
+    pub fn retain<F: Fn(&Table) -> bool>(&mut self, keep: F)
+    where
+        F: Drop,
+        requires { F.IsAlwaysCallable keep }
+        ensures kept { RetainsBy (SaysOfTable F.Fn keep) (elements (tables_of self.old)) (tables_of self.new) }
+        ensures extent { extent_of self.new ≡ extent_of self.old }
+    {
+        retain_tables(&mut self.values, keep);
+    }
+}
+
+/// Keeps the tables that pass.
+fn retain_tables<F: Fn(&Table) -> bool>(items: &mut Vec<Item>, keep: F)
+where
+    F: Drop,
+    requires { F.IsAlwaysCallable keep }
+    ensures { RetainsBy (SaysOfTable F.Fn keep) (elements (listed items.old.items)) (listed items.new.items) }
+{
+    items.retain(
+        |item|
+            requires { F.IsAlwaysCallable keep }
+            ensures { KeepsOnly is_table_node (SaysOfTable F.Fn keep) (item_view item.entry.now) result }
+        {
+            match item.as_table() {
+                Some(table) => keep(table),
+                None => false,
+            }
+        },
+    );
+}
