@@ -27,6 +27,7 @@ use toml_edit_syntax::Span;
 use toml_edit_tree::{ArrayOfTables, Item, Table};
 
 /// Adds an item at the last key of a path; what is left in its place is not said.
+#[inline(always)]
 pub(crate) fn put_last(
     alloc: Global,
     source: &str,
@@ -49,6 +50,8 @@ pub(crate) fn put_last(
 }
 
 /// Puts the table of a header last, or in the place of the table that is there, with its slots, if that was only passed through so far.
+// Stands apart, since what calls it pays at entry for the locals of all that is put into it.
+#[inline(never)]
 fn put_table(
     alloc: Global,
     source: &str,
@@ -167,6 +170,8 @@ fn fill_table(table: &mut Table, slots: Slots<Item>)
 }
 
 /// Adds the table of a header in double brackets to the array of tables at its key, which is made where the key is new.
+// Stands apart, since what calls it pays at entry for the locals of all that is put into it.
+#[inline(never)]
 fn put_element(
     alloc: Global,
     source: &str,

@@ -14,3 +14,4 @@ pub use block::swap_block;
 pub use document::parse;
 #[doc(hidden)]
 pub use path::{Kind, add_path};
+pub use toml_edit_parser::FromStr;

@@ -74,6 +74,8 @@ pub fn add_path(
 
 /// Adds an item at the end of what is left of a path, below a new key.
 #[cycle(path)]
+// Stands apart, since what calls it pays at entry for the locals of all that is put into it.
+#[inline(never)]
 fn add_below(
     alloc: Global,
     source: &str,
@@ -107,6 +109,8 @@ fn passed_item(dotted: bool, span: Span, slots: Slots<Item>) -> Item
 
 /// Adds an item at the end of what is left of a path, below a key that is there with this item.
 #[cycle(path)]
+// Stands apart, since what calls it pays at entry for the locals of all that is put into it.
+#[inline(never)]
 fn add_in_item(
     alloc: Global,
     source: &str,

@@ -109,6 +109,8 @@ fn add_line<'a>(
 }
 
 /// Adds the header behind this text and its opening brackets, and gives the events behind it. The key lines that follow are its table's.
+// Stands apart, since what calls it pays at entry for the locals of all that is put into it.
+#[inline(never)]
 fn add_header<'a>(
     alloc: Global,
     source: &str,

@@ -32,6 +32,7 @@ pub struct PathKey<'a> {
 /// The first key of a path. The errors are a `TomlError` for events that are those of no path, which no text of the grammar has, and
 /// want of memory.
 #[doc(hidden)]
+#[inline(always)]
 pub fn next_key<'a>(
     alloc: Global,
     source: &str,

@@ -30,7 +30,7 @@ ghost use Rattle.toml_edit_model.specs.OwnedForm.{KeyFits, NodeFits, SlotsFit, c
 use crate::reader::{
     Close, cut, raw, read_value, refusal, refusal_at_end, refusal_of_all, split_close, split_first,
 };
-use std::alloc::Global;
+use std::alloc::{AllocError, Global};
 use std::mem;
 use toml_edit_error::ParseFault;
 use toml_edit_key::Key;
@@ -417,6 +417,7 @@ fn extend_message(value: &Value) -> &'static str
 /// Adds a slot last, and leaves a placeholder in the place of its item. The errors are `duplicate key` at the span for a key that
 /// stands there already, and want of memory; the slots are as they were then.
 #[doc(hidden)]
+#[inline(always)]
 pub fn add_last(
     alloc: Global,
     source: &str,
@@ -432,11 +433,14 @@ pub fn add_last(
     ensures input { IfErr result (λ e. IfToml e (λ r. r.input ≡ source.now)) }
     ensures listed { IfErr result (λ e. IfToml e IsListed) }
 {
-    if slots.find(key.get()).is_some() {
-        return Err(refusal(alloc, source, "duplicate key", span));
+    let item = mem::replace(item, Item::None);
+    match slots.try_push(Slot { key, item }) {
+        Ok(()) => Ok(()),
+        Err(refused) => match refused.place() {
+            Some(_) => Err(refusal(alloc, source, "duplicate key", span)),
+            None => Err(ParseFault::from(AllocError)),
+        },
     }
-    push_item(slots, key, mem::replace(item, Item::None))?;
-    Ok(())
 }
 
 /// Puts a slot last, whose key has to be new. The only error is want of memory; the slots are as they were then, and key and item are
@@ -451,6 +455,7 @@ pub fn push_item(slots: &mut Slots<Item>, key: Key, item: Item) -> Mem<()>
 }
 
 /// The text of the key that is spelled at the span.
+#[inline(always)]
 pub(crate) fn read_name(alloc: Global, source: &str, span: Span) -> Result<String, ParseFault>
     requires { IsSpanOf source.now span }
     ensures name { (k : Text) → SpellsKey k (cut_out source.now span.start span.end) → ReadsName k result }
