@@ -4,3 +4,4 @@ pub mod OwnLaws
 pub mod OverLaws
 pub mod TakenLaws
 pub mod HeaderLaws
+pub mod PrintMeaning

@@ -9,6 +9,7 @@ use Rattle.toml_edit_model.specs.Tree.{Tree, SlotsAreWellMade}
 use Rattle.toml_edit_model.specs.TreeOf.{spanned_form, owned_form, IsTreeOf}
 use Rattle.toml_edit_laws.proofs.read_trees.ReadLaws.{owned_trees}
 use Rattle.toml_edit_laws.proofs.print_of_read.PrintOfRead.{plain_print_normal}
+use Rattle.toml_edit_laws.proofs.normal_texts.TextLaws.{normal_texts}
 use Rattle.toml_edit_laws.proofs.normal_texts.TreesFit.{texts_fit}
 use Rattle.toml_edit.specs.Documents.{IsOwnedReading, IsOwnedTreeOf, IsReading}
 use Rattle.toml_edit_laws.proofs.read_trees.MeaningOfTrees.{trees_mean}
@@ -46,17 +47,23 @@ owned-parts t u x y same root slots trailing =
     ∙ ap (λ v. owned_tree v x) same
 
 -- The tree of an accepted text stays its tree, fits, and prints as the normal text.
-pub stays-tree : (t : Text) (x y : Tree) → y ≡ owned_tree t x → (d : Document) → AcceptedAs t d → IsTreeOf spanned_form d x → IsOwnedTreeOf d y
+pub stays-tree : (t : Text) (x y : Tree) → y ≡ owned_tree t x → (d : Document) → AcceptedAs t d → IsTreeOf spanned_form d x → IsOwnedTreeOf t d y
 stays-tree t x y e d accepted is =
     let own = subst (IsTreeOf owned_form d) (sym e) (owned_trees plain t d accepted.0 x is) in
     let fine = texts_fit plain t d accepted y own in
-    record { tree = own; prints = plain_print_normal d accepted.0.0 accepted.1 y own; fits = fine.0; steady = fine.1 }
+    record {
+      tree = own;
+      fits = fine.0;
+      steady = fine.1;
+      prints = plain_print_normal d accepted.0.0 accepted.1 y own;
+      normal = (accepted, normal_texts plain t d accepted);
+    }
 
 -- What is made of a reading of a text is one that owns its texts.
 pub own-reading : (t u : Text) (x y : Tree) → u ≡ t → IsReading t x
-    → ((d : Document) → AcceptedAs u d → IsTreeOf spanned_form d x → IsOwnedTreeOf d y) → IsOwnedReading t y
+    → ((d : Document) → AcceptedAs u d → IsTreeOf spanned_form d x → IsOwnedTreeOf u d y) → IsOwnedReading t y
 own-reading t u x y same r stays =
-    let own = stays r.document (subst (λ v. AcceptedAs v r.document) (sym same) r.accepted) r.tree in
+    let own = subst (λ v. IsOwnedTreeOf v r.document y) same (stays r.document (subst (λ v. AcceptedAs v r.document) (sym same) r.accepted) r.tree) in
     record {
       document = r.document;
       accepted = r.accepted;

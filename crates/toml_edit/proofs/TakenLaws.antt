@@ -1,24 +1,21 @@
 -- The root of a document that was read, taken as it is and made the root of a document again.
-use Rattle.std.proofs.Common.{◌≡◌, refl, sym, ap, ◌∙◌, false, Option, Some, None, option_map}
+use Rattle.std.proofs.Common.{◌≡◌, refl, sym, ap, ◌∙◌, Option, Some, None, option_map}
 use Rattle.std.specs.Prelude.{[], ◌||◌}
 use Rattle.toml_edit_model.specs.Mode.{plain}
 use Rattle.toml_edit_model.specs.Text.{Text, same_text}
 use Rattle.toml_edit_model.specs.Syntax.{Document}
 use Rattle.toml_edit_model.specs.Accepted.{AcceptedAs}
-use Rattle.toml_edit_model.specs.Print.{print}
 use Rattle.toml_edit_model.specs.Tree.{Raw, owned, span, Node, nothing, leaf, list, inline, table, tables, Items, no_items, item, Slots, no_slots, slot, Tree, has_key, HasTrueSpelling, IsWellMade, ItemsAreWellMade, SlotsAreWellMade}
 use Rattle.toml_edit_model.specs.TreeOf.{spanned_form, IsTreeOf}
 use Rattle.toml_edit_model.specs.OwnedForm.{owned_raw, owned_node, owned_items, owned_slots, owned_tree}
 use Rattle.toml_edit_laws.specs.AcceptedPrints.{IsFitting}
-use Rattle.toml_edit_laws.proofs.accepted_prints.PrintedCut.{print-cut}
-use Rattle.toml_edit_laws.proofs.accepted_prints.StatementsAgree.{print-agrees}
 use Rattle.toml_edit_laws.proofs.normal_texts.SpansSuit.{spans_fit}
 use Rattle.toml_edit_laws.proofs.normal_texts.TreesFit.{texts_fit}
-use Rattle.toml_edit_laws.proofs.print_meaning.ReparseLaws.{prints-mean-what-is-shown}
 use Rattle.toml_edit_laws.proofs.read_trees.MeaningOfTrees.{taken_roots_mean}
 use Rattle.toml_edit_laws.proofs.read_trees.ReadLaws.{owned_trees}
 use Rattle.toml_edit_laws.proofs.read_trees.TreeMade.{tree-made}
 use Rattle.toml_edit.specs.Documents.{PrintsMeaningOf}
+use Rattle.toml_edit.proofs.PrintMeaning.{made-print}
 
 -- ---- a tree over its text is as well made as the one that owns its texts
 
@@ -52,17 +49,16 @@ mutual
 
 -- The root alone, with no text behind it, fits, and prints a text of the same meaning.
 pub root-prints : (t : Text) (d : Document) (x : Tree) → AcceptedAs t d → IsTreeOf spanned_form d x → PrintsMeaningOf d (record x { trailing = owned [] })
-unfolding print
 root-prints t d x accepted is =
     let root : Tree = record x { trailing = owned [] } in
     let own = owned_trees plain t d accepted.0 x is in
     let fits = (spans_fit plain t d x is (texts_fit plain t d accepted (owned_tree t x) own).0).1 in
     let made = slots-over t x.slots (tree-made plain d (owned_tree t x) accepted.0.0 accepted.1 own) in
     let fitting : IsFitting plain root = record { made = made; fits = fits } in
-    let shown = prints-mean-what-is-shown plain false root fitting in
+    let shown = made-print root fitting in
     let means = taken_roots_mean d accepted.0.0 accepted.1 spanned_form x root is refl in
     record {
       fits = fits;
-      accepted = ((print-cut plain false root fitting).0, print-agrees plain false root fitting);
-      meaning = λ f. (λ c. (means f).0 ((shown f).0 c), λ c. (shown f).1 ((means f).1 c));
+      accepted = shown.accepted;
+      meaning = λ f. (λ c. (means f).0 ((shown.meaning f).0 c), λ c. (shown.meaning f).1 ((means f).1 c));
     }

@@ -148,9 +148,10 @@ impl<S: SourceText> Document<S> {
     /// up.
     pub fn into_mut(self, alloc: Global) -> Mem<DocumentMut>
         ensures owned { IfOk result (λ m. tree_owned m ≡ owned_tree (source self) (tree_read self)) }
-        // The tree of an accepted text stays its tree, fits, and prints as the normal text.
+        // The tree of an accepted text stays its tree, fits, and prints as the normal text, which is accepted, means the same and is
+        // settled. A settled text is its own normal text.
         ensures normal { IfOk result (λ m. (d : Cut) → AcceptedAs (source self) d
-            → IsTreeOf spanned_form d (tree_read self) → IsOwnedTreeOf d (tree_owned m)) }
+            → IsTreeOf spanned_form d (tree_read self) → IsOwnedTreeOf (source self) d (tree_owned m)) }
     {
         let Document {
             raw,
@@ -227,7 +228,7 @@ impl DocumentMut {
     ghost use Rattle.toml_edit_error.specs.Fault.{IfToml};
     ghost use Rattle.toml_edit.specs.DocumentLending.{LendsRoot};
     ghost use Rattle.toml_edit.specs.DocumentView.{tree_owned};
-    ghost use Rattle.toml_edit.specs.Documents.{IsOwnedReading, new_tree};
+    ghost use Rattle.toml_edit.specs.Documents.{IsOwnedReading, MeansWhatIsShown, new_tree};
     ghost use Rattle.toml_edit.specs.Roots.{root_node};
     ghost use Rattle.toml_edit_builder.specs.DocumentRead.{IsRefusal};
     ghost use Rattle.toml_edit_tree.specs.Held.{held, held_left};
@@ -338,6 +339,8 @@ impl DocumentMut {
     /// a document that fits is accepted, and means what its tree shows. This takes no memory: there is no error.
     pub fn fits(&self, _alloc: Global) -> Mem<bool>
         ensures fits { IfOk result (λ fits. IsTrue fits ↔ Fits (tree_owned self.now)) }
+        // What `print` writes then is accepted, and means what the tree shows.
+        ensures reparse { IfOk result (λ fits. IsTrue fits → ∥ MeansWhatIsShown (tree_owned self.now) ∥₁) }
         ensures free { IsOk result }
     {
         Ok(tree_fits(self.as_table(), &self.trailing))

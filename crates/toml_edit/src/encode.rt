@@ -38,7 +38,7 @@ impl fmt::Display for DocumentMut {
 fn write_document<W: Write>(f: &mut Formatter<W>, root: &Table, trailing: &RawString) -> fmt::Result
     ensures { WritesOnOk W.write_str_gives f.old result (print (tree_view root.now trailing.now)) f.new }
 {
-    let arena = Bump::new(root.slots().allocator());
+    let arena = Bump::new(root.slots.allocator());
     let top = Path::Root;
     let Ok(headers) = headers_in_order(&arena, root, &top) else {
         return Err(fmt::Error);

@@ -166,10 +166,10 @@ pub(crate) fn headers_in_order<'p, 'a>(
     };
     let mut walk = Walk {
         arena,
-        headers: Vec::new(root.slots().allocator()),
+        headers: Vec::new(root.slots.allocator()),
         seen,
     };
-    enter_slots(&mut walk, root.slots(), top)?;
+    enter_slots(&mut walk, &root.slots, top)?;
     let Walk { mut headers, .. } = walk;
     sort_headers(&mut headers)?;
     Ok(headers)

@@ -8,14 +8,15 @@ pub mod laws;
 mod root;
 
 pub use document::{Document, DocumentMut, SourceText};
+pub use toml_edit_builder::FromStr;
 pub use toml_edit_datetime::{Date, Datetime, DatetimeFault, FloatText, Offset, Time};
 pub use toml_edit_error::{ParseFault, TomlError};
 pub use toml_edit_key::{Key, KeyMut};
-pub use toml_edit_parser::FromStr;
 pub use toml_edit_repr::{Decor, Formatted, Mem, RawString, Repr, ScalarValue, ValueRepr};
 pub use toml_edit_slots::NoMemory;
 pub use toml_edit_stream::{Broken, Input, Output, Watched};
 pub use toml_edit_tree::{
-    Array, ArrayIter, ArrayOfTables, ArrayOfTablesIter, InlineTable, InlineTableIter, Item, Iter,
-    Table, Value, array, array_of_tables, inline_table, item, table, value,
+    Array, ArrayIntoIter, ArrayIter, ArrayOfTables, ArrayOfTablesIntoIter, ArrayOfTablesIter,
+    InlineTable, InlineTableIter, IntoIter, Item, Iter, Table, Value, array, array_of_tables,
+    inline_table, item, table, value,
 };

@@ -7,8 +7,9 @@ use Rattle.toml_edit_model.specs.Accepted.{AcceptedAs}
 use Rattle.toml_edit_model.specs.Normal.{normal_text}
 use Rattle.toml_edit_model.specs.Excerpt.{excerpt}
 use Rattle.toml_edit_error.specs.Report.{Report}
-use Rattle.toml_edit_builder.specs.DocumentRead.{IsRefusal}
+use Rattle.toml_edit.specs.Documents.{IsRefusal}
 use Rattle.toml_edit_stream.specs.Whole.{AppendsBeginning}
+use Rattle.toml_edit.specs.Documents.{HasNormalText}
 
 -- the words are the command `print` alone
 abbrev pub IsPrint : List Text → Type 0
@@ -16,7 +17,7 @@ IsPrint ws = ws ≡ codes "print" ∷ []
 
 -- the second text is the normal text of the first
 abbrev pub IsPrintOf : Text → Text → Type 0
-IsPrintOf t printed = (d : Document) × AcceptedAs t d × (printed ≡ normal_text d)
+IsPrintOf t printed = (d : Document) × HasNormalText t d × (printed ≡ normal_text d)
 
 -- no cut of the text is accepted
 abbrev pub IsRefused : Text → Type 0
@@ -32,11 +33,11 @@ IsNotAccepted bytes = (d : Document) → IsUtf8 bytes → AcceptedAs bytes d →
 
 -- what the output holds grew by the normal text of what was left to read
 abbrev pub Prints : Option Text → Option Text → Option Text → Type 0
-Prints known old new = IfSome known (λ bytes. (d : Document) × AcceptedAs bytes d × Appends old new (normal_text d))
+Prints known old new = IfSome known (λ bytes. (d : Document) × HasNormalText bytes d × Appends old new (normal_text d))
 
 -- it grew by a beginning of that text
 abbrev pub PrintsBeginning : Option Text → Option Text → Option Text → Type 0
-PrintsBeginning known old new = IfSome known (λ bytes. (d : Document) × AcceptedAs bytes d × AppendsBeginning old new (normal_text d))
+PrintsBeginning known old new = IfSome known (λ bytes. (d : Document) × HasNormalText bytes d × AppendsBeginning old new (normal_text d))
 
 -- the lines that a run tells of its end
 abbrev pub usage_line : Text

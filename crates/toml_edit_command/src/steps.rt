@@ -1,6 +1,6 @@
 ghost use Rattle.std.specs.Prelude.{◌≡◌, false, IfSome, IfOk, IfErr, OnOk, string_bytes};
 ghost use Rattle.toml_edit_error.specs.Fault.{IfToml};
-ghost use Rattle.toml_edit_builder.specs.DocumentRead.{IsRefusal};
+ghost use Rattle.toml_edit.specs.Documents.{IsRefusal};
 ghost use Rattle.toml_edit_command.specs.Run.{IsPrintOf, IsRefused, Prints};
 ghost use Rattle.toml_edit_command.specs.Steps.{StopsReading, StopsPrinting};
 

@@ -6,3 +6,4 @@ pub mod LatePaths
 pub mod OrderLaws
 pub mod FitsLaws
 pub mod ApartLaws
+pub mod MadeLaws

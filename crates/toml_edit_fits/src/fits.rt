@@ -1,9 +1,11 @@
 //! Whether a document fits.
 ghost use Rattle.std.specs.Prelude.{◌≡◌, ◌↔◌, IsTrue, None, is_some};
 ghost use Rattle.toml_edit_model.specs.Fits.{Fits};
+ghost use Rattle.toml_edit_model.specs.Tree.{SlotsAreWellMade};
 ghost use Rattle.toml_edit_tree.specs.View.{fields_view, table_slots, tree_view};
 ghost use Rattle.toml_edit_fits.specs.OrderTests as tests;
 
+use crate::made::see_table;
 use crate::order::{Marks, order_slots};
 use crate::table::parts_fit;
 use toml_edit_repr::RawString;
@@ -26,8 +28,7 @@ fn root_marks(root: &Table) -> Marks
 
 /// Whether each element's headers, its own first, stand before the next element's.
 fn headers_are_ordered(root: &Table) -> bool
-    ensures order { result ≡ is_some (tests.order_slots None (tests.root_marks (fields_view root.now)) (table_slots root.now)) }
-    ensures apart { IsTrue result → tests.SlotsAreApart (table_slots root.now) }
+    ensures { result ≡ is_some (tests.order_slots None (tests.root_marks (fields_view root.now)) (table_slots root.now)) }
 {
     order_slots(None, root_marks(root), &root.slots).is_some()
 }
@@ -37,7 +38,10 @@ fn headers_are_ordered(root: &Table) -> bool
 /// and values are within the limits. It takes no memory, and time by the size of the tree.
 #[doc(hidden)]
 pub fn tree_fits(root: &Table, trailing: &RawString) -> bool
-    ensures { IsTrue result ↔ Fits (tree_view root.now trailing.now) }
+    ensures fits { IsTrue result ↔ Fits (tree_view root.now trailing.now) }
+    // The tree is well made, as its types see to it.
+    ensures made { ∥ SlotsAreWellMade (table_slots root.now) ∥₁ }
 {
+    see_table(root);
     parts_fit(root, trailing) && headers_are_ordered(root)
 }

@@ -2,6 +2,7 @@
 #![tactic(auto)]
 
 mod fits;
+mod made;
 mod order;
 mod route;
 mod table;

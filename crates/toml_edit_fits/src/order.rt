@@ -1,5 +1,5 @@
 //! Whether the headers of elements stand in order: an element's own before all below it, and all of these before the next element's.
-ghost use Rattle.std.specs.Prelude.{◌≡◌, IfSome};
+ghost use Rattle.std.specs.Prelude.{◌≡◌};
 ghost use Rattle.toml_edit_tree.specs.View.{fields_view, item_view, items_view, slots_view, table_slots};
 ghost use Rattle.toml_edit_fits.specs.OrderTests as tests;
 
@@ -96,8 +96,7 @@ fn first_below(is_element: bool, low: Option<isize>, marks: Marks, table: &Table
 /// The marks behind the tables below these slots, or `None` where a header isn't in order.
 #[cycle(order)]
 pub(crate) fn order_slots(low: Option<isize>, marks: Marks, slots: &Slots<Item>) -> Option<Marks>
-    ensures marks { result ≡ tests.order_slots low marks (slots_view slots.now) }
-    ensures apart { IfSome result (λ marks. tests.SlotsAreApart (slots_view slots.now)) }
+    ensures { result ≡ tests.order_slots low marks (slots_view slots.now) }
 {
     let mut last = marks;
     let entries = slots.as_slice();
@@ -110,8 +109,7 @@ pub(crate) fn order_slots(low: Option<isize>, marks: Marks, slots: &Slots<Item>)
 /// The same of a slot: the table in it, or the elements, and the tables below.
 #[cycle(order)]
 fn order_node(low: Option<isize>, marks: Marks, item: &Item) -> Option<Marks>
-    ensures marks { result ≡ tests.order_node low marks (item_view item.now) }
-    ensures apart { IfSome result (λ marks. tests.NodeIsApart (item_view item.now)) }
+    ensures { result ≡ tests.order_node low marks (item_view item.now) }
 {
     match item {
         Item::Table(table) => {
@@ -136,8 +134,7 @@ fn order_node(low: Option<isize>, marks: Marks, item: &Item) -> Option<Marks>
 /// The same of the elements of an array of tables.
 #[cycle(order)]
 fn order_items(low: Option<isize>, marks: Marks, items: &Vec<Item>) -> Option<Marks>
-    ensures marks { result ≡ tests.order_items low marks (items_view items.now.items) }
-    ensures apart { IfSome result (λ marks. tests.ItemsAreApart (items_view items.now.items)) }
+    ensures { result ≡ tests.order_items low marks (items_view items.now.items) }
 {
     let mut last = marks;
     'items: for item in items {
@@ -149,8 +146,7 @@ fn order_items(low: Option<isize>, marks: Marks, items: &Vec<Item>) -> Option<Ma
 /// The same of an item of an array of tables. One that is no table is passed over.
 #[cycle(order)]
 fn order_item(low: Option<isize>, marks: Marks, item: &Item) -> Option<Marks>
-    ensures marks { result ≡ tests.order_item low marks (item_view item.now) }
-    ensures apart { IfSome result (λ marks. tests.ItemIsApart (item_view item.now)) }
+    ensures { result ≡ tests.order_item low marks (item_view item.now) }
 {
     match item {
         Item::Table(table) => {

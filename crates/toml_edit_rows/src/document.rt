@@ -11,7 +11,9 @@ pub fn answer(row: Row<'_>, out: &mut Answer) {
         "events" => events::all(row.text(), out),
         "last_event" => events::last(row.text(), out),
         "every_cut_ends" => run::every_cut_ends(row.text(), out),
-        "from_str_prints" => steps::read(DocumentMut::from_str(out.alloc, row.text()), row, out),
+        "from_str_prints" | "from_str_at" | "from_str_error" => {
+            steps::read(DocumentMut::from_str(out.alloc, row.text()), row, out);
+        }
         "document_from_str_prints" => owned(Document::from_str(out.alloc, row.text()), row, out),
         _ => read(Document::parse(out.alloc, row.text()), row, out),
     }

@@ -15,8 +15,8 @@ fn error_answer(error: &TomlError, question: &str, out: &mut Answer) {
     match question {
         "is_refused" => out.truth(true),
         "refused" => out.text(error.message()),
-        "at" => out.span(error.span()),
-        "error" => out.shown(error),
+        "at" | "from_str_at" => out.span(error.span()),
+        "error" | "from_str_error" => out.shown(error),
         _ => {
             out.text("refused: ");
             out.text(error.message());
@@ -37,7 +37,9 @@ pub fn none(question: &str, out: &mut Answer) {
 pub fn of_accepted(question: &str, out: &mut Answer) {
     match question {
         "is_refused" => out.truth(false),
-        "refused" | "at" | "error" | "fault" => out.text("not refused"),
+        "refused" | "at" | "error" | "fault" | "from_str_at" | "from_str_error" => {
+            out.text("not refused");
+        }
         "steps" | "reads" | "into_item" | "owned_into_item" => {}
         _ => out.no_such(question),
     }

@@ -1,20 +1,11 @@
--- The marks so far lead over what is to come to those behind all, and what was passed has distinct keys.
-use Rattle.std.proofs.Common.{◌≡◌, drop, take}
-use Rattle.std.specs.List.{AllByRecursion}
-use Rattle.toml_edit_tree.specs.View.{item_view, items_view, slots_view}
-use Rattle.toml_edit_fits.specs.OrderTests.{order_items, order_slots, ItemIsApart, NodeIsApart}
+-- The marks so far lead over what is to come to those behind all.
+use Rattle.std.proofs.Common.{◌≡◌, drop}
+use Rattle.toml_edit_tree.specs.View.{items_view, slots_view}
+use Rattle.toml_edit_fits.specs.OrderTests.{order_items, order_slots}
 use Rattle.toml_edit_fits.proofs.order.+order.Given as goal
 
 abbrev pub invariant-order_slots-slots : goal.invariant-order_slots-slots
-invariant-order_slots-slots l =
-    record {
-      marks : order_slots l.low l.last (slots_view (drop l.slot-index l.entries)) ≡ order_slots l.low l.initial.last (slots_view l.entries);
-      apart : AllByRecursion (λ s. NodeIsApart (item_view s.item)) (take l.slot-index l.entries);
-    }
+invariant-order_slots-slots l = order_slots l.low l.last (slots_view (drop l.slot-index l.entries)) ≡ order_slots l.low l.initial.last (slots_view l.entries)
 
 abbrev pub invariant-order_items-items : goal.invariant-order_items-items
-invariant-order_items-items l =
-    record {
-      marks : order_items l.low l.last (items_view (drop l.item-index l.item-items)) ≡ order_items l.low l.initial.last (items_view l.item-items);
-      apart : AllByRecursion (λ x. ItemIsApart (item_view x)) (take l.item-index l.item-items);
-    }
+invariant-order_items-items l = order_items l.low l.last (items_view (drop l.item-index l.item-items)) ≡ order_items l.low l.initial.last (items_view l.item-items)
