@@ -38,11 +38,13 @@ fn walk<T>(entries: &[Slot<T>], name: &str) -> Option<usize>
     entries.iter().position(|slot| name == slot.key.get())
 }
 
-/// Notes that the slot of a new name comes behind the others. The only error is want of memory: the index stays.
+/// Notes that the slot of a new name comes behind the others, which have room for so many. The only error is want of memory: the index
+/// stays.
 fn add_place<T>(
     index: &mut Option<Box<IndexMap<String, usize>>>,
     alloc: Global,
     entries: &[Slot<T>],
+    room: usize,
     name: &str,
 ) -> Mem<()>
     requires apart { AreApart entries.now }
@@ -58,30 +60,33 @@ fn add_place<T>(
     if entries.len() < FEW {
         return Ok(());
     }
-    let mut places = index_of(alloc, entries)?;
+    let mut places = index_of(alloc, entries, room)?;
     put_place(&mut places, alloc, name, entries.len())?;
     *index = Some(Box::new(alloc, places)?);
     Ok(())
 }
 
-/// The index of these slots.
-fn index_of<T>(alloc: Global, entries: &[Slot<T>]) -> Mem<IndexMap<String, usize>>
+/// The index of these slots, with room for so many.
+fn index_of<T>(alloc: Global, entries: &[Slot<T>], room: usize) -> Mem<IndexMap<String, usize>>
     requires { AreApart entries.now }
     ensures { IfOk result (λ places. IsIndexOf places (names entries.now)) }
 {
-    let mut places = IndexMap::with_capacity(alloc, entries.len() + FEW)?;
+    let mut places = IndexMap::with_capacity(alloc, room)?;
+    // It takes room for a full table, which may be nearly twice as much.
+    places.shrink_to(room);
     for at in 0..entries.len() {
         put_place(&mut places, alloc, entries[at].key.get(), at)?;
     }
     Ok(places)
 }
 
-/// Notes that the slot of a name comes behind the others, if the name is new; the answer is the place where it stands already, if it does.
-/// The only error is want of memory, at a new name: the index stays.
+/// Notes that the slot of a name comes behind the others, which have room for so many, if the name is new; the answer is the place where it
+/// stands already, if it does. The only error is want of memory, at a new name: the index stays.
 pub(crate) fn add_new_place<T>(
     index: &mut Option<Box<IndexMap<String, usize>>>,
     alloc: Global,
     entries: &[Slot<T>],
+    room: usize,
     name: &str,
 ) -> Mem<Option<usize>>
     requires apart { AreApart entries.now }
@@ -97,7 +102,7 @@ pub(crate) fn add_new_place<T>(
     match walk(entries, name) {
         Some(at) => Ok(Some(at)),
         None => {
-            add_place(index, alloc, entries, name)?;
+            add_place(index, alloc, entries, room, name)?;
             Ok(None)
         }
     }

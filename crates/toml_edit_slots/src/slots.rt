@@ -121,6 +121,19 @@ impl<T> Slots<T> {
         }
     }
 
+    /// No slots, with room for so many, where there is the memory for it.
+    pub fn with_room(alloc: Global, count: usize) -> Slots<T>
+        ensures { result ≡ [] }
+    {
+        match Vec::with_capacity(alloc, count) {
+            Ok(entries) => Slots {
+                entries,
+                index: None,
+            },
+            Err(_) => Slots::new(alloc),
+        }
+    }
+
     /// The allocator that they were made with, and by which they grow.
     pub fn allocator(&self) -> Global {
         *self.entries.allocator()
@@ -214,7 +227,8 @@ impl<T> Slots<T> {
         if self.entries.reserve(1).is_err() {
             return Err(self.refused(slot));
         }
-        match add_new_place(&mut self.index, alloc, &self.entries, slot.key.get()) {
+        let room = self.entries.capacity();
+        match add_new_place(&mut self.index, alloc, &self.entries, room, slot.key.get()) {
             Ok(None) => {
                 self.entries.push_reserved(slot);
                 Ok(())
