@@ -48,8 +48,15 @@ impl Table {
     pub fn new(alloc: Global) -> Table
         ensures { table_view result ≡ record { fields = new_table; slots = no_slots } }
     {
+        Table::of_slots(Slots::new(alloc))
+    }
+
+    /// A new table of these slots.
+    pub(crate) fn of_slots(slots: Slots<Item>) -> Table
+        ensures { table_view result ≡ record { fields = new_table; slots = slots_view slots } }
+    {
         Table {
-            slots: Slots::new(alloc),
+            slots,
             decor: Decor::default(),
             implicit: false,
             dotted: false,
