@@ -13,4 +13,5 @@ pub mod InPlace
 pub mod ValueLines
 pub mod ElementLaws
 pub mod RetainLaws
+pub mod HoldsLaws
 pub mod FormatLaws

@@ -6,6 +6,7 @@ pub mod Containers
 pub mod ContainerParts
 pub mod TableLending
 pub mod Elements
+pub mod ElementHolds
 pub mod ElementLending
 pub mod ElementClosures
 pub mod ElementParts

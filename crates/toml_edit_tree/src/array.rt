@@ -90,7 +90,7 @@ impl Array {
     pub fn get(&self, at: usize) -> Option<&Value>
         ensures { option_map (λ v. value_view v.now) result ≡ value_at at (items_of self.now) }
     {
-        self.values.get(at)?.as_value()
+        toml_edit_lists::get(self.values.as_slice(), at)
     }
 
     /// The values in order, without placeholders.

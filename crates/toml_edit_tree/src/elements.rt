@@ -1,73 +1,70 @@
-//! Edits of the lists of items that arrays and arrays of tables have, by place.
-ghost use Rattle.std.specs.Prelude.{◌≡◌, ◌≤◌, ◌<◌, ◌∷◌, ◌++◌, [], true, Some, IsSome, IfErr, OnErr, OnOk, insert, length, slice_index_or, slice_set};
+//! The items of arrays and of arrays of tables, by what they hold: a value, or a table.
+ghost use Rattle.std.specs.Prelude.{◌≡◌, ◌≤◌, Some, IsSome, IfErr, OnErr, OnOk, length};
+ghost use Rattle.std.proofs.Common.{rules};
 ghost use Rattle.toml_edit_model.specs.ArrayCalls.{inserted_at, pushed, removed_at, value_at, written_at};
-ghost use Rattle.toml_edit_model.specs.Shown.{is_table_node};
 ghost use Rattle.toml_edit_model.specs.TablesCalls.{table_at};
-ghost use Rattle.toml_edit_model.specs.Tree.{is_value_node};
 ghost use Rattle.toml_edit_tree.specs.Containers.{table_node};
+ghost use Rattle.toml_edit_tree.specs.ElementHolds.{holding_table, holding_value, table_held, value_held};
 ghost use Rattle.toml_edit_tree.specs.Elements.{listed};
-ghost use Rattle.toml_edit_tree.specs.View.{item_view, items_view, table_view, value_view};
+ghost use Rattle.toml_edit_tree.specs.View.{items_view, table_view, value_view};
+ghost use Rattle.toml_edit_tree.specs.declared.item.Item.{the_lemmas};
 
 use crate::item::Item;
 use crate::table::Table;
 use crate::value::Value;
-use std::mem;
+use toml_edit_lists::Holds;
 use toml_edit_slots::NoMemory;
 
-/// Puts an item last. The only error is want of memory: the list stays, and the error has the item.
-fn push_item<T>(items: &mut Vec<T>, item: T) -> Result<(), NoMemory<T>>
-    ensures items { OnOk result (items.new.items ≡ items.old.items ++ item ∷ []) }
-    ensures err { OnErr result (items.new.items ≡ items.old.items) }
-    ensures back { IfErr result (λ refused. refused.0 ≡ item) }
-{
-    match items.push(item) {
-        Ok(()) => Ok(()),
-        Err(refused) => Err(NoMemory(refused.value)),
+impl Holds<Value> for Item {
+    ghost held = { value_held };
+
+    ghost holding = { holding_value };
+
+    fn as_held(&self) -> Option<&Value> {
+        match self {
+            Item::Value(value) => Some(value),
+            _ => None,
+        }
     }
+
+    fn into_held(self) -> Value {
+        match self {
+            Item::Value(value) => value,
+            _ => unreachable!(),
+        }
+    }
+
+    fn hold(value: Value) -> Item {
+        Item::Value(value)
+    }
+
+    ghost holds = { Prim.search (rules, the_lemmas) };
 }
 
-/// Puts an item at a place, before what stood there. The only error is want of memory: the list stays, and the error has the item.
-fn insert_item<T>(items: &mut Vec<T>, at: usize, item: T) -> Result<(), NoMemory<T>>
-    requires { at ≤ length items.old.items }
-    ensures items { OnOk result (items.new.items ≡ insert items.old.items at item) }
-    ensures err { OnErr result (items.new.items ≡ items.old.items) }
-    ensures back { IfErr result (λ refused. refused.0 ≡ item) }
-{
-    match items.insert(at, item) {
-        Ok(()) => Ok(()),
-        Err(refused) => Err(NoMemory(refused.value)),
-    }
-}
+impl Holds<Table> for Item {
+    ghost held = { table_held };
 
-/// Puts an item in the place of another, which is the answer.
-fn replace_item<T>(items: &mut Vec<T>, at: usize, item: T) -> T
-    requires { at < length items.old.items }
-    ensures item { result ≡ slice_index_or items.old.items at result }
-    ensures items { items.new.items ≡ slice_set items.old.items at item }
-{
-    mem::replace(&mut items[at], item)
-}
+    ghost holding = { holding_table };
 
-/// The value that an item is.
-fn held_value(item: Item) -> Value
-    requires { is_value_node (item_view item) ≡ true }
-    ensures { value_view result ≡ item_view item }
-{
-    match item {
-        Item::Value(value) => value,
-        _ => unreachable!(),
+    fn as_held(&self) -> Option<&Table> {
+        match self {
+            Item::Table(table) => Some(table),
+            _ => None,
+        }
     }
-}
 
-/// The table that an item is.
-fn held_table(item: Item) -> Table
-    requires { is_table_node (item_view item) ≡ true }
-    ensures { table_node (table_view result) ≡ item_view item }
-{
-    match item {
-        Item::Table(table) => table,
-        _ => unreachable!(),
+    fn into_held(self) -> Table {
+        match self {
+            Item::Table(table) => table,
+            _ => unreachable!(),
+        }
     }
+
+    fn hold(table: Table) -> Item {
+        Item::Table(table)
+    }
+
+    ghost holds = { Prim.search (rules, the_lemmas) };
 }
 
 /// Takes out the value at a place.
@@ -76,7 +73,7 @@ pub(crate) fn take_value(items: &mut Vec<Item>, at: usize) -> Value
     ensures value { Some (value_view result) ≡ value_at at (listed items.old.items) }
     ensures items { listed items.new.items ≡ removed_at at (listed items.old.items) }
 {
-    held_value(items.remove(at))
+    toml_edit_lists::remove(items, at)
 }
 
 /// Takes out the table at a place.
@@ -85,7 +82,7 @@ pub(crate) fn take_table(items: &mut Vec<Item>, at: usize) -> Table
     ensures table { Some (table_node (table_view result)) ≡ table_at at (listed items.old.items) }
     ensures items { listed items.new.items ≡ removed_at at (listed items.old.items) }
 {
-    held_table(items.remove(at))
+    toml_edit_lists::remove(items, at)
 }
 
 /// Puts a value in the place of the one there, which is the answer.
@@ -94,7 +91,7 @@ pub(crate) fn replace_value(items: &mut Vec<Item>, at: usize, value: Value) -> V
     ensures value { Some (value_view result) ≡ value_at at (listed items.old.items) }
     ensures items { listed items.new.items ≡ written_at at (value_view value) (listed items.old.items) }
 {
-    held_value(replace_item(items, at, Item::Value(value)))
+    toml_edit_lists::replace(items, at, value)
 }
 
 /// Puts a table in the place of the one there, which is the answer.
@@ -103,7 +100,7 @@ pub(crate) fn replace_table(items: &mut Vec<Item>, at: usize, table: Table) -> T
     ensures table { Some (table_node (table_view result)) ≡ table_at at (listed items.old.items) }
     ensures items { listed items.new.items ≡ written_at at (table_node (table_view table)) (listed items.old.items) }
 {
-    held_table(replace_item(items, at, Item::Table(table)))
+    toml_edit_lists::replace(items, at, table)
 }
 
 /// Puts a value last. The only error is want of memory: the list stays, and the error has the value.
@@ -112,10 +109,9 @@ pub(crate) fn push_value(items: &mut Vec<Item>, value: Value) -> Result<(), NoMe
     ensures err { OnErr result (items_view items.new.items ≡ items_view items.old.items) }
     ensures back { IfErr result (λ refused. refused.0 ≡ value) }
 {
-    match push_item(items, Item::Value(value)) {
+    match toml_edit_lists::push(items, value) {
         Ok(()) => Ok(()),
-        Err(NoMemory(Item::Value(value))) => Err(NoMemory(value)),
-        Err(_) => unreachable!(),
+        Err(value) => Err(NoMemory(value)),
     }
 }
 
@@ -125,10 +121,9 @@ pub(crate) fn push_table(items: &mut Vec<Item>, table: Table) -> Result<(), NoMe
     ensures err { OnErr result (items_view items.new.items ≡ items_view items.old.items) }
     ensures back { IfErr result (λ refused. refused.0 ≡ table) }
 {
-    match push_item(items, Item::Table(table)) {
+    match toml_edit_lists::push(items, table) {
         Ok(()) => Ok(()),
-        Err(NoMemory(Item::Table(table))) => Err(NoMemory(table)),
-        Err(_) => unreachable!(),
+        Err(table) => Err(NoMemory(table)),
     }
 }
 
@@ -143,10 +138,9 @@ pub(crate) fn insert_value(
     ensures err { OnErr result (items_view items.new.items ≡ items_view items.old.items) }
     ensures back { IfErr result (λ refused. refused.0 ≡ value) }
 {
-    match insert_item(items, at, Item::Value(value)) {
+    match toml_edit_lists::insert(items, at, value) {
         Ok(()) => Ok(()),
-        Err(NoMemory(Item::Value(value))) => Err(NoMemory(value)),
-        Err(_) => unreachable!(),
+        Err(value) => Err(NoMemory(value)),
     }
 }
 
@@ -161,9 +155,8 @@ pub(crate) fn insert_table(
     ensures err { OnErr result (items_view items.new.items ≡ items_view items.old.items) }
     ensures back { IfErr result (λ refused. refused.0 ≡ table) }
 {
-    match insert_item(items, at, Item::Table(table)) {
+    match toml_edit_lists::insert(items, at, table) {
         Ok(()) => Ok(()),
-        Err(NoMemory(Item::Table(table))) => Err(NoMemory(table)),
-        Err(_) => unreachable!(),
+        Err(table) => Err(NoMemory(table)),
     }
 }

@@ -3,8 +3,8 @@ ghost use Rattle.std.specs.Prelude.{◌≡◌, ◌∷◌, List, Some};
 ghost use Rattle.toml_edit_model.specs.Conversions.{element_decor, formatted_array, formatted_from, formatted_items};
 ghost use Rattle.toml_edit_model.specs.Iterating.{values};
 ghost use Rattle.toml_edit_model.specs.Retaining.{RetainsBy};
-ghost use Rattle.toml_edit_model.specs.Tree.{Node, is_value_node};
-ghost use Rattle.toml_edit_tree.specs.ElementClosures.{KeepsOnly, SaysOfValue};
+ghost use Rattle.toml_edit_model.specs.Tree.{Node};
+ghost use Rattle.toml_edit_tree.specs.ElementClosures.{SaysOfValue};
 ghost use Rattle.toml_edit_tree.specs.Elements.{array_fields, items_of, listed};
 ghost use Rattle.toml_edit_tree.specs.View.{item_view};
 
@@ -46,17 +46,7 @@ where
     requires { F.IsAlwaysCallable keep }
     ensures { RetainsBy (SaysOfValue F.Fn keep) (values (listed items.old.items)) (listed items.new.items) }
 {
-    items.retain(
-        |item|
-            requires { F.IsAlwaysCallable keep }
-            ensures { KeepsOnly is_value_node (SaysOfValue F.Fn keep) (item_view item.entry.now) result }
-        {
-            match item.as_value() {
-                Some(value) => keep(value),
-                None => false,
-            }
-        },
-    );
+    toml_edit_lists::retain(items, keep);
 }
 
 /// Puts nothing around the first value, and one space before each of the others. It takes no memory.

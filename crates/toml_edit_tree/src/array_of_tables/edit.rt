@@ -16,7 +16,7 @@ impl ArrayOfTables {
     pub fn get(&self, at: usize) -> Option<&Table>
         ensures { option_map (λ table. table_node (table_view table.now)) result ≡ table_at at (tables_of self.now) }
     {
-        self.values.get(at)?.as_table()
+        toml_edit_lists::get(self.values.as_slice(), at)
     }
 
     /// Takes all slots out.

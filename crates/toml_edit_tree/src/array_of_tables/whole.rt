@@ -2,10 +2,8 @@
 ghost use Rattle.std.specs.Prelude.{◌≡◌};
 ghost use Rattle.toml_edit_model.specs.Iterating.{elements};
 ghost use Rattle.toml_edit_model.specs.Retaining.{RetainsBy};
-ghost use Rattle.toml_edit_model.specs.Shown.{is_table_node};
-ghost use Rattle.toml_edit_tree.specs.ElementClosures.{KeepsOnly, SaysOfTable};
+ghost use Rattle.toml_edit_tree.specs.ElementClosures.{SaysOfTable};
 ghost use Rattle.toml_edit_tree.specs.Elements.{extent_of, listed, tables_of};
-ghost use Rattle.toml_edit_tree.specs.View.{item_view};
 
 use super::ArrayOfTables;
 use crate::item::Item;
@@ -32,15 +30,5 @@ where
     requires { F.IsAlwaysCallable keep }
     ensures { RetainsBy (SaysOfTable F.Fn keep) (elements (listed items.old.items)) (listed items.new.items) }
 {
-    items.retain(
-        |item|
-            requires { F.IsAlwaysCallable keep }
-            ensures { KeepsOnly is_table_node (SaysOfTable F.Fn keep) (item_view item.entry.now) result }
-        {
-            match item.as_table() {
-                Some(table) => keep(table),
-                None => false,
-            }
-        },
-    );
+    toml_edit_lists::retain(items, keep);
 }

@@ -7,8 +7,8 @@ use Rattle.toml_edit_tree.proofs.ElementLaws.{inserted-listed, listed-length}
 use Rattle.toml_edit_tree.proofs.ViewLaws.{view-Table}
 use Rattle.toml_edit_tree.proofs.elements.insert_table.Goals as goal
 
-pub insert_item-requires : goal.insert_item-requires
-insert_item-requires c = subst (λ n. c.args.at ≤ n) (listed-length c.args.items.now.items) c.requires
+pub insert-requires : goal.insert-requires
+insert-requires c = subst (λ n. c.args.at ≤ n) (listed-length c.args.items.now.items) c.requires
 
 pub returns-in-Ok-clause-items : goal.returns-in-Ok-clause-items
 returns-in-Ok-clause-items c =
