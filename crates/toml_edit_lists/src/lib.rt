@@ -3,8 +3,10 @@
 
 mod edit;
 mod holds;
+mod sort;
 mod whole;
 
 pub use edit::{get, insert, push, remove, replace};
 pub use holds::Holds;
+pub use sort::{sort_by, sort_by_key};
 pub use whole::retain;

@@ -14,4 +14,5 @@ pub mod ValueLines
 pub mod ElementLaws
 pub mod RetainLaws
 pub mod HoldsLaws
+pub mod SortsLaws
 pub mod FormatLaws

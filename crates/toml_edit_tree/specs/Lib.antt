@@ -9,6 +9,7 @@ pub mod Elements
 pub mod ElementHolds
 pub mod ElementLending
 pub mod ElementClosures
+pub mod ElementSorts
 pub mod ElementParts
 pub mod SlotsOf
 pub mod Converting

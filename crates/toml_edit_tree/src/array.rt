@@ -23,6 +23,7 @@ use toml_edit_repr::{Decor, Mem, RawString};
 mod edit;
 mod iter;
 mod replace;
+mod sort;
 mod whole;
 
 /// An array: its values in order, with what stands around them (TOML, "Array"). A slot may be a placeholder, which isn't printed.

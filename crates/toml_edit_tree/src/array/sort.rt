@@ -1,0 +1,67 @@
+//! The values of an array in another order.
+ghost use Rattle.std.specs.Prelude.{◌≡◌, IsPermutation, OnErr, OnOk};
+ghost use Rattle.toml_edit_tree.specs.ElementSorts.{SortsValuesAs, SortsValuesByKey};
+ghost use Rattle.toml_edit_tree.specs.Elements.{array_fields, items_of, listed};
+ghost use Rattle.toml_edit_tree.specs.View.{array_view, items_view};
+
+use super::Array;
+use crate::item::Item;
+use crate::value::Value;
+use std::cmp::Ordering;
+use toml_edit_repr::Mem;
+
+impl Array {
+    /// Sorts the values by the closure. Slots without a value come first, and ties keep their order. The only error is want of memory, and
+    /// then the array stays.
+    pub fn sort_by<F: Fn(&Value, &Value) -> Ordering>(&mut self, compare: F) -> Mem<()>
+    where
+        F: Drop,
+        requires { F.IsAlwaysCallable compare }
+        ensures permutation { IsPermutation (items_of self.old) (items_of self.new) }
+        ensures sorted { OnOk result (SortsValuesAs F.FnMut compare (items_of self.old) (items_of self.new)) }
+        ensures fields { array_fields self.new ≡ array_fields self.old }
+        ensures err { OnErr result (array_view self.new ≡ array_view self.old) }
+    {
+        sort_values(&mut self.values, compare)
+    }
+
+    /// Sorts the values by the keys that the closure gives of them. Slots without a value come first, and ties keep their order. The only
+    /// error is want of memory, and then the array stays.
+    pub fn sort_by_key<K: Ord, F: Fn(&Value) -> K>(&mut self, key: F) -> Mem<()>
+    where
+        K: Drop,
+        F: Drop,
+        requires { F.IsAlwaysCallable key }
+        ensures permutation { IsPermutation (items_of self.old) (items_of self.new) }
+        ensures sorted { OnOk result (SortsValuesByKey F.FnMut K.cmp key (items_of self.old) (items_of self.new)) }
+        ensures fields { array_fields self.new ≡ array_fields self.old }
+        ensures err { OnErr result (array_view self.new ≡ array_view self.old) }
+    {
+        sort_values_by_key(&mut self.values, key)
+    }
+}
+
+/// Sorts items by their values. The others come first.
+fn sort_values<F: Fn(&Value, &Value) -> Ordering>(items: &mut Vec<Item>, compare: F) -> Mem<()>
+where
+    F: Drop,
+    requires { F.IsAlwaysCallable compare }
+    ensures permutation { IsPermutation (listed items.old.items) (listed items.new.items) }
+    ensures sorted { OnOk result (SortsValuesAs F.FnMut compare (listed items.old.items) (listed items.new.items)) }
+    ensures err { OnErr result (items_view items.new.items ≡ items_view items.old.items) }
+{
+    toml_edit_lists::sort_by(items, compare)
+}
+
+/// Sorts items by keys of their values. The others come first.
+fn sort_values_by_key<K: Ord, F: Fn(&Value) -> K>(items: &mut Vec<Item>, key: F) -> Mem<()>
+where
+    K: Drop,
+    F: Drop,
+    requires { F.IsAlwaysCallable key }
+    ensures permutation { IsPermutation (listed items.old.items) (listed items.new.items) }
+    ensures sorted { OnOk result (SortsValuesByKey F.FnMut K.cmp key (listed items.old.items) (listed items.new.items)) }
+    ensures err { OnErr result (items_view items.new.items ≡ items_view items.old.items) }
+{
+    toml_edit_lists::sort_by_key(items, key)
+}
