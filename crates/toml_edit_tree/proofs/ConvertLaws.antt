@@ -1,19 +1,22 @@
 -- Items that are made values or tables, and slots whose decors are unset, place by place.
-use Rattle.std.proofs.Common.{◌≡◌, ℕ, zero, suc, ◌<◌, ◌≤◌, ◌+◌, Bool, true, false, not, ◌&&◌, List, [], ◌∷◌, cond, filter, length, map, get_or, set, refl, sym, ap, subst, ◌∙◌, arith}
+use Rattle.std.proofs.Common.{◌≡◌, ℕ, zero, suc, ◌<◌, ◌≤◌, ◌+◌, Bool, true, false, not, ◌&&◌, List, [], ◌∷◌, None, Some, cond, filter, length, map, get_or, set, refl, sym, ap, subst, ◌∙◌, arith}
 use Rattle.std.specs.List.{list_all}
-use Rattle.toml_edit_model.specs.Conversions.{element_decor, formatted, formatted_from, formatted_items, made_items, made_slots, made_value, may_be_tables, with_decor}
+use Rattle.toml_edit_model.specs.Conversions.{formatted, formatted_array, formatted_items, into_tables, made_items, made_slots, made_table, made_value, may_be_tables, new_array, new_inline, with_decor}
 use Rattle.toml_edit_model.specs.Keys.{cleared_key}
 use Rattle.toml_edit_model.specs.Lists as lists
 use Rattle.toml_edit_model.specs.Slots as model
-use Rattle.toml_edit_model.specs.Lists.{is_inline_node}
+use Rattle.toml_edit_model.specs.Lists.{is_inline_node, is_tables_node}
 use Rattle.toml_edit_model.specs.Text.{is_empty}
-use Rattle.toml_edit_model.specs.Tree.{Key, Node, nothing, leaf, list, inline, table, tables, Items, no_items, item, Slots, no_slots, slot, is_value_node, unset}
+use Rattle.toml_edit_model.specs.Tree.{ArrayFields, Key, Node, nothing, leaf, list, inline, table, tables, Items, no_items, item, Slots, no_slots, slot, is_value_node, unset}
 use Rattle.toml_edit_slots.specs.declared.slots.Slot.{Slot}
 use Rattle.toml_edit_slots.specs.Slots.{on_item, on_key, with_item}
-use Rattle.toml_edit_tree.specs.Containers.{items_from, slots_from}
-use Rattle.toml_edit_tree.specs.Converting.{each_made, each_slot_made, formatted_elements, formatted_slots, still_first, suits_tables}
+use Rattle.toml_edit_laws.proofs.slots.Lists.{items_from-list}
+use Rattle.toml_edit_tree.specs.Containers.{ArrayView, array_node, items_from, slots_from}
+use Rattle.toml_edit_tree.specs.Converting.{each_made, each_slot_made, formatted_elements, formatted_slots, in_new_form, inside_made, suits_tables, tables_made}
+use Rattle.toml_edit_tree.specs.declared.array.Array.{Array}
 use Rattle.toml_edit_tree.specs.declared.item.Item.{Item}
-use Rattle.toml_edit_tree.specs.View.{item_view, items_view}
+use Rattle.toml_edit_tree.specs.Elements.{array_fields, items_of}
+use Rattle.toml_edit_tree.specs.View.{array_view, item_view}
 
 -- ---- each item made a value
 
@@ -42,6 +45,24 @@ value-slots ss = ap (λ l. lists.slots_from (formatted l)) (made-slots ss)
 
 pub value-items : (xs : Items) → formatted_elements (each_made xs) ≡ lists.items_from (formatted_items (made_items xs))
 value-items xs = ap (λ l. lists.items_from (formatted_items l)) (made-items xs)
+
+-- what is below made values, and then the item in its new form
+pub made-inside : (n : Node) → in_new_form (inside_made n) ≡ made_value n
+made-inside nothing = refl
+made-inside (leaf s spelling d) = refl
+made-inside (list f xs) = refl
+made-inside (inline f ss) = refl
+made-inside (table f ss) = ap (inline new_inline) (value-slots ss)
+made-inside (tables e xs) = ap (list new_array) (value-items xs)
+
+-- a new array of items once `fmt` was called
+pub array-formed : (a n : Array) (xs : Items) → array_view a ≡ record { fields = new_array; items = xs } → items_of n ≡ formatted_items (items_of a)
+    → array_fields n ≡ formatted_array (array_fields a) → array_node (array_view n) ≡ list new_array (formatted_elements xs)
+array-formed a n xs is items fields =
+    let same_fields : (array_view n).fields ≡ new_array = fields ∙ ap (λ (v : ArrayView). formatted_array v.fields) is in
+    let same_items : (array_view n).items ≡ formatted_elements xs =
+    sym (items_from-list (array_view n).items) ∙ ap lists.items_from (items ∙ ap (λ (v : ArrayView). formatted_items (lists.item_list v.items)) is) in
+    λ i. list (same_fields i) (same_items i)
 
 -- ---- slots without decors
 
@@ -73,96 +94,30 @@ pub slot-formatted : (s : Slot Item) (y : Item) (b : Bool) → is_value_node (it
     → on_item item_view (record { key = cond b (cleared_key s.key) s.key; item = y }) ≡ formatted_slot (on_item item_view s)
 slot-formatted s y b is e = λ i. record { key = cond (sym is i) (cleared_key s.key) s.key; item = e i }
 
--- ---- the values of an array, and what stands before each
-
--- the items before the place have their decors, and the others are as they were; b and c tell whether no value stands before the first item,
--- and before the place
-abbrev pub Spaced : List Item → List Item → ℕ → Bool → Bool → Type 0
-Spaced items first zero b c = (items ≡ first) × (b ≡ c)
-Spaced (y ∷ items) (x ∷ first) (suc at) b c =
-    (item_view y ≡ with_decor (element_decor b) (item_view x)) × Spaced items first at (still_first b (item_view x)) c
-Spaced [] first (suc at) b c = ⊥
-Spaced (y ∷ items) [] (suc at) b c = ⊥
-
-abbrev IsFilled : List Item → Type 0
-IsFilled [] = ⊥
-IsFilled (x ∷ xs) = Unit {0}
-
-abbrev front : Item → List Item → Item
-front d [] = d
-front d (x ∷ xs) = x
-
-abbrev behind : List Item → List Item
-behind [] = []
-behind (x ∷ xs) = xs
-
-space-next : (items first : List Item) (at : ℕ) (b c : Bool) → Spaced items first at b c → at < length items → (d y : Item)
-    → item_view y ≡ with_decor (element_decor c) (item_view (get_or items at d))
-    → Spaced (set items at y) first (suc at) b (still_first c (item_view (get_or items at d)))
-space-next [] first zero b c h l d y e = absurd (omega (arith, l))
-space-next (x ∷ items) [] zero b c h l d y e = absurd (subst IsFilled h.0 tt)
-space-next (x ∷ items) (z ∷ first) zero b c h l d y e =
-    let head : x ≡ z = ap (front x) h.0 in
-    let tail : items ≡ first = ap behind h.0 in (
-      e ∙ ap (λ k. with_decor (element_decor k) (item_view x)) (sym h.1) ∙ ap (λ w. with_decor (element_decor b) (item_view w)) head,
-      (tail, ap (λ w. still_first b (item_view w)) (sym head) ∙ ap (λ k. still_first k (item_view x)) h.1),
-    )
-space-next [] first (suc at) b c h l d y e = absurd (omega (arith, l))
-space-next (x ∷ items) [] (suc at) b c h l d y e = absurd h
-space-next (x ∷ items) (z ∷ first) (suc at) b c h l d y e =
-    (h.0, space-next items first at (still_first b (item_view z)) c h.1 (omega (arith, l)) d y e)
-
-as-next : (n : ℕ) → suc n ≡ n + 1
-as-next n = omega arith
-
-pub space-step : (items first : List Item) (at : ℕ) (b c : Bool) → Spaced items first at b c → at < length items → (d y : Item)
-    → item_view y ≡ with_decor (element_decor c) (item_view (get_or items at d))
-    → Spaced (set items at y) first (at + 1) b (still_first c (item_view (get_or items at d)))
-space-step items first at b c h l d y e =
-    subst (λ n. Spaced (set items at y) first n b (still_first c (item_view (get_or items at d)))) (as-next at) (space-next items first at b c h l d y e)
-
-pub space-long : (items first : List Item) (at : ℕ) (b c : Bool) → Spaced items first at b c → length items ≡ length first
-space-long items first zero b c h = ap length h.0
-space-long [] first (suc at) b c h = absurd h
-space-long (x ∷ items) [] (suc at) b c h = absurd h
-space-long (x ∷ items) (z ∷ first) (suc at) b c h = ap suc (space-long items first at (still_first b (item_view z)) c h.1)
-
-one-spaced : (b : Bool) (n m : Node) (ns ms : List Node) → m ≡ with_decor (element_decor b) n → ms ≡ formatted_from (still_first b n) ns → m ∷ ms ≡ formatted_from b (n ∷ ns)
-one-spaced b nothing m ns ms e h = λ i. e i ∷ h i
-one-spaced b (leaf s spelling d) m ns ms e h = λ i. e i ∷ h i
-one-spaced b (list f xs) m ns ms e h = λ i. e i ∷ h i
-one-spaced b (inline f ss) m ns ms e h = λ i. e i ∷ h i
-one-spaced b (table f ss) m ns ms e h = λ i. e i ∷ h i
-one-spaced b (tables x xs) m ns ms e h = λ i. e i ∷ h i
-
-pub space-all : (items first : List Item) (at : ℕ) (b c : Bool) → Spaced items first at b c → length items ≤ at
-    → map item_view items ≡ formatted_from b (map item_view first)
-space-all [] first zero b c h l = ap (λ l. formatted_from b (map item_view l)) h.0
-space-all (x ∷ items) first zero b c h l = absurd (omega (arith, l))
-space-all [] first (suc at) b c h l = absurd h
-space-all (x ∷ items) [] (suc at) b c h l = absurd h
-space-all (x ∷ items) (z ∷ first) (suc at) b c h l =
-    one-spaced b (item_view z) (item_view x) (map item_view first) (map item_view items) h.0
-    (space-all items first at (still_first b (item_view z)) c h.1 (omega (arith, l)))
-
--- the two ways from a list to items
-same-items : (ns : List Node) → items_from ns ≡ lists.items_from ns
-same-items [] = refl
-same-items (n ∷ ns) = ap (item n) (same-items ns)
-
-listed : (ns : List Node) → lists.item_list (items_from ns) ≡ ns
-listed [] = refl
-listed (n ∷ ns) = ap (λ l. n ∷ l) (listed ns)
-
-pub spaced-items : (items first : List Item) → map item_view items ≡ formatted_from true (map item_view first) → items_view items ≡ formatted_elements (items_view first)
-spaced-items items first h =
-    same-items (map item_view items) ∙ ap lists.items_from (h ∙ ap formatted_items (sym (listed (map item_view first))))
-
 -- another item leaves as many slots
 pub as-long : (es : List (Slot Item)) (i : ℕ) (y : Item) → length (with_item i y es) ≡ length es
 as-long [] i y = refl
 as-long (s ∷ es) zero y = refl
 as-long (s ∷ es) (suc i) y = ap suc (as-long es i y)
+
+-- ---- each inline table made a table
+
+pub each-table : (ns : List Node) → items_from (map made_table ns) ≡ tables_made (items_from ns)
+each-table [] = refl
+each-table (n ∷ ns) = ap (item (made_table n)) (each-table ns)
+
+tables-listed : (xs : Items) → lists.items_from (map made_table (lists.item_list xs)) ≡ tables_made xs
+tables-listed no_items = refl
+tables-listed (item n xs) = ap (item (made_table n)) (tables-listed xs)
+
+-- an array that may be tables, and one that may not
+pub may-become : (f : ArrayFields) (xs : Items) → may_be_tables (lists.item_list xs) ≡ true → into_tables (list f xs) ≡ Some (tables None (tables_made xs))
+may-become f xs h =
+    ap (λ b. lists.only is_tables_node (cond b (tables None (lists.items_from (map made_table (lists.item_list xs)))) (list f xs))) h
+    ∙ ap (λ l. Some (tables None l)) (tables-listed xs)
+
+pub may-not : (f : ArrayFields) (xs : Items) → may_be_tables (lists.item_list xs) ≡ false → into_tables (list f xs) ≡ None
+may-not f xs h = ap (λ b. lists.only is_tables_node (cond b (tables None (lists.items_from (map made_table (lists.item_list xs)))) (list f xs))) h
 
 -- ---- arrays that may not be arrays of tables
 
