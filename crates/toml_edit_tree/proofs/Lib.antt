@@ -9,6 +9,7 @@ pub mod TurnLaws
 pub mod ViewLaws
 pub mod ContainerLaws
 pub mod SlotsLaws
+pub mod InlineLaws
 pub mod InPlace
 pub mod ValueLines
 pub mod ElementLaws

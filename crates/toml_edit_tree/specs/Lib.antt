@@ -12,4 +12,5 @@ pub mod ElementClosures
 pub mod ElementSorts
 pub mod ElementParts
 pub mod SlotsOf
+pub mod InlineSlots
 pub mod Converting

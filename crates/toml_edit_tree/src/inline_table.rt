@@ -21,6 +21,9 @@ use toml_edit_key::Key;
 use toml_edit_repr::{Decor, Mem, RawString};
 use toml_edit_slots::{Slot, Slots};
 
+mod change;
+mod look_up;
+
 /// An inline table: its slots in order, with what stands around them (TOML, "Inline Table"). A slot may be a placeholder, which
 /// isn't printed.
 #[cycle(tree)]
