@@ -78,7 +78,11 @@ pub fn parse(alloc: Global, source: &str) -> Result<(Slots<Item>, RawString), Pa
     ensures refused { IfErr result (λ e. IfToml e (IsRefusal source.now)) }
 {
     match events(alloc, source) {
-        Ok(events) => parse_events(alloc, source, events.as_slice()),
+        Ok(mut events) => {
+            // The tree is made beside them, so they take no more room than they need.
+            events.shrink_to_fit();
+            parse_events(alloc, source, events.as_slice())
+        }
         Err(SyntaxFault::Memory) => Err(ParseFault::Memory),
         Err(SyntaxFault::Text(mistake, span)) => {
             Err(refusal(alloc, source, mistake.message(), span))

@@ -78,6 +78,20 @@ fn spanned(span: Span) -> RawString
     }
 }
 
+/// How many slots the key lines before the first header make at least, unless two keys are one: a line whose key has no dot makes one.
+fn slot_count(events: &[Event]) -> usize {
+    let mut count: usize = 0;
+    for event in events {
+        match event.kind {
+            EventKind::LineEnd => count = count.saturating_add(1),
+            EventKind::BeforeDot => count = count.saturating_sub(1),
+            EventKind::HeaderOpen | EventKind::ArrayHeaderOpen => return count,
+            _ => {}
+        }
+    }
+    count
+}
+
 /// The slots of the statements, and the text after the last.
 pub(crate) fn build(
     alloc: Global,
@@ -90,7 +104,7 @@ pub(crate) fn build(
 {
     let mut building = Building {
         root: Slots::new(alloc),
-        current: Slots::new(alloc),
+        current: Slots::with_room(alloc, slot_count(events)),
         block: Vec::new(alloc),
         headers: 0,
         item: Item::None,

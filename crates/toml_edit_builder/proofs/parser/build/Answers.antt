@@ -13,9 +13,9 @@ statements-init c =
       spans = c.requires;
       count = omega arith;
       progress = λ d cut e.
-          let held : Building = record { root = c.new.result; current = c.new-2.result; block = c.new-3.result; headers = 0; item = items.None } in
+          let held : Building = record { root = c.new.result; current = c.with_room.result; block = c.new-2.result; headers = 0; item = items.None } in
           at_start c.args.source.now d c.args.events.now held cut e
-          (held_first d.has_mark held (ap slots_view c.new.ensures) (ap slots_view c.new-2.ensures) c.new-3.ensures.items refl);
+          (held_first d.has_mark held (ap slots_view c.new.ensures) (ap slots_view c.with_room.ensures) c.new-2.ensures.items refl);
     }
 
 pub statements-preserved : goal.statements-preserved
