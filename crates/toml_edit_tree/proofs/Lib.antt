@@ -17,3 +17,4 @@ pub mod RetainLaws
 pub mod HoldsLaws
 pub mod SortsLaws
 pub mod FormatLaws
+pub mod TableEntryLaws

@@ -14,3 +14,4 @@ pub mod ElementParts
 pub mod SlotsOf
 pub mod InlineSlots
 pub mod Converting
+pub mod TableEntries

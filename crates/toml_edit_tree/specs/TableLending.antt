@@ -1,10 +1,11 @@
 -- A new table, and what a table lends of its slots.
-use Rattle.std.specs.Prelude.{false, Option, None}
+use Rattle.std.specs.Prelude.{ℕ, false, Option, None}
 use Rattle.std.specs.Option.{option_map_or}
-use Rattle.std.specs.Borrow.{LendsIf, MutBor, Fml}
+use Rattle.std.specs.Borrow.{Lends, LendsIf, MutBor, Fml}
 use Rattle.toml_edit_model.specs.Text.{Text}
-use Rattle.toml_edit_model.specs.Tree.{TableFields, unset}
-use Rattle.toml_edit_slots.specs.Slots.{place, with_item}
+use Rattle.toml_edit_model.specs.Tree.{Decor, Key, TableFields, unset}
+use Rattle.toml_edit_repr.specs.contracts.repr.Decor.{the_row as decor_row}
+use Rattle.toml_edit_slots.specs.Slots.{on_key, place, with_item}
 use Rattle.toml_edit_tree.specs.declared.item.Item.{Item}
 use Rattle.toml_edit_tree.specs.declared.table.Table.{Table, out-Table}
 use Rattle.toml_edit_tree.specs.contracts.item.Item.{the_row as item_row}
@@ -21,3 +22,20 @@ with_item_under k x t =
 -- the table ends with the last item behind r in the slot of the key, where an item is lent
 abbrev pub LendsHeld : MutBor Table → Text → Option (MutBor Item) → Fml
 LendsHeld s k r = LendsIf table_row item_row s r (λ w. with_item_under k w s.now) s.now
+
+-- the table with another item in the slot at a place, or with the key there changed
+abbrev pub with_item_at : ℕ → Item → Table → Table
+with_item_at at x t = record t { slots = with_item at x (out-Table t).slots }
+
+abbrev pub with_key_at : ℕ → (Key → Key) → Table → Table
+with_key_at at h t = record t { slots = on_key at h (out-Table t).slots }
+
+-- the table ends with the last item behind r in the slot at the place, or with the last decor as one of the key's there
+abbrev pub LendsItemAt : MutBor Table → ℕ → MutBor Item → Fml
+LendsItemAt s at r = Lends table_row item_row s r (λ w. with_item_at at w s.now)
+
+abbrev pub LendsLeafAt : MutBor Table → ℕ → MutBor Decor → Fml
+LendsLeafAt s at r = Lends table_row decor_row s r (λ w. with_key_at at (λ k. record k { leaf = w }) s.now)
+
+abbrev pub LendsDottedAt : MutBor Table → ℕ → MutBor Decor → Fml
+LendsDottedAt s at r = Lends table_row decor_row s r (λ w. with_key_at at (λ k. record k { dotted = w }) s.now)

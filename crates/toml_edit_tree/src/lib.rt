@@ -22,5 +22,5 @@ pub use inline_table::{InlineTable, InlineTableIter};
 pub use item::Item;
 #[doc(hidden)]
 pub use order::put_in_order;
-pub use table::{IntoIter, Iter, Table};
+pub use table::{Entry, IntoIter, Iter, OccupiedEntry, Table, VacantEntry};
 pub use value::Value;

@@ -24,10 +24,13 @@ use toml_edit_key::Key;
 use toml_edit_repr::{Decor, Mem};
 use toml_edit_slots::{Slot, Slots};
 
+mod at;
 mod change;
+pub mod entry;
 mod iterate;
 mod look_up;
 
+pub use entry::{Entry, OccupiedEntry, VacantEntry};
 pub use iterate::IntoIter;
 
 /// A table: its slots in order, and what is kept of its header (TOML, "Table"). A slot may be a placeholder, which isn't printed.

@@ -1,0 +1,14 @@
+-- The item of an entry, to be changed.
+use Rattle.std.proofs.Common.{refl, arith}
+use Rattle.toml_edit_slots.specs.Entries.{length-with_item}
+use Rattle.toml_edit_tree.specs.declared.table.Table.{out-Table}
+use Rattle.toml_edit_tree.proofs.TableEntryLaws.{item_written}
+use Rattle.toml_edit_tree.proofs.table.entry.OccupiedEntry.get_mut.Goals as goal
+
+pub invariant_of-self-lent : goal.invariant_of-self-lent
+invariant_of-self-lent c w =
+    let o = c.args.self.now in
+    (omega (arith, o.within, length-with_item (out-Table o.table.now).slots o.at w), tt)
+
+pub returns : goal.returns
+returns c = ((refl, λ w. item_written c.args.self.now w _), record { writes_back = tt; item = c.item_at_mut.ensures.item })

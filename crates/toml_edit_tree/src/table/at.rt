@@ -1,0 +1,52 @@
+//! Slots of a table by their places: what is written in one, and one that is taken out.
+ghost use Rattle.std.specs.Prelude.{◌≡◌, ◌<◌, Some, IfSome, length, option_map, slice_get};
+ghost use Rattle.std.specs.Borrow.{sem};
+ghost use Rattle.toml_edit_model.specs.Slots.{without};
+ghost use Rattle.toml_edit_slots.specs.Slots.{items_of};
+ghost use Rattle.toml_edit_tree.specs.SlotsOf.{slots_of};
+ghost use Rattle.toml_edit_tree.specs.TableLending.{LendsDottedAt, LendsItemAt, LendsLeafAt};
+ghost use Rattle.toml_edit_tree.specs.View.{fields_view};
+ghost use Rattle.toml_edit_tree.specs.declared.table.Table.{out-Table};
+
+use super::Table;
+use crate::item::Item;
+use toml_edit_repr::Decor;
+
+impl Table {
+    /// The item at the place, to be changed.
+    pub(crate) fn item_at_mut(&mut self, at: usize) -> &mut Item
+        requires { at < length (out-Table self.old).slots }
+        ensures* writes_back { sem 𝓛 (LendsItemAt self.entry at result) }
+        ensures item { Some result.now ≡ slice_get (items_of (out-Table self.old).slots) at }
+    {
+        self.slots.item_mut(at)
+    }
+
+    /// What stands around the key at the place where it ends a path, to be changed.
+    pub(crate) fn leaf_decor_at_mut(&mut self, at: usize) -> &mut Decor
+        requires { at < length (out-Table self.old).slots }
+        ensures* writes_back { sem 𝓛 (LendsLeafAt self.entry at result) }
+        ensures decor { option_map (λ slot. slot.key.leaf) (slice_get (out-Table self.old).slots at) ≡ Some result.now }
+    {
+        self.slots.leaf_decor_mut(at)
+    }
+
+    /// What stands around the key at the place where it ends no path, to be changed.
+    pub(crate) fn dotted_decor_at_mut(&mut self, at: usize) -> &mut Decor
+        requires { at < length (out-Table self.old).slots }
+        ensures* writes_back { sem 𝓛 (LendsDottedAt self.entry at result) }
+        ensures decor { option_map (λ slot. slot.key.dotted) (slice_get (out-Table self.old).slots at) ≡ Some result.now }
+    {
+        self.slots.dotted_decor_mut(at)
+    }
+
+    /// Takes the slot at the place out, and answers its item. The others keep their order.
+    pub(crate) fn remove_at(&mut self, at: usize) -> Item
+        requires { at < length (out-Table self.old).slots }
+        ensures item { Some result ≡ slice_get (items_of (out-Table self.old).slots) at }
+        ensures removed { IfSome (slice_get (out-Table self.old).slots at) (λ slot. slots_of self.new ≡ without slot.key.name (slots_of self.old)) }
+        ensures fields { fields_view self.new ≡ fields_view self.old }
+    {
+        self.slots.remove_at(at).into_item()
+    }
+}
