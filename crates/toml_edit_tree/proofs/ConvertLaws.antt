@@ -1,5 +1,5 @@
 -- Items that are made values or tables, and slots whose decors are unset, place by place.
-use Rattle.std.proofs.Common.{◌≡◌, ℕ, zero, suc, ◌<◌, ◌≤◌, ◌+◌, Bool, true, false, not, ◌&&◌, List, [], ◌∷◌, None, Some, cond, filter, length, map, get_or, set, refl, sym, ap, subst, ◌∙◌, arith}
+use Rattle.std.proofs.Common.{◌≡◌, ℕ, zero, suc, ◌<◌, Bool, true, false, not, ◌&&◌, List, [], ◌∷◌, None, Some, cond, filter, length, map, get_or, set, refl, sym, ap, ◌∙◌, arith}
 use Rattle.std.specs.List.{list_all}
 use Rattle.toml_edit_model.specs.Conversions.{formatted, formatted_array, formatted_items, into_tables, made_items, made_slots, made_table, made_value, may_be_tables, new_array, new_inline, with_decor}
 use Rattle.toml_edit_model.specs.Keys.{cleared_key}

@@ -13,5 +13,6 @@ pub mod ElementSorts
 pub mod ElementParts
 pub mod SlotsOf
 pub mod InlineSlots
+pub mod InlineParts
 pub mod Converting
 pub mod TableEntries

@@ -14,6 +14,7 @@ use crate::copy::copy_inline;
 use crate::encode::write_inline;
 use crate::item::Item;
 use crate::value::Value;
+pub use iter::InlineTableIntoIter;
 use std::alloc::Global;
 use std::ops::Range;
 use std::{fmt, slice};
@@ -22,7 +23,9 @@ use toml_edit_repr::{Decor, Mem, RawString};
 use toml_edit_slots::{Slot, Slots};
 
 mod change;
+mod iter;
 mod look_up;
+mod whole;
 
 /// An inline table: its slots in order, with what stands around them (TOML, "Inline Table"). A slot may be a placeholder, which
 /// isn't printed.

@@ -4,7 +4,7 @@ use Rattle.std.proofs.Common.{◌≡◌, ◌<◌, ◌≤◌, ◌+◌, length, ma
 use Rattle.toml_edit_model.specs.Conversions.{made_value}
 use Rattle.toml_edit_slots.specs.Slots.{on_item}
 use Rattle.toml_edit_tree.specs.Containers.{items_from, slots_from}
-use Rattle.toml_edit_tree.specs.Converting.{in_new_form, inside_made}
+use Rattle.toml_edit_tree.specs.Converting.{in_new_form}
 use Rattle.toml_edit_tree.specs.declared.item.Item.{size-Item}
 use Rattle.toml_edit_tree.specs.View.{item_view}
 use Rattle.toml_edit_tree.proofs.ConvertLaws.{each-made, each-slot-made, made-inside, made_slot}

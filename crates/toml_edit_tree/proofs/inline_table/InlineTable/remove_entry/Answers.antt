@@ -1,5 +1,5 @@
 -- The clauses of the slots, as the inline table shows them.
-use Rattle.std.proofs.Common.{◌≡◌, Option, None, Some, option_and_then, option_map, refl, sym, ap, ◌∙◌}
+use Rattle.std.proofs.Common.{option_and_then, option_map, sym, ap, ◌∙◌}
 use Rattle.toml_edit_model.specs.InlineCalls.{old_slot, value_slot}
 use Rattle.toml_edit_model.specs.Slots.{on_item, without}
 use Rattle.toml_edit_slots.specs.Seen.{pair_seen}

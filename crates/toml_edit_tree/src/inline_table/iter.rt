@@ -1,0 +1,92 @@
+//! Inline tables as sequences of keys and values.
+ghost use Rattle.std.specs.Prelude.{◌≡◌, OnErr, OnOk};
+ghost use Rattle.std.specs.Iterator.{ExtendsWithItems, IsFinite, YieldsFirstBy, item_count};
+ghost use Rattle.toml_edit_model.specs.Slots.{put, with_item};
+ghost use Rattle.toml_edit_tree.specs.ContainerParts.{pairs_left};
+ghost use Rattle.toml_edit_tree.specs.Containers.{pairs_in};
+ghost use Rattle.toml_edit_tree.specs.InlineParts.{AddsValues, owned_pairs, pair_owned};
+ghost use Rattle.toml_edit_tree.specs.InlineSlots.{inline_fields, value_taken};
+ghost use Rattle.toml_edit_tree.specs.SlotsOf.{inline_slots_of};
+ghost use Rattle.toml_edit_tree.specs.View.{inline_view, value_view};
+
+use super::{InlineTable, InlineTableIter};
+use crate::item::Item;
+use crate::value::Value;
+use std::vec;
+use toml_edit_key::Key;
+use toml_edit_repr::Mem;
+use toml_edit_slots::Slot;
+
+impl InlineTable {
+    /// Puts pairs in, one after another: a key that is there stays with its spelling, decors and place, and gets the value; a new one goes last.
+    /// The only error is want of memory: then some first pairs are there, and the others are gone.
+    #[tactic(auto, using(crate::proofs::InlineLaws::extended_last))]
+    pub fn extend<U: IntoIterator<Item = (Key, Value)>>(&mut self, pairs: U) -> Mem<()>
+        requires { (it : U.IntoIter) → U.into_iter_gives pairs it → U.IntoIter.can_next it × IsFinite (U.IntoIter.remaining it) }
+        ensures { ExtendsWithItems U.into_iter_gives U.IntoIter.next_gives AddsValues pairs self.old self.new result }
+    {
+        for (key, value) in pairs {
+            self.extend_one(key, value)?;
+        }
+        Ok(())
+    }
+
+    /// Puts one pair in so. The only error is want of memory: the inline table stays, and the pair is gone.
+    fn extend_one(&mut self, key: Key, value: Value) -> Mem<()>
+        ensures slots { OnOk result (inline_slots_of self.new ≡ put (with_item (value_view value)) (value_taken (key, value)) (inline_slots_of self.old)) }
+        ensures fields { inline_fields self.new ≡ inline_fields self.old }
+        ensures err { OnErr result (self.new ≡ self.old) }
+    {
+        self.items.extend_one(key, Item::Value(value))
+    }
+}
+
+impl<'a> IntoIterator for &'a InlineTable {
+    type Item = (&'a str, &'a Value);
+
+    type IntoIter = InlineTableIter<'a>;
+
+    ghost into_iter_gives = { λ table it. pairs_left it ≡ pairs_in (inline_view table.now).slots };
+
+    fn into_iter(self) -> InlineTableIter<'a> {
+        self.iter()
+    }
+}
+
+/// The pairs of an inline table that was given up, in order: the texts of their keys, and their values.
+#[derive(Drop)]
+pub struct InlineTableIntoIter {
+    slots: vec::IntoIter<Slot<Item>>,
+}
+
+impl IntoIterator for InlineTable {
+    type Item = (String, Value);
+
+    type IntoIter = InlineTableIntoIter;
+
+    ghost into_iter_gives = { λ table it. owned_pairs it ≡ pairs_in (inline_view table).slots };
+
+    fn into_iter(self) -> InlineTableIntoIter {
+        InlineTableIntoIter {
+            slots: self.items.into_vec().into_iter(),
+        }
+    }
+}
+
+impl Iterator for InlineTableIntoIter {
+    type Item = (String, Value);
+
+    ghost next_gives = { YieldsFirstBy pair_owned owned_pairs };
+
+    ghost remaining = { item_count owned_pairs };
+
+    fn next(&mut self) -> Option<(String, Value)> {
+        while let Some(slot) = self.slots.next() {
+            let Slot { key, item } = slot;
+            if let Item::Value(value) = item {
+                return Some((String::from(key), value));
+            }
+        }
+        None
+    }
+}
