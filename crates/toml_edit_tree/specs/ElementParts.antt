@@ -1,6 +1,7 @@
 -- What the iterators that own their arrays have left, and what `extend` leaves.
-use Rattle.std.specs.Prelude.{◌≡◌, List, ◌++◌, map}
+use Rattle.std.specs.Prelude.{◌≡◌, List, ◌++◌, map, None}
 use Rattle.std.specs.Vec.Iter.{into_iter_items}
+use Rattle.toml_edit_model.specs.Conversions.{new_array}
 use Rattle.toml_edit_model.specs.Tree.{Node}
 use Rattle.toml_edit_tree.specs.Containers.{TableView, elements_in, table_node, values_in}
 use Rattle.toml_edit_tree.specs.Elements.{array_fields, extent_of, items_of, tables_of}
@@ -26,3 +27,10 @@ AddsValues old vs new = (items_of new ≡ items_of old ++ map value_view vs) × 
 -- an array of tables with more tables
 abbrev pub AddsTables : ArrayOfTables → List Table → ArrayOfTables → Type 0
 AddsTables old ts new = (tables_of new ≡ tables_of old ++ map (λ t. table_node (table_view t)) ts) × (extent_of new ≡ extent_of old)
+
+-- a new array of these values, and a new array of these tables
+abbrev pub HasValues : List Value → Array → Type 0
+HasValues vs a = (items_of a ≡ map value_view vs) × (array_fields a ≡ new_array)
+
+abbrev pub HasTables : List Table → ArrayOfTables → Type 0
+HasTables ts a = (tables_of a ≡ map (λ t. table_node (table_view t)) ts) × (extent_of a ≡ None)

@@ -1,14 +1,15 @@
 //! Arrays as sequences of values.
-ghost use Rattle.std.specs.Prelude.{◌≡◌};
-ghost use Rattle.std.specs.Iterator.{ExtendsWithItems, IsFinite, YieldsFirstBy, item_count};
+ghost use Rattle.std.specs.Prelude.{◌≡◌, IfOk, List};
+ghost use Rattle.std.specs.Iterator.{Drains, ExtendsWithItems, IsFinite, YieldsFirstBy, item_count};
 ghost use Rattle.toml_edit_tree.specs.ContainerParts.{values_left};
 ghost use Rattle.toml_edit_tree.specs.Containers.{values_in};
-ghost use Rattle.toml_edit_tree.specs.ElementParts.{AddsValues, owned_values};
+ghost use Rattle.toml_edit_tree.specs.ElementParts.{AddsValues, HasValues, owned_values};
 ghost use Rattle.toml_edit_tree.specs.View.{array_view, value_view};
 
 use super::{Array, ArrayIter};
 use crate::item::Item;
 use crate::value::Value;
+use std::alloc::Global;
 use std::vec;
 use toml_edit_repr::Mem;
 
@@ -23,6 +24,18 @@ impl Array {
             self.push(value)?;
         }
         Ok(())
+    }
+
+    /// An array of these values, in their order. The only error is want of memory.
+    pub fn from_iter<U: IntoIterator<Item = Value>>(values: U, alloc: Global) -> Mem<Array>
+        requires { (it : U.IntoIter) → U.into_iter_gives values it → U.IntoIter.can_next it × IsFinite (U.IntoIter.remaining it) }
+        ensures { IfOk result (λ array. (it : U.IntoIter) × (vs : List Value) × U.into_iter_gives values it × Drains U.IntoIter.next_gives it vs × HasValues vs array) }
+    {
+        let mut array = Array::new(alloc);
+        match array.extend(values) {
+            Ok(()) => Ok(array),
+            Err(refused) => Err(refused),
+        }
     }
 }
 

@@ -1,14 +1,15 @@
 //! Arrays of tables as sequences of tables.
-ghost use Rattle.std.specs.Prelude.{◌≡◌};
-ghost use Rattle.std.specs.Iterator.{ExtendsWithItems, IsFinite, YieldsFirstBy, item_count};
+ghost use Rattle.std.specs.Prelude.{◌≡◌, IfOk, List};
+ghost use Rattle.std.specs.Iterator.{Drains, ExtendsWithItems, IsFinite, YieldsFirstBy, item_count};
 ghost use Rattle.toml_edit_tree.specs.ContainerParts.{tables_left};
 ghost use Rattle.toml_edit_tree.specs.Containers.{elements_in};
-ghost use Rattle.toml_edit_tree.specs.ElementParts.{AddsTables, owned_tables};
+ghost use Rattle.toml_edit_tree.specs.ElementParts.{AddsTables, HasTables, owned_tables};
 ghost use Rattle.toml_edit_tree.specs.View.{tables_view, table_view};
 
 use super::{ArrayOfTables, ArrayOfTablesIter};
 use crate::item::Item;
 use crate::table::Table;
+use std::alloc::Global;
 use std::vec;
 use toml_edit_repr::Mem;
 
@@ -23,6 +24,18 @@ impl ArrayOfTables {
             self.push(table)?;
         }
         Ok(())
+    }
+
+    /// An array of these tables, in their order. The only error is want of memory.
+    pub fn from_iter<U: IntoIterator<Item = Table>>(tables: U, alloc: Global) -> Mem<ArrayOfTables>
+        requires { (it : U.IntoIter) → U.into_iter_gives tables it → U.IntoIter.can_next it × IsFinite (U.IntoIter.remaining it) }
+        ensures { IfOk result (λ array. (it : U.IntoIter) × (ts : List Table) × U.into_iter_gives tables it × Drains U.IntoIter.next_gives it ts × HasTables ts array) }
+    {
+        let mut array = ArrayOfTables::new(alloc);
+        match array.extend(tables) {
+            Ok(()) => Ok(array),
+            Err(refused) => Err(refused),
+        }
     }
 }
 
