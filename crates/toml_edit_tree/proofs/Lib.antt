@@ -18,3 +18,4 @@ pub mod HoldsLaws
 pub mod SortsLaws
 pub mod FormatLaws
 pub mod TableEntryLaws
+pub mod SortLaws

@@ -16,3 +16,4 @@ pub mod InlineSlots
 pub mod InlineParts
 pub mod Converting
 pub mod TableEntries
+pub mod Sorts

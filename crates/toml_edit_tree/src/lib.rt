@@ -11,6 +11,7 @@ mod encode;
 pub mod inline_table;
 pub mod item;
 mod order;
+mod sort;
 pub mod table;
 pub mod value;
 
