@@ -4,7 +4,7 @@ use crate::said::Answer;
 use crate::steps::{Asked, Subject, behind, copied, word};
 use crate::{events, refusal, run, steps, table};
 use serde_json::Value as Json;
-use toml_edit::{Document, DocumentMut, Mem, ParseFault, RawString, SourceText};
+use toml_edit::{Document, DocumentMut, Item, Mem, ParseFault, RawString, SourceText};
 
 pub fn answer(row: Row<'_>, out: &mut Answer) {
     match row.question {
@@ -119,6 +119,30 @@ impl Asked for DocumentMut {
             "as_item" => table::ask_item(self.as_item(), behind(words, 1), out),
             _ => table::ask(self.as_table(), words, out),
         }
+    }
+}
+
+/// Puts a copy of an item into a new document, under the key that the first word is, and asks of that.
+pub fn ask_alone(copy: Mem<Item>, words: &[Json], out: &mut Answer) {
+    match copy {
+        Ok(item) => tell_alone(item, words, out),
+        Err(_) => out.refuse(),
+    }
+}
+
+fn tell_alone(item: Item, words: &[Json], out: &mut Answer) {
+    let mut document = DocumentMut::new(out.alloc);
+    if document
+        .as_table_mut()
+        .insert(word(words, 0), item)
+        .is_err()
+    {
+        out.refuse();
+    }
+    match word(words, 1) {
+        "print" => out.made(document.print(out.alloc)),
+        "fits" => out.told(document.fits(out.alloc)),
+        call => out.no_such(call),
     }
 }
 

@@ -3,7 +3,7 @@ use crate::said::Answer;
 use crate::steps::{behind, word};
 use crate::{key, value};
 use serde_json::Value as Json;
-use toml_edit::{Array, InlineTable, RawString, Value};
+use toml_edit::{Array, InlineTable, Mem, RawString, Value};
 
 /// The value that the calls `get` at the front of the words go to, and the words behind them.
 pub fn place<'v, 'a>(value: &'v Value, words: &'a [Json]) -> Option<(&'v Value, &'a [Json])> {
@@ -86,7 +86,16 @@ fn ask_inline_end(table: &InlineTable, words: &[Json], out: &mut Answer) {
         "list_span" => out.span(table.span()),
         "list_to_string" => out.shown(table),
         "list_clone" => out.made(table.clone(out.alloc)),
+        "into_table" => lines_of(table.clone(out.alloc), out),
         call => out.no_such(call),
+    }
+}
+
+/// The lines of the table that a copy can be made.
+fn lines_of(copy: Mem<InlineTable>, out: &mut Answer) {
+    match copy {
+        Ok(copy) => out.shown(&copy.into_table()),
+        Err(_) => out.refuse(),
     }
 }
 
@@ -110,7 +119,7 @@ pub fn change(value: &mut Value, words: &[Json], out: &mut Answer) {
     }
 }
 
-fn change_array(array: &mut Array, words: &[Json], out: &mut Answer) {
+pub fn change_array(array: &mut Array, words: &[Json], out: &mut Answer) {
     match word(words, 0) {
         "list_decor_mut" => value::change_decor(array.decor_mut(), behind(words, 1), out),
         "set_trailing" => {

@@ -2,19 +2,23 @@
 //! hold is written with what came instead, and last how many rows hold.
 #![tactic(auto)]
 
+mod array;
 mod date_time;
 mod document;
 mod events;
 mod key;
 mod list;
+mod made;
 mod refusal;
 mod report;
 mod row;
 mod run;
 mod said;
 mod scalar;
+mod slots;
 mod steps;
 mod table;
+mod tables;
 mod tokens;
 mod value;
 

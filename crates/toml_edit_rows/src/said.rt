@@ -2,7 +2,7 @@
 use std::alloc::Global;
 use std::fmt::{Debug, Display};
 use std::ops::Range;
-use toml_edit::{Mem, RawString, Repr};
+use toml_edit::{Mem, NoMemory, RawString, Repr};
 
 /// An answer that is being written. It remembers whether memory was refused for it.
 #[derive(Drop)]
@@ -124,6 +124,28 @@ impl Answer {
             self.refuse();
         }
         made
+    }
+
+    /// Notes where memory was refused for a change.
+    pub fn done(&mut self, done: Mem<()>) {
+        if done.is_err() {
+            self.refuse();
+        }
+    }
+
+    /// Notes where memory was refused for a place.
+    pub fn put<T: Drop>(&mut self, put: Result<(), NoMemory<T>>) {
+        if put.is_err() {
+            self.refuse();
+        }
+    }
+
+    /// Shows what stood there before, where there was memory for the change.
+    pub fn old<T: Display + Drop>(&mut self, old: Result<T, NoMemory<T>>) {
+        match old {
+            Ok(old) => self.shown(&old),
+            Err(_) => self.refuse(),
+        }
     }
 
     pub fn repr(&mut self, made: Mem<Repr>) {

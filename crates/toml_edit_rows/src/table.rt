@@ -2,24 +2,13 @@
 use crate::row::Row;
 use crate::said::Answer;
 use crate::steps::{Asked, Subject, behind, copied, word};
-use crate::{key, refusal, steps, value};
+use crate::{document, key, made, refusal, slots, steps, tables, value};
 use serde_json::Value as Json;
-use std::alloc::Global;
 use toml_edit::{ArrayOfTables, Item, Iter, Table, Value};
 
-/// Rows on an item that is made: of which kind, the row says.
+/// Rows on an item that is made: of what, the row says.
 pub fn answer(row: Row<'_>, out: &mut Answer) {
-    steps::found(item(out.alloc, row.text()), row, out);
-}
-
-fn item(alloc: Global, kind: &str) -> Option<Item> {
-    match kind {
-        "none" => Some(Item::None),
-        "boolean" => Some(Item::from(Value::from(true))),
-        "table" => Some(Item::from(Table::new(alloc))),
-        "array of tables" => Some(Item::from(ArrayOfTables::new(alloc))),
-        _ => None,
-    }
+    steps::found(made::item(row.text(), out), row, out);
 }
 
 impl Subject for Item {
@@ -69,6 +58,7 @@ fn step<'v>(place: Place<'v>, words: &[Json]) -> Option<(Place<'v>, usize)> {
         Place::Item(item) if call == "as_table" => Some((table_of(item), 1)),
         Place::Item(item) if call == "as_array_of_tables" => Some((tables_of(item), 1)),
         Place::Tables(tables) if call == "iter" => Some((element(tables, word(words, 1)), 2)),
+        Place::Tables(tables) if call == "get" => Some((table_at(tables, word(words, 1)), 2)),
         _ => None,
     }
 }
@@ -107,6 +97,13 @@ fn element<'v>(tables: &'v ArrayOfTables, at: &str) -> Place<'v> {
     Place::Nowhere("none")
 }
 
+fn table_at<'v>(tables: &'v ArrayOfTables, at: &str) -> Place<'v> {
+    match tables.get(at.parse::<usize>().unwrap_or(usize::MAX)) {
+        Some(table) => Place::Table(table),
+        None => Place::Nowhere("none"),
+    }
+}
+
 /// Asks of a table, or of what is in it.
 pub fn ask(table: &Table, words: &[Json], out: &mut Answer) {
     ask_from(Place::Table(table), words, out);
@@ -117,6 +114,11 @@ pub fn ask_item(item: &Item, words: &[Json], out: &mut Answer) {
     ask_from(Place::Item(item), words, out);
 }
 
+/// Asks of an array of tables, or of what is in it.
+pub fn ask_tables(tables: &ArrayOfTables, words: &[Json], out: &mut Answer) {
+    ask_from(Place::Tables(tables), words, out);
+}
+
 fn ask_from(place: Place<'_>, words: &[Json], out: &mut Answer) {
     let (place, words) = down(place, words);
     let rest = behind(words, 1);
@@ -125,6 +127,9 @@ fn ask_from(place: Place<'_>, words: &[Json], out: &mut Answer) {
             copied(table.clone(out.alloc), rest, out);
         }
         Place::Item(item) if word(words, 0) == "clone" => copied(item.clone(out.alloc), rest, out),
+        Place::Item(item) if word(words, 0) == "clone_alone" => {
+            document::ask_alone(item.clone(out.alloc), rest, out);
+        }
         Place::Tables(tables) if word(words, 0) == "clone" => {
             copied(tables.clone(out.alloc), rest, out);
         }
@@ -171,7 +176,7 @@ fn tell_table(table: &Table, words: &[Json], out: &mut Answer) {
         "position" => out.shown_or_none(table.position().as_ref()),
         "decor" => value::ask_decor(table.decor(), word(words, 1), out),
         "span" => out.span(table.span()),
-        call => out.no_such(call),
+        _ => slots::tell(table, words, out),
     }
 }
 
@@ -230,7 +235,24 @@ fn change_here(table: &mut Table, words: &[Json], out: &mut Answer) {
         "set_dotted" => table.set_dotted(word(words, 1) == "true"),
         "set_position" => table.set_position(word(words, 1).parse::<isize>().ok()),
         "decor_mut" => value::change_decor(table.decor_mut(), behind(words, 1), out),
-        _ => ask(table, words, out),
+        _ => slots::change(table, words, out),
+    }
+}
+
+/// Does a step with a table that stands in another item, or with a table of it.
+pub fn change_below(table: &mut Table, words: &[Json], out: &mut Answer) {
+    match word(words, 0) {
+        "get_mut" => change_table(table.get_mut(word(words, 1)), behind(words, 2), out),
+        _ => change_here(table, words, out),
+    }
+}
+
+fn change_table(item: Option<&mut Item>, words: &[Json], out: &mut Answer) {
+    match item {
+        Some(Item::Table(table)) if word(words, 0) == "as_table_mut" => {
+            change_here(table, behind(words, 1), out);
+        }
+        _ => out.text("none"),
     }
 }
 
@@ -246,13 +268,15 @@ fn change_item(item: &mut Item, words: &[Json], out: &mut Answer) {
     let rest = behind(words, 1);
     match word(words, 0) {
         "as_table_mut" => match item.as_table_mut() {
-            Some(table) => change_here(table, rest, out),
+            Some(table) => change_below(table, rest, out),
             None => out.text("none"),
         },
-        "as_array_of_tables_mut" => match item.as_array_of_tables_mut() {
-            Some(tables) => ask_from(Place::Tables(tables), rest, out),
+        "as_array_of_tables_mut" => tables::change_found(item.as_array_of_tables_mut(), rest, out),
+        "as_value_mut" => match item.as_value_mut() {
+            Some(value) => value.call(rest, out),
             None => out.text("none"),
         },
+        "into_table" => slots::make_table(item, out),
         _ => change_value(item, words, out),
     }
 }

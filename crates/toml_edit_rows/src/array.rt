@@ -1,0 +1,76 @@
+//! What is changed in arrays.
+use crate::said::Answer;
+use crate::steps::{behind, word};
+use crate::{list, made};
+use serde_json::Value as Json;
+use toml_edit::{Array, Value};
+
+/// Does a step with an array, if there is one.
+pub fn change_found(array: Option<&mut Array>, words: &[Json], out: &mut Answer) {
+    match array {
+        Some(array) => change(array, words, out),
+        None => out.text("none"),
+    }
+}
+
+/// Changes an array. Of a call that answers nothing the answer is empty.
+fn change(array: &mut Array, words: &[Json], out: &mut Answer) {
+    let argument = word(words, 1);
+    match word(words, 0) {
+        "push" | "push_formatted" => push(array, words, out),
+        "clear" => array.clear(),
+        "retain" => array.retain(|value| value.type_name() == argument),
+        "fmt" => array.fmt(),
+        "extend" => extend(array, made::value(behind(words, 1), out), out),
+        "insert" | "insert_formatted" | "replace" | "replace_formatted" => {
+            put_at(array, words, made::value(behind(words, 2), out), out);
+        }
+        "remove" => remove(array, place(words), out),
+        _ => list::change_array(array, words, out),
+    }
+}
+
+fn push(array: &mut Array, words: &[Json], out: &mut Answer) {
+    match made::value(behind(words, 1), out) {
+        Some(value) if word(words, 0) == "push" => out.put(array.push(value)),
+        Some(value) => out.put(array.push_formatted(value)),
+        None => out.text("no value"),
+    }
+}
+
+/// Puts the elements of another array last.
+fn extend(array: &mut Array, more: Option<Value>, out: &mut Answer) {
+    match more {
+        Some(Value::Array(more)) => out.done(array.extend(more)),
+        _ => out.text("no array"),
+    }
+}
+
+/// Puts a value at a place. Where the call may not be made there, this is told.
+fn put_at(array: &mut Array, words: &[Json], made: Option<Value>, out: &mut Answer) {
+    let Some(value) = made else {
+        return out.text("no value");
+    };
+    let at = place(words);
+    let is_there = array.get(at).is_some();
+    match word(words, 0) {
+        "insert" if at <= array.len() => out.put(array.insert(at, value)),
+        "insert_formatted" if at <= array.len() => out.put(array.insert_formatted(at, value)),
+        "replace" if is_there => out.old(array.replace(at, value)),
+        "replace_formatted" if is_there => out.shown(&array.replace_formatted(at, value)),
+        _ => out.text("none"),
+    }
+}
+
+fn remove(array: &mut Array, at: usize, out: &mut Answer) {
+    if array.get(at).is_some() {
+        out.shown(&array.remove(at));
+    } else {
+        out.text("none");
+    }
+}
+
+/// The place that a call is made at, or one that no array reaches.
+fn place(words: &[Json]) -> usize {
+    word(words, 1).parse::<usize>().unwrap_or(usize::MAX)
+}

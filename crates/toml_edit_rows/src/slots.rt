@@ -1,0 +1,166 @@
+//! What is asked of the slots of a table, and what is changed among them.
+use crate::said::Answer;
+use crate::steps::{behind, word};
+use crate::{made, table};
+use serde_json::Value as Json;
+use std::mem;
+use toml_edit::{Item, Key, NoMemory, Table};
+
+/// What is told of something that a call gave, which is let go then.
+trait Told {
+    fn tell(&self, out: &mut Answer);
+}
+
+impl Told for Item {
+    fn tell(&self, out: &mut Answer) {
+        match self {
+            Item::None => out.text("placeholder"),
+            Item::Value(value) => out.shown(value),
+            Item::Table(table) => {
+                out.text("table ");
+                out.shown(table);
+            }
+            Item::ArrayOfTables(tables) => {
+                out.text("array of tables ");
+                out.shown(&tables.len());
+            }
+        }
+    }
+}
+
+impl Told for (Key, Item) {
+    fn tell(&self, out: &mut Answer) {
+        tell_slot(&self.0, &self.1, out);
+    }
+}
+
+/// Tells the spelling of a key, and its item.
+fn tell_slot(key: &Key, item: &Item, out: &mut Answer) {
+    out.shown(key);
+    out.text("=");
+    item.tell(out);
+}
+
+fn tell_taken<T: Told + Drop>(taken: Option<T>, out: &mut Answer) {
+    match taken {
+        Some(taken) => taken.tell(out),
+        None => out.text("none"),
+    }
+}
+
+fn tell_old<T: Told + Drop>(old: Result<Option<T>, NoMemory<T>>, out: &mut Answer) {
+    match old {
+        Ok(old) => tell_taken(old, out),
+        Err(_) => out.refuse(),
+    }
+}
+
+fn tell_found(found: Option<(&Key, &Item)>, out: &mut Answer) {
+    match found {
+        Some((key, item)) => tell_slot(key, item, out),
+        None => out.text("none"),
+    }
+}
+
+/// Tells how many slots there are, what stands at a place or under a key, and the lines.
+pub fn tell(table: &Table, words: &[Json], out: &mut Answer) {
+    let name = word(words, 1);
+    match word(words, 0) {
+        "len" => out.shown(&table.len()),
+        "is_empty" => out.truth(table.is_empty()),
+        "slots" => out.shown(&table.slots()),
+        "get_key_value" => tell_found(table.get_key_value(name), out),
+        "key_value_at" => match name.parse::<usize>() {
+            Ok(at) => tell_found(table.key_value_at(at), out),
+            Err(_) => out.no_such("key_value_at"),
+        },
+        "to_string" => out.shown(table),
+        _ => tell_kind(table, words, out),
+    }
+}
+
+fn tell_kind(table: &Table, words: &[Json], out: &mut Answer) {
+    let name = word(words, 1);
+    match word(words, 0) {
+        "contains_key" => out.truth(table.contains_key(name)),
+        "contains_value" => out.truth(table.contains_value(name)),
+        "contains_table" => out.truth(table.contains_table(name)),
+        "contains_array_of_tables" => out.truth(table.contains_array_of_tables(name)),
+        call => out.no_such(call),
+    }
+}
+
+/// Puts slots in, takes them out, or clears what stands around them.
+pub fn change(table: &mut Table, words: &[Json], out: &mut Answer) {
+    let name = word(words, 1);
+    match word(words, 0) {
+        "insert" => insert(table, name, made::item(word(words, 2), out), out),
+        "insert_formatted" => insert_formatted(table, behind(words, 1), out),
+        "remove" => tell_taken(table.remove(name), out),
+        "remove_entry" => tell_taken(table.remove_entry(name), out),
+        "clear" => table.clear(),
+        "retain" => table.retain(|key, _item| key != name),
+        "fmt" => table.fmt(),
+        "extend" | "from_iter" => add_pair(table, words, out),
+        _ => table::ask(table, words, out),
+    }
+}
+
+fn insert(table: &mut Table, name: &str, made: Option<Item>, out: &mut Answer) {
+    match made {
+        Some(item) => tell_old(table.insert(name, item), out),
+        None => out.text("no item"),
+    }
+}
+
+/// Puts an item in under a key whose spelling and leaf decor the words say.
+fn insert_formatted(table: &mut Table, words: &[Json], out: &mut Answer) {
+    match made::key(words, out) {
+        Some(key) => insert_under(table, &key, word(words, 3), out),
+        None => out.text("no key"),
+    }
+}
+
+fn insert_under(table: &mut Table, key: &Key, item: &str, out: &mut Answer) {
+    match item_for(table.get_mut(key.get()), item, out) {
+        Some(item) => tell_old(table.insert_formatted(key, item), out),
+        None => out.text("no item"),
+    }
+}
+
+/// The item that is said, or the one that is there, in place of which a placeholder is left.
+fn item_for(there: Option<&mut Item>, said: &str, out: &mut Answer) -> Option<Item> {
+    match there {
+        Some(item) if said == "its own" => Some(mem::replace(item, Item::None)),
+        _ => made::item(said, out),
+    }
+}
+
+/// Puts a pair in, or makes a table of it alone: a key with its decor, and an item.
+fn add_pair(table: &mut Table, words: &[Json], out: &mut Answer) {
+    match (
+        made::key(behind(words, 1), out),
+        made::item(word(words, 4), out),
+    ) {
+        (Some(key), Some(item)) if word(words, 0) == "extend" => {
+            out.done(table.extend(Some((key, item))));
+        }
+        (Some(key), Some(item)) => out.made(Table::from_iter(out.alloc, Some((key, item)))),
+        _ => out.text("no pair"),
+    }
+}
+
+/// Makes a table of the item, if it can be made one.
+pub fn make_table(item: &mut Item, out: &mut Answer) {
+    match mem::replace(item, Item::None).into_table() {
+        Ok(table) => put_back(item, Item::from(table)),
+        Err(back) => {
+            put_back(item, back);
+            out.text("none");
+        }
+    }
+}
+
+fn put_back(item: &mut Item, back: Item) {
+    *item = back;
+}
