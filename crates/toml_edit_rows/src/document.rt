@@ -4,7 +4,7 @@ use crate::said::Answer;
 use crate::steps::{Asked, Subject, behind, copied, word};
 use crate::{events, refusal, run, steps, table};
 use serde_json::Value as Json;
-use toml_edit::{Document, DocumentMut, Item, Mem, ParseFault, RawString, SourceText};
+use toml_edit::{Document, DocumentMut, Item, Mem, ParseFault, RawString, SourceText, Table};
 
 pub fn answer(row: Row<'_>, out: &mut Answer) {
     match row.question {
@@ -131,18 +131,25 @@ pub fn ask_alone(copy: Mem<Item>, words: &[Json], out: &mut Answer) {
 }
 
 fn tell_alone(item: Item, words: &[Json], out: &mut Answer) {
+    tell_document(&alone(item, word(words, 0), out), word(words, 1), out);
+}
+
+/// A new document that has the item under the key.
+fn alone(item: Item, key: &str, out: &mut Answer) -> DocumentMut {
     let mut document = DocumentMut::new(out.alloc);
-    if document
-        .as_table_mut()
-        .insert(word(words, 0), item)
-        .is_err()
-    {
-        out.refuse();
-    }
-    match word(words, 1) {
+    put_in(document.as_table_mut(), key, item, out);
+    document
+}
+
+fn put_in(table: &mut Table, key: &str, item: Item, out: &mut Answer) {
+    out.tried(table.insert(key, item));
+}
+
+fn tell_document(document: &DocumentMut, call: &str, out: &mut Answer) {
+    match call {
         "print" => out.made(document.print(out.alloc)),
         "fits" => out.told(document.fits(out.alloc)),
-        call => out.no_such(call),
+        _ => out.no_such(call),
     }
 }
 

@@ -140,6 +140,13 @@ impl Answer {
         }
     }
 
+    /// Notes where memory was refused for a change whose answer isn't asked for.
+    pub fn tried<R: Drop, T: Drop>(&mut self, change: Result<R, NoMemory<T>>) {
+        if change.is_err() {
+            self.refuse();
+        }
+    }
+
     /// Shows what stood there before, where there was memory for the change.
     pub fn old<T: Display + Drop>(&mut self, old: Result<T, NoMemory<T>>) {
         match old {
