@@ -5,7 +5,7 @@ use std::alloc::{AllocError, Global};
 use std::fmt::Write;
 use std::mem;
 use toml_edit::{Decor, Key, Mem};
-use toml_edit_slots::{Slot, Slots};
+use toml_edit_slots::{Entry, OccupiedEntry, Slot, Slots};
 
 fn is_next(slots: &Slots<u8>, name: &str, before: usize) -> bool {
     slots.find(name) == Some(before) && slots.len().checked_sub(before) == Some(1)
@@ -165,6 +165,30 @@ fn gets_from_both(slots: &Slots<u32>, pairs: &Pairs, name: &str) -> bool {
     slots.find(name) == at && slots.get(name).copied() == item
 }
 
+/// The item of the name is lent, or put in where there is none.
+fn enters_in_both(slots: &mut Slots<u32>, pairs: &mut Pairs, name: String, item: u32) -> Mem<bool> {
+    let lent = *slots.entry(name.as_str())?.or_insert(item)?;
+    match place_of(pairs, name.as_str()) {
+        Some(at) => Ok(pairs.get(at).map(|pair| pair.1) == Some(lent)),
+        None => {
+            pairs.push((name, item))?;
+            Ok(lent == item)
+        }
+    }
+}
+
+/// Odd items go from both, or both are sorted by name.
+fn clears_both(slots: &mut Slots<u32>, pairs: &mut Pairs, sorts: bool) -> Mem<bool> {
+    if sorts {
+        slots.sort_by_name()?;
+        pairs.sort_by(|one, other| one.0.as_str().cmp(other.0.as_str()))?;
+    } else {
+        slots.retain(|_, item| item % 2 == 0);
+        pairs.retain(|pair| pair.1 % 2 == 0);
+    }
+    Ok(true)
+}
+
 /// Whether 5,000 calls on 200 keys, in an order that looks mixed, leave what they leave in the pairs, each of them.
 fn mixes(alloc: Global, slots: &mut Slots<u32>) -> Mem<bool> {
     let mut pairs = Vec::new(alloc);
@@ -173,9 +197,11 @@ fn mixes(alloc: Global, slots: &mut Slots<u32>) -> Mem<bool> {
         state = state.wrapping_mul(1664525).wrapping_add(1013904223);
         let mut name = String::new(alloc);
         write!(name, "{}", (state >> 8) % 200).map_err(|_| AllocError)?;
-        let is_right = match (state >> 24) % 4 {
-            0 => removes_from_both(slots, &mut pairs, name.as_str()),
-            1 => gets_from_both(slots, &pairs, name.as_str()),
+        let is_right = match (state >> 24) % 64 {
+            0 => clears_both(slots, &mut pairs, item % 2 == 0)?,
+            1..=15 => removes_from_both(slots, &mut pairs, name.as_str()),
+            16..=31 => gets_from_both(slots, &pairs, name.as_str()),
+            32..=47 => enters_in_both(slots, &mut pairs, name, item)?,
             _ => inserts_in_both(alloc, slots, &mut pairs, name, item)?,
         };
         if !is_right || !is_same(slots, &pairs) {
@@ -193,6 +219,131 @@ fn mixes_all(alloc: Global, slots: &mut Slots<u32>) -> bool {
 #[test]
 fn mixes_slots(rt: HostRuntime) {
     assert!(rt; holds_changed(rt.alloc(), Slots::new(rt.alloc()), mixes_all));
+}
+
+/// Their names and items, copied.
+fn copied(alloc: Global, slots: &Slots<u32>) -> Mem<Pairs> {
+    let mut pairs = Vec::new(alloc);
+    for slot in slots.as_slice() {
+        let name = String::from_str(alloc, slot.key.get())?;
+        pairs.push((name, slot.item))?;
+    }
+    Ok(pairs)
+}
+
+/// Whether the item is put in, or given back and the slots are as they were.
+fn inserts_or_stays(alloc: Global, slots: &mut Slots<u32>, name: &str, item: u32) -> Mem<bool> {
+    let before = copied(alloc, slots)?;
+    match slots.insert(alloc, name, item) {
+        Ok(_) => Ok(slots.get(name) == Some(&item)),
+        Err(refused) => Ok(refused.0 == item && is_same(slots, &before)),
+    }
+}
+
+/// The same of a key with its formatting.
+fn inserts_formatted_or_stays(
+    alloc: Global,
+    slots: &mut Slots<u32>,
+    name: &str,
+    item: u32,
+) -> Mem<bool> {
+    let before = copied(alloc, slots)?;
+    let key = Key::from_text(alloc, name)?;
+    match slots.insert_formatted(&key, item) {
+        Ok(_) => Ok(slots.get(name) == Some(&item)),
+        Err(refused) => Ok(refused.0 == item && is_same(slots, &before)),
+    }
+}
+
+/// The same of a new slot that is pushed.
+fn pushes_or_stays(alloc: Global, slots: &mut Slots<u32>, name: &str, item: u32) -> Mem<bool> {
+    let before = copied(alloc, slots)?;
+    let key = Key::from_text(alloc, name)?;
+    match slots.try_push(Slot { key, item }) {
+        Ok(()) => Ok(slots.get(name) == Some(&item)),
+        Err(_) => Ok(is_same(slots, &before)),
+    }
+}
+
+/// The item that an entry of the name then lends, or the one that it gives back; `None` where there is no entry.
+fn entered(slots: &mut Slots<u32>, name: &str, item: u32) -> Option<u32> {
+    match slots.entry(name) {
+        Ok(entry) => match entry.or_insert(item) {
+            Ok(lent) => Some(*lent),
+            Err(refused) => Some(refused.0),
+        },
+        Err(_) => None,
+    }
+}
+
+/// Whether a new name's item is put in by its entry, or the slots are as they were.
+fn enters_or_stays(alloc: Global, slots: &mut Slots<u32>, name: &str, item: u32) -> Mem<bool> {
+    let before = copied(alloc, slots)?;
+    match entered(slots, name, item) {
+        Some(there) => {
+            Ok(there == item && (slots.get(name) == Some(&item) || is_same(slots, &before)))
+        }
+        None => Ok(is_same(slots, &before)),
+    }
+}
+
+/// Whether slots are filled by each way to put an item in, beyond those that are found without an index, and each that is refused stays out.
+fn stays_all(alloc: Global, slots: &mut Slots<u32>) -> bool {
+    let mut is_right = slots.is_empty();
+    for (at, name) in NAMES.iter().enumerate() {
+        let is_put = match at % 4 {
+            0 => inserts_or_stays(alloc, slots, name, 7),
+            1 => inserts_formatted_or_stays(alloc, slots, name, 7),
+            2 => pushes_or_stays(alloc, slots, name, 7),
+            _ => enters_or_stays(alloc, slots, name, 7),
+        };
+        is_right = is_right && is_yes(is_put);
+    }
+    is_right
+}
+
+#[test]
+fn refused_slots_stay(rt: HostRuntime) {
+    assert!(rt; holds_changed(rt.alloc(), Slots::new(rt.alloc()), stays_all));
+}
+
+/// Whether an entry that is there is read, changed and taken out.
+fn changes_entry(entry: OccupiedEntry<'_, u8>) -> bool {
+    let mut entry = entry;
+    let is_read = entry.key().get() == "a" && *entry.get() == 1;
+    let is_replaced = entry.insert(2) == 1;
+    *entry.get_mut() = 3;
+    entry.leaf_decor_mut().clear();
+    entry.dotted_decor_mut().clear();
+    entry.fmt_key();
+    is_read && is_replaced && entry.remove() == 3
+}
+
+/// Whether an entry of a name of its own, and one with a key's formatting, are filled.
+fn fills(alloc: Global, slots: &mut Slots<u8>) -> Mem<bool> {
+    let made = *slots.entry("b")?.or_insert_with(|| 2)?;
+    let key = Key::from_text(alloc, "c")?;
+    match slots.entry_format(&key)? {
+        Entry::Vacant(entry) => Ok(made == 2 && *entry.insert(4)? == 4),
+        Entry::Occupied(_) => Ok(false),
+    }
+}
+
+/// Whether entries are filled, and one is changed and taken out. Where no memory was left there may be none.
+fn enters_all(alloc: Global, slots: &mut Slots<u8>) -> bool {
+    let is_filled = is_yes(fills(alloc, slots));
+    if !inserts(alloc, slots, "a", 1) {
+        return false;
+    }
+    match slots.get_key_value_mut("a") {
+        Some(entry) => is_filled && changes_entry(entry) && slots.find("a").is_none(),
+        None => is_filled,
+    }
+}
+
+#[test]
+fn enters_slots(rt: HostRuntime) {
+    assert!(rt; holds_changed(rt.alloc(), Slots::new(rt.alloc()), enters_all));
 }
 
 fn spelled(slots: &Slots<u8>) -> Option<&str> {

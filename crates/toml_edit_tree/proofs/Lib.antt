@@ -1,6 +1,7 @@
 pub mod HeldLaws
 pub mod DespanLaws
 pub mod OrderLaws
+pub mod PlaceLaws
 pub mod ConvertLaws
 pub mod KeyTextLaws
 pub mod ElementTextLaws
@@ -10,6 +11,7 @@ pub mod ViewLaws
 pub mod ContainerLaws
 pub mod SlotsLaws
 pub mod InlineLaws
+pub mod InlineSortLaws
 pub mod InPlace
 pub mod ValueLines
 pub mod ElementLaws

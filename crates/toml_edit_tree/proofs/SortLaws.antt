@@ -8,7 +8,7 @@ use Rattle.std.specs.List.{All}
 use Rattle.toml_edit_model.specs.Lists.{is_dotted_table, slot_list, slots_from}
 use Rattle.toml_edit_model.specs.Slots as model
 use Rattle.toml_edit_model.specs.Sorting.{IsDeepReorder, IsDeepSort, IsSortOf, ReordersItem, ReordersItems, name_lt}
-use Rattle.toml_edit_model.specs.Tree.{Node, nothing, leaf, list, inline, table, tables, TableFields, Slots, slot, is_value_node}
+use Rattle.toml_edit_model.specs.Tree.{Node, nothing, leaf, list, inline, table, tables, TableFields, slot, is_value_node}
 use Rattle.toml_edit_laws.proofs.slots.DeepSorts.{Turned, all-turned, item-weaker, list-stays, some-turned, stopped, turn}
 use Rattle.toml_edit_laws.proofs.slots.Lists.{slot_list-from}
 use Rattle.toml_edit_laws.proofs.slots.Sorts.{sorts-seen}
@@ -27,7 +27,7 @@ use Rattle.toml_edit_tree.specs.View.{fields_view, item_view, slots_view, table_
 use Rattle.toml_edit_tree.proofs.SlotsLaws.{made_fields}
 use Rattle.toml_edit_tree.proofs.DespanLaws.{deepest, slot_depth}
 
-abbrev one : Slot Item → model.Slot Node
+abbrev pub one : Slot Item → model.Slot Node
 one s = slot_seen item_view s
 
 -- ---- slots as they are seen
@@ -84,12 +84,12 @@ get-other (s ∷ es) i y zero d l = absurd (omega (arith, l))
 get-other (s ∷ es) zero y (suc k) d l = refl
 get-other (s ∷ es) (suc i) y (suc k) d l = get-other es i y k d (omega (arith, l))
 
-length-changed : (es : List (Slot Item)) (i : ℕ) (y : Item) → length (with_item i y es) ≡ length es
+pub length-changed : (es : List (Slot Item)) (i : ℕ) (y : Item) → length (with_item i y es) ≡ length es
 length-changed [] i y = refl
 length-changed (s ∷ es) zero y = refl
 length-changed (s ∷ es) (suc i) y = ap suc (length-changed es i y)
 
-shallow-more : (es : List (Slot Item)) (at m : ℕ) (y : Item) → Shallow at m es → Shallow (at + 1) m (with_item at y es)
+pub shallow-more : (es : List (Slot Item)) (at m : ℕ) (y : Item) → Shallow at m es → Shallow (at + 1) m (with_item at y es)
 shallow-more es at m y h k d l b =
     let within : k < length es = omega (arith, b, length-changed es at y) in
     rw (get-other es at y k d (omega (arith, l))) (h k d (omega (arith, l)) within)
@@ -97,7 +97,7 @@ shallow-more es at m y h k d l b =
 pub long-permuted : (es fs : List (Slot Item)) → IsPermutation (seen es) (seen fs) → length fs ≡ length es
 long-permuted es fs p = omega (arith, length_permutation (seen es) (seen fs) p, length-kept es, length-kept fs)
 
-shallow-permuted : (es fs : List (Slot Item)) → IsPermutation (seen es) (seen fs) → Shallow 0 (most slot_depth es) fs
+pub shallow-permuted : (es fs : List (Slot Item)) → IsPermutation (seen es) (seen fs) → Shallow 0 (most slot_depth es) fs
 shallow-permuted es fs p k d l b =
     let P : model.Slot Item → Type 0 = λ s. size-Item s.item ≤ most slot_depth es in
     let all : All P (seen es) = All-map P (slot_seen (λ x. x)) es (λ j e within. deepest es j e within) in
@@ -134,17 +134,17 @@ goes-on first es at h l d y q =
       long = length-changed es at y ∙ h.long;
     }
 
-rests : (es : List (model.Slot Node)) → IsPermutation es es
+pub rests : (es : List (model.Slot Node)) → IsPermutation es es
 rests es = IsPermutation-refl es
 
-permutes : (es fs : List (model.Slot Node)) → IsSortOf name_lt es fs → IsPermutation es fs
+pub permutes : (es fs : List (model.Slot Node)) → IsSortOf name_lt es fs → IsPermutation es fs
 permutes es fs s = s.permutation
 
 pub ends-sorted : (first es : List (Slot Item)) (at : ℕ) → InTurn first es at → length es ≤ at → IsDeepSort is_dotted_table name_lt (items_seen first) (items_seen es)
 ends-sorted first es at h l =
     (h.mid, h.sort, all-turned is_dotted_table (IsSortOf name_lt) at h.mid (items_seen es) h.turned (omega (arith, l, length-seen es)))
 
-weaker : (P Q : Node → Node → Type 0) → ((x y : Node) → Q x y → P x y) → (n : ℕ) (mid es : List (model.Slot Node)) → Turned Q n mid es → Turned P n mid es
+pub weaker : (P Q : Node → Node → Type 0) → ((x y : Node) → Q x y → P x y) → (n : ℕ) (mid es : List (model.Slot Node)) → Turned Q n mid es → Turned P n mid es
 weaker P Q w zero mid es t = t
 weaker P Q w (suc n) [] [] t = tt
 weaker P Q w (suc n) [] (e ∷ es) t = t

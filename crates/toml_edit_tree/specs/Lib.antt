@@ -8,6 +8,8 @@ pub mod TableLending
 pub mod Elements
 pub mod ElementHolds
 pub mod ElementLending
+pub mod ItemParts
+pub mod ItemPlaces
 pub mod ElementClosures
 pub mod ElementSorts
 pub mod ElementParts

@@ -22,6 +22,7 @@ use toml_edit_repr::{Decor, Mem, RawString};
 
 mod edit;
 mod iter;
+mod lent;
 mod replace;
 mod sort;
 mod whole;

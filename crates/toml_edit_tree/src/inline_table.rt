@@ -25,6 +25,7 @@ use toml_edit_slots::{Slot, Slots};
 mod change;
 mod iter;
 mod look_up;
+mod sort;
 mod whole;
 
 /// An inline table: its slots in order, with what stands around them (TOML, "Inline Table"). A slot may be a placeholder, which

@@ -16,6 +16,8 @@ use crate::value::Value;
 use std::alloc::Global;
 use toml_edit_repr::{Mem, RawString};
 
+mod casts;
+
 /// What stands under a key, or in an array.
 #[cycle(tree)]
 #[derive(Debug, Drop)]

@@ -1,0 +1,31 @@
+-- What arrays and arrays of tables lend of their slots.
+use Rattle.std.specs.Prelude.{ℕ, Option}
+use Rattle.std.specs.Borrow.{Lends, LendsIf, MutBor, Fml}
+use Rattle.std.specs.Vec.{with_item}
+use Rattle.toml_edit_tree.specs.declared.array.Array.{Array, out-Array}
+use Rattle.toml_edit_tree.specs.declared.array_of_tables.ArrayOfTables.{ArrayOfTables, out-ArrayOfTables}
+use Rattle.toml_edit_tree.specs.declared.item.Item.{Item}
+use Rattle.toml_edit_tree.specs.contracts.array.Array.{the_row as array_row}
+use Rattle.toml_edit_tree.specs.contracts.array_of_tables.ArrayOfTables.{the_row as tables_row}
+use Rattle.toml_edit_tree.specs.contracts.item.Item.{the_row as item_row}
+
+-- the array, and the array of tables, with another item in the slot at the place
+abbrev pub with_slot_at : ℕ → Item → Array → Array
+with_slot_at i x a = record a { values = with_item (out-Array a).values i x }
+
+abbrev pub with_element_at : ℕ → Item → ArrayOfTables → ArrayOfTables
+with_element_at i x a = record a { values = with_item (out-ArrayOfTables a).values i x }
+
+-- they end with the last item behind r at the place, where one is lent
+abbrev pub LendsArraySlot : MutBor Array → ℕ → Option (MutBor Item) → Fml
+LendsArraySlot s i r = LendsIf array_row item_row s r (λ w. with_slot_at i w s.now) s.now
+
+abbrev pub LendsTablesSlot : MutBor ArrayOfTables → ℕ → Option (MutBor Item) → Fml
+LendsTablesSlot s i r = LendsIf tables_row item_row s r (λ w. with_element_at i w s.now) s.now
+
+-- the same where the place has a slot
+abbrev pub LendsArraySlotIn : MutBor Array → ℕ → MutBor Item → Fml
+LendsArraySlotIn s i r = Lends array_row item_row s r (λ w. with_slot_at i w s.now)
+
+abbrev pub LendsTablesSlotIn : MutBor ArrayOfTables → ℕ → MutBor Item → Fml
+LendsTablesSlotIn s i r = Lends tables_row item_row s r (λ w. with_element_at i w s.now)
