@@ -3,7 +3,7 @@ use crate::said::Answer;
 use crate::steps::{behind, word};
 use crate::{list, made};
 use serde_json::Value as Json;
-use toml_edit::{Array, Value};
+use toml_edit::{Array, Mem, Value};
 
 /// Does a step with an array, if there is one.
 pub fn change_found(array: Option<&mut Array>, words: &[Json], out: &mut Answer) {
@@ -21,6 +21,8 @@ fn change(array: &mut Array, words: &[Json], out: &mut Answer) {
         "clear" => array.clear(),
         "retain" => array.retain(|value| value.type_name() == argument),
         "fmt" => array.fmt(),
+        "sort_by_key" => out.done(sort(array)),
+        "from_iter" => from_iter(made::value(behind(words, 1), out), out),
         "extend" => extend(array, made::value(behind(words, 1), out), out),
         "insert" | "insert_formatted" | "replace" | "replace_formatted" => {
             put_at(array, words, made::value(behind(words, 2), out), out);
@@ -38,10 +40,23 @@ fn push(array: &mut Array, words: &[Json], out: &mut Answer) {
     }
 }
 
+/// Sorts the values by the integers that they are. What is none comes last.
+fn sort(array: &mut Array) -> Mem<()> {
+    array.sort_by_key(|value| value.as_integer().unwrap_or(i64::MAX))
+}
+
 /// Puts the elements of another array last.
 fn extend(array: &mut Array, more: Option<Value>, out: &mut Answer) {
     match more {
         Some(Value::Array(more)) => out.done(array.extend(more)),
+        _ => out.text("no array"),
+    }
+}
+
+/// Shows an array of the elements of another one.
+fn from_iter(values: Option<Value>, out: &mut Answer) {
+    match values {
+        Some(Value::Array(values)) => out.made(Array::from_iter(values, out.alloc)),
         _ => out.text("no array"),
     }
 }

@@ -71,6 +71,7 @@ fn ask_inline(table: &InlineTable, words: &[Json], out: &mut Answer) {
         "len" => out.shown(&table.len()),
         "is_empty" => out.truth(table.is_empty()),
         "iter" => pairs(table, out),
+        "slots" => out.shown(&table.slots()),
         "contains_key" => out.truth(table.contains_key(word(words, 1))),
         "is_dotted" => out.truth(table.is_dotted()),
         "key" => key::ask_found(table.key(word(words, 1)), behind(words, 2), out),
@@ -132,7 +133,7 @@ pub fn change_array(array: &mut Array, words: &[Json], out: &mut Answer) {
     }
 }
 
-fn change_inline(table: &mut InlineTable, words: &[Json], out: &mut Answer) {
+pub fn change_inline(table: &mut InlineTable, words: &[Json], out: &mut Answer) {
     match word(words, 0) {
         "list_decor_mut" => value::change_decor(table.decor_mut(), behind(words, 1), out),
         "set_trailing" => {

@@ -3,9 +3,12 @@
 #![tactic(auto)]
 
 mod array;
+mod convert;
 mod date_time;
 mod document;
+mod entry;
 mod events;
+mod inline;
 mod key;
 mod list;
 mod made;

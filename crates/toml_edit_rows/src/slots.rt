@@ -1,13 +1,13 @@
 //! What is asked of the slots of a table, and what is changed among them.
 use crate::said::Answer;
 use crate::steps::{behind, word};
-use crate::{made, table};
+use crate::{convert, entry, made, table};
 use serde_json::Value as Json;
 use std::mem;
 use toml_edit::{Item, Key, NoMemory, Table};
 
 /// What is told of something that a call gave, which is let go then.
-trait Told {
+pub trait Told {
     fn tell(&self, out: &mut Answer);
 }
 
@@ -41,14 +41,14 @@ fn tell_slot(key: &Key, item: &Item, out: &mut Answer) {
     item.tell(out);
 }
 
-fn tell_taken<T: Told + Drop>(taken: Option<T>, out: &mut Answer) {
+pub fn tell_taken<T: Told + Drop>(taken: Option<T>, out: &mut Answer) {
     match taken {
         Some(taken) => taken.tell(out),
         None => out.text("none"),
     }
 }
 
-fn tell_old<T: Told + Drop>(old: Result<Option<T>, NoMemory<T>>, out: &mut Answer) {
+pub fn tell_old<T: Told + Drop>(old: Result<Option<T>, NoMemory<T>>, out: &mut Answer) {
     match old {
         Ok(old) => tell_taken(old, out),
         Err(_) => out.refuse(),
@@ -86,6 +86,7 @@ fn tell_kind(table: &Table, words: &[Json], out: &mut Answer) {
         "contains_value" => out.truth(table.contains_value(name)),
         "contains_table" => out.truth(table.contains_table(name)),
         "contains_array_of_tables" => out.truth(table.contains_array_of_tables(name)),
+        "into_inline_table" => convert::into_inline_table(table.clone(out.alloc), out),
         call => out.no_such(call),
     }
 }
@@ -101,6 +102,9 @@ pub fn change(table: &mut Table, words: &[Json], out: &mut Answer) {
         "clear" => table.clear(),
         "retain" => table.retain(|key, _item| key != name),
         "fmt" => table.fmt(),
+        "sort_values" => out.done(table.sort_values()),
+        "entry" => entry::enter(table, words, out),
+        "entry_format" => entry::enter_formatted(table, words, out),
         "extend" | "from_iter" => add_pair(table, words, out),
         _ => table::ask(table, words, out),
     }
@@ -148,19 +152,4 @@ fn add_pair(table: &mut Table, words: &[Json], out: &mut Answer) {
         (Some(key), Some(item)) => out.made(Table::from_iter(out.alloc, Some((key, item)))),
         _ => out.text("no pair"),
     }
-}
-
-/// Makes a table of the item, if it can be made one.
-pub fn make_table(item: &mut Item, out: &mut Answer) {
-    match mem::replace(item, Item::None).into_table() {
-        Ok(table) => put_back(item, Item::from(table)),
-        Err(back) => {
-            put_back(item, back);
-            out.text("none");
-        }
-    }
-}
-
-fn put_back(item: &mut Item, back: Item) {
-    *item = back;
 }

@@ -2,7 +2,7 @@
 use crate::row::Row;
 use crate::said::Answer;
 use crate::steps::{Asked, Subject, behind, copied, word};
-use crate::{document, key, made, refusal, slots, steps, tables, value};
+use crate::{convert, document, key, made, refusal, slots, steps, tables, value};
 use serde_json::Value as Json;
 use toml_edit::{ArrayOfTables, Item, Iter, Table, Value};
 
@@ -205,6 +205,7 @@ fn tell_tables(tables: &ArrayOfTables, words: &[Json], out: &mut Answer) {
         "len" => out.shown(&tables.len()),
         "is_empty" => out.truth(tables.is_empty()),
         "span" => out.span(tables.span()),
+        "into_array" => convert::into_array(tables.clone(out.alloc), out),
         call => out.no_such(call),
     }
 }
@@ -276,7 +277,8 @@ fn change_item(item: &mut Item, words: &[Json], out: &mut Answer) {
             Some(value) => value.call(rest, out),
             None => out.text("none"),
         },
-        "into_table" => slots::make_table(item, out),
+        "make_value" => item.make_value(),
+        "into_value" | "into_table" | "into_array_of_tables" => convert::change(item, words, out),
         _ => change_value(item, words, out),
     }
 }

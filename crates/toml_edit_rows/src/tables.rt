@@ -1,7 +1,7 @@
 //! What is changed in arrays of tables.
 use crate::said::Answer;
 use crate::steps::{behind, word};
-use crate::{made, table};
+use crate::{convert, made, table};
 use serde_json::Value as Json;
 use toml_edit::{ArrayOfTables, Item, Table};
 
@@ -20,6 +20,7 @@ fn change(tables: &mut ArrayOfTables, words: &[Json], out: &mut Answer) {
         "clear" => tables.clear(),
         "retain" => tables.retain(|table| table.get(argument).is_some()),
         "extend" => extend(tables, made::item(argument, out), out),
+        "from_iter" => from_iter(made::item(argument, out), out),
         "insert" | "replace" | "remove" | "taken" => change_at(tables, words, out),
         _ => table::ask_tables(tables, words, out),
     }
@@ -36,6 +37,16 @@ fn push(tables: &mut ArrayOfTables, made: Option<Table>, out: &mut Answer) {
 fn extend(tables: &mut ArrayOfTables, more: Option<Item>, out: &mut Answer) {
     match more {
         Some(Item::ArrayOfTables(more)) => out.done(tables.extend(more)),
+        _ => out.text("no array of tables"),
+    }
+}
+
+/// Shows the array that an array of the tables of another array of tables is made.
+fn from_iter(tables: Option<Item>, out: &mut Answer) {
+    match tables {
+        Some(Item::ArrayOfTables(tables)) => {
+            convert::into_array(ArrayOfTables::from_iter(tables, out.alloc), out);
+        }
         _ => out.text("no array of tables"),
     }
 }

@@ -2,7 +2,7 @@
 use crate::row::Row;
 use crate::said::Answer;
 use crate::steps::{Asked, Subject, behind, copied, word};
-use crate::{array, date_time, events, list, refusal, scalar, steps};
+use crate::{array, date_time, events, inline, list, refusal, scalar, steps};
 use serde_json::Value as Json;
 use toml_edit::{Decor, FromStr, RawString, Value};
 
@@ -36,6 +36,9 @@ fn call(value: &mut Value, words: &[Json], out: &mut Answer) {
             list::change(value, words, out);
         }
         "as_array_mut" => array::change_found(value.as_array_mut(), behind(words, 1), out),
+        "as_inline_table_mut" => {
+            inline::change_found(value.as_inline_table_mut(), behind(words, 1), out);
+        }
         _ => ask(value, words, out),
     }
 }

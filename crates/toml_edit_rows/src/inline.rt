@@ -1,0 +1,65 @@
+//! What is changed in inline tables.
+use crate::said::Answer;
+use crate::slots::{Told, tell_old, tell_taken};
+use crate::steps::{behind, word};
+use crate::{list, made};
+use serde_json::Value as Json;
+use toml_edit::{InlineTable, Key, Value};
+
+impl Told for Value {
+    fn tell(&self, out: &mut Answer) {
+        out.shown(self);
+    }
+}
+
+impl Told for (Key, Value) {
+    fn tell(&self, out: &mut Answer) {
+        out.shown(&self.0);
+        out.text("=");
+        out.shown(&self.1);
+    }
+}
+
+/// Does a step with an inline table, if there is one.
+pub fn change_found(table: Option<&mut InlineTable>, words: &[Json], out: &mut Answer) {
+    match table {
+        Some(table) => change(table, words, out),
+        None => out.text("none"),
+    }
+}
+
+/// Changes an inline table. Of a call that answers nothing the answer is empty.
+fn change(table: &mut InlineTable, words: &[Json], out: &mut Answer) {
+    let name = word(words, 1);
+    match word(words, 0) {
+        "insert" => insert(table, name, made::value(behind(words, 2), out), out),
+        "insert_formatted" | "extend" => add_pair(table, words, out),
+        "remove" => tell_taken(table.remove(name), out),
+        "remove_entry" => tell_taken(table.remove_entry(name), out),
+        "retain" => table.retain(|key, _value| key != name),
+        "clear" => table.clear(),
+        "fmt" => table.fmt(),
+        _ => list::change_inline(table, words, out),
+    }
+}
+
+fn insert(table: &mut InlineTable, name: &str, made: Option<Value>, out: &mut Answer) {
+    match made {
+        Some(value) => tell_old(table.insert(name, value), out),
+        None => out.text("no value"),
+    }
+}
+
+/// Puts a pair in: a key with its leaf decor, and a value.
+fn add_pair(table: &mut InlineTable, words: &[Json], out: &mut Answer) {
+    match (
+        made::key(behind(words, 1), out),
+        made::value(behind(words, 4), out),
+    ) {
+        (Some(key), Some(value)) if word(words, 0) == "extend" => {
+            out.done(table.extend(Some((key, value))));
+        }
+        (Some(key), Some(value)) => tell_old(table.insert_formatted(&key, value), out),
+        _ => out.text("no pair"),
+    }
+}
