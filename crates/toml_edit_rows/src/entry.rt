@@ -44,8 +44,9 @@ fn fill(entry: Mem<Entry<'_>>, made: Option<Item>, out: &mut Answer) {
 fn or_insert(entry: Entry<'_>, item: Item, out: &mut Answer) {
     out.shown(entry.key());
     out.text("=");
-    match entry.or_insert(item) {
-        Ok(there) => there.tell(out),
-        Err(_) => out.refuse(),
+    if let Ok(there) = entry.or_insert(item) {
+        there.tell(out);
+        return;
     }
+    out.refuse();
 }
