@@ -20,6 +20,7 @@ use toml_edit_repr::Mem;
 mod edit;
 mod iter;
 mod lent;
+mod shown;
 mod whole;
 
 /// An array of tables: its elements in order, each with a header in double brackets (TOML, "Array of Tables"). A slot may hold no table,
