@@ -5,7 +5,7 @@ use std::alloc::{AllocError, Global};
 use std::fmt::Write;
 use std::mem;
 use toml_edit::{Decor, Key, Mem};
-use toml_edit_slots::{Entry, OccupiedEntry, Slot, Slots};
+use toml_edit_slots::{Entry, Slot, Slots};
 
 fn is_next(slots: &Slots<u8>, name: &str, before: usize) -> bool {
     slots.find(name) == Some(before) && slots.len().checked_sub(before) == Some(1)
@@ -307,16 +307,28 @@ fn refused_slots_stay(rt: HostRuntime) {
     assert!(rt; holds_changed(rt.alloc(), Slots::new(rt.alloc()), stays_all));
 }
 
-/// Whether an entry that is there is read, changed and taken out.
-fn changes_entry(entry: OccupiedEntry<'_, u8>) -> bool {
-    let mut entry = entry;
-    let is_read = entry.key().get() == "a" && *entry.get() == 1;
-    let is_replaced = entry.insert(2) == 1;
-    *entry.get_mut() = 3;
-    entry.leaf_decor_mut().clear();
-    entry.dotted_decor_mut().clear();
-    entry.fmt_key();
-    is_read && is_replaced && entry.remove() == 3
+/// Whether the entry of `a` is read and changed.
+fn changes_entry(slots: &mut Slots<u8>) -> bool {
+    match slots.get_key_value_mut("a") {
+        Some(entry) => {
+            let mut entry = entry;
+            let is_replaced = entry.insert(2) == 1;
+            *entry.get_mut() = 3;
+            entry.leaf_decor_mut().clear();
+            entry.dotted_decor_mut().clear();
+            entry.fmt_key();
+            is_replaced && *entry.get() == 3
+        }
+        None => false,
+    }
+}
+
+/// Whether the entry of `a` is taken out.
+fn removes_entry(slots: &mut Slots<u8>) -> bool {
+    match slots.get_key_value_mut("a") {
+        Some(entry) => entry.key().get() == "a" && entry.remove() == 3,
+        None => false,
+    }
 }
 
 /// Whether an entry of a name of its own, and one with a key's formatting, are filled.
@@ -331,14 +343,11 @@ fn fills(alloc: Global, slots: &mut Slots<u8>) -> Mem<bool> {
 
 /// Whether entries are filled, and one is changed and taken out. Where no memory was left there may be none.
 fn enters_all(alloc: Global, slots: &mut Slots<u8>) -> bool {
-    let is_filled = is_yes(fills(alloc, slots));
-    if !inserts(alloc, slots, "a", 1) {
-        return false;
+    let is_filled = is_yes(fills(alloc, slots)) && inserts(alloc, slots, "a", 1);
+    if slots.find("a").is_none() {
+        return is_filled;
     }
-    match slots.get_key_value_mut("a") {
-        Some(entry) => is_filled && changes_entry(entry) && slots.find("a").is_none(),
-        None => is_filled,
-    }
+    is_filled && changes_entry(slots) && removes_entry(slots) && slots.find("a").is_none()
 }
 
 #[test]
