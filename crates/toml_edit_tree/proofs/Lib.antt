@@ -20,4 +20,7 @@ pub mod HoldsLaws
 pub mod SortsLaws
 pub mod FormatLaws
 pub mod TableEntryLaws
+pub mod InlineEntryLaws
+pub mod InlinePlaceLaws
+pub mod InlineOccupiedLaws
 pub mod SortLaws

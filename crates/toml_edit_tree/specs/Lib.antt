@@ -16,6 +16,9 @@ pub mod ElementParts
 pub mod SlotsOf
 pub mod InlineSlots
 pub mod InlineParts
+pub mod InlineValues
+pub mod InlineLending
 pub mod Converting
 pub mod TableEntries
+pub mod InlineEntries
 pub mod Sorts

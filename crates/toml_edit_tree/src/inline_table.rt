@@ -14,6 +14,7 @@ use crate::copy::copy_inline;
 use crate::encode::write_inline;
 use crate::item::Item;
 use crate::value::Value;
+pub use entry::{InlineEntry, InlineOccupiedEntry, InlineVacantEntry};
 pub use iter::InlineTableIntoIter;
 use std::alloc::Global;
 use std::ops::Range;
@@ -22,7 +23,9 @@ use toml_edit_key::Key;
 use toml_edit_repr::{Decor, Mem, RawString};
 use toml_edit_slots::{Slot, Slots};
 
+mod at;
 mod change;
+mod entry;
 mod iter;
 mod look_up;
 mod sort;

@@ -1,11 +1,13 @@
 //! What the slots of a table hold.
-ghost use Rattle.std.specs.Prelude.{◌≡◌, ◌↔◌, IfOk, IsTrue, is_some, option_map};
+ghost use Rattle.std.specs.Prelude.{◌≡◌, ◌↔◌, true, Some, IfOk, IsTrue, is_some, option_map};
 ghost use Rattle.std.specs.Borrow.{sem};
 ghost use Rattle.toml_edit_model.specs.Tree.{nothing, is_value_node};
 ghost use Rattle.toml_edit_model.specs.Conversions.{with_decor};
 ghost use Rattle.toml_edit_tree.specs.Casts.{both_sides, type_of};
 ghost use Rattle.toml_edit_tree.specs.ContainerParts.{LendsTable, LendsTables};
+ghost use Rattle.toml_edit_tree.specs.ElementHolds.{value_held};
 ghost use Rattle.toml_edit_tree.specs.ElementLending.{LendsValue};
+ghost use Rattle.toml_edit_tree.specs.InlineLending.{LendsOwnValue};
 ghost use Rattle.toml_edit_tree.specs.Containers.{table_in, table_node, tables_in, tables_node, value_in};
 ghost use Rattle.toml_edit_tree.specs.View.{item_view, table_view, tables_view, value_view};
 
@@ -71,6 +73,29 @@ impl Item {
         match self {
             Item::Value(lent) => Some(lent),
             _ => None,
+        }
+    }
+
+    /// The value that it is, to be changed.
+    pub(crate) fn own_value_mut(&mut self) -> &mut Value
+        requires { is_some (value_held self.old) ≡ true }
+        ensures* writes_back { sem 𝓛 (LendsOwnValue self.entry result) }
+        ensures value { value_held self.old ≡ Some result.now }
+    {
+        match self {
+            Item::Value(lent) => lent,
+            _ => unreachable!(),
+        }
+    }
+
+    /// The value that it is.
+    pub(crate) fn into_own_value(self) -> Value
+        requires { is_some (value_held self) ≡ true }
+        ensures { value_held self ≡ Some result }
+    {
+        match self {
+            Item::Value(value) => value,
+            _ => unreachable!(),
         }
     }
 

@@ -19,7 +19,10 @@ pub use array::{Array, ArrayIntoIter, ArrayIter};
 pub use array_of_tables::{ArrayOfTables, ArrayOfTablesIntoIter, ArrayOfTablesIter};
 #[doc(hidden)]
 pub use encode::{Path, table_has_lines, write_path, write_table_lines};
-pub use inline_table::{InlineTable, InlineTableIntoIter, InlineTableIter};
+pub use inline_table::{
+    InlineEntry, InlineOccupiedEntry, InlineTable, InlineTableIntoIter, InlineTableIter,
+    InlineVacantEntry,
+};
 pub use item::Item;
 #[doc(hidden)]
 pub use order::put_in_order;

@@ -1,9 +1,19 @@
-//! What stands in an inline table at a place among its slots.
-ghost use Rattle.std.specs.Prelude.{◌≡◌, length, option_map, slice_get};
+//! What stands in an inline table under a key, or at a place among its slots.
+ghost use Rattle.std.specs.Prelude.{◌≡◌, true, Some, IfSome, length, option_and_then, option_map, slice_get};
+ghost use Rattle.std.specs.Borrow.{sem};
+ghost use Rattle.toml_edit_model.specs.InlineCalls.{get_value};
+ghost use Rattle.toml_edit_model.specs.Iterating.{valued};
+ghost use Rattle.toml_edit_model.specs.Slots.{lookup_slot};
+ghost use Rattle.toml_edit_slots.specs.Slots.{place};
+ghost use Rattle.toml_edit_tree.specs.InlineLending.{LendsValueUnder};
+ghost use Rattle.toml_edit_tree.specs.InlineValues.{has_value_at, value_at, value_read};
 ghost use Rattle.toml_edit_tree.specs.SlotsOf.{inline_slots_of, slot_read};
+ghost use Rattle.toml_edit_tree.specs.View.{value_view};
+ghost use Rattle.toml_edit_tree.specs.declared.inline_table.InlineTable.{out-InlineTable};
 
 use super::InlineTable;
 use crate::item::Item;
+use crate::value::Value;
 use toml_edit_key::Key;
 
 impl InlineTable {
@@ -19,5 +29,41 @@ impl InlineTable {
         ensures { option_map slot_read result ≡ slice_get (inline_slots_of self.now) at }
     {
         self.items.key_value_at(at)
+    }
+
+    /// The key of this text and its value, or `None` where there is no slot or the slot holds no value.
+    pub fn get_key_value(&self, key: &str) -> Option<(&Key, &Value)>
+        ensures { option_map value_read result ≡ lookup_slot key.now (valued (inline_slots_of self.now)) }
+    {
+        let (key, item) = self.items.get_key_value(key)?;
+        let value = item.as_value()?;
+        Some((key, value))
+    }
+
+    /// The value under the key, to be changed, or `None` where there is no slot or the slot holds no value.
+    pub fn get_mut(&mut self, key: &str) -> Option<&mut Value>
+        ensures* writes_back { sem 𝓛 (LendsValueUnder self.entry key.now result) }
+        ensures value { option_map (λ v. value_view v.now) result ≡ get_value key.now (inline_slots_of self.old) }
+    {
+        match self.value_place(key) {
+            Some(at) => Some(self.value_at_mut(at)),
+            None => None,
+        }
+    }
+
+    /// The place of the key's slot, if it holds a value.
+    pub(crate) fn value_place(&self, key: &str) -> Option<usize>
+        ensures value { option_map value_view (option_and_then (λ at. value_at at (out-InlineTable self.now).items) result)
+            ≡ get_value key.now (inline_slots_of self.now) }
+        ensures place { IfSome result (λ at. place key.now (out-InlineTable self.now).items ≡ Some at) }
+        ensures held { IfSome result (λ at. has_value_at at (out-InlineTable self.now).items ≡ true) }
+    {
+        let entries = self.items.as_slice();
+        let at = self.items.find(key)?;
+        if entries[at].item.is_value() {
+            Some(at)
+        } else {
+            None
+        }
     }
 }

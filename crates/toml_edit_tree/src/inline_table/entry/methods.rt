@@ -1,0 +1,179 @@
+//! What is done with an entry of an inline table.
+ghost use Rattle.std.specs.Prelude.{◌≡◌, None, Some, IsSome, IsOk, IfOk, IfErr, IfSome, option_map};
+ghost use Rattle.std.specs.Borrow.{sem};
+ghost use Rattle.std.specs.Option.{unwrap_or, UnwrapsOrElse};
+ghost use Rattle.toml_edit_model.specs.Keys.{reset_key};
+ghost use Rattle.toml_edit_model.specs.Slots.{without};
+ghost use Rattle.toml_edit_tree.specs.InlineEntries.{inline_key, inline_place, inline_ref, inline_value, inline_with, with_inline_entry_key, InlineLends, InlineLendsOk, InlineOccupiedLends, InlineOccupiedLendsDotted, InlineOccupiedLendsLeaf};
+ghost use Rattle.toml_edit_tree.specs.InlineSlots.{inline_fields};
+ghost use Rattle.toml_edit_tree.specs.SlotsOf.{inline_slots_of};
+ghost use Rattle.toml_edit_tree.specs.declared.inline_table.entry.InlineEntry.TheVariants.{Occupied, Vacant};
+
+use super::{InlineEntry, InlineOccupiedEntry, InlineVacantEntry};
+use crate::item::Item;
+use crate::value::Value;
+use toml_edit_key::Key;
+use toml_edit_repr::Decor;
+use toml_edit_slots::{NoMemory, Slot};
+
+impl<'a> InlineOccupiedEntry<'a> {
+    /// The key that is there.
+    pub fn key(&self) -> &Key
+        ensures { Some result.now ≡ inline_key (Occupied self.now) }
+    {
+        self.table.key_at(self.at)
+    }
+
+    /// The value that is there.
+    pub fn get(&self) -> &Value
+        ensures { Some result.now ≡ inline_value (Occupied self.now) }
+    {
+        self.table.value_at(self.at)
+    }
+
+    /// The value that is there, to be changed, for as long as the inline table is lent.
+    pub fn into_mut(self) -> &'a mut Value
+        ensures* writes_back { sem 𝓛 (InlineLends (Occupied self.entry) result) }
+        ensures value { Some result.now ≡ inline_value (Occupied self.entry) }
+    {
+        let InlineOccupiedEntry { table, at } = self;
+        table.value_at_mut(at)
+    }
+
+    /// The value that is there, to be changed.
+    pub fn get_mut(&mut self) -> &mut Value
+        ensures* writes_back { sem 𝓛 (InlineOccupiedLends self.entry result) }
+        ensures value { Some result.now ≡ inline_value (Occupied self.old) }
+    {
+        let at = self.at;
+        self.table.value_at_mut(at)
+    }
+
+    /// What stands around the key where it ends a path, to be changed.
+    pub fn leaf_decor_mut(&mut self) -> &mut Decor
+        ensures* writes_back { sem 𝓛 (InlineOccupiedLendsLeaf self.entry result) }
+        ensures decor { option_map (λ key. key.leaf) (inline_key (Occupied self.old)) ≡ Some result.now }
+    {
+        let at = self.at;
+        self.table.leaf_decor_at_mut(at)
+    }
+
+    /// What stands around the key where it ends no path, to be changed.
+    pub fn dotted_decor_mut(&mut self) -> &mut Decor
+        ensures* writes_back { sem 𝓛 (InlineOccupiedLendsDotted self.entry result) }
+        ensures decor { option_map (λ key. key.dotted) (inline_key (Occupied self.old)) ≡ Some result.now }
+    {
+        let at = self.at;
+        self.table.dotted_decor_at_mut(at)
+    }
+
+    /// Gives the key its default spelling, and unsets its decors.
+    pub fn fmt_key(&mut self)
+        ensures same_table { (inline_ref (Occupied self.new)).ghost_name ≡ (inline_ref (Occupied self.old)).ghost_name }
+        ensures same_place { inline_place (Occupied self.new) ≡ inline_place (Occupied self.old) }
+        ensures table { (inline_ref (Occupied self.new)).now ≡ (with_inline_entry_key self.old reset_key).table.now }
+    {
+        self.table.fmt_key_at(self.at);
+    }
+
+    /// Puts another value here, and answers the one that was there.
+    pub fn insert(&mut self, value: Value) -> Value
+        ensures same_table { (inline_ref (Occupied self.new)).ghost_name ≡ (inline_ref (Occupied self.old)).ghost_name }
+        ensures same_place { inline_place (Occupied self.new) ≡ inline_place (Occupied self.old) }
+        ensures value { Some result ≡ inline_value (Occupied self.old) }
+        ensures table { (inline_ref (Occupied self.new)).now ≡ inline_with (Occupied self.old) value }
+        ensures holds { inline_value (Occupied self.new) ≡ Some value }
+    {
+        self.table.replace_value_at(self.at, value)
+    }
+
+    /// Takes the slot out, and answers its value. The others keep their order. It takes no memory.
+    pub fn remove(self) -> Value
+        ensures value { Some result ≡ inline_value (Occupied self.entry) }
+        ensures removed { IfSome (inline_key (Occupied self.entry)) (λ key. inline_slots_of self.exit.0.now ≡ without key.name (inline_slots_of (inline_ref (Occupied self.entry)).now)) }
+        ensures fields { inline_fields self.exit.0.now ≡ inline_fields (inline_ref (Occupied self.entry)).now }
+    {
+        let at = self.at;
+        self.table.remove_value_at(at)
+    }
+}
+
+impl<'a> InlineVacantEntry<'a> {
+    /// The key that a slot would get.
+    pub fn key(&self) -> &Key
+        ensures { Some result.now ≡ inline_key (Vacant self.now) }
+    {
+        &self.key
+    }
+
+    /// Puts the key last with the value, which it lends. The only error is want of memory: the inline table stays as it was, and the error
+    /// has the value.
+    pub fn insert(self, value: Value) -> Result<&'a mut Value, NoMemory<Value>>
+        ensures* writes_back { sem 𝓛 (InlineLendsOk (Vacant self.entry) result) }
+        ensures value { IfOk result (λ x. x.now ≡ value) }
+        ensures back { IfErr result (λ refused. refused.0 ≡ value) }
+    {
+        let InlineVacantEntry { table, key } = self;
+        let at = table.items.len();
+        let item = Item::Value(value);
+        match table.items.push(Slot { key, item }) {
+            Ok(()) => Ok(table.value_at_mut(at)),
+            Err(refused) => Err(NoMemory(refused.0.into_item().into_own_value())),
+        }
+    }
+}
+
+impl<'a> InlineEntry<'a> {
+    /// The key that is there, or that a slot would get.
+    pub fn key(&self) -> &Key
+        ensures { Some result.now ≡ inline_key self.now }
+    {
+        match self {
+            InlineEntry::Occupied(entry) => entry.key(),
+            InlineEntry::Vacant(entry) => entry.key(),
+        }
+    }
+
+    /// The value that is there, or else this one, put last with the key. The only error is want of memory, at a new key: the inline table
+    /// stays as it was, and the error has the value.
+    pub fn or_insert(self, value: Value) -> Result<&'a mut Value, NoMemory<Value>>
+        ensures* writes_back { sem 𝓛 (InlineLendsOk self.entry result) }
+        ensures value { IfOk result (λ x. x.now ≡ unwrap_or (inline_value self.entry) value) }
+        ensures present { IsSome (inline_value self.entry) → IsOk result }
+        ensures back { IfErr result (λ refused. refused.0 ≡ value) }
+    {
+        match self {
+            InlineEntry::Occupied(entry) => {
+                discard(value);
+                Ok(entry.into_mut())
+            }
+            InlineEntry::Vacant(entry) => entry.insert(value),
+        }
+    }
+
+    /// The value that is there, or else the closure's answer, put last with the key. The closure is called for a new key alone. The only
+    /// error is want of memory, at a new key: the inline table stays as it was, and the error has the answer.
+    pub fn or_insert_with<F: FnOnce() -> Value>(
+        self,
+        default: F,
+    ) -> Result<&'a mut Value, NoMemory<Value>>
+    where
+        F: Drop,
+        requires { inline_value self ≡ None → F.pre default }
+        ensures* writes_back { sem 𝓛 (InlineLendsOk self.entry result) }
+        ensures value { IfOk result (λ x. UnwrapsOrElse (inline_value self.entry) (F.post default) x.now) }
+        ensures present { IsSome (inline_value self.entry) → IsOk result }
+        ensures back { IfErr result (λ refused. F.post default refused.0) }
+    {
+        match self {
+            InlineEntry::Occupied(entry) => {
+                drop(default);
+                Ok(entry.into_mut())
+            }
+            InlineEntry::Vacant(entry) => entry.insert(default()),
+        }
+    }
+}
+
+/// Lets a value go where another one is lent.
+fn discard(_value: Value) {}

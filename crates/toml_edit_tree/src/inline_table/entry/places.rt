@@ -1,0 +1,81 @@
+//! Entries of an inline table: of a key, or of a place.
+ghost use Rattle.std.specs.Prelude.{◌≡◌, ◌<◌, IfOk, IfSome, Some, length, option_and_then, option_map};
+ghost use Rattle.std.specs.Borrow.{sem};
+ghost use Rattle.toml_edit_model.specs.InlineCalls.{get_value};
+ghost use Rattle.toml_edit_model.specs.Keys.{new_key};
+ghost use Rattle.toml_edit_model.specs.Slots.{AreApart, place as place_seen};
+ghost use Rattle.toml_edit_slots.specs.Slots.{place};
+ghost use Rattle.toml_edit_tree.specs.InlineEntries.{inline_place, inline_ref, inline_value, InlineRestsIfAbsent, InlineRestsIfRefused, IsInlineEntryOf};
+ghost use Rattle.toml_edit_tree.specs.SlotsOf.{inline_slots_of};
+ghost use Rattle.toml_edit_tree.specs.View.{value_view};
+ghost use Rattle.toml_edit_tree.specs.declared.inline_table.InlineTable.{out-InlineTable};
+ghost use Rattle.toml_edit_tree.specs.declared.inline_table.entry.InlineEntry.TheVariants.{Occupied};
+
+use super::{InlineEntry, InlineOccupiedEntry, InlineVacantEntry};
+use crate::inline_table::InlineTable;
+use crate::value::Value;
+use toml_edit_key::Key;
+use toml_edit_repr::Mem;
+
+impl InlineTable {
+    /// The entry of the key's text; a new one has a key of the text alone. What stands there is made a value first, a placeholder an empty
+    /// inline table. The only error is want of memory, at a new key: the inline table stays as it was.
+    pub fn entry(&mut self, key: &str) -> Mem<InlineEntry<'_>>
+        ensures* refused { sem 𝓛 (InlineRestsIfRefused self.entry result) }
+        ensures same_table { IfOk result (λ e. (inline_ref e).ghost_name ≡ self.entry.ghost_name) }
+        ensures entry { IfOk result (IsInlineEntryOf self.old (new_key key.now)) }
+    {
+        let alloc = self.items.allocator();
+        if let Some(at) = self.place_of(key) {
+            self.make_value_at(at, Value::InlineTable(InlineTable::new(alloc)));
+            return Ok(InlineEntry::Occupied(InlineOccupiedEntry { table: self, at }));
+        }
+        match Key::from_text(alloc, key) {
+            Ok(key) => Ok(InlineEntry::Vacant(InlineVacantEntry { table: self, key })),
+            Err(refused) => Err(refused),
+        }
+    }
+
+    /// The entry of the key; a new one has a copy of the key, with its spelling and decors. What stands there is made a value first, a
+    /// placeholder an empty inline table. The only error is want of memory, at a new key: the inline table stays as it was.
+    pub fn entry_format(&mut self, key: &Key) -> Mem<InlineEntry<'_>>
+        ensures* refused { sem 𝓛 (InlineRestsIfRefused self.entry result) }
+        ensures same_table { IfOk result (λ e. (inline_ref e).ghost_name ≡ self.entry.ghost_name) }
+        ensures entry { IfOk result (IsInlineEntryOf self.old key.now) }
+    {
+        let alloc = self.items.allocator();
+        if let Some(at) = self.place_of(key.get()) {
+            self.make_value_at(at, Value::InlineTable(InlineTable::new(alloc)));
+            return Ok(InlineEntry::Occupied(InlineOccupiedEntry { table: self, at }));
+        }
+        match key.clone(alloc) {
+            Ok(key) => Ok(InlineEntry::Vacant(InlineVacantEntry { table: self, key })),
+            Err(refused) => Err(refused),
+        }
+    }
+
+    /// The entry of the key, if a value stands there, to change that or what stands around the key.
+    pub fn get_key_value_mut(&mut self, key: &str) -> Option<InlineOccupiedEntry<'_>>
+        ensures* absent { sem 𝓛 (InlineRestsIfAbsent self.entry result) }
+        ensures same_table { IfSome result (λ e. (inline_ref (Occupied e)).ghost_name ≡ self.entry.ghost_name) }
+        ensures table { IfSome result (λ e. (inline_ref (Occupied e)).now ≡ self.old) }
+        ensures value { option_and_then (λ e. option_map value_view (inline_value (Occupied e))) result ≡ get_value key.now (inline_slots_of self.old) }
+        ensures place { IfSome result (λ e. place_seen key.now (inline_slots_of self.old) ≡ Some (inline_place (Occupied e))) }
+    {
+        match self.value_place(key) {
+            Some(at) => Some(InlineOccupiedEntry { table: self, at }),
+            None => None,
+        }
+    }
+
+    /// The place of the key's slot of any kind, among keys of which no two have one text.
+    pub(crate) fn place_of(&self, key: &str) -> Option<usize>
+        ensures place { result ≡ place key.now (out-InlineTable self.now).items }
+        ensures there { result ≡ place_seen key.now (inline_slots_of self.now) }
+        ensures within { IfSome result (λ at. at < length (out-InlineTable self.now).items) }
+        ensures apart { AreApart (inline_slots_of self.now) }
+    {
+        let _entries = self.items.as_slice();
+        self.items.find(key)
+    }
+}
