@@ -22,5 +22,6 @@ pub mod FormatLaws
 pub mod TableEntryLaws
 pub mod InlineEntryLaws
 pub mod InlinePlaceLaws
+pub mod InlineFillLaws
 pub mod InlineOccupiedLaws
 pub mod SortLaws

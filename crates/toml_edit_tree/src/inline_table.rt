@@ -26,6 +26,7 @@ use toml_edit_slots::{Slot, Slots};
 mod at;
 mod change;
 mod entry;
+mod fill;
 mod iter;
 mod look_up;
 mod sort;

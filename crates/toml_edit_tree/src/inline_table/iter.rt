@@ -1,17 +1,21 @@
 //! Inline tables as sequences of keys and values.
-ghost use Rattle.std.specs.Prelude.{◌≡◌, OnErr, OnOk};
-ghost use Rattle.std.specs.Iterator.{ExtendsWithItems, IsFinite, YieldsFirstBy, item_count};
-ghost use Rattle.toml_edit_model.specs.Slots.{put, with_item};
+ghost use Rattle.std.specs.Prelude.{◌≡◌, List, [], map, IfOk, OnErr, OnOk};
+ghost use Rattle.std.specs.Iterator.{Drains, ExtendsWithItems, IsFinite, YieldsFirstBy, item_count};
+ghost use Rattle.toml_edit_model.specs.Conversions.{new_inline};
+ghost use Rattle.toml_edit_model.specs.Slots.{extended, put, with_item};
+ghost use Rattle.toml_edit_model.specs.Tree.{Key};
 ghost use Rattle.toml_edit_tree.specs.ContainerParts.{pairs_left};
 ghost use Rattle.toml_edit_tree.specs.Containers.{pairs_in};
 ghost use Rattle.toml_edit_tree.specs.InlineParts.{AddsValues, owned_pairs, pair_owned};
 ghost use Rattle.toml_edit_tree.specs.InlineSlots.{inline_fields, value_taken};
 ghost use Rattle.toml_edit_tree.specs.SlotsOf.{inline_slots_of};
 ghost use Rattle.toml_edit_tree.specs.View.{inline_view, value_view};
+ghost use Rattle.toml_edit_tree.specs.declared.value.Value.{Value};
 
 use super::{InlineTable, InlineTableIter};
 use crate::item::Item;
 use crate::value::Value;
+use std::alloc::Global;
 use std::vec;
 use toml_edit_key::Key;
 use toml_edit_repr::Mem;
@@ -29,6 +33,22 @@ impl InlineTable {
             self.extend_one(key, value)?;
         }
         Ok(())
+    }
+
+    /// An inline table of the pairs, as `extend` puts them in. The only error is want of memory.
+    pub fn from_iter<U: IntoIterator<Item = (Key, Value)>>(
+        alloc: Global,
+        pairs: U,
+    ) -> Mem<InlineTable>
+        requires { (it : U.IntoIter) → U.into_iter_gives pairs it → U.IntoIter.can_next it × IsFinite (U.IntoIter.remaining it) }
+        ensures { IfOk result (λ table. (it : U.IntoIter) × (ps : List (Key × Value)) × U.into_iter_gives pairs it × Drains U.IntoIter.next_gives it ps
+            × (inline_slots_of table ≡ extended (map value_taken ps) []) × (inline_fields table ≡ new_inline)) }
+    {
+        let mut table = InlineTable::new(alloc);
+        match table.extend(pairs) {
+            Ok(()) => Ok(table),
+            Err(refused) => Err(refused),
+        }
     }
 
     /// Puts one pair in so. The only error is want of memory: the inline table stays, and the pair is gone.
