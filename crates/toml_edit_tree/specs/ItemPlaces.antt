@@ -1,10 +1,16 @@
--- What arrays and arrays of tables lend of their slots.
-use Rattle.std.specs.Prelude.{ℕ, Option}
+-- What arrays and arrays of tables lend of their slots, values and tables.
+use Rattle.std.specs.Prelude.{ℕ, Option, slice_get, option_and_then}
 use Rattle.std.specs.Borrow.{Lends, LendsIf, MutBor, Fml}
 use Rattle.std.specs.Vec.{with_item}
+use Rattle.toml_edit_tree.specs.ElementHolds.{table_held, value_held}
 use Rattle.toml_edit_tree.specs.declared.array.Array.{Array, out-Array}
 use Rattle.toml_edit_tree.specs.declared.array_of_tables.ArrayOfTables.{ArrayOfTables, out-ArrayOfTables}
 use Rattle.toml_edit_tree.specs.declared.item.Item.{Item}
+use Rattle.toml_edit_tree.specs.declared.item.Item.TheVariants as items
+use Rattle.toml_edit_tree.specs.declared.table.Table.{Table}
+use Rattle.toml_edit_tree.specs.declared.value.Value.{Value}
+use Rattle.toml_edit_tree.specs.contracts.table.Table.{the_row as table_row}
+use Rattle.toml_edit_tree.specs.contracts.value.Value.{the_row as value_row}
 use Rattle.toml_edit_tree.specs.contracts.array.Array.{the_row as array_row}
 use Rattle.toml_edit_tree.specs.contracts.array_of_tables.ArrayOfTables.{the_row as tables_row}
 use Rattle.toml_edit_tree.specs.contracts.item.Item.{the_row as item_row}
@@ -29,3 +35,28 @@ LendsArraySlotIn s i r = Lends array_row item_row s r (λ w. with_slot_at i w s.
 
 abbrev pub LendsTablesSlotIn : MutBor ArrayOfTables → ℕ → MutBor Item → Fml
 LendsTablesSlotIn s i r = Lends tables_row item_row s r (λ w. with_element_at i w s.now)
+
+-- the value, and the table, in the slot at a place
+abbrev pub value_in_at : ℕ → Array → Option Value
+value_in_at i a = option_and_then value_held (slice_get (out-Array a).values.items i)
+
+abbrev pub table_in_at : ℕ → ArrayOfTables → Option Table
+table_in_at i a = option_and_then table_held (slice_get (out-ArrayOfTables a).values.items i)
+
+-- they end with the last value, or table, behind r in the slot at the place, where one is lent
+abbrev pub LendsValueAt : MutBor Array → ℕ → Option (MutBor Value) → Fml
+LendsValueAt s i r = LendsIf array_row value_row s r (λ w. with_slot_at i (items.Value w) s.now) s.now
+
+abbrev pub LendsTableAt : MutBor ArrayOfTables → ℕ → Option (MutBor Table) → Fml
+LendsTableAt s i r = LendsIf tables_row table_row s r (λ w. with_element_at i (items.Table w) s.now) s.now
+
+-- the same where the place has one
+abbrev pub LendsValueIn : MutBor Array → ℕ → MutBor Value → Fml
+LendsValueIn s i r = Lends array_row value_row s r (λ w. with_slot_at i (items.Value w) s.now)
+
+abbrev pub LendsTableIn : MutBor ArrayOfTables → ℕ → MutBor Table → Fml
+LendsTableIn s i r = Lends tables_row table_row s r (λ w. with_element_at i (items.Table w) s.now)
+
+-- the item ends as the last table behind r
+abbrev pub LendsOwnTable : MutBor Item → MutBor Table → Fml
+LendsOwnTable s r = Lends item_row table_row s r (λ w. items.Table w)

@@ -5,9 +5,10 @@ ghost use Rattle.toml_edit_model.specs.Tree.{nothing, is_value_node};
 ghost use Rattle.toml_edit_model.specs.Conversions.{with_decor};
 ghost use Rattle.toml_edit_tree.specs.Casts.{both_sides, type_of};
 ghost use Rattle.toml_edit_tree.specs.ContainerParts.{LendsTable, LendsTables};
-ghost use Rattle.toml_edit_tree.specs.ElementHolds.{value_held};
+ghost use Rattle.toml_edit_tree.specs.ElementHolds.{table_held, value_held};
 ghost use Rattle.toml_edit_tree.specs.ElementLending.{LendsValue};
 ghost use Rattle.toml_edit_tree.specs.InlineLending.{LendsOwnValue};
+ghost use Rattle.toml_edit_tree.specs.ItemPlaces.{LendsOwnTable};
 ghost use Rattle.toml_edit_tree.specs.Containers.{table_in, table_node, tables_in, tables_node, value_in};
 ghost use Rattle.toml_edit_tree.specs.View.{item_view, table_view, tables_view, value_view};
 
@@ -84,6 +85,18 @@ impl Item {
     {
         match self {
             Item::Value(lent) => lent,
+            _ => unreachable!(),
+        }
+    }
+
+    /// The table that it is, to be changed.
+    pub(crate) fn own_table_mut(&mut self) -> &mut Table
+        requires { is_some (table_held self.old) ≡ true }
+        ensures* writes_back { sem 𝓛 (LendsOwnTable self.entry result) }
+        ensures table { table_held self.old ≡ Some result.now }
+    {
+        match self {
+            Item::Table(lent) => lent,
             _ => unreachable!(),
         }
     }

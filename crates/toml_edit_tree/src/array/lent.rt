@@ -1,15 +1,49 @@
-//! A slot of an array, to be changed in place.
-ghost use Rattle.std.specs.Prelude.{◌≡◌, ◌<◌, Some, length, option_map, slice_get};
+//! Slots and values of an array, to be changed in place.
+ghost use Rattle.std.specs.Prelude.{◌≡◌, ◌<◌, true, Some, is_some, length, option_map, slice_get};
+ghost use Rattle.toml_edit_model.specs.ArrayCalls.{value_at};
 ghost use Rattle.std.specs.Borrow.{sem};
 ghost use Rattle.toml_edit_tree.specs.Elements.{items_of};
-ghost use Rattle.toml_edit_tree.specs.ItemPlaces.{LendsArraySlot, LendsArraySlotIn};
-ghost use Rattle.toml_edit_tree.specs.View.{item_view};
+ghost use Rattle.toml_edit_tree.specs.ItemPlaces.{LendsArraySlot, LendsArraySlotIn, LendsValueAt, LendsValueIn, value_in_at};
+ghost use Rattle.toml_edit_tree.specs.View.{item_view, value_view};
 ghost use Rattle.toml_edit_tree.specs.declared.array.Array.{out-Array};
 
 use super::Array;
 use crate::item::Item;
+use crate::value::Value;
 
 impl Array {
+    /// The value at the place, to be changed, or `None` where there is no slot or the slot holds no value.
+    pub fn get_mut(&mut self, at: usize) -> Option<&mut Value>
+        ensures* writes_back { sem 𝓛 (LendsValueAt self.entry at result) }
+        ensures value { option_map (λ value. value_view value.now) result ≡ value_at at (items_of self.old) }
+    {
+        if self.holds_value(at) {
+            Some(self.value_in_mut(at))
+        } else {
+            None
+        }
+    }
+
+    /// Whether the place has a value.
+    fn holds_value(&self, at: usize) -> bool
+        ensures { result ≡ is_some (value_in_at at self.now) }
+    {
+        match self.values.get(at) {
+            Some(item) => item.is_value(),
+            None => false,
+        }
+    }
+
+    /// The value at a place that has one, to be changed.
+    fn value_in_mut(&mut self, at: usize) -> &mut Value
+        requires { is_some (value_in_at at self.old) ≡ true }
+        ensures* writes_back { sem 𝓛 (LendsValueIn self.entry at result) }
+        ensures value { value_in_at at self.old ≡ Some result.now }
+    {
+        let item = self.slot_in_mut(at);
+        item.own_value_mut()
+    }
+
     /// The slot at the place, a placeholder too, to be changed, or `None` where there is no slot.
     #[doc(hidden)]
     pub fn slot_at_mut(&mut self, at: usize) -> Option<&mut Item>

@@ -1,15 +1,50 @@
-//! A slot of an array of tables, to be changed in place.
-ghost use Rattle.std.specs.Prelude.{◌≡◌, ◌<◌, Some, length, option_map, slice_get};
+//! Slots and tables of an array of tables, to be changed in place.
+ghost use Rattle.std.specs.Prelude.{◌≡◌, ◌<◌, true, Some, is_some, length, option_map, slice_get};
 ghost use Rattle.std.specs.Borrow.{sem};
+ghost use Rattle.toml_edit_model.specs.TablesCalls.{table_at};
+ghost use Rattle.toml_edit_tree.specs.Containers.{table_node};
 ghost use Rattle.toml_edit_tree.specs.Elements.{tables_of};
-ghost use Rattle.toml_edit_tree.specs.ItemPlaces.{LendsTablesSlot, LendsTablesSlotIn};
-ghost use Rattle.toml_edit_tree.specs.View.{item_view};
+ghost use Rattle.toml_edit_tree.specs.ItemPlaces.{LendsTableAt, LendsTableIn, LendsTablesSlot, LendsTablesSlotIn, table_in_at};
+ghost use Rattle.toml_edit_tree.specs.View.{item_view, table_view};
 ghost use Rattle.toml_edit_tree.specs.declared.array_of_tables.ArrayOfTables.{out-ArrayOfTables};
 
 use super::ArrayOfTables;
 use crate::item::Item;
+use crate::table::Table;
 
 impl ArrayOfTables {
+    /// The table at the place, to be changed, or `None` where there is no slot or the slot holds no table.
+    pub fn get_mut(&mut self, at: usize) -> Option<&mut Table>
+        ensures* writes_back { sem 𝓛 (LendsTableAt self.entry at result) }
+        ensures table { option_map (λ table. table_node (table_view table.now)) result ≡ table_at at (tables_of self.old) }
+    {
+        if self.holds_table(at) {
+            Some(self.table_in_mut(at))
+        } else {
+            None
+        }
+    }
+
+    /// Whether the place has a table.
+    fn holds_table(&self, at: usize) -> bool
+        ensures { result ≡ is_some (table_in_at at self.now) }
+    {
+        match self.values.get(at) {
+            Some(item) => item.is_table(),
+            None => false,
+        }
+    }
+
+    /// The table at a place that has one, to be changed.
+    fn table_in_mut(&mut self, at: usize) -> &mut Table
+        requires { is_some (table_in_at at self.old) ≡ true }
+        ensures* writes_back { sem 𝓛 (LendsTableIn self.entry at result) }
+        ensures table { table_in_at at self.old ≡ Some result.now }
+    {
+        let item = self.slot_in_mut(at);
+        item.own_table_mut()
+    }
+
     /// The slot at the place, a placeholder too, to be changed, or `None` where there is no slot.
     #[doc(hidden)]
     pub fn slot_at_mut(&mut self, at: usize) -> Option<&mut Item>
