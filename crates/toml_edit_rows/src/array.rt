@@ -1,7 +1,7 @@
 //! What is changed in arrays.
 use crate::said::Answer;
 use crate::steps::{behind, word};
-use crate::{list, made};
+use crate::{list, made, slots};
 use serde_json::Value as Json;
 use toml_edit::{Array, Mem, Value};
 
@@ -28,6 +28,7 @@ fn change(array: &mut Array, words: &[Json], out: &mut Answer) {
             put_at(array, words, made::value(behind(words, 2), out), out);
         }
         "remove" => remove(array, place(words), out),
+        "slot_at_mut" => slots::set_none(array.slot_at_mut(place(words)), out),
         _ => list::change_array(array, words, out),
     }
 }

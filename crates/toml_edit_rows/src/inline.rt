@@ -39,6 +39,7 @@ fn change(table: &mut InlineTable, words: &[Json], out: &mut Answer) {
         "retain" => table.retain(|key, _value| key != name),
         "clear" => table.clear(),
         "fmt" => table.fmt(),
+        "sort_values" => out.done(table.sort_values()),
         _ => list::change_inline(table, words, out),
     }
 }

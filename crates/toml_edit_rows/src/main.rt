@@ -9,6 +9,7 @@ mod document;
 mod entry;
 mod events;
 mod inline;
+mod item;
 mod key;
 mod list;
 mod made;

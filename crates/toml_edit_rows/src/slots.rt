@@ -6,6 +6,14 @@ use serde_json::Value as Json;
 use std::mem;
 use toml_edit::{Item, Key, NoMemory, Table};
 
+/// Leaves a placeholder in the slot, if there is one.
+pub fn set_none(slot: Option<&mut Item>, out: &mut Answer) {
+    match slot {
+        Some(item) => *item = Item::None,
+        None => out.text("none"),
+    }
+}
+
 /// What is told of something that a call gave, which is let go then.
 pub trait Told {
     fn tell(&self, out: &mut Answer);

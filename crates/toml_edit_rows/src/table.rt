@@ -2,7 +2,9 @@
 use crate::row::Row;
 use crate::said::Answer;
 use crate::steps::{Asked, Subject, behind, copied, word};
-use crate::{convert, document, key, made, refusal, slots, steps, tables, value};
+use crate::{
+    array, convert, document, inline, item, key, made, refusal, slots, steps, tables, value,
+};
 use serde_json::Value as Json;
 use toml_edit::{ArrayOfTables, Item, Iter, Table, Value};
 
@@ -189,6 +191,7 @@ fn tell_item(item: &Item, words: &[Json], out: &mut Answer) {
         "is_array_of_tables" => out.truth(item.is_array_of_tables()),
         "type_name" => out.text(item.type_name()),
         "as_value" => tell_value(item.as_value(), behind(words, 1), out),
+        call if call.starts_with("item_") => item::tell(item, call, out),
         _ => tell_value(item.as_value(), words, out),
     }
 }
@@ -206,6 +209,7 @@ fn tell_tables(tables: &ArrayOfTables, words: &[Json], out: &mut Answer) {
         "is_empty" => out.truth(tables.is_empty()),
         "span" => out.span(tables.span()),
         "into_array" => convert::into_array(tables.clone(out.alloc), out),
+        "to_string" => out.shown(tables),
         call => out.no_such(call),
     }
 }
@@ -277,6 +281,8 @@ fn change_item(item: &mut Item, words: &[Json], out: &mut Answer) {
             Some(value) => value.call(rest, out),
             None => out.text("none"),
         },
+        "item_as_array_mut" => array::change_found(item.as_array_mut(), rest, out),
+        "item_as_inline_table_mut" => inline::change_found(item.as_inline_table_mut(), rest, out),
         "make_value" => item.make_value(),
         "into_value" | "into_table" | "into_array_of_tables" => convert::change(item, words, out),
         _ => change_value(item, words, out),
