@@ -17,7 +17,7 @@ pub use toml_edit_slots::NoMemory;
 pub use toml_edit_stream::{Broken, Input, Output, Watched};
 pub use toml_edit_tree::{
     Array, ArrayIntoIter, ArrayIter, ArrayOfTables, ArrayOfTablesIntoIter, ArrayOfTablesIter,
-    Entry, InlineEntry, InlineOccupiedEntry, InlineTable, InlineTableIntoIter, InlineTableIter,
-    InlineVacantEntry, IntoIter, Item, Iter, OccupiedEntry, Table, VacantEntry, Value, array,
-    array_of_tables, inline_table, item, table, value,
+    Entry, InlineEntry, InlineOccupiedEntry, InlineSlotMut, InlineTable, InlineTableIntoIter,
+    InlineTableIter, InlineVacantEntry, IntoIter, Item, Iter, OccupiedEntry, Table, VacantEntry,
+    Value, array, array_of_tables, inline_table, item, table, value,
 };

@@ -7,14 +7,13 @@ use Rattle.toml_edit_model.specs.Slots as model
 use Rattle.toml_edit_model.specs.Text.{Text}
 use Rattle.toml_edit_model.specs.Tree.{Key, Node, is_value_node}
 use Rattle.toml_edit_slots.specs.declared.slots.Slot.{Slot}
-use Rattle.toml_edit_slots.specs.Slots.{lookup_slot, place}
+use Rattle.toml_edit_slots.specs.Slots.{lookup_slot}
 use Rattle.toml_edit_tree.specs.ElementHolds.{value_held}
 use Rattle.toml_edit_tree.specs.InlineValues.{has_value_at}
 use Rattle.toml_edit_tree.specs.SlotsOf.{inline_slots_of}
 use Rattle.toml_edit_tree.specs.View.{item_view, value_view}
 use Rattle.toml_edit_tree.specs.declared.inline_table.InlineTable.{InlineTable, out-InlineTable}
 use Rattle.toml_edit_tree.specs.declared.item.Item.{Item}
-use Rattle.toml_edit_tree.specs.declared.item.Item.TheVariants as items
 use Rattle.toml_edit_tree.proofs.HoldsLaws.{value-seen}
 use Rattle.toml_edit_tree.proofs.SlotsLaws.{inline-shown, lookup-shown, shown}
 

@@ -24,4 +24,5 @@ pub mod InlineEntryLaws
 pub mod InlinePlaceLaws
 pub mod InlineFillLaws
 pub mod InlineOccupiedLaws
+pub mod InlineSlotLaws
 pub mod SortLaws

@@ -21,4 +21,5 @@ pub mod InlineLending
 pub mod Converting
 pub mod TableEntries
 pub mod InlineEntries
+pub mod InlineSlotParts
 pub mod Sorts

@@ -16,6 +16,7 @@ use crate::item::Item;
 use crate::value::Value;
 pub use entry::{InlineEntry, InlineOccupiedEntry, InlineVacantEntry};
 pub use iter::InlineTableIntoIter;
+pub use slot::InlineSlotMut;
 use std::alloc::Global;
 use std::ops::Range;
 use std::{fmt, slice};
@@ -29,6 +30,7 @@ mod entry;
 mod fill;
 mod iter;
 mod look_up;
+mod slot;
 mod sort;
 mod whole;
 

@@ -20,8 +20,8 @@ pub use array_of_tables::{ArrayOfTables, ArrayOfTablesIntoIter, ArrayOfTablesIte
 #[doc(hidden)]
 pub use encode::{Path, table_has_lines, write_path, write_table_lines};
 pub use inline_table::{
-    InlineEntry, InlineOccupiedEntry, InlineTable, InlineTableIntoIter, InlineTableIter,
-    InlineVacantEntry,
+    InlineEntry, InlineOccupiedEntry, InlineSlotMut, InlineTable, InlineTableIntoIter,
+    InlineTableIter, InlineVacantEntry,
 };
 pub use item::Item;
 #[doc(hidden)]

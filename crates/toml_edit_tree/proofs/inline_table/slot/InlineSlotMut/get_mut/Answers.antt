@@ -1,0 +1,14 @@
+-- The item of a slot, to be changed.
+use Rattle.std.proofs.Common.{refl, arith}
+use Rattle.toml_edit_slots.specs.Entries.{length-with_item}
+use Rattle.toml_edit_tree.specs.declared.inline_table.InlineTable.{out-InlineTable}
+use Rattle.toml_edit_tree.proofs.InlineSlotLaws.{slot_written}
+use Rattle.toml_edit_tree.proofs.inline_table.slot.InlineSlotMut.get_mut.Goals as goal
+
+pub invariant_of-self-lent : goal.invariant_of-self-lent
+invariant_of-self-lent c w =
+    let o = c.args.self.now in
+    (omega (arith, o.within, length-with_item (out-InlineTable o.table.now).items o.at w), tt)
+
+pub returns : goal.returns
+returns c = ((refl, λ w. slot_written c.args.self.now w _), record { writes_back = tt; item = c.item_at_mut.ensures.item })

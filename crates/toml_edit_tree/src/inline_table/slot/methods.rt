@@ -1,0 +1,62 @@
+//! What is done with a slot of an inline table.
+ghost use Rattle.std.specs.Prelude.{◌≡◌, Some, option_map};
+ghost use Rattle.std.specs.Borrow.{sem};
+ghost use Rattle.toml_edit_model.specs.Keys.{reset_key};
+ghost use Rattle.toml_edit_tree.specs.InlineSlotParts.{slot_item, slot_key, slot_place, slot_ref, with_slot_key, SlotLends, SlotLendsDotted, SlotLendsLeaf};
+
+use super::InlineSlotMut;
+use crate::item::Item;
+use toml_edit_key::Key;
+use toml_edit_repr::Decor;
+
+impl<'a> InlineSlotMut<'a> {
+    /// The key that is there.
+    pub fn key(&self) -> &Key
+        ensures { Some result.now ≡ slot_key self.now }
+    {
+        &self.table.items.as_slice()[self.at].key
+    }
+
+    /// The item that is there.
+    pub fn get(&self) -> &Item
+        ensures { Some result.now ≡ slot_item self.now }
+    {
+        &self.table.items.as_slice()[self.at].item
+    }
+
+    /// The item that is there, to be changed.
+    pub fn get_mut(&mut self) -> &mut Item
+        ensures* writes_back { sem 𝓛 (SlotLends self.entry result) }
+        ensures item { Some result.now ≡ slot_item self.old }
+    {
+        let at = self.at;
+        self.table.item_at_mut(at)
+    }
+
+    /// What stands around the key where it ends a path, to be changed.
+    pub fn leaf_decor_mut(&mut self) -> &mut Decor
+        ensures* writes_back { sem 𝓛 (SlotLendsLeaf self.entry result) }
+        ensures decor { option_map (λ key. key.leaf) (slot_key self.old) ≡ Some result.now }
+    {
+        let at = self.at;
+        self.table.leaf_decor_in_mut(at)
+    }
+
+    /// What stands around the key where it ends no path, to be changed.
+    pub fn dotted_decor_mut(&mut self) -> &mut Decor
+        ensures* writes_back { sem 𝓛 (SlotLendsDotted self.entry result) }
+        ensures decor { option_map (λ key. key.dotted) (slot_key self.old) ≡ Some result.now }
+    {
+        let at = self.at;
+        self.table.dotted_decor_in_mut(at)
+    }
+
+    /// Gives the key its default spelling, and unsets its decors.
+    pub fn fmt_key(&mut self)
+        ensures same_table { (slot_ref self.new).ghost_name ≡ (slot_ref self.old).ghost_name }
+        ensures same_place { slot_place self.new ≡ slot_place self.old }
+        ensures table { (slot_ref self.new).now ≡ (slot_ref (with_slot_key self.old reset_key)).now }
+    {
+        self.table.fmt_key_in(self.at);
+    }
+}

@@ -1,0 +1,87 @@
+//! Slots of an inline table by place or by key, and what is written in one.
+ghost use Rattle.std.specs.Prelude.{◌≡◌, ◌<◌, IfSome, IsTrue, None, Some, if◌then◌else◌, length, nat_lt, option_map, slice_get};
+ghost use Rattle.std.specs.Borrow.{sem};
+ghost use Rattle.toml_edit_model.specs.Keys.{reset_key};
+ghost use Rattle.toml_edit_model.specs.Slots.{place as place_seen};
+ghost use Rattle.toml_edit_slots.specs.Slots.{items_of};
+ghost use Rattle.toml_edit_tree.specs.InlineLending.{with_inline_key, LendsInlineDottedAt, LendsInlineLeafAt};
+ghost use Rattle.toml_edit_tree.specs.InlineSlotParts.{slot_place, slot_ref, LendsInlineItemAt, SlotRestsIfAbsent};
+ghost use Rattle.toml_edit_tree.specs.SlotsOf.{inline_slots_of};
+ghost use Rattle.toml_edit_tree.specs.declared.inline_table.InlineTable.{out-InlineTable};
+
+use super::InlineSlotMut;
+use crate::inline_table::InlineTable;
+use crate::item::Item;
+use toml_edit_repr::Decor;
+
+impl InlineTable {
+    /// The slot at the place, a placeholder too, if there is one, to change its item or what stands around its key.
+    pub fn key_value_at_mut(&mut self, at: usize) -> Option<InlineSlotMut<'_>>
+        ensures* absent { sem 𝓛 (SlotRestsIfAbsent self.entry result) }
+        ensures same_table { IfSome result (λ slot. (slot_ref slot).ghost_name ≡ self.entry.ghost_name) }
+        ensures table { IfSome result (λ slot. (slot_ref slot).now ≡ self.old) }
+        ensures place { option_map slot_place result ≡ if nat_lt at (length (inline_slots_of self.old)) then Some at else None }
+    {
+        if self.has_place(at) {
+            Some(InlineSlotMut { table: self, at })
+        } else {
+            None
+        }
+    }
+
+    /// The key's slot of any kind, if there is one, to change what stands around the key as it stands in the inline table.
+    pub fn key_mut(&mut self, key: &str) -> Option<InlineSlotMut<'_>>
+        ensures* absent { sem 𝓛 (SlotRestsIfAbsent self.entry result) }
+        ensures same_table { IfSome result (λ slot. (slot_ref slot).ghost_name ≡ self.entry.ghost_name) }
+        ensures table { IfSome result (λ slot. (slot_ref slot).now ≡ self.old) }
+        ensures place { option_map slot_place result ≡ place_seen key.now (inline_slots_of self.old) }
+    {
+        match self.place_of(key) {
+            Some(at) => Some(InlineSlotMut { table: self, at }),
+            None => None,
+        }
+    }
+
+    /// Whether there is a slot at the place.
+    fn has_place(&self, at: usize) -> bool
+        ensures there { result ≡ nat_lt at (length (inline_slots_of self.now)) }
+        ensures within { IsTrue result → at < length (out-InlineTable self.now).items }
+    {
+        at < self.items.len()
+    }
+
+    /// The item at the place, to be changed.
+    pub(crate) fn item_at_mut(&mut self, at: usize) -> &mut Item
+        requires { at < length (out-InlineTable self.old).items }
+        ensures* writes_back { sem 𝓛 (LendsInlineItemAt self.entry at result) }
+        ensures item { Some result.now ≡ slice_get (items_of (out-InlineTable self.old).items) at }
+    {
+        self.items.item_mut(at)
+    }
+
+    /// What stands around the key at the place where it ends a path, to be changed.
+    pub(crate) fn leaf_decor_in_mut(&mut self, at: usize) -> &mut Decor
+        requires { at < length (out-InlineTable self.old).items }
+        ensures* writes_back { sem 𝓛 (LendsInlineLeafAt self.entry at result) }
+        ensures decor { option_map (λ slot. slot.key.leaf) (slice_get (out-InlineTable self.old).items at) ≡ Some result.now }
+    {
+        self.items.leaf_decor_mut(at)
+    }
+
+    /// What stands around the key at the place where it ends no path, to be changed.
+    pub(crate) fn dotted_decor_in_mut(&mut self, at: usize) -> &mut Decor
+        requires { at < length (out-InlineTable self.old).items }
+        ensures* writes_back { sem 𝓛 (LendsInlineDottedAt self.entry at result) }
+        ensures decor { option_map (λ slot. slot.key.dotted) (slice_get (out-InlineTable self.old).items at) ≡ Some result.now }
+    {
+        self.items.dotted_decor_mut(at)
+    }
+
+    /// Gives the key at the place its default spelling, and unsets its decors.
+    pub(crate) fn fmt_key_in(&mut self, at: usize)
+        requires { at < length (out-InlineTable self.old).items }
+        ensures { self.new ≡ with_inline_key at reset_key self.old }
+    {
+        self.items.fmt_key(at);
+    }
+}
