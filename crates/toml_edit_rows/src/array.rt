@@ -1,7 +1,7 @@
 //! What is changed in arrays.
 use crate::said::Answer;
 use crate::steps::{behind, word};
-use crate::{list, made, slots};
+use crate::{inline_entry, list, made, slots};
 use serde_json::Value as Json;
 use toml_edit::{Array, Mem, Value};
 
@@ -28,9 +28,15 @@ fn change(array: &mut Array, words: &[Json], out: &mut Answer) {
             put_at(array, words, made::value(behind(words, 2), out), out);
         }
         "remove" => remove(array, place(words), out),
+        "get_mut" => lend(array, words, made::value(behind(words, 2), out), out),
         "slot_at_mut" => slots::set_none(array.slot_at_mut(place(words)), out),
         _ => list::change_array(array, words, out),
     }
+}
+
+/// Writes a value over the one at a place, if one stands there.
+fn lend(array: &mut Array, words: &[Json], made: Option<Value>, out: &mut Answer) {
+    inline_entry::write(array.get_mut(place(words)), made, out);
 }
 
 fn push(array: &mut Array, words: &[Json], out: &mut Answer) {

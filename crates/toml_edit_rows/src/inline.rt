@@ -2,7 +2,7 @@
 use crate::said::Answer;
 use crate::slots::{Told, tell_old, tell_taken};
 use crate::steps::{behind, word};
-use crate::{list, made};
+use crate::{inline_entry, list, made};
 use serde_json::Value as Json;
 use toml_edit::{InlineTable, Key, Value};
 
@@ -40,7 +40,19 @@ fn change(table: &mut InlineTable, words: &[Json], out: &mut Answer) {
         "clear" => table.clear(),
         "fmt" => table.fmt(),
         "sort_values" => out.done(table.sort_values()),
+        "entry" => inline_entry::enter(table, words, out),
+        "entry_format" => inline_entry::enter_formatted(table, words, out),
+        "get_or_insert" | "get_mut" => lend(table, words, made::value(behind(words, 2), out), out),
         _ => list::change_inline(table, words, out),
+    }
+}
+
+/// Puts a value in where none stands; of a `get_mut` writes it over the one that stands there.
+fn lend(table: &mut InlineTable, words: &[Json], made: Option<Value>, out: &mut Answer) {
+    let name = word(words, 1);
+    match word(words, 0) {
+        "get_mut" => inline_entry::write(table.get_mut(name), made, out),
+        _ => inline_entry::get_or_insert(table, name, made, out),
     }
 }
 

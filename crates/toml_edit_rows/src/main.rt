@@ -9,6 +9,7 @@ mod document;
 mod entry;
 mod events;
 mod inline;
+mod inline_entry;
 mod item;
 mod key;
 mod list;

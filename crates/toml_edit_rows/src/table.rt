@@ -252,6 +252,14 @@ pub fn change_below(table: &mut Table, words: &[Json], out: &mut Answer) {
     }
 }
 
+/// Does a step with a table that is lent, if one is.
+pub fn change_lent(table: Option<&mut Table>, words: &[Json], out: &mut Answer) {
+    match table {
+        Some(table) => change_here(table, words, out),
+        None => out.text("none"),
+    }
+}
+
 fn change_table(item: Option<&mut Item>, words: &[Json], out: &mut Answer) {
     match item {
         Some(Item::Table(table)) if word(words, 0) == "as_table_mut" => {

@@ -21,7 +21,9 @@ fn change(tables: &mut ArrayOfTables, words: &[Json], out: &mut Answer) {
         "retain" => tables.retain(|table| table.get(argument).is_some()),
         "extend" => extend(tables, made::item(argument, out), out),
         "from_iter" => from_iter(made::item(argument, out), out),
-        "insert" | "replace" | "remove" | "taken" | "slot_at_mut" => change_at(tables, words, out),
+        "insert" | "replace" | "remove" | "taken" | "slot_at_mut" | "get_mut" => change_at(
+            tables, words, out,
+        ),
         _ => table::ask_tables(tables, words, out),
     }
 }
@@ -56,6 +58,7 @@ fn change_at(tables: &mut ArrayOfTables, words: &[Json], out: &mut Answer) {
     let at = word(words, 1).parse::<usize>().unwrap_or(usize::MAX);
     match word(words, 0) {
         "insert" | "replace" => put_at(tables, at, words, made::table(word(words, 2), out), out),
+        "get_mut" => table::change_lent(tables.get_mut(at), behind(words, 2), out),
         "slot_at_mut" => slots::set_none(tables.slot_at_mut(at), out),
         _ if tables.get(at).is_none() => out.text("none"),
         "remove" => out.shown(&tables.remove(at)),
