@@ -63,7 +63,7 @@ fn extend(array: &mut Array, more: Option<Value>, out: &mut Answer) {
 /// Shows an array of the elements of another one.
 fn from_iter(values: Option<Value>, out: &mut Answer) {
     match values {
-        Some(Value::Array(values)) => out.made(Array::from_iter(values, out.alloc)),
+        Some(Value::Array(values)) => out.made(Array::from_iter(out.alloc, values)),
         _ => out.text("no array"),
     }
 }

@@ -47,7 +47,7 @@ fn extend(tables: &mut ArrayOfTables, more: Option<Item>, out: &mut Answer) {
 fn from_iter(tables: Option<Item>, out: &mut Answer) {
     match tables {
         Some(Item::ArrayOfTables(tables)) => {
-            convert::into_array(ArrayOfTables::from_iter(tables, out.alloc), out);
+            convert::into_array(ArrayOfTables::from_iter(out.alloc, tables), out);
         }
         _ => out.text("no array of tables"),
     }

@@ -1,15 +1,11 @@
--- Slots of an inline table sorted, and then the inline tables inside in turn.
-use denote.Param.Weighed.{most}
-use Rattle.std.proofs.Common.{◌≡◌, ℕ, suc, ◌+◌, ◌<◌, ◌≤◌, true, false, List, length, get_or, set, IsPermutation, refl, sym, ap, subst, ◌∙◌, arith, rules}
+-- What a sort of an inline table enters, and an inline table whose slots are sorted.
+use Rattle.std.proofs.Common.{◌≡◌, Bool, true, false, List, refl, sym, ap, subst, ◌∙◌, rules}
 use Rattle.toml_edit_model.specs.Lists.{is_dotted_inline, slot_list, slots_from}
 use Rattle.toml_edit_model.specs.Slots as model
-use Rattle.toml_edit_model.specs.Sorting.{IsDeepReorder, IsDeepSort, IsSortOf, ReordersItem, ReordersItems, name_lt}
-use Rattle.toml_edit_model.specs.Tree.{Node, nothing, leaf, list, inline, table, tables, InlineFields}
-use Rattle.toml_edit_laws.proofs.slots.DeepSorts.{Turned, all-turned, item-weaker, list-stays, some-turned, stopped, turn}
+use Rattle.toml_edit_model.specs.Sorting.{ReordersItem, ReordersItems, others_first}
+use Rattle.toml_edit_model.specs.Tree.{Key, Node, inline, is_value_node, InlineFields}
 use Rattle.toml_edit_laws.proofs.slots.Lists.{slot_list-from}
-use Rattle.toml_edit_slots.specs.Seen.{seen}
 use Rattle.toml_edit_slots.specs.declared.slots.Slot.{Slot}
-use Rattle.toml_edit_slots.specs.Slots.{with_item}
 use Rattle.toml_edit_tree.specs.declared.array_of_tables.ArrayOfTables.{ArrayOfTables}
 use Rattle.toml_edit_tree.specs.declared.inline_table.InlineTable.{InlineTable, out-InlineTable}
 use Rattle.toml_edit_tree.specs.declared.item.Item.{Item, the_lemmas}
@@ -24,63 +20,9 @@ use Rattle.toml_edit_tree.specs.InlineSlots.{inline_fields}
 use Rattle.toml_edit_tree.specs.SlotsOf.{inline_slots_of}
 use Rattle.toml_edit_tree.specs.Sorts.{items_seen}
 use Rattle.toml_edit_tree.specs.View.{inline_view, item_view, slots_view, value_view}
-use Rattle.toml_edit_tree.proofs.DespanLaws.{slot_depth}
 use Rattle.toml_edit_tree.proofs.InlineLaws.{made_inline_fields}
 use Rattle.toml_edit_tree.proofs.SlotsLaws.{inline-shown}
-use Rattle.toml_edit_tree.proofs.SortLaws.{Shallow, changed-seen, get-seen, length-changed, length-seen, list-seen, long-permuted, one, permutes, rests, shallow-more, shallow-permuted, sort-seen, view-seen, weaker}
-
--- ---- a sort on its way
-
--- The slots were sorted to the ones in mid, and the inline tables before the place were sorted too.
-pub record InTurn (first es : List (Slot Item)) (at : ℕ) : Type 0 where
-  pub mid : List (model.Slot Node)
-  pub sort : IsSortOf name_lt (items_seen first) mid
-  pub turned : Turned (ReordersItem is_dotted_inline (IsSortOf name_lt)) at mid (items_seen es)
-  pub shallow : Shallow at (most slot_depth first) es
-  pub long : length es ≡ length first
-
-pub begins : (first es : List (Slot Item)) → IsPermutation (seen first) (seen es) → IsSortOf name_lt (seen first) (seen es) → InTurn first es 0
-begins first es p s =
-    record { mid = items_seen es; sort = sort-seen first es s; turned = refl; shallow = shallow-permuted first es p; long = long-permuted first es p }
-
-pub goes-on : (first es : List (Slot Item)) (at : ℕ) → InTurn first es at → at < length es → (d : Slot Item) (y : Item)
-    → ReordersItem is_dotted_inline (IsSortOf name_lt) (item_view (get_or es at d).item) (item_view y) → InTurn first (with_item at y es) (at + 1)
-goes-on first es at h l d y q =
-    let Q = ReordersItem is_dotted_inline (IsSortOf name_lt) in
-    let within : at < length (items_seen es) = omega (arith, l, length-seen es) in
-    let there : Q (get_or (items_seen es) at (one d)).item (item_view y) = rw (get-seen es at d) q in
-    let next = turn Q at h.mid (items_seen es) h.turned within (one d) (item_view y) there in
-    let more : suc at ≡ at + 1 = omega arith in
-    record {
-      mid = h.mid;
-      sort = h.sort;
-      turned = subst (λ l. Turned Q (at + 1) h.mid l) (sym (changed-seen es at (one d) y)) (subst (λ n. Turned Q n h.mid (set (items_seen es) at (record { key = (get_or (items_seen es) at (one d)).key; item = item_view y }))) more next);
-      shallow = shallow-more es at (most slot_depth first) y h.shallow;
-      long = length-changed es at y ∙ h.long;
-    }
-
-pub ends-sorted : (first es : List (Slot Item)) (at : ℕ) → InTurn first es at → length es ≤ at → IsDeepSort is_dotted_inline name_lt (items_seen first) (items_seen es)
-ends-sorted first es at h l =
-    (h.mid, h.sort, all-turned is_dotted_inline (IsSortOf name_lt) at h.mid (items_seen es) h.turned (omega (arith, l, length-seen es)))
-
-pub ends-reordered : (first es : List (Slot Item)) (at : ℕ) → InTurn first es at → IsDeepReorder is_dotted_inline (items_seen first) (items_seen es)
-ends-reordered first es at h = (
-  h.mid,
-  permutes (items_seen first) h.mid h.sort,
-  some-turned is_dotted_inline IsPermutation rests at h.mid (items_seen es)
-      (weaker (ReordersItem is_dotted_inline IsPermutation) (ReordersItem is_dotted_inline (IsSortOf name_lt)) (item-weaker is_dotted_inline (IsSortOf name_lt) IsPermutation permutes) at h.mid (items_seen es) h.turned),
-)
-
-pub ends-refused : (first es : List (Slot Item)) (at : ℕ) → InTurn first es at → at < length es → (d : Slot Item) (y : Item)
-    → ReordersItem is_dotted_inline IsPermutation (item_view (get_or es at d).item) (item_view y) → IsDeepReorder is_dotted_inline (items_seen first) (items_seen (with_item at y es))
-ends-refused first es at h l d y p =
-    let within : at < length (items_seen es) = omega (arith, l, length-seen es) in
-    let there : ReordersItem is_dotted_inline IsPermutation (get_or (items_seen es) at (one d)).item (item_view y) = rw (get-seen es at d) p in
-    let left = stopped is_dotted_inline (IsSortOf name_lt) IsPermutation permutes rests at h.mid (items_seen es) h.turned within (one d) (item_view y) there in
-    subst (λ l. IsDeepReorder is_dotted_inline (items_seen first) l) (sym (changed-seen es at (one d) y)) (h.mid, permutes (items_seen first) h.mid h.sort, left)
-
-pub stays : (es : List (model.Slot Node)) → IsDeepReorder is_dotted_inline es es
-stays es = (es, rests es, list-stays is_dotted_inline IsPermutation rests es)
+use Rattle.toml_edit_tree.proofs.SortLaws.{list-seen, view-seen}
 
 -- ---- an inline table
 
@@ -100,15 +42,6 @@ pub of_inline : (R : List (model.Slot Node) → List (model.Slot Node) → Type 
 of_inline R t fs r =
     subst (λ l. R l (inline_slots_of (with_slots t fs))) (sym (inline-list-of t))
     (subst (λ l. R (items_seen (out-InlineTable t).items) l) (sym (ap slot_list (made-slots t fs) ∙ list-seen fs)) r)
-
--- what no sort enters stays
-pub passed : (R : List (model.Slot Node) → List (model.Slot Node) → Type 0) (n : Node) → is_dotted_inline n ≡ false → ReordersItem is_dotted_inline R n n
-passed R (table f ss) other = refl
-passed R (inline f ss) other = rw other refl
-passed R (leaf s spelling d) other = refl
-passed R (list f xs) other = refl
-passed R (tables e xs) other = refl
-passed R nothing other = refl
 
 pub none-passed : (x : Item) → x ≡ items.None → is_dotted_inline (item_view x) ≡ false
 none-passed x is = ap (λ y. is_dotted_inline (item_view y)) is ∙ ap is_dotted_inline view-None
@@ -151,3 +84,10 @@ inline-entered R t fs dotted r =
     ap (λ f. inline f (inline_view after).slots) (made_inline_fields t fs) ∙ ap (inline (inline_fields t)) (made-slots t fs) in
     subst (λ n. ReordersItem is_dotted_inline R n (inline_node (inline_view after))) (sym old)
     (subst (λ n. ReordersItem is_dotted_inline R (inline (inline_fields t) (slots_view (out-InlineTable t).items)) n) (sym new) (entered R (inline_fields t) (out-InlineTable t).items fs dotted r))
+
+-- ---- two slots with values
+
+pub both-first : (lt : model.Slot Node → model.Slot Node → Bool) (k l : Key) (m n x y : Node) (b : Bool) → is_value_node m ≡ true → x ≡ m → is_value_node n ≡ true → y ≡ n
+    → b ≡ lt (record { key = k; item = x }) (record { key = l; item = y })
+    → b ≡ others_first (λ t. is_value_node t.item) lt (record { key = k; item = m }) (record { key = l; item = n })
+both-first lt k l m n x y b one same other alike e = rw (one, other, ← same, ← alike) e

@@ -14,6 +14,7 @@ pub mod InlineLaws
 pub mod InlineSortLaws
 pub mod InPlace
 pub mod ValueLines
+pub mod LineValueLaws
 pub mod ElementLaws
 pub mod RetainLaws
 pub mod HoldsLaws

@@ -1,15 +1,15 @@
--- Slots sorted, and then the tables inside in turn.
+-- Slots sorted, and then what they have inside in turn; and what a sort of a table enters.
 use denote.Param.Weighed.{most}
-use Rattle.std.proofs.Common.{◌≡◌, ℕ, zero, suc, ◌+◌, ◌<◌, ◌≤◌, true, false, List, [], ◌∷◌, length, map, get_or, set, IsPermutation, refl, sym, ap, subst, ◌∙◌, arith}
+use Rattle.std.proofs.Common.{◌≡◌, ℕ, zero, suc, ◌+◌, ◌<◌, ◌≤◌, Bool, true, false, List, [], ◌∷◌, length, map, get_or, set, IsPermutation, refl, sym, ap, subst, ◌∙◌, arith}
 use Rattle.std.proofs.lemmas.Bool.{false≢true}
 use Rattle.std.proofs.lemmas.List.Elements.{All-map}
-use Rattle.std.proofs.lemmas.List.Sorted.{All-permutation, IsPermutation-refl, length_permutation}
+use Rattle.std.proofs.lemmas.List.Sorted.{All-permutation, IsPermutation-map, IsPermutation-refl, length_permutation}
 use Rattle.std.specs.List.{All}
 use Rattle.toml_edit_model.specs.Lists.{is_dotted_table, slot_list, slots_from}
 use Rattle.toml_edit_model.specs.Slots as model
-use Rattle.toml_edit_model.specs.Sorting.{IsDeepReorder, IsDeepSort, IsSortOf, ReordersItem, ReordersItems, name_lt}
+use Rattle.toml_edit_model.specs.Sorting.{IsDeepReorder, IsDeepSort, IsSortOf, ReordersItem, ReordersItems}
 use Rattle.toml_edit_model.specs.Tree.{Node, nothing, leaf, list, inline, table, tables, TableFields, slot, is_value_node}
-use Rattle.toml_edit_laws.proofs.slots.DeepSorts.{Turned, all-turned, item-weaker, list-stays, some-turned, stopped, turn}
+use Rattle.toml_edit_laws.proofs.slots.DeepSorts.{Turned, all-turned, list-stays, some-turned, turn}
 use Rattle.toml_edit_laws.proofs.slots.Lists.{slot_list-from}
 use Rattle.toml_edit_laws.proofs.slots.Sorts.{sorts-seen}
 use Rattle.toml_edit_slots.specs.Seen.{seen, slot_seen}
@@ -68,10 +68,16 @@ seen-twice : (es : List (Slot Item)) → map (model.on_item item_view) (seen es)
 seen-twice [] = refl
 seen-twice (s ∷ es) = ap (λ l. one s ∷ l) (seen-twice es)
 
-pub sort-seen : (es fs : List (Slot Item)) → IsSortOf name_lt (seen es) (seen fs) → IsSortOf name_lt (items_seen es) (items_seen fs)
-sort-seen es fs s =
-    subst (λ l. IsSortOf name_lt l (items_seen fs)) (seen-twice es)
-    (subst (λ l. IsSortOf name_lt (map (model.on_item item_view) (seen es)) l) (seen-twice fs) (sorts-seen (model.on_item item_view) name_lt (seen es) (seen fs) s))
+pub sort-seen : (lt : model.Slot Node → model.Slot Node → Bool) (es fs : List (Slot Item))
+    → IsSortOf (λ s r. lt (model.on_item item_view s) (model.on_item item_view r)) (seen es) (seen fs) → IsSortOf lt (items_seen es) (items_seen fs)
+sort-seen lt es fs s =
+    subst (λ l. IsSortOf lt l (items_seen fs)) (seen-twice es)
+    (subst (λ l. IsSortOf lt (map (model.on_item item_view) (seen es)) l) (seen-twice fs) (sorts-seen (model.on_item item_view) lt (seen es) (seen fs) s))
+
+permuted-seen : (es fs : List (Slot Item)) → IsPermutation (seen es) (seen fs) → IsPermutation (items_seen es) (items_seen fs)
+permuted-seen es fs p =
+    subst (λ l. IsPermutation l (items_seen fs)) (seen-twice es)
+    (subst (λ l. IsPermutation (map (model.on_item item_view) (seen es)) l) (seen-twice fs) (IsPermutation-map (model.on_item item_view) (seen es) (seen fs) p))
 
 -- ---- depth
 
@@ -106,83 +112,95 @@ shallow-permuted es fs p k d l b =
 
 -- ---- a sort on its way
 
--- The slots were sorted to the ones in mid, and the tables before the place were sorted too.
-pub record InTurn (first es : List (Slot Item)) (at : ℕ) : Type 0 where
-  pub mid : List (model.Slot Node)
-  pub sort : IsSortOf name_lt (items_seen first) mid
-  pub turned : Turned (ReordersItem is_dotted_table (IsSortOf name_lt)) at mid (items_seen es)
-  pub shallow : Shallow at (most slot_depth first) es
-  pub long : length es ≡ length first
-
-pub begins : (first es : List (Slot Item)) → IsPermutation (seen first) (seen es) → IsSortOf name_lt (seen first) (seen es) → InTurn first es 0
-begins first es p s =
-    record { mid = items_seen es; sort = sort-seen first es s; turned = refl; shallow = shallow-permuted first es p; long = long-permuted first es p }
-
-pub goes-on : (first es : List (Slot Item)) (at : ℕ) → InTurn first es at → at < length es → (d : Slot Item) (y : Item)
-    → ReordersItem is_dotted_table (IsSortOf name_lt) (item_view (get_or es at d).item) (item_view y) → InTurn first (with_item at y es) (at + 1)
-goes-on first es at h l d y q =
-    let Q = ReordersItem is_dotted_table (IsSortOf name_lt) in
+-- the item at the place changed too
+turned-at : (Q : Node → Node → Type 0) (mid : List (model.Slot Node)) (es : List (Slot Item)) (at : ℕ) → Turned Q at mid (items_seen es) → at < length es → (d : Slot Item) (y : Item)
+    → Q (item_view (get_or es at d).item) (item_view y) → Turned Q (at + 1) mid (items_seen (with_item at y es))
+turned-at Q mid es at t l d y q =
     let within : at < length (items_seen es) = omega (arith, l, length-seen es) in
     let there : Q (get_or (items_seen es) at (one d)).item (item_view y) = rw (get-seen es at d) q in
-    let next = turn Q at h.mid (items_seen es) h.turned within (one d) (item_view y) there in
+    let next = turn Q at mid (items_seen es) t within (one d) (item_view y) there in
     let more : suc at ≡ at + 1 = omega arith in
-    record {
-      mid = h.mid;
-      sort = h.sort;
-      turned = subst (λ l. Turned Q (at + 1) h.mid l) (sym (changed-seen es at (one d) y)) (subst (λ n. Turned Q n h.mid (set (items_seen es) at (record { key = (get_or (items_seen es) at (one d)).key; item = item_view y }))) more next);
-      shallow = shallow-more es at (most slot_depth first) y h.shallow;
-      long = length-changed es at y ∙ h.long;
-    }
+    subst (λ l. Turned Q (at + 1) mid l) (sym (changed-seen es at (one d) y))
+    (subst (λ n. Turned Q n mid (set (items_seen es) at (record { key = (get_or (items_seen es) at (one d)).key; item = item_view y }))) more next)
 
 pub rests : (es : List (model.Slot Node)) → IsPermutation es es
 rests es = IsPermutation-refl es
 
-pub permutes : (es fs : List (model.Slot Node)) → IsSortOf name_lt es fs → IsPermutation es fs
-permutes es fs s = s.permutation
+-- The slots were sorted to the ones in mid, by each test of which Says holds, and those inside before the place were sorted too.
+pub record InTurn (enters : Node → Bool) (Says : (model.Slot Node → model.Slot Node → Bool) → Type 0) (first es : List (Slot Item)) (at : ℕ) : Type 0 where
+  pub mid : List (model.Slot Node)
+  pub permuted : IsPermutation (items_seen first) mid
+  pub sort : (lt : model.Slot Node → model.Slot Node → Bool) → Says lt → IsSortOf lt (items_seen first) mid
+  pub reordered : Turned (ReordersItem enters IsPermutation) at mid (items_seen es)
+  pub turned : (lt : model.Slot Node → model.Slot Node → Bool) → Says lt → Turned (ReordersItem enters (IsSortOf lt)) at mid (items_seen es)
+  pub shallow : Shallow at (most slot_depth first) es
+  pub long : length es ≡ length first
 
-pub ends-sorted : (first es : List (Slot Item)) (at : ℕ) → InTurn first es at → length es ≤ at → IsDeepSort is_dotted_table name_lt (items_seen first) (items_seen es)
-ends-sorted first es at h l =
-    (h.mid, h.sort, all-turned is_dotted_table (IsSortOf name_lt) at h.mid (items_seen es) h.turned (omega (arith, l, length-seen es)))
+module _ (enters : Node → Bool) (Says : (model.Slot Node → model.Slot Node → Bool) → Type 0) where
+  pub begins : (first es : List (Slot Item)) → IsPermutation (seen first) (seen es)
+      → ((lt : model.Slot Node → model.Slot Node → Bool) → Says lt → IsSortOf lt (items_seen first) (items_seen es)) → InTurn enters Says first es 0
+  begins first es p s =
+      record {
+        mid = items_seen es;
+        permuted = permuted-seen first es p;
+        sort = s;
+        reordered = refl;
+        turned = λ lt by. refl;
+        shallow = shallow-permuted first es p;
+        long = long-permuted first es p;
+      }
 
-pub weaker : (P Q : Node → Node → Type 0) → ((x y : Node) → Q x y → P x y) → (n : ℕ) (mid es : List (model.Slot Node)) → Turned Q n mid es → Turned P n mid es
-weaker P Q w zero mid es t = t
-weaker P Q w (suc n) [] [] t = tt
-weaker P Q w (suc n) [] (e ∷ es) t = t
-weaker P Q w (suc n) (s ∷ mid) [] t = t
-weaker P Q w (suc n) (s ∷ mid) (e ∷ es) t = (t.0, w s.item e.item t.1, weaker P Q w n mid es t.2)
+  pub goes-on : (first es : List (Slot Item)) (at : ℕ) → InTurn enters Says first es at → at < length es → (d : Slot Item) (y : Item)
+      → ReordersItem enters IsPermutation (item_view (get_or es at d).item) (item_view y)
+      → ((lt : model.Slot Node → model.Slot Node → Bool) → Says lt → ReordersItem enters (IsSortOf lt) (item_view (get_or es at d).item) (item_view y))
+      → InTurn enters Says first (with_item at y es) (at + 1)
+  goes-on first es at h l d y p s =
+      record {
+        mid = h.mid;
+        permuted = h.permuted;
+        sort = h.sort;
+        reordered = turned-at (ReordersItem enters IsPermutation) h.mid es at h.reordered l d y p;
+        turned = λ lt by. turned-at (ReordersItem enters (IsSortOf lt)) h.mid es at (h.turned lt by) l d y (s lt by);
+        shallow = shallow-more es at (most slot_depth first) y h.shallow;
+        long = length-changed es at y ∙ h.long;
+      }
 
-pub ends-reordered : (first es : List (Slot Item)) (at : ℕ) → InTurn first es at → IsDeepReorder is_dotted_table (items_seen first) (items_seen es)
-ends-reordered first es at h = (
-  h.mid,
-  permutes (items_seen first) h.mid h.sort,
-  some-turned is_dotted_table IsPermutation rests at h.mid (items_seen es)
-      (weaker (ReordersItem is_dotted_table IsPermutation) (ReordersItem is_dotted_table (IsSortOf name_lt)) (item-weaker is_dotted_table (IsSortOf name_lt) IsPermutation permutes) at h.mid (items_seen es) h.turned),
-)
+  pub ends-sorted : (first es : List (Slot Item)) (at : ℕ) → InTurn enters Says first es at → length es ≤ at
+      → (lt : model.Slot Node → model.Slot Node → Bool) → Says lt → IsDeepSort enters lt (items_seen first) (items_seen es)
+  ends-sorted first es at h l lt by =
+      (h.mid, h.sort lt by, all-turned enters (IsSortOf lt) at h.mid (items_seen es) (h.turned lt by) (omega (arith, l, length-seen es)))
 
-pub ends-refused : (first es : List (Slot Item)) (at : ℕ) → InTurn first es at → at < length es → (d : Slot Item) (y : Item)
-    → ReordersItem is_dotted_table IsPermutation (item_view (get_or es at d).item) (item_view y) → IsDeepReorder is_dotted_table (items_seen first) (items_seen (with_item at y es))
-ends-refused first es at h l d y p =
-    let within : at < length (items_seen es) = omega (arith, l, length-seen es) in
-    let there : ReordersItem is_dotted_table IsPermutation (get_or (items_seen es) at (one d)).item (item_view y) = rw (get-seen es at d) p in
-    let left = stopped is_dotted_table (IsSortOf name_lt) IsPermutation permutes rests at h.mid (items_seen es) h.turned within (one d) (item_view y) there in
-    subst (λ l. IsDeepReorder is_dotted_table (items_seen first) l) (sym (changed-seen es at (one d) y)) (h.mid, permutes (items_seen first) h.mid h.sort, left)
+  pub ends-reordered : (first es : List (Slot Item)) (at : ℕ) → InTurn enters Says first es at → IsDeepReorder enters (items_seen first) (items_seen es)
+  ends-reordered first es at h = (h.mid, h.permuted, some-turned enters IsPermutation rests at h.mid (items_seen es) h.reordered)
 
-pub stays : (es : List (model.Slot Node)) → IsDeepReorder is_dotted_table es es
-stays es = (es, rests es, list-stays is_dotted_table IsPermutation rests es)
+  pub ends-refused : (first es : List (Slot Item)) (at : ℕ) → InTurn enters Says first es at → at < length es → (d : Slot Item) (y : Item)
+      → ReordersItem enters IsPermutation (item_view (get_or es at d).item) (item_view y) → IsDeepReorder enters (items_seen first) (items_seen (with_item at y es))
+  ends-refused first es at h l d y p = (
+    h.mid,
+    h.permuted,
+    some-turned enters IsPermutation rests (at + 1) h.mid (items_seen (with_item at y es)) (turned-at (ReordersItem enters IsPermutation) h.mid es at h.reordered l d y p),
+  )
+
+pub stays : (enters : Node → Bool) (es : List (model.Slot Node)) → IsDeepReorder enters es es
+stays enters es = (es, rests es, list-stays enters IsPermutation rests es)
+
+-- what no sort enters stays
+pub passed : (enters : Node → Bool) (R : List (model.Slot Node) → List (model.Slot Node) → Type 0) (n : Node) → enters n ≡ false → ReordersItem enters R n n
+passed enters R (table f ss) other = rw other refl
+passed enters R (inline f ss) other = rw other refl
+passed enters R (leaf s spelling d) other = refl
+passed enters R (list f xs) other = refl
+passed enters R (tables e xs) other = refl
+passed enters R nothing other = refl
 
 -- ---- a table
 
-pub list-of : (t : Table) → slots_of t ≡ items_seen (out-Table t).slots
+list-of : (t : Table) → slots_of t ≡ items_seen (out-Table t).slots
 list-of t = ap slot_list (table_slots t) ∙ list-seen (out-Table t).slots
 
--- what no sort enters stays
-pub passed : (R : List (model.Slot Node) → List (model.Slot Node) → Type 0) (n : Node) → is_dotted_table n ≡ false → ReordersItem is_dotted_table R n n
-passed R (table f ss) other = rw other refl
-passed R (inline f ss) other = refl
-passed R (leaf s spelling d) other = refl
-passed R (list f xs) other = refl
-passed R (tables e xs) other = refl
-passed R nothing other = refl
+-- a relation of slots, of a table and of it with others
+pub of_table : (R : List (model.Slot Node) → List (model.Slot Node) → Type 0) (t u : Table) → R (items_seen (out-Table t).slots) (items_seen (out-Table u).slots) → R (slots_of t) (slots_of u)
+of_table R t u r = subst (λ l. R l (slots_of u)) (sym (list-of t)) (subst (λ l. R (items_seen (out-Table t).slots) l) (sym (list-of u)) r)
 
 pub value-passed : (n : Node) → is_value_node n ≡ true → is_dotted_table n ≡ false
 value-passed (table f ss) value = absurd (false≢true value)

@@ -106,7 +106,7 @@ module _ (es : List (Slot Item)) (i : ℕ) (s : Slot Item) (h : i < length es) (
   abbrev rest : List Line
   rest = inside_lines plain (slots_view (drop (i + 1) es)) ks
 
-  from-slot : inside_lines plain (slots_view (drop i es)) ks ≡ own ++ rest
+  pub from-slot : inside_lines plain (slots_view (drop i es)) ks ≡ own ++ rest
   from-slot =
       ap (λ (fs : List (Slot Item)). inside_lines plain (slots_view fs) ks) (drop_more es i s h)
       ∙ ap (λ (e : Slot Item). lines_of_item (item_view e.item) (ks ++ (e.key ∷ [])) ++ rest) (sym is)
@@ -124,7 +124,7 @@ module _ (es : List (Slot Item)) (i : ℕ) (s : Slot Item) (h : i < length es) (
   abbrev rest-in-table : List Line
   rest-in-table = table_lines plain (slots_view (drop (i + 1) es)) ks
 
-  from-slot-in-table : table_lines plain (slots_view (drop i es)) ks ≡ own-in-table ++ rest-in-table
+  pub from-slot-in-table : table_lines plain (slots_view (drop i es)) ks ≡ own-in-table ++ rest-in-table
   from-slot-in-table =
       ap (λ (fs : List (Slot Item)). table_lines plain (slots_view fs) ks) (drop_more es i s h)
       ∙ ap (λ (e : Slot Item). lines_in_table (item_view e.item) (ks ++ (e.key ∷ [])) ++ rest-in-table) (sym is)

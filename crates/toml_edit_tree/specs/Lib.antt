@@ -19,6 +19,7 @@ pub mod InlineParts
 pub mod InlineValues
 pub mod InlineLending
 pub mod Converting
+pub mod LineValues
 pub mod TableEntries
 pub mod InlineEntries
 pub mod InlineSlotParts

@@ -1,7 +1,7 @@
 //! What the slots of a table hold.
-ghost use Rattle.std.specs.Prelude.{◌≡◌, ◌↔◌, true, Some, IfOk, IsTrue, is_some, option_map};
+ghost use Rattle.std.specs.Prelude.{◌≡◌, ◌↔◌, true, None, Some, IfOk, IsTrue, is_some, option_map};
 ghost use Rattle.std.specs.Borrow.{sem};
-ghost use Rattle.toml_edit_model.specs.Tree.{nothing, is_value_node};
+ghost use Rattle.toml_edit_model.specs.Tree.{nothing, no_items, no_slots, is_value_node};
 ghost use Rattle.toml_edit_model.specs.Conversions.{with_decor};
 ghost use Rattle.toml_edit_tree.specs.Casts.{both_sides, type_of};
 ghost use Rattle.toml_edit_tree.specs.ContainerParts.{LendsTable, LendsTables};
@@ -9,6 +9,7 @@ ghost use Rattle.toml_edit_tree.specs.ElementHolds.{table_held, value_held};
 ghost use Rattle.toml_edit_tree.specs.ElementLending.{LendsValue};
 ghost use Rattle.toml_edit_tree.specs.InlineLending.{LendsOwnValue};
 ghost use Rattle.toml_edit_tree.specs.ItemPlaces.{LendsOwnTable};
+ghost use Rattle.toml_edit_tree.specs.TableLending.{new_table};
 ghost use Rattle.toml_edit_tree.specs.Containers.{table_in, table_node, tables_in, tables_node, value_in};
 ghost use Rattle.toml_edit_tree.specs.View.{item_view, table_view, tables_view, value_view};
 
@@ -191,6 +192,27 @@ impl Item {
     {
         copy_item(self, alloc)
     }
+}
+
+/// The item of a value.
+pub fn value(value: Value) -> Item
+    ensures { item_view result ≡ value_view value }
+{
+    Item::Value(value)
+}
+
+/// A new table, which has no slots yet. It takes no memory.
+pub fn table(alloc: Global) -> Item
+    ensures { item_view result ≡ table_node (record { fields = new_table; slots = no_slots }) }
+{
+    Item::Table(Table::new(alloc))
+}
+
+/// A new array of tables, which has no elements yet. It takes no memory.
+pub fn array(alloc: Global) -> Item
+    ensures { item_view result ≡ tables_node (record { extent = None; items = no_items }) }
+{
+    Item::ArrayOfTables(ArrayOfTables::new(alloc))
 }
 
 impl From<Value> for Item {

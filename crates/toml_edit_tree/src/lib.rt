@@ -10,6 +10,7 @@ mod elements;
 mod encode;
 pub mod inline_table;
 pub mod item;
+mod lines;
 mod order;
 mod sort;
 pub mod table;

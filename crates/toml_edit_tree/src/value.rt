@@ -26,6 +26,8 @@ use toml_edit_datetime::{Date, Datetime, FloatText, Time};
 use toml_edit_repr::{Decor, Formatted, Mem, RawString};
 use toml_edit_token::Scalar;
 
+mod make;
+
 /// A value, with its spelling and what stands around it.
 #[cycle(tree)]
 #[derive(Debug, Drop)]

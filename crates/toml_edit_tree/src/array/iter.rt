@@ -27,7 +27,7 @@ impl Array {
     }
 
     /// An array of these values, in their order. The only error is want of memory.
-    pub fn from_iter<U: IntoIterator<Item = Value>>(values: U, alloc: Global) -> Mem<Array>
+    pub fn from_iter<U: IntoIterator<Item = Value>>(alloc: Global, values: U) -> Mem<Array>
         requires { (it : U.IntoIter) → U.into_iter_gives values it → U.IntoIter.can_next it × IsFinite (U.IntoIter.remaining it) }
         ensures { IfOk result (λ array. (it : U.IntoIter) × (vs : List Value) × U.into_iter_gives values it × Drains U.IntoIter.next_gives it vs × HasValues vs array) }
     {

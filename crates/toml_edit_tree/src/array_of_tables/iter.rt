@@ -27,7 +27,7 @@ impl ArrayOfTables {
     }
 
     /// An array of these tables, in their order. The only error is want of memory.
-    pub fn from_iter<U: IntoIterator<Item = Table>>(tables: U, alloc: Global) -> Mem<ArrayOfTables>
+    pub fn from_iter<U: IntoIterator<Item = Table>>(alloc: Global, tables: U) -> Mem<ArrayOfTables>
         requires { (it : U.IntoIter) → U.into_iter_gives tables it → U.IntoIter.can_next it × IsFinite (U.IntoIter.remaining it) }
         ensures { IfOk result (λ array. (it : U.IntoIter) × (ts : List Table) × U.into_iter_gives tables it × Drains U.IntoIter.next_gives it ts × HasTables ts array) }
     {

@@ -1,16 +1,19 @@
-//! Slots of an inline table sorted by the names of their keys, and those of the dotted inline tables inside.
+//! Slots of an inline table sorted by a closure or by the names of their keys, and those of the dotted inline tables inside.
 ghost use Rattle.std.specs.Prelude.{◌≡◌, IsPermutation, OnOk};
 ghost use Rattle.toml_edit_model.specs.Lists.{is_dotted_inline};
-ghost use Rattle.toml_edit_model.specs.Sorting.{IsDeepReorder, IsDeepSort, IsSortOf, ReordersItem, name_lt};
+ghost use Rattle.toml_edit_model.specs.Sorting.{IsDeepReorder, IsDeepSort, ReordersItem, name_lt};
 ghost use Rattle.toml_edit_tree.specs.Containers.{inline_node};
 ghost use Rattle.toml_edit_tree.specs.InlineSlots.{inline_fields};
-ghost use Rattle.toml_edit_tree.specs.SlotsOf.{inline_slots_of};
-ghost use Rattle.toml_edit_tree.specs.Sorts.{items_seen};
+ghost use Rattle.toml_edit_tree.specs.SlotsOf.{inline_slots_of, slot_taken};
+ghost use Rattle.toml_edit_tree.specs.Sorts.{AnswersPairs, SortsDeeplyAs, SortsInlineAs, SortsItemAs, items_seen};
 ghost use Rattle.toml_edit_tree.specs.View.{inline_view, item_view, value_view};
 
 use super::InlineTable;
 use crate::item::Item;
+use crate::sort::sort_items;
 use crate::value::Value;
+use std::cmp::Ordering;
+use toml_edit_key::Key;
 use toml_edit_repr::Mem;
 use toml_edit_slots::Slots;
 
@@ -22,34 +25,84 @@ impl InlineTable {
         ensures sorted { OnOk result (IsDeepSort is_dotted_inline name_lt (inline_slots_of self.old) (inline_slots_of self.new)) }
         ensures fields { inline_fields self.new ≡ inline_fields self.old }
     {
-        sort_slots(&mut self.items)
+        sort_slots(
+            &mut self.items,
+            &|key: &Key, _: &Item, other: &Key, _: &Item| key.cmp(other),
+        )
+    }
+
+    /// Sorts the slots by the closure, which is shown their keys and values, and likewise those of the dotted inline tables inside. Slots
+    /// without a value come first, and ties keep their order. The only error is want of memory; then the slots of some inline tables may be
+    /// sorted and others not, and none is lost.
+    pub fn sort_values_by<F: Fn(&Key, &Value, &Key, &Value) -> Ordering>(
+        &mut self,
+        compare: F,
+    ) -> Mem<()>
+    where
+        F: Drop,
+        requires { F.IsAlwaysCallable compare }
+        ensures reorders { IsDeepReorder is_dotted_inline (inline_slots_of self.old) (inline_slots_of self.new) }
+        ensures sorted { OnOk result (SortsInlineAs F.FnMut compare (inline_slots_of self.old) (inline_slots_of self.new)) }
+        ensures fields { inline_fields self.new ≡ inline_fields self.old }
+    {
+        sort_slots(
+            &mut self.items,
+            &|key: &Key, item: &Item, other_key: &Key, other: &Item| -> Ordering
+                requires { F.IsAlwaysCallable compare }
+                ensures { AnswersPairs F.FnMut compare (slot_taken (key.now, item.now)) (slot_taken (other_key.now, other.now)) result }
+            { compare_values(key, item, other_key, other, &compare) },
+        )
     }
 }
 
-/// Sorts these slots by their names, and likewise those of the dotted inline tables inside. The only error is want of memory; then some
+/// The order of two slots: by the closure where both have a value, and else what has none comes first.
+fn compare_values<F: Fn(&Key, &Value, &Key, &Value) -> Ordering>(
+    key: &Key,
+    item: &Item,
+    other_key: &Key,
+    other: &Item,
+    compare: &F,
+) -> Ordering
+    requires { F.IsAlwaysCallable compare.now }
+    ensures { AnswersPairs F.FnMut compare.now (slot_taken (key.now, item.now)) (slot_taken (other_key.now, other.now)) result }
+{
+    match (item.as_value(), other.as_value()) {
+        (Some(value), Some(other_value)) => compare(key, value, other_key, other_value),
+        (Some(_), None) => Ordering::Greater,
+        (None, Some(_)) => Ordering::Less,
+        (None, None) => Ordering::Equal,
+    }
+}
+
+/// Sorts these slots by the closure, and likewise those of the dotted inline tables inside. The only error is want of memory; then some
 /// inline tables may be sorted and others not.
 #[cycle(sort)]
-fn sort_slots(slots: &mut Slots<Item>) -> Mem<()>
+fn sort_slots<F: Fn(&Key, &Item, &Key, &Item) -> Ordering>(
+    slots: &mut Slots<Item>,
+    compare: &F,
+) -> Mem<()>
+    requires { F.IsAlwaysCallable compare.now }
     ensures reorders { IsDeepReorder is_dotted_inline (items_seen slots.old) (items_seen slots.new) }
-    ensures sorted { OnOk result (IsDeepSort is_dotted_inline name_lt (items_seen slots.old) (items_seen slots.new)) }
+    ensures sorted { OnOk result (SortsDeeplyAs is_dotted_inline F.FnMut compare.now (items_seen slots.old) (items_seen slots.new)) }
 {
-    slots.sort_by_name()?;
+    sort_items(slots, compare)?;
     for at in 0..slots.len() {
         let item = slots.item_mut(at);
-        sort_item(item)?;
+        sort_item(item, compare)?;
     }
     Ok(())
 }
 
-/// Sorts the slots of the item by their names, if it is a dotted inline table.
+/// Sorts the slots of the item by the closure, if it is a dotted inline table.
 #[cycle(sort)]
-fn sort_item(item: &mut Item) -> Mem<()>
+fn sort_item<F: Fn(&Key, &Item, &Key, &Item) -> Ordering>(item: &mut Item, compare: &F) -> Mem<()>
+    requires { F.IsAlwaysCallable compare.now }
     ensures reorders { ReordersItem is_dotted_inline IsPermutation (item_view item.old) (item_view item.new) }
-    ensures sorted { OnOk result (ReordersItem is_dotted_inline (IsSortOf name_lt) (item_view item.old) (item_view item.new)) }
+    ensures sorted { OnOk result (SortsItemAs is_dotted_inline F.FnMut compare.now (item_view item.old) (item_view item.new)) }
 {
     match item {
         Item::None => Ok(()),
-        Item::Value(value) => sort_value(value),
+        Item::Value(value) => sort_value(value, compare),
         Item::Table(_) => Ok(()),
         Item::ArrayOfTables(_) => Ok(()),
     }
@@ -57,9 +110,13 @@ fn sort_item(item: &mut Item) -> Mem<()>
 
 /// The same of a value.
 #[cycle(sort)]
-fn sort_value(value: &mut Value) -> Mem<()>
+fn sort_value<F: Fn(&Key, &Item, &Key, &Item) -> Ordering>(
+    value: &mut Value,
+    compare: &F,
+) -> Mem<()>
+    requires { F.IsAlwaysCallable compare.now }
     ensures reorders { ReordersItem is_dotted_inline IsPermutation (value_view value.old) (value_view value.new) }
-    ensures sorted { OnOk result (ReordersItem is_dotted_inline (IsSortOf name_lt) (value_view value.old) (value_view value.new)) }
+    ensures sorted { OnOk result (SortsItemAs is_dotted_inline F.FnMut compare.now (value_view value.old) (value_view value.new)) }
 {
     match value {
         Value::String(_) => Ok(()),
@@ -68,18 +125,22 @@ fn sort_value(value: &mut Value) -> Mem<()>
         Value::Boolean(_) => Ok(()),
         Value::Datetime(_) => Ok(()),
         Value::Array(_) => Ok(()),
-        Value::InlineTable(table) => sort_inline(table),
+        Value::InlineTable(table) => sort_inline(table, compare),
     }
 }
 
 /// The same of an inline table.
 #[cycle(sort)]
-fn sort_inline(table: &mut InlineTable) -> Mem<()>
+fn sort_inline<F: Fn(&Key, &Item, &Key, &Item) -> Ordering>(
+    table: &mut InlineTable,
+    compare: &F,
+) -> Mem<()>
+    requires { F.IsAlwaysCallable compare.now }
     ensures reorders { ReordersItem is_dotted_inline IsPermutation (inline_node (inline_view table.old)) (inline_node (inline_view table.new)) }
-    ensures sorted { OnOk result (ReordersItem is_dotted_inline (IsSortOf name_lt) (inline_node (inline_view table.old)) (inline_node (inline_view table.new))) }
+    ensures sorted { OnOk result (SortsItemAs is_dotted_inline F.FnMut compare.now (inline_node (inline_view table.old)) (inline_node (inline_view table.new))) }
 {
     if table.is_dotted() {
-        sort_slots(&mut table.items)
+        sort_slots(&mut table.items, compare)
     } else {
         Ok(())
     }

@@ -1,6 +1,8 @@
 -- The slots were sorted, and the inline tables before the place too.
-use Rattle.toml_edit_tree.proofs.InlineSortLaws.{InTurn}
+use Rattle.toml_edit_model.specs.Lists.{is_dotted_inline}
+use Rattle.toml_edit_tree.specs.Sorts.{ComparesItems}
+use Rattle.toml_edit_tree.proofs.SortLaws.{InTurn}
 use Rattle.toml_edit_tree.proofs.inline_table.sort.+sort.Given as goal
 
 abbrev pub invariant-sort_slots-loop-at : goal.invariant-sort_slots-loop-at
-invariant-sort_slots-loop-at l = InTurn l.fn.slots l.slots l.at
+invariant-sort_slots-loop-at g l = InTurn is_dotted_inline (λ lt. ComparesItems g.F.Fn lt l.fn.compare) l.fn.slots l.slots l.at

@@ -1,0 +1,8 @@
+-- The lines of the inline table's slots, behind none.
+use Rattle.std.proofs.Common.{ap}
+use Rattle.toml_edit_tree.specs.LineValues.{values_read}
+use Rattle.toml_edit_tree.proofs.LineValueLaws.{inline-whole}
+use Rattle.toml_edit_tree.proofs.inline_table.InlineTable.get_values.Goals as goal
+
+pub returns : goal.returns
+returns c = inline-whole c.args.self.now _ _ (ap values_read c.new-lines.ensures.items) c.in_ok-add_inside_lines.ensures

@@ -1,0 +1,179 @@
+//! The lines of a table or an inline table as the keys and values that they show.
+ghost use Rattle.std.specs.Prelude.{◌≡◌, [], ◌∷◌, ◌++◌, IfOk, OnOk, map};
+ghost use Rattle.toml_edit_model.specs.Iterating.{inline_values, line_value, table_values};
+ghost use Rattle.toml_edit_model.specs.Mode.{plain};
+ghost use Rattle.toml_edit_model.specs.Print.{inside_lines, table_lines};
+ghost use Rattle.toml_edit_tree.specs.LineValues.{keys_read, values_read};
+ghost use Rattle.toml_edit_tree.specs.Printing.{keys_on, lines_in_table, lines_of_item};
+ghost use Rattle.toml_edit_tree.specs.SlotsOf.{inline_slots_of, slots_of};
+ghost use Rattle.toml_edit_tree.specs.View.{item_view, slots_view, value_view};
+
+use crate::encode::Path;
+use crate::inline_table::InlineTable;
+use crate::item::Item;
+use crate::table::Table;
+use crate::value::Value;
+use std::alloc::Global;
+use toml_edit_key::Key;
+use toml_edit_repr::Mem;
+use toml_edit_slots::Slots;
+
+impl Table {
+    /// The keys and the value of each line that is printed of the table, in order: its values, and in their place those of dotted tables and of
+    /// dotted inline tables. The only error is want of memory.
+    pub fn get_values(&self, alloc: Global) -> Mem<Vec<(Vec<&Key>, &Value)>>
+        ensures { IfOk result (λ lines. values_read lines.items ≡ table_values (slots_of self.now)) }
+    {
+        let mut lines = Vec::new(alloc);
+        add_lines(alloc, &self.slots, &Path::Root, &mut lines)?;
+        Ok(lines)
+    }
+}
+
+impl InlineTable {
+    /// The keys and the value of each pair that is printed of the inline table, in order: its values, and in their place those of tables and of
+    /// dotted inline tables. The only error is want of memory.
+    pub fn get_values(&self, alloc: Global) -> Mem<Vec<(Vec<&Key>, &Value)>>
+        ensures { IfOk result (λ lines. values_read lines.items ≡ inline_values (inline_slots_of self.now)) }
+    {
+        let mut lines = Vec::new(alloc);
+        add_inside_lines(alloc, &self.items, &Path::Root, &mut lines)?;
+        Ok(lines)
+    }
+}
+
+/// The lines of the slots of a table, in order.
+#[cycle(table_values)]
+fn add_lines<'p, 'a>(
+    alloc: Global,
+    slots: &'a Slots<Item>,
+    path: &'p Path<'p, 'a>,
+    lines: &mut Vec<(Vec<&'a Key>, &'a Value)>,
+) -> Mem<()>
+    ensures { OnOk result (values_read lines.new.items
+        ≡ values_read lines.old.items ++ map line_value (table_lines plain (slots_view slots.now) (keys_on path.now))) }
+{
+    let entries = slots.as_slice();
+    'slots: for slot in entries {
+        add_item_lines(alloc, &slot.item, &slot.key, path, lines)?;
+    }
+    Ok(())
+}
+
+/// The lines of a slot of a table: those in a dotted table, and those of a value. Another table has a header.
+#[cycle(table_values)]
+fn add_item_lines<'p, 'a>(
+    alloc: Global,
+    item: &'a Item,
+    key: &'a Key,
+    path: &'p Path<'p, 'a>,
+    lines: &mut Vec<(Vec<&'a Key>, &'a Value)>,
+) -> Mem<()>
+    ensures { OnOk result (values_read lines.new.items
+        ≡ values_read lines.old.items ++ map line_value (lines_in_table (item_view item.now) (keys_on path.now ++ (key.now ∷ [])))) }
+{
+    match item {
+        Item::Value(value) => add_value_lines(alloc, value, key, path, lines),
+        Item::Table(table) => {
+            if table.dotted {
+                add_lines(alloc, &table.slots, &Path::Under(path, key), lines)
+            } else {
+                Ok(())
+            }
+        }
+        Item::None | Item::ArrayOfTables(_) => Ok(()),
+    }
+}
+
+/// The lines of the slots of an inline table, in order.
+#[cycle(inside_values)]
+fn add_inside_lines<'p, 'a>(
+    alloc: Global,
+    slots: &'a Slots<Item>,
+    path: &'p Path<'p, 'a>,
+    lines: &mut Vec<(Vec<&'a Key>, &'a Value)>,
+) -> Mem<()>
+    ensures { OnOk result (values_read lines.new.items
+        ≡ values_read lines.old.items ++ map line_value (inside_lines plain (slots_view slots.now) (keys_on path.now))) }
+{
+    let entries = slots.as_slice();
+    'slots: for slot in entries {
+        add_inside_item(alloc, &slot.item, &slot.key, path, lines)?;
+    }
+    Ok(())
+}
+
+/// The lines of a slot of an inline table: those in a table, and those of a value.
+#[cycle(inside_values)]
+fn add_inside_item<'p, 'a>(
+    alloc: Global,
+    item: &'a Item,
+    key: &'a Key,
+    path: &'p Path<'p, 'a>,
+    lines: &mut Vec<(Vec<&'a Key>, &'a Value)>,
+) -> Mem<()>
+    ensures { OnOk result (values_read lines.new.items
+        ≡ values_read lines.old.items ++ map line_value (lines_of_item (item_view item.now) (keys_on path.now ++ (key.now ∷ [])))) }
+{
+    match item {
+        Item::Value(value) => add_value_lines(alloc, value, key, path, lines),
+        Item::Table(table) => add_inside_lines(alloc, &table.slots, &Path::Under(path, key), lines),
+        Item::None | Item::ArrayOfTables(_) => Ok(()),
+    }
+}
+
+/// The lines of a value: those in a dotted inline table, and one of any other value.
+#[cycle(inside_values)]
+fn add_value_lines<'p, 'a>(
+    alloc: Global,
+    value: &'a Value,
+    key: &'a Key,
+    path: &'p Path<'p, 'a>,
+    lines: &mut Vec<(Vec<&'a Key>, &'a Value)>,
+) -> Mem<()>
+    ensures { OnOk result (values_read lines.new.items
+        ≡ values_read lines.old.items ++ map line_value (lines_of_item (value_view value.now) (keys_on path.now ++ (key.now ∷ [])))) }
+{
+    match value {
+        Value::InlineTable(table) => {
+            if table.dotted {
+                add_inside_lines(alloc, &table.items, &Path::Under(path, key), lines)
+            } else {
+                add_line(alloc, value, key, path, lines)
+            }
+        }
+        _ => add_line(alloc, value, key, path, lines),
+    }
+}
+
+/// One line: the keys of the path with the key behind them, and the value.
+fn add_line<'a>(
+    alloc: Global,
+    value: &'a Value,
+    key: &'a Key,
+    path: &Path<'_, 'a>,
+    lines: &mut Vec<(Vec<&'a Key>, &'a Value)>,
+) -> Mem<()>
+    ensures { OnOk result (values_read lines.new.items
+        ≡ values_read lines.old.items ++ ((keys_on path.now ++ (key.now ∷ []), value_view value.now) ∷ [])) }
+{
+    let mut keys = Vec::new(alloc);
+    push_keys(path, &mut keys)?;
+    keys.push(key)?;
+    lines.push((keys, value))?;
+    Ok(())
+}
+
+/// The keys of a path, from the outermost in.
+fn push_keys<'a>(path: &Path<'_, 'a>, keys: &mut Vec<&'a Key>) -> Mem<()>
+    ensures { OnOk result (keys_read keys.new.items ≡ keys_read keys.old.items ++ keys_on path.now) }
+{
+    match path {
+        Path::Root => Ok(()),
+        Path::Under(up, key) => {
+            push_keys(up, keys)?;
+            keys.push(*key)?;
+            Ok(())
+        }
+    }
+}
