@@ -18,6 +18,6 @@ pub use toml_edit_stream::{Broken, Input, Output, Watched};
 pub use toml_edit_tree::{
     Array, ArrayIntoIter, ArrayIter, ArrayOfTables, ArrayOfTablesIntoIter, ArrayOfTablesIter,
     Entry, InlineEntry, InlineOccupiedEntry, InlineSlotMut, InlineTable, InlineTableIntoIter,
-    InlineTableIter, InlineVacantEntry, IntoIter, Item, Iter, OccupiedEntry, Table, VacantEntry,
-    Value, array, array_of_tables, inline_table, item, table, value,
+    InlineTableIter, InlineVacantEntry, IntoIter, Item, Iter, OccupiedEntry, Table, TableLike,
+    VacantEntry, Value, array, array_of_tables, inline_table, item, table, value,
 };

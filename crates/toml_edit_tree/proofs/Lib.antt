@@ -27,3 +27,4 @@ pub mod InlineFillLaws
 pub mod InlineOccupiedLaws
 pub mod InlineSlotLaws
 pub mod SortLaws
+pub mod LikeLaws

@@ -32,6 +32,7 @@ mod look_up;
 
 pub use entry::{Entry, OccupiedEntry, VacantEntry};
 pub use iterate::IntoIter;
+pub(crate) use iterate::is_filled;
 
 /// A table: its slots in order, and what is kept of its header (TOML, "Table"). A slot may be a placeholder, which isn't printed.
 #[cycle(tree)]
@@ -286,6 +287,17 @@ impl Table {
 #[derive(Drop)]
 pub struct Iter<'a> {
     slots: slice::Iter<'a, Slot<Item>>,
+}
+
+impl<'a> Iter<'a> {
+    /// Those of these slots that hold an item.
+    pub(crate) fn over(slots: &'a [Slot<Item>]) -> Iter<'a>
+        ensures { held_left result ≡ held (slots_view slots.now) }
+    {
+        Iter {
+            slots: slots.iter(),
+        }
+    }
 }
 
 impl<'a> Iterator for Iter<'a> {

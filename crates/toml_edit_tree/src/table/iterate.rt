@@ -45,7 +45,7 @@ impl Table {
 }
 
 /// Whether the slot is no placeholder.
-fn is_filled(slot: &Slot<Item>) -> bool
+pub(crate) fn is_filled(slot: &Slot<Item>) -> bool
     ensures { result ≡ is_item (item_view slot.now.item) }
 {
     !slot.item.is_none()
