@@ -1,16 +1,18 @@
 //! Tables of either kind.
+ghost use Rattle.std.specs.Borrow.{sem};
 ghost use Rattle.std.specs.Option.{option_copied};
 ghost use Rattle.std.specs.Prelude.{◌≡◌, ◌↔◌, [], true, IfErr, IfOk, IsOk, IsTrue, OnErr, OnOk, length, option_map, slice_get};
 ghost use Rattle.toml_edit_model.specs.Conversions.{formatted};
 ghost use Rattle.toml_edit_model.specs.Iterating.{filled, filled_pairs};
-ghost use Rattle.toml_edit_model.specs.Slots.{has_slot, lookup_key, without};
+ghost use Rattle.toml_edit_model.specs.Slots.{changed, has_slot, lookup_key, with_item, without};
 ghost use Rattle.toml_edit_model.specs.Sorting.{IsDeepReorder};
 ghost use Rattle.toml_edit_model.specs.TableCalls.{get, get_slot};
 ghost use Rattle.toml_edit_model.specs.TableLike.{like_contains_key, like_get_values, like_inserted, like_old, of_inline_table, of_table, LikeSorted};
 ghost use Rattle.toml_edit_tree.specs.Held.{held_left};
 ghost use Rattle.toml_edit_tree.specs.LineValues.{values_read};
 ghost use Rattle.toml_edit_tree.specs.SlotsOf.{inline_slots_of, slot_read, slots_of as table_slots_of};
-ghost use Rattle.toml_edit_tree.specs.TableLike.{inline_beside, stands_dotted, table_beside, with_dotted};
+ghost use Rattle.toml_edit_tree.specs.TableLending.{with_item_under as table_with_item_under};
+ghost use Rattle.toml_edit_tree.specs.TableLike.{inline_beside, inline_with_item_under, stands_dotted, table_beside, with_dotted, LendsLike};
 ghost use Rattle.toml_edit_tree.specs.View.{item_view};
 
 use crate::inline_table::InlineTable;
@@ -29,7 +31,9 @@ pub trait TableLike {
     ghost use Rattle.std.specs.Prelude.{List};
     ghost use Rattle.toml_edit_model.specs.Slots.{Slot};
     ghost use Rattle.toml_edit_model.specs.TableLike.{Differences};
+    ghost use Rattle.toml_edit_model.specs.Text.{Text};
     ghost use Rattle.toml_edit_model.specs.Tree.{Node};
+    ghost use Rattle.toml_edit_tree.specs.declared.item.Item.{Item};
 
     /// The slots in order.
     ghost slots_of: { Self → List (Slot Node) };
@@ -39,6 +43,9 @@ pub trait TableLike {
 
     /// In what tables of this kind differ from those of the other.
     ghost differences: { Differences };
+
+    /// It with another item in the slot of a key.
+    ghost with_item_under: { Text → Item → Self → Self };
 
     /// How many slots there are, placeholders too.
     fn slots(&self) -> usize
@@ -59,6 +66,14 @@ pub trait TableLike {
     /// The item under the key, which is no placeholder.
     fn get(&self, key: &str) -> Option<&Item>
         ensures { option_map (λ x. item_view x.now) result ≡ get key.now (slots_of self.now) };
+
+    /// The item under the key, which is no placeholder, to be changed.
+    fn get_mut(&mut self, key: &str) -> Option<&mut Item>
+        ensures* writes_back { sem 𝓛 (LendsLike Self.row with_item_under self.entry key.now result) }
+        ensures item { option_map (λ x. item_view x.now) result ≡ get key.now (slots_of self.old) }
+        // What an item that is written leaves.
+        ensures leaves { (w : Item) → slots_of (with_item_under key.now w self.old) ≡ changed key.now (with_item (item_view w)) (slots_of self.old) }
+        ensures keeps { (w : Item) → beside (with_item_under key.now w self.old) ≡ beside self.old };
 
     /// The key of this text as it stands in the table, with its spelling and decors, if it has a slot of any kind.
     fn key(&self, key: &str) -> Option<&Key>
@@ -91,15 +106,14 @@ pub trait TableLike {
 
     /// Puts the item under the key, in an inline table as a value, which a placeholder can't be made: a key that is there loses its spelling
     /// and its decors and keeps its place, and the answer is its old item, of an inline table as a value, `None` for a placeholder; a new key
-    /// goes last. A present key takes no memory. The only error is want of memory: the slots stay, and the error has the item as it would have
-    /// been stored.
+    /// goes last. A present key takes no memory. The only error is want of memory: the slots stay, and the error has the item.
     fn insert(&mut self, key: &str, item: Item) -> Result<Option<Item>, NoMemory<Item>>
         requires { differences.insertion.takes (item_view item) ≡ true }
         ensures old { IfOk result (λ old. option_map item_view old ≡ like_old differences key.now (slots_of self.old)) }
         ensures slots { OnOk result (slots_of self.new ≡ like_inserted differences key.now (item_view item) (slots_of self.old)) }
         ensures present { IsTrue (has_slot key.now (slots_of self.old)) → IsOk result }
         ensures beside { beside self.new ≡ beside self.old }
-        ensures back { IfErr result (λ refused. item_view refused.0 ≡ differences.insertion.stored (item_view item)) }
+        ensures back { IfErr result (λ refused. refused.0 ≡ item) }
         ensures err { OnErr result (slots_of self.new ≡ slots_of self.old) };
 
     /// Takes the slot of the key out, if there is one: its item, `Item::None` for a placeholder; of an inline table made a value, and `None`
@@ -134,6 +148,8 @@ impl TableLike for Table {
 
     ghost differences = { of_table };
 
+    ghost with_item_under = { table_with_item_under };
+
     fn slots(&self) -> usize {
         Table::slots(self)
     }
@@ -153,6 +169,11 @@ impl TableLike for Table {
     fn get(&self, key: &str) -> Option<&Item> {
         let (_, item) = Table::get_key_value(self, key)?;
         Some(item)
+    }
+
+    fn get_mut(&mut self, key: &str) -> Option<&mut Item> {
+        let _place = self.place_of(key);
+        Table::get_mut(self, key)
     }
 
     fn key(&self, key: &str) -> Option<&Key> {
@@ -211,6 +232,8 @@ impl TableLike for InlineTable {
 
     ghost differences = { of_inline_table };
 
+    ghost with_item_under = { inline_with_item_under };
+
     fn slots(&self) -> usize {
         InlineTable::slots(self)
     }
@@ -230,6 +253,11 @@ impl TableLike for InlineTable {
     fn get(&self, key: &str) -> Option<&Item> {
         let (_, item) = self.get_key_item(key)?;
         Some(item)
+    }
+
+    fn get_mut(&mut self, key: &str) -> Option<&mut Item> {
+        let _place = self.place_of(key);
+        self.get_item_mut(key)
     }
 
     fn key(&self, key: &str) -> Option<&Key> {

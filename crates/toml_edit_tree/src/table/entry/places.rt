@@ -93,7 +93,7 @@ impl Table {
     }
 
     /// The place of the key's slot of any kind, among keys of which no two have one text.
-    fn place_of(&self, key: &str) -> Option<usize>
+    pub(crate) fn place_of(&self, key: &str) -> Option<usize>
         ensures place { result ≡ place key.now (out-Table self.now).slots }
         ensures there { result ≡ place_seen key.now (slots_of self.now) }
         ensures within { IfSome result (λ at. at < length (out-Table self.now).slots) }
