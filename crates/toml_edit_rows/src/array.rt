@@ -1,7 +1,7 @@
 //! What is changed in arrays.
 use crate::said::Answer;
-use crate::steps::{behind, word};
-use crate::{inline_entry, list, made, slots};
+use crate::steps::{behind, index, word};
+use crate::{list, made, slots};
 use serde_json::Value as Json;
 use toml_edit::{Array, Mem, Value};
 
@@ -21,22 +21,24 @@ fn change(array: &mut Array, words: &[Json], out: &mut Answer) {
         "clear" => array.clear(),
         "retain" => array.retain(|value| value.type_name() == argument),
         "fmt" => array.fmt(),
+        "sort_by" => out.done(sort_by_type(array)),
         "sort_by_key" => out.done(sort(array)),
         "from_iter" => from_iter(made::value(behind(words, 1), out), out),
+        "value_from_iter" => value_from_iter(made::value(behind(words, 1), out), out),
         "extend" => extend(array, made::value(behind(words, 1), out), out),
         "insert" | "insert_formatted" | "replace" | "replace_formatted" => {
             put_at(array, words, made::value(behind(words, 2), out), out);
         }
-        "remove" => remove(array, place(words), out),
+        "remove" => remove(array, index(words), out),
         "get_mut" => lend(array, words, made::value(behind(words, 2), out), out),
-        "slot_at_mut" => slots::set_none(array.slot_at_mut(place(words)), out),
+        "slot_at_mut" => slots::set_none(array.slot_at_mut(index(words)), out),
         _ => list::change_array(array, words, out),
     }
 }
 
 /// Writes a value over the one at a place, if one stands there.
 fn lend(array: &mut Array, words: &[Json], made: Option<Value>, out: &mut Answer) {
-    inline_entry::write(array.get_mut(place(words)), made, out);
+    slots::write(array.get_mut(index(words)), made, out);
 }
 
 fn push(array: &mut Array, words: &[Json], out: &mut Answer) {
@@ -45,6 +47,11 @@ fn push(array: &mut Array, words: &[Json], out: &mut Answer) {
         Some(value) => out.put(array.push_formatted(value)),
         None => out.text("no value"),
     }
+}
+
+/// Sorts the values by the names of their types.
+fn sort_by_type(array: &mut Array) -> Mem<()> {
+    array.sort_by(|one, other| one.type_name().cmp(other.type_name()))
 }
 
 /// Sorts the values by the integers that they are. What is none comes last.
@@ -68,12 +75,20 @@ fn from_iter(values: Option<Value>, out: &mut Answer) {
     }
 }
 
+/// Shows the value that an array of the elements of another one is.
+fn value_from_iter(values: Option<Value>, out: &mut Answer) {
+    match values {
+        Some(Value::Array(values)) => out.made(Value::from_iter(out.alloc, values)),
+        _ => out.text("no array"),
+    }
+}
+
 /// Puts a value at a place. Where the call may not be made there, this is told.
 fn put_at(array: &mut Array, words: &[Json], made: Option<Value>, out: &mut Answer) {
     let Some(value) = made else {
         return out.text("no value");
     };
-    let at = place(words);
+    let at = index(words);
     let is_there = array.get(at).is_some();
     match word(words, 0) {
         "insert" if at <= array.len() => out.put(array.insert(at, value)),
@@ -90,9 +105,4 @@ fn remove(array: &mut Array, at: usize, out: &mut Answer) {
     } else {
         out.text("none");
     }
-}
-
-/// The place that a call is made at, or one that no array reaches.
-fn place(words: &[Json]) -> usize {
-    word(words, 1).parse::<usize>().unwrap_or(usize::MAX)
 }

@@ -1,10 +1,10 @@
 //! What is changed in inline tables.
 use crate::said::Answer;
-use crate::slots::{Told, tell_old, tell_taken};
+use crate::slots::{Told, tell_old, tell_taken, write};
 use crate::steps::{behind, word};
-use crate::{inline_entry, list, made};
+use crate::{inline_entry, made};
 use serde_json::Value as Json;
-use toml_edit::{InlineTable, Key, Value};
+use toml_edit::{InlineTable, Key, Mem, Value};
 
 impl Told for Value {
     fn tell(&self, out: &mut Answer) {
@@ -15,6 +15,14 @@ impl Told for Value {
 impl Told for (Key, Value) {
     fn tell(&self, out: &mut Answer) {
         out.shown(&self.0);
+        out.text("=");
+        out.shown(&self.1);
+    }
+}
+
+impl Told for (String, Value) {
+    fn tell(&self, out: &mut Answer) {
+        out.text(self.0.as_str());
         out.text("=");
         out.shown(&self.1);
     }
@@ -33,17 +41,16 @@ fn change(table: &mut InlineTable, words: &[Json], out: &mut Answer) {
     let name = word(words, 1);
     match word(words, 0) {
         "insert" => insert(table, name, made::value(behind(words, 2), out), out),
-        "insert_formatted" | "extend" => add_pair(table, words, out),
+        "insert_formatted" | "extend" | "from_iter" | "from_pairs" => add_pair(table, words, out),
         "remove" => tell_taken(table.remove(name), out),
         "remove_entry" => tell_taken(table.remove_entry(name), out),
         "retain" => table.retain(|key, _value| key != name),
         "clear" => table.clear(),
         "fmt" => table.fmt(),
         "sort_values" => out.done(table.sort_values()),
-        "entry" => inline_entry::enter(table, words, out),
-        "entry_format" => inline_entry::enter_formatted(table, words, out),
+        "sort_values_by" => out.done(sort_by_type(table)),
         "get_or_insert" | "get_mut" => lend(table, words, made::value(behind(words, 2), out), out),
-        _ => list::change_inline(table, words, out),
+        _ => inline_entry::change(table, words, out),
     }
 }
 
@@ -51,7 +58,7 @@ fn change(table: &mut InlineTable, words: &[Json], out: &mut Answer) {
 fn lend(table: &mut InlineTable, words: &[Json], made: Option<Value>, out: &mut Answer) {
     let name = word(words, 1);
     match word(words, 0) {
-        "get_mut" => inline_entry::write(table.get_mut(name), made, out),
+        "get_mut" => write(table.get_mut(name), made, out),
         _ => inline_entry::get_or_insert(table, name, made, out),
     }
 }
@@ -63,7 +70,7 @@ fn insert(table: &mut InlineTable, name: &str, made: Option<Value>, out: &mut An
     }
 }
 
-/// Puts a pair in: a key with its leaf decor, and a value.
+/// Puts a pair in, or makes an inline table of it alone: a key with its leaf decor, and a value.
 fn add_pair(table: &mut InlineTable, words: &[Json], out: &mut Answer) {
     match (
         made::key(behind(words, 1), out),
@@ -72,7 +79,18 @@ fn add_pair(table: &mut InlineTable, words: &[Json], out: &mut Answer) {
         (Some(key), Some(value)) if word(words, 0) == "extend" => {
             out.done(table.extend(Some((key, value))));
         }
+        (Some(key), Some(value)) if word(words, 0) == "from_iter" => {
+            out.made(InlineTable::from_iter(out.alloc, Some((key, value))));
+        }
+        (Some(key), Some(value)) if word(words, 0) == "from_pairs" => {
+            out.made(Value::from_pairs(out.alloc, Some((key, value))));
+        }
         (Some(key), Some(value)) => tell_old(table.insert_formatted(&key, value), out),
         _ => out.text("no pair"),
     }
+}
+
+/// Sorts the values by the names of their types.
+fn sort_by_type(table: &mut InlineTable) -> Mem<()> {
+    table.sort_values_by(|_, one, _, other| one.type_name().cmp(other.type_name()))
 }

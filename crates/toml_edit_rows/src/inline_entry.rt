@@ -1,21 +1,34 @@
-//! Entries of an inline table, and values that it and lists lend.
-use crate::made;
+//! Entries of an inline table, and slots that it lends.
 use crate::said::Answer;
+use crate::slots::{Told, tell_given, write};
 use crate::steps::{behind, word};
+use crate::{inline_slot, made, value};
 use serde_json::Value as Json;
-use toml_edit::{InlineEntry, InlineTable, Key, Mem, Value};
+use toml_edit::{
+    InlineEntry, InlineOccupiedEntry, InlineTable, InlineVacantEntry, Key, Mem, Value,
+};
 
-/// Goes to the entry of a key, and puts a value there if nothing has that key.
-pub fn enter(table: &mut InlineTable, words: &[Json], out: &mut Answer) {
-    fill(
-        table.entry(word(words, 1)),
-        made::value(behind(words, 2), out),
-        out,
-    );
+/// Does a step with an entry, or with a slot that is lent, or changes what isn't a slot.
+pub fn change(table: &mut InlineTable, words: &[Json], out: &mut Answer) {
+    let name = word(words, 1);
+    let rest = behind(words, 2);
+    match word(words, 0) {
+        "entry" => fill(table.entry(name), made::value(rest, out), out),
+        "entry_with" => fill_with(table.entry(name), out),
+        "entry_format" => enter_formatted(table, words, out),
+        "entry_remove" => remove(table, name, out),
+        "entry_into_mut" => write_over(table, name, made::value(rest, out), out),
+        "vacant" => use_vacant(table.entry(name), rest, out),
+        "get_key_value_mut" => match table.get_key_value_mut(name) {
+            Some(mut slot) => change_slot(&mut slot, rest, out),
+            None => out.text("none"),
+        },
+        _ => inline_slot::change(table, words, out),
+    }
 }
 
-/// The same of a key with its spelling and decor.
-pub fn enter_formatted(table: &mut InlineTable, words: &[Json], out: &mut Answer) {
+/// Goes to the entry of a key with its spelling and decor, and puts a value there if nothing has that key.
+fn enter_formatted(table: &mut InlineTable, words: &[Json], out: &mut Answer) {
     enter_at(
         table,
         made::key(behind(words, 1), out),
@@ -50,6 +63,93 @@ fn or_insert(entry: InlineEntry<'_>, value: Value, out: &mut Answer) {
     out.refuse();
 }
 
+/// Tells what stands there once the value 0 of a closure was put in.
+fn fill_with(entry: Mem<InlineEntry<'_>>, out: &mut Answer) {
+    match entry {
+        Ok(entry) => or_insert_with(entry, out),
+        Err(_) => out.refuse(),
+    }
+}
+
+fn or_insert_with(entry: InlineEntry<'_>, out: &mut Answer) {
+    if let Ok(there) = entry.or_insert_with(|| Value::from(0_i64)) {
+        out.shown(there);
+        return;
+    }
+    out.refuse();
+}
+
+/// Takes a slot out by the entry that is lent of its key.
+fn remove(table: &mut InlineTable, name: &str, out: &mut Answer) {
+    match table.get_key_value_mut(name) {
+        Some(entry) => tell_given(entry.remove(), out),
+        None => out.text("none"),
+    }
+}
+
+/// Writes what was made over what stands there, by the entry that is lent of its key.
+fn write_over(table: &mut InlineTable, name: &str, made: Option<Value>, out: &mut Answer) {
+    match table.get_key_value_mut(name) {
+        Some(entry) => write(Some(entry.into_mut()), made, out),
+        None => out.text("none"),
+    }
+}
+
+/// Does a step with the entry of a key that isn't there.
+fn use_vacant(entry: Mem<InlineEntry<'_>>, words: &[Json], out: &mut Answer) {
+    match entry {
+        Ok(entry) => if_vacant(entry, words, out),
+        Err(_) => out.refuse(),
+    }
+}
+
+fn if_vacant(entry: InlineEntry<'_>, words: &[Json], out: &mut Answer) {
+    match entry {
+        InlineEntry::Vacant(entry) => fill_vacant(entry, words, out),
+        InlineEntry::Occupied(_) => out.text("none"),
+    }
+}
+
+fn fill_vacant(entry: InlineVacantEntry<'_>, words: &[Json], out: &mut Answer) {
+    match word(words, 0) {
+        "key" => out.shown(entry.key()),
+        _ => insert_vacant(entry, made::value(behind(words, 1), out), out),
+    }
+}
+
+fn insert_vacant(entry: InlineVacantEntry<'_>, made: Option<Value>, out: &mut Answer) {
+    let Some(value) = made else {
+        return out.text("no value");
+    };
+    if let Ok(there) = entry.insert(value) {
+        out.shown(there);
+        return;
+    }
+    out.refuse();
+}
+
+/// Changes what stands around the key, or the value. Of a call that answers nothing the answer is empty.
+fn change_slot(slot: &mut InlineOccupiedEntry<'_>, words: &[Json], out: &mut Answer) {
+    let rest = behind(words, 1);
+    match word(words, 0) {
+        "key" => out.shown(slot.key()),
+        "get" => slot.get().tell(out),
+        "leaf_decor_mut" => value::change_decor(slot.leaf_decor_mut(), rest, out),
+        "dotted_decor_mut" => value::change_decor(slot.dotted_decor_mut(), rest, out),
+        "fmt_key" => slot.fmt_key(),
+        "get_mut" => write(Some(slot.get_mut()), made::value(rest, out), out),
+        "insert" => insert(slot, made::value(rest, out), out),
+        call => out.no_such(call),
+    }
+}
+
+fn insert(slot: &mut InlineOccupiedEntry<'_>, made: Option<Value>, out: &mut Answer) {
+    match made {
+        Some(value) => tell_given(slot.insert(value), out),
+        None => out.text("no value"),
+    }
+}
+
 /// Tells what stands under a key once a value was put in where none stood.
 pub fn get_or_insert(table: &mut InlineTable, name: &str, made: Option<Value>, out: &mut Answer) {
     let Some(value) = made else {
@@ -60,12 +160,4 @@ pub fn get_or_insert(table: &mut InlineTable, name: &str, made: Option<Value>, o
         return;
     }
     out.refuse();
-}
-
-/// Writes a value where another one is lent, if one is.
-pub fn write(lent: Option<&mut Value>, made: Option<Value>, out: &mut Answer) {
-    match (lent, made) {
-        (Some(lent), Some(value)) => *lent = value,
-        _ => out.text("none"),
-    }
 }

@@ -1,7 +1,7 @@
 //! What is asked of arrays and inline tables, and what is changed in them.
 use crate::said::Answer;
-use crate::steps::{behind, word};
-use crate::{key, value};
+use crate::steps::{behind, index, word};
+use crate::{key, lines, slots, steps, value};
 use serde_json::Value as Json;
 use toml_edit::{Array, InlineTable, Mem, RawString, Value};
 
@@ -53,6 +53,7 @@ fn ask_array_end(array: &Array, words: &[Json], out: &mut Answer) {
         "list_span" => out.span(array.span()),
         "list_to_string" => out.shown(array),
         "list_clone" => out.made(array.clone(out.alloc)),
+        "into_iter" => steps::given_up(array.clone(out.alloc), out),
         call => out.no_such(call),
     }
 }
@@ -75,6 +76,8 @@ fn ask_inline(table: &InlineTable, words: &[Json], out: &mut Answer) {
         "contains_key" => out.truth(table.contains_key(word(words, 1))),
         "is_dotted" => out.truth(table.is_dotted()),
         "key" => key::ask_found(table.key(word(words, 1)), behind(words, 2), out),
+        "get_key_value" => slots::tell_found(table.get_key_value(word(words, 1)), out),
+        "key_value_at" => slots::tell_found(table.key_value_at(index(words)), out),
         _ => ask_inline_end(table, words, out),
     }
 }
@@ -87,6 +90,8 @@ fn ask_inline_end(table: &InlineTable, words: &[Json], out: &mut Answer) {
         "list_span" => out.span(table.span()),
         "list_to_string" => out.shown(table),
         "list_clone" => out.made(table.clone(out.alloc)),
+        "get_values" => lines::tell(table.get_values(out.alloc), out),
+        "into_iter" => steps::given_up(table.clone(out.alloc), out),
         "into_table" => lines_of(table.clone(out.alloc), out),
         call => out.no_such(call),
     }

@@ -2,9 +2,7 @@
 use crate::said::Answer;
 use crate::steps::word;
 use serde_json::Value as Json;
-use toml_edit::{
-    ArrayOfTables, Decor, DocumentMut, FromStr, Item, Key, ParseFault, RawString, Table, Value,
-};
+use toml_edit::{Decor, DocumentMut, FromStr, Item, Key, ParseFault, RawString, Table, Value};
 
 /// What was read, if it was. Where memory was refused, that is noted.
 fn read<T: Drop>(read: Result<T, ParseFault>, out: &mut Answer) -> Option<T> {
@@ -55,8 +53,8 @@ pub fn table(text: &str, out: &mut Answer) -> Option<Table> {
 pub fn item(text: &str, out: &mut Answer) -> Option<Item> {
     match text {
         "none" => Some(Item::None),
-        "table" => Some(Item::from(Table::new(out.alloc))),
-        "array of tables" => Some(Item::from(ArrayOfTables::new(out.alloc))),
+        "table" => Some(toml_edit::item::table(out.alloc)),
+        "array of tables" => Some(toml_edit::item::array(out.alloc)),
         _ => match text.strip_prefix("new ") {
             Some(pairs) => new_table(read(Value::from_str(out.alloc, pairs), out)),
             None => item_read(text, out),
@@ -73,7 +71,7 @@ fn new_table(made: Option<Value>) -> Option<Item> {
 
 fn item_read(text: &str, out: &mut Answer) -> Option<Item> {
     match read(Value::from_str(out.alloc, text), out) {
-        Some(value) => Some(Item::from(value)),
+        Some(value) => Some(toml_edit::item::value(value)),
         None => under_t(table(text, out)),
     }
 }

@@ -1,16 +1,24 @@
 //! What is asked of the slots of a table, and what is changed among them.
 use crate::said::Answer;
 use crate::steps::{behind, word};
-use crate::{convert, entry, made, table};
+use crate::{convert, entry, lines, made, steps};
 use serde_json::Value as Json;
 use std::mem;
-use toml_edit::{Item, Key, NoMemory, Table};
+use toml_edit::{Item, Key, Mem, NoMemory, Table};
 
 /// Leaves a placeholder in the slot, if there is one.
 pub fn set_none(slot: Option<&mut Item>, out: &mut Answer) {
     match slot {
         Some(item) => *item = Item::None,
         None => out.text("none"),
+    }
+}
+
+/// Writes what was made over what is lent, if both are there.
+pub fn write<T: Drop>(lent: Option<&mut T>, made: Option<T>, out: &mut Answer) {
+    match (lent, made) {
+        (Some(lent), Some(made)) => *lent = made,
+        _ => out.text("none"),
     }
 }
 
@@ -42,11 +50,23 @@ impl Told for (Key, Item) {
     }
 }
 
-/// Tells the spelling of a key, and its item.
-fn tell_slot(key: &Key, item: &Item, out: &mut Answer) {
+impl Told for (String, Item) {
+    fn tell(&self, out: &mut Answer) {
+        out.text(self.0.as_str());
+        out.text("=");
+        self.1.tell(out);
+    }
+}
+
+/// Tells the spelling of a key, and its item or value.
+fn tell_slot<T: Told>(key: &Key, held: &T, out: &mut Answer) {
     out.shown(key);
     out.text("=");
-    item.tell(out);
+    held.tell(out);
+}
+
+pub fn tell_given<T: Told + Drop>(given: T, out: &mut Answer) {
+    given.tell(out);
 }
 
 pub fn tell_taken<T: Told + Drop>(taken: Option<T>, out: &mut Answer) {
@@ -63,9 +83,9 @@ pub fn tell_old<T: Told + Drop>(old: Result<Option<T>, NoMemory<T>>, out: &mut A
     }
 }
 
-fn tell_found(found: Option<(&Key, &Item)>, out: &mut Answer) {
+pub fn tell_found<T: Told>(found: Option<(&Key, &T)>, out: &mut Answer) {
     match found {
-        Some((key, item)) => tell_slot(key, item, out),
+        Some((key, held)) => tell_slot(key, held, out),
         None => out.text("none"),
     }
 }
@@ -82,6 +102,7 @@ pub fn tell(table: &Table, words: &[Json], out: &mut Answer) {
             Ok(at) => tell_found(table.key_value_at(at), out),
             Err(_) => out.no_such("key_value_at"),
         },
+        "get_values" => lines::tell(table.get_values(out.alloc), out),
         "to_string" => out.shown(table),
         _ => tell_kind(table, words, out),
     }
@@ -95,6 +116,7 @@ fn tell_kind(table: &Table, words: &[Json], out: &mut Answer) {
         "contains_table" => out.truth(table.contains_table(name)),
         "contains_array_of_tables" => out.truth(table.contains_array_of_tables(name)),
         "into_inline_table" => convert::into_inline_table(table.clone(out.alloc), out),
+        "into_iter" => steps::given_up(table.clone(out.alloc), out),
         call => out.no_such(call),
     }
 }
@@ -111,10 +133,9 @@ pub fn change(table: &mut Table, words: &[Json], out: &mut Answer) {
         "retain" => table.retain(|key, _item| key != name),
         "fmt" => table.fmt(),
         "sort_values" => out.done(table.sort_values()),
-        "entry" => entry::enter(table, words, out),
-        "entry_format" => entry::enter_formatted(table, words, out),
+        "sort_values_by" => out.done(sort_by_type(table)),
         "extend" | "from_iter" => add_pair(table, words, out),
-        _ => table::ask(table, words, out),
+        _ => entry::change(table, words, out),
     }
 }
 
@@ -160,4 +181,12 @@ fn add_pair(table: &mut Table, words: &[Json], out: &mut Answer) {
         (Some(key), Some(item)) => out.made(Table::from_iter(out.alloc, Some((key, item)))),
         _ => out.text("no pair"),
     }
+}
+
+/// Sorts the slots by the names of their items' types, and those of one type by their names, from the last to the first.
+fn sort_by_type(table: &mut Table) -> Mem<()> {
+    table.sort_values_by(|one, item, other, other_item| {
+        let types = item.type_name().cmp(other_item.type_name());
+        types.then(other.get().cmp(one.get()))
+    })
 }

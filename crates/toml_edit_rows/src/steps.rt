@@ -1,7 +1,11 @@
 //! Steps: chains of calls, in the library's names, each with its arguments behind it.
+ghost use Rattle.std.specs.Prelude.{IfOk};
+ghost use Rattle.std.specs.Iterator.{IsFinite};
+
 use crate::refusal;
 use crate::row::{self, Row};
 use crate::said::Answer;
+use crate::slots::Told;
 use serde_json::Value as Json;
 use toml_edit::{Mem, ParseFault};
 
@@ -51,6 +55,22 @@ pub fn copied<S: Asked + Drop>(copy: Mem<S>, words: &[Json], out: &mut Answer) {
     }
 }
 
+/// Tells each that a copy gives when it is given up, in order, where there was memory for it.
+pub fn given_up<T: Told + Drop, U: IntoIterator<Item = T>>(copy: Mem<U>, out: &mut Answer)
+    requires { IfOk copy (λ given. (it : U.IntoIter) → U.into_iter_gives given it → U.IntoIter.can_next it × IsFinite (U.IntoIter.remaining it)) }
+{
+    match copy {
+        Ok(copy) => {
+            for given in copy {
+                out.text("<");
+                given.tell(out);
+                out.text(">");
+            }
+        }
+        Err(_) => out.refuse(),
+    }
+}
+
 /// Does the steps, and answers the question, or tells of the first step that doesn't give what it says.
 pub fn stepped<S: Subject + Drop>(subject: S, row: Row<'_>, out: &mut Answer) {
     let mut subject = subject;
@@ -87,6 +107,11 @@ fn calls(step: &[Json]) -> &[Json] {
 /// A word of a chain, or the empty text.
 pub fn word(words: &[Json], at: usize) -> &str {
     row::text_of(words.get(at))
+}
+
+/// The place that the second word is, or one that no list reaches.
+pub fn index(words: &[Json]) -> usize {
+    word(words, 1).parse::<usize>().unwrap_or(usize::MAX)
 }
 
 /// The words behind so many, or none.

@@ -209,6 +209,7 @@ fn tell_tables(tables: &ArrayOfTables, words: &[Json], out: &mut Answer) {
         "is_empty" => out.truth(tables.is_empty()),
         "span" => out.span(tables.span()),
         "into_array" => convert::into_array(tables.clone(out.alloc), out),
+        "into_iter" => steps::given_up(tables.clone(out.alloc), out),
         "to_string" => out.shown(tables),
         call => out.no_such(call),
     }

@@ -1,9 +1,16 @@
 //! What is changed in arrays of tables.
 use crate::said::Answer;
+use crate::slots::Told;
 use crate::steps::{behind, word};
 use crate::{convert, made, slots, table};
 use serde_json::Value as Json;
 use toml_edit::{ArrayOfTables, Item, Table};
+
+impl Told for Table {
+    fn tell(&self, out: &mut Answer) {
+        out.shown(self);
+    }
+}
 
 /// Does a step with an array of tables, if there is one. Of a call that answers nothing the answer is empty.
 pub fn change_found(tables: Option<&mut ArrayOfTables>, words: &[Json], out: &mut Answer) {
