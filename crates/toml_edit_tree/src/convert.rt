@@ -167,8 +167,8 @@ fn make_items(items: &mut Vec<Item>)
 fn renew(item: &mut Item)
     ensures { item_view item.new ≡ in_new_form (item_view item.old) }
 {
-    let old = mem::replace(item, Item::None);
-    *item = renewed(old);
+    let made = renewed(mem::replace(item, Item::None));
+    drop(mem::replace(item, made));
 }
 
 fn renewed(item: Item) -> Item
@@ -291,8 +291,8 @@ fn make_tables(items: &mut Vec<Item>)
 fn make_table(item: &mut Item)
     ensures { item_view item.new ≡ made_table (item_view item.old) }
 {
-    let old = mem::replace(item, Item::None);
-    *item = as_table(old);
+    let made = as_table(mem::replace(item, Item::None));
+    drop(mem::replace(item, made));
 }
 
 fn as_table(item: Item) -> Item

@@ -80,8 +80,9 @@ impl Iterator for ArrayIntoIter {
 
     fn next(&mut self) -> Option<Value> {
         while let Some(item) = self.items.next() {
-            if let Item::Value(value) = item {
-                return Some(value);
+            match item {
+                Item::Value(value) => return Some(value),
+                other => drop(other),
             }
         }
         None

@@ -80,8 +80,9 @@ impl Iterator for ArrayOfTablesIntoIter {
 
     fn next(&mut self) -> Option<Table> {
         while let Some(item) = self.items.next() {
-            if let Item::Table(table) = item {
-                return Some(table);
+            match item {
+                Item::Table(table) => return Some(table),
+                other => drop(other),
             }
         }
         None

@@ -17,6 +17,7 @@ ghost use Rattle.toml_edit_tree.specs.declared.item.Item.TheVariants as items;
 use super::InlineTable;
 use crate::item::Item;
 use crate::value::Value;
+use std::mem;
 use toml_edit_key::Key;
 use toml_edit_repr::Decor;
 
@@ -117,7 +118,7 @@ fn make_value_or(item: &mut Item, value: Value)
     if item.is_none() {
         put_value(item, value);
     } else {
-        discard(value);
+        drop(value);
     }
 }
 
@@ -125,8 +126,5 @@ fn make_value_or(item: &mut Item, value: Value)
 fn put_value(item: &mut Item, value: Value)
     ensures { item.new ≡ items.Value value }
 {
-    *item = Item::Value(value);
+    drop(mem::replace(item, Item::Value(value)));
 }
-
-/// Lets a value go that is not wanted.
-fn discard(_value: Value) {}

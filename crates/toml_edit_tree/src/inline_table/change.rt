@@ -108,10 +108,7 @@ fn old_as_value(old: Option<Item>) -> Option<Value>
 fn value_of(item: Item) -> Option<Value>
     ensures { option_map value_view result ≡ into_value (item_view item) }
 {
-    match item.into_value() {
-        Ok(value) => Some(value),
-        Err(_) => None,
-    }
+    item.into_value().ok()
 }
 
 /// The key with its item made a value, unless it is a placeholder.

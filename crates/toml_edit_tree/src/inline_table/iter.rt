@@ -103,8 +103,9 @@ impl Iterator for InlineTableIntoIter {
     fn next(&mut self) -> Option<(String, Value)> {
         while let Some(slot) = self.slots.next() {
             let Slot { key, item } = slot;
-            if let Item::Value(value) = item {
-                return Some((String::from(key), value));
+            match item {
+                Item::Value(value) => return Some((String::from(key), value)),
+                other => drop(other),
             }
         }
         None

@@ -144,7 +144,7 @@ impl<'a> InlineEntry<'a> {
     {
         match self {
             InlineEntry::Occupied(entry) => {
-                discard(value);
+                drop(value);
                 Ok(entry.into_mut())
             }
             InlineEntry::Vacant(entry) => entry.insert(value),
@@ -174,6 +174,3 @@ impl<'a> InlineEntry<'a> {
         }
     }
 }
-
-/// Lets a value go where another one is lent.
-fn discard(_value: Value) {}

@@ -142,7 +142,7 @@ impl<'a> Entry<'a> {
     {
         match self {
             Entry::Occupied(entry) => {
-                discard(item);
+                drop(item);
                 Ok(entry.into_mut())
             }
             Entry::Vacant(entry) => entry.insert(item),
@@ -172,6 +172,3 @@ impl<'a> Entry<'a> {
         }
     }
 }
-
-/// Lets an item go where another one is lent.
-fn discard(_item: Item) {}
