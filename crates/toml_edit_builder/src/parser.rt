@@ -46,15 +46,19 @@ fn starts_statement(events: &[Event]) -> bool
 }
 
 /// The slots of the root, which are still to be put in order.
-fn whole(mut building: Building) -> Slots<Item>
+fn whole(building: Building) -> Slots<Item>
     ensures { (b : Builder) → IsHeld b building → slots_by_place (slots_view result) ≡ b.slots }
 {
-    swap_block(
-        building.block.as_slice(),
-        &mut building.current,
-        &mut building.root,
-    );
-    building.root
+    let Building {
+        mut root,
+        mut current,
+        block,
+        item,
+        ..
+    } = building;
+    swap_block(block.as_slice(), &mut current, &mut root);
+    drop(item);
+    root
 }
 
 /// The text after the last statement, which alone is left.
@@ -111,7 +115,13 @@ pub(crate) fn build(
     };
     let mut rest = events;
     'statements: while starts_statement(rest) {
-        rest = read_statement(alloc, source, &mut building, rest)?;
+        match read_statement(alloc, source, &mut building, rest) {
+            Ok(behind) => rest = behind,
+            Err(fault) => {
+                drop(building);
+                return Err(fault);
+            }
+        }
     }
     let mut slots = whole(building);
     put_in_order(&mut slots)?;

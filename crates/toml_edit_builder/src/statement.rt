@@ -23,7 +23,7 @@ use crate::path::{Kind, add_path};
 use std::alloc::Global;
 use toml_edit_error::ParseFault;
 use toml_edit_parser::{
-    KeyPath, PathKey, next_key, raw, read_header, read_key_line, refusal_of_all, split_first,
+    KeyPath, PathKey, next_key, put, raw, read_header, read_key_line, refusal_of_all, split_first,
 };
 use toml_edit_repr::Decor;
 use toml_edit_slots::Slots;
@@ -201,7 +201,7 @@ fn head_item(alloc: Global, header: HeaderParts<'_>, position: isize, item: &mut
     ensures { (b : Builder) (h : Header) (end : Text) → AreHeaderParts h b.start header.entry → position ≡ pos (suc b.headers)
         → IsHeaded (source_at b (syntax.header h end)) (item_view item.new) }
 {
-    *item = headed_item(alloc, header, position);
+    put(item, headed_item(alloc, header, position));
 }
 
 /// The table of a header, the one of this number, as yet without slots.

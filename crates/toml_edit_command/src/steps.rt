@@ -73,5 +73,7 @@ fn printed(alloc: Global, text: &str) -> Result<String, ParseFault>
 {
     let document = Document::parse(alloc, text)?;
     let document = document.into_mut(alloc)?;
-    Ok(document.print(alloc)?)
+    let print = document.print(alloc);
+    drop(document);
+    Ok(print?)
 }

@@ -62,8 +62,13 @@ fn read_lone(alloc: Global, text: &str, events: &[Event]) -> Result<Value, Parse
     ensures refused { IfErr result (λ e. IfToml e (IsLoneRefusal text.now)) }
 {
     let (mut value, _rest) = read_value(alloc, text, events)?;
-    end_lone(alloc, text, events, &mut value)?;
-    Ok(value)
+    match end_lone(alloc, text, events, &mut value) {
+        Ok(()) => Ok(value),
+        Err(fault) => {
+            drop(value);
+            Err(fault)
+        }
+    }
 }
 
 /// Puts a value that was read by these events in owned form, with its decor unset.

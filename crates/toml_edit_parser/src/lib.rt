@@ -15,4 +15,4 @@ pub use pairs::{KeyPath, add_last, push_item};
 #[doc(hidden)]
 pub use reader::{are_cut_short, raw, refusal, refusal_of_all, split_first};
 #[doc(hidden)]
-pub use statement::{HeaderSpans, read_header, read_key_line};
+pub use statement::{HeaderSpans, put, read_header, read_key_line};

@@ -145,7 +145,9 @@ fn read_pair<'a>(
     }
     let (value, rest) = read_value(alloc, source, rest)?;
     let mut item = Item::Value(value);
-    end_pair(alloc, source, frame, &mut item, rest, slots)
+    let ended = end_pair(alloc, source, frame, &mut item, rest, slots);
+    drop(item);
+    ended
 }
 
 /// The text before a pair, if one comes first, and the events behind it.

@@ -360,6 +360,7 @@ fn end_element<'a>(
     ensures rest { IfOk result (λ r. AreIn source.now r.now × (length r.now < length events.now)) }
 {
     let Some((after, rest)) = split_first(events) else {
+        drop(value);
         return Err(refusal_at_end(alloc, source, "unclosed array"));
     };
     put_value(values, value.decorated(raw(before), raw(after.span)))?;

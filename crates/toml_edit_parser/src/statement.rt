@@ -68,13 +68,22 @@ pub fn read_key_line<'a>(
         return Err(refusal_of_all(alloc, source, "recursion limit"));
     }
     let (value, rest) = read_value(alloc, source, rest)?;
-    *item = Item::Value(value);
+    put(item, Item::Value(value));
     let Some((end, rest)) = split_first(rest) else {
         return Err(refusal_of_all(alloc, source, "expected a newline"));
     };
     item.decorate(raw(frame.after_equals), raw(end.span));
     let path = path_behind(frame.leading, frame.path, frame.before_equals);
     Ok((path, rest))
+}
+
+/// Puts a value in the place of another. What stood there goes in one call, where an assignment in the place of the caller would be taken apart
+/// there for each variant.
+#[doc(hidden)]
+pub fn put<T: Drop>(place: &mut T, value: T)
+    ensures { place.new ≡ value }
+{
+    *place = value;
 }
 
 /// The parts of the header whose brackets open before these events, and the events behind the header.

@@ -316,9 +316,9 @@ pairs::read_pair-returns-clause-pair t c =
     (subst (λ (q : FrameParts). length q.path ≤ 238) parts.0 c.if-frame-gt-MOST_PATH_EVENTS.false) in
     let h = c.in_ok-value.ensures.value v (value_at_byte start f) level (event After end f.trailing ∷ more) value (value-stands s start f (value_text v) stands) below parts.1 in
     let P : Node → Type 0 = λ n. IsRead v (value_at_byte start f) level (event After end f.trailing ∷ more) n c.in_ok-value.rest.now in
-    pair-read s f v start level more (slots_view c.args.slots.now) (slots_view c.end_pair.new.slots) _ c.in_ok-value.rest.now
-    c.end_pair.result short (subst P (sym (view-Value c.in_ok-value.value)) h)
-    (c.end_pair.ensures.pair f v start end (shortened level more) is (path-stands s start f (value_text v) stands) parts.0 h.rest_is)
+    pair-read s f v start level more (slots_view c.args.slots.now) (slots_view c.end_pair-ended.new.slots) _ c.in_ok-value.rest.now
+    c.end_pair-ended.result short (subst P (sym (view-Value c.in_ok-value.value)) h)
+    (c.end_pair-ended.ensures.pair f v start end (shortened level more) is (path-stands s start f (value_text v) stands) parts.0 h.rest_is)
 
 pub pairs::read_pair-read_value-requires : goal.pairs::read_pair-read_value-requires
 pairs::read_pair-read_value-requires t c =
@@ -328,25 +328,25 @@ pairs::read_pair-read_value-requires t c =
     let less : 4 * length c.in-Some.rest.now < t = omega (arith, at, fewer) in
     (less, parts.others)
 
-pub pairs::read_pair-end_pair-requires-clause-before_equals : goal.pairs::read_pair-end_pair-requires-clause-before_equals
-pairs::read_pair-end_pair-requires-clause-before_equals t c =
+pub pairs::read_pair-end_pair-ended-requires-clause-before_equals : goal.pairs::read_pair-end_pair-ended-requires-clause-before_equals
+pairs::read_pair-end_pair-ended-requires-clause-before_equals t c =
     (frame-in c.args.source.now c.args.leading c.args.events.now (parts_of c.in-Some.frame) c.in-Some.rest.now c.in-Some.ensures c.requires.1.1.1).before_equals
 
-pub pairs::read_pair-end_pair-requires-clause-after_equals : goal.pairs::read_pair-end_pair-requires-clause-after_equals
-pairs::read_pair-end_pair-requires-clause-after_equals t c =
+pub pairs::read_pair-end_pair-ended-requires-clause-after_equals : goal.pairs::read_pair-end_pair-ended-requires-clause-after_equals
+pairs::read_pair-end_pair-ended-requires-clause-after_equals t c =
     (frame-in c.args.source.now c.args.leading c.args.events.now (parts_of c.in-Some.frame) c.in-Some.rest.now c.in-Some.ensures c.requires.1.1.1).after_equals
 
 pub pairs::read_pair-returns-clause-fits : goal.pairs::read_pair-returns-clause-fits
 pairs::read_pair-returns-clause-fits t c =
     λ slots.
     let P : Node → Type 0 = λ n. NodeFits c.args.source.now n in
-    c.end_pair.ensures.fits (subst P (sym (view-Value c.in_ok-value.value)) c.in_ok-value.ensures.fits) slots
+    c.end_pair-ended.ensures.fits (subst P (sym (view-Value c.in_ok-value.value)) c.in_ok-value.ensures.fits) slots
 
 pub pairs::read_pair-returns-clause-rest : goal.pairs::read_pair-returns-clause-rest
 pairs::read_pair-returns-clause-rest t c =
     let s = c.args.source.now in
     let parts = frame-in s c.args.leading c.args.events.now (parts_of c.in-Some.frame) c.in-Some.rest.now c.in-Some.ensures c.requires.1.1.1 in
-    fewer-still s c.in-Some.rest.now c.in_ok-value.rest.now c.args.events.now c.end_pair.result parts.fewer c.in_ok-value.ensures.rest.1 c.end_pair.ensures.rest
+    fewer-still s c.in-Some.rest.now c.in_ok-value.rest.now c.args.events.now c.end_pair-ended.result parts.fewer c.in_ok-value.ensures.rest.1 c.end_pair-ended.ensures.rest
 
 pub reader::read_value-returns-in_default-clause-listed : goal.reader::read_value-returns-in_default-clause-listed
 reader::read_value-returns-in_default-clause-listed t c = listed_syntax _ _ _ c.refusal_at_end.result (3, lit< tt, refl) c.refusal_at_end.ensures

@@ -1,6 +1,5 @@
 -- The loop over statements, turn by turn.
 use Rattle.std.proofs.Common.{sym, ap, refl, ◌∙◌, arith}
-use Rattle.std.proofs.lemmas.Result.{err_from_is_err_and}
 use Rattle.toml_edit_tree.specs.declared.item.Item.TheVariants as items
 use Rattle.toml_edit_tree.specs.View.{slots_view}
 use Rattle.toml_edit_builder.proofs.LoopLaws.{held_first, at_start, next, is-whole, stands-here, more, goes_on, refused, ended, built}
@@ -21,25 +20,24 @@ statements-init c =
 pub statements-preserved : goal.statements-preserved
 statements-preserved c =
     record {
-      spans = c.in_ok-rest.ensures.rest.0;
-      count = let kept = c.in_ok-rest.ensures.count in let before = c.statements.invariant.count in omega (arith, kept, before);
+      spans = c.in-Ok.ensures.rest.0;
+      count = let kept = c.in-Ok.ensures.count in let before = c.statements.invariant.count in omega (arith, kept, before);
       progress = λ d cut e.
           let t = c.args.source.now in
           let n = next t d c.statements.rest.now c.statements.building (c.statements.invariant.progress d cut e) (sym c.starts_statement.ensures ∙ c.statements-test.true) in
           goes_on t d c.statements.rest.now c.statements.building n _ _ cut.0
-          (c.in_ok-rest.ensures.statement n.builder n.statement (more t d c.statements.rest.now c.statements.building n)
+          (c.in-Ok.ensures.statement n.builder n.statement (more t d c.statements.rest.now c.statements.building n)
           (is-whole t d c.statements.rest.now c.statements.building n) (stands-here t d c.statements.rest.now c.statements.building n) n.held n.rest_is);
     }
 
-pub returns-in_err-rest-clause-built : goal.returns-in_err-rest-clause-built
-returns-in_err-rest-clause-built c =
-    let p = err_from_is_err_and c.from_residual.result c.from_residual.ensures.1 in
-    rw (p.1, p.2) (λ d cut e.
+pub returns-in-Err-clause-built : goal.returns-in-Err-clause-built
+returns-in-Err-clause-built c =
+    λ d cut e.
     let t = c.args.source.now in
     let n = next t d c.statements.rest.now c.statements.building (c.statements.invariant.progress d cut e) (sym c.starts_statement.ensures ∙ c.statements-test.true) in
-    refused t d c.statements.rest.now c.statements.building n c.in_err-rest.field-0.0 cut.0
-    (c.in_err-rest.ensures.statement n.builder n.statement (more t d c.statements.rest.now c.statements.building n)
-    (is-whole t d c.statements.rest.now c.statements.building n) (stands-here t d c.statements.rest.now c.statements.building n) n.held n.rest_is))
+    refused t d c.statements.rest.now c.statements.building n c.in-Err.fault cut.0
+    (c.in-Err.ensures.statement n.builder n.statement (more t d c.statements.rest.now c.statements.building n)
+    (is-whole t d c.statements.rest.now c.statements.building n) (stands-here t d c.statements.rest.now c.statements.building n) n.held n.rest_is)
 
 pub returns-clause-built : goal.returns-clause-built
 returns-clause-built c =

@@ -2,7 +2,7 @@
 use Rattle.std.proofs.Common.{[], length, ap, inr, arith}
 use Rattle.std.specs.Prelude.{Err}
 use Rattle.std.proofs.lemmas.Result.{err_from_is_err_and}
-use Rattle.toml_edit_parser.proofs.LoneValueLaws.{events_are, stands, lone_every, lone_refused, still_memory}
+use Rattle.toml_edit_parser.proofs.LoneValueLaws.{events_are, stands, lone_every, lone_refused}
 use Rattle.toml_edit_parser.proofs.from_str.read_lone.Goals as goal
 
 pub returns-in_err-value-clause-every : goal.returns-in_err-value-clause-every
@@ -26,14 +26,3 @@ end_lone-requires-clause-read c = (
   λ v lone. c.in_ok-value.ensures.value v (length lone.before) 0 [] lone.value (stands c.args.text.now v lone) (omega arith)
       (events_are c.args.text.now c.args.events.now c.requires.cut v lone),
 )
-
-pub returns-in_err-end_lone-clause-every : goal.returns-in_err-end_lone-clause-every
-returns-in_err-end_lone-clause-every c =
-    λ v lone ok.
-    let p = err_from_is_err_and c.from_residual-in_err-end_lone.result c.from_residual-in_err-end_lone.ensures.1 in
-    rw (p.1, p.2) (still_memory c.in_err-end_lone.field-0.0 (c.in_err-end_lone.ensures.every v lone ok))
-
-pub returns-in_err-end_lone-clause-refused : goal.returns-in_err-end_lone-clause-refused
-returns-in_err-end_lone-clause-refused c =
-    let p = err_from_is_err_and c.from_residual-in_err-end_lone.result c.from_residual-in_err-end_lone.ensures.1 in
-    rw (p.1, p.2) c.in_err-end_lone.ensures.refused

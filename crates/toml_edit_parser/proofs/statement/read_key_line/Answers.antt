@@ -8,7 +8,9 @@ use Rattle.toml_edit_model.specs.TreeOf.{spanned_form, frame_leaf}
 use Rattle.toml_edit_syntax.specs.declared.event.Event.{Event}
 use Rattle.toml_edit_syntax.specs.declared.event.EventKind.TheVariants.{LineEnd}
 use Rattle.toml_edit_syntax.specs.ValueEvents.{event, shortened, value_at_byte}
+use Rattle.toml_edit_tree.specs.Casts.{both_sides}
 use Rattle.toml_edit_tree.specs.View.{item_view}
+use Rattle.toml_edit_tree.specs.declared.item.Item.{Item}
 use Rattle.toml_edit_parser.specs.PairRead.{FrameParts, PathView, parts_of}
 use Rattle.toml_edit_parser.specs.ValueRead.{AreIn, IsRead, spanned_raw, split_first}
 use Rattle.toml_edit_parser.proofs.PairLaws.{frame-in, key-decor, key-whole, no-frame, path-some, short-path, the-frame, value-decor, value-stands}
@@ -61,7 +63,8 @@ returns-clause-line c =
     let own = key-decor start f _ _ (ap (λ (q : FrameParts). spanned_raw q.leading) parts.0) (ap (λ (q : FrameParts). spanned_raw q.before_equals) parts.0) in
     let decor = value-decor start end f c.raw.result c.raw-2.result c.in-Some-split_first.end.span (c.raw.ensures.raw ∙ ap (λ (q : FrameParts). spanned_raw q.after_equals) parts.0)
     c.raw-2.ensures.raw (ap (λ (x : Event). x.span) last.0) in
-    line-read f v start more _ _ c.in_ok-value.rest.now _ _ c.in-Some-split_first.rest.now short (subst P (sym (view-Value c.in_ok-value.value)) h) decor c.decorate.ensures
+    line-read f v start more _ _ c.in_ok-value.rest.now _ _ c.in-Some-split_first.rest.now short (subst P (sym (view-Value c.in_ok-value.value)) h) decor
+    (c.decorate.ensures ∙ ap (λ (x : Item). with_decor (both_sides c.raw.result c.raw-2.result) (item_view x)) c.put.ensures)
     (path-from (frame_leaf spanned_form start f) start f.leading f.path c.in-Some.frame.leading c.in-Some.frame.before_equals c.in-Some.frame.path.now
     c.path_behind-path.result is.1 c.path_behind-path.ensures own (ap (λ (q : FrameParts). q.leading) parts.0) (ap (λ (q : FrameParts). q.path) parts.0))
     last.1
