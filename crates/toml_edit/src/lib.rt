@@ -15,9 +15,10 @@ pub use toml_edit_key::{Key, KeyMut};
 pub use toml_edit_repr::{Decor, Formatted, Mem, RawString, Repr, ScalarValue, ValueRepr};
 pub use toml_edit_slots::NoMemory;
 pub use toml_edit_stream::{Broken, Input, Output, Watched};
+pub use toml_edit_table_like::TableLike;
 pub use toml_edit_tree::{
     Array, ArrayIntoIter, ArrayIter, ArrayOfTables, ArrayOfTablesIntoIter, ArrayOfTablesIter,
     Entry, InlineEntry, InlineOccupiedEntry, InlineSlotMut, InlineTable, InlineTableIntoIter,
-    InlineTableIter, InlineVacantEntry, IntoIter, Item, Iter, OccupiedEntry, Table, TableLike,
-    VacantEntry, Value, array, array_of_tables, inline_table, item, table, value,
+    InlineTableIter, InlineVacantEntry, IntoIter, Item, Iter, OccupiedEntry, Table, VacantEntry,
+    Value, array, array_of_tables, inline_table, item, table, value,
 };

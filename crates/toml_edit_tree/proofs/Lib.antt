@@ -27,4 +27,3 @@ pub mod InlineFillLaws
 pub mod InlineOccupiedLaws
 pub mod InlineSlotLaws
 pub mod SortLaws
-pub mod LikeLaws

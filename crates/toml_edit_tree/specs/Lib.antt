@@ -5,7 +5,6 @@ pub mod Casts
 pub mod Containers
 pub mod ContainerParts
 pub mod TableLending
-pub mod TableLike
 pub mod Elements
 pub mod ElementHolds
 pub mod ElementLending

@@ -14,7 +14,6 @@ mod lines;
 mod order;
 mod sort;
 pub mod table;
-pub mod table_like;
 pub mod value;
 
 pub use array::{Array, ArrayIntoIter, ArrayIter};
@@ -29,5 +28,4 @@ pub use item::Item;
 #[doc(hidden)]
 pub use order::put_in_order;
 pub use table::{Entry, IntoIter, Iter, OccupiedEntry, Table, VacantEntry};
-pub use table_like::TableLike;
 pub use value::Value;

@@ -32,7 +32,8 @@ mod look_up;
 
 pub use entry::{Entry, OccupiedEntry, VacantEntry};
 pub use iterate::IntoIter;
-pub(crate) use iterate::is_filled;
+#[doc(hidden)]
+pub use iterate::is_filled;
 
 /// A table: its slots in order, and what is kept of its header (TOML, "Table"). A slot may be a placeholder, which isn't printed.
 #[cycle(tree)]
@@ -291,7 +292,8 @@ pub struct Iter<'a> {
 
 impl<'a> Iter<'a> {
     /// Those of these slots that hold an item.
-    pub(crate) fn over(slots: &'a [Slot<Item>]) -> Iter<'a>
+    #[doc(hidden)]
+    pub fn over(slots: &'a [Slot<Item>]) -> Iter<'a>
         ensures { held_left result ≡ held (slots_view slots.now) }
     {
         Iter {

@@ -45,7 +45,8 @@ impl Table {
 }
 
 /// Whether the slot is no placeholder.
-pub(crate) fn is_filled(slot: &Slot<Item>) -> bool
+#[doc(hidden)]
+pub fn is_filled(slot: &Slot<Item>) -> bool
     ensures { result ≡ is_item (item_view slot.now.item) }
 {
     !slot.item.is_none()

@@ -1,0 +1,3 @@
+pub mod ShownLaws
+pub mod FoundLaws
+pub mod MadeLaws

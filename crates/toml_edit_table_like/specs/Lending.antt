@@ -1,0 +1,32 @@
+-- What a table of either kind lends of its slots.
+use Rattle.std.specs.Prelude.{ℕ, List, Option}
+use Rattle.std.specs.Borrow.{Fml, Lends, LendsIf, MutBor}
+use Rattle.std.specs.Option.{option_map_or}
+use denote.RattleType.{RattleType}
+use Rattle.toml_edit_model.specs.Text.{Text}
+use Rattle.toml_edit_slots.specs.Slots.{place, with_item}
+use Rattle.toml_edit_slots.specs.contracts.slots.Slots.{the_row as slots_row}
+use Rattle.toml_edit_slots.specs.declared.slots.Slot.{Slot}
+use Rattle.toml_edit_tree.specs.contracts.item.Item.{the_row as item_row}
+use Rattle.toml_edit_tree.specs.declared.item.Item.{Item}
+
+-- the table ends with the last slots behind r
+abbrev pub LendsSlots : (R : RattleType) → (List (Slot Item) → R.Denot → R.Denot) → MutBor R.Denot → MutBor (List (Slot Item)) → Fml
+LendsSlots R with_entries s r = Lends R (slots_row item_row) s r (λ es. with_entries es s.now)
+
+-- the table with another item in the slot at a place, or in that of a key, by its slots and by what it is with others
+module _ {X : Type 0} (entries : X → List (Slot Item)) (with_entries : List (Slot Item) → X → X) where
+  abbrev pub with_item_at : ℕ → Item → X → X
+  with_item_at at x t = with_entries (with_item at x (entries t)) t
+
+  abbrev pub with_item_under : Text → Item → X → X
+  with_item_under k x t = with_entries (option_map_or (λ at. with_item at x (entries t)) (place k (entries t)) (entries t)) t
+
+module _ (R : RattleType) (entries : R.Denot → List (Slot Item)) (with_entries : List (Slot Item) → R.Denot → R.Denot) where
+  -- it ends with the last item behind r in the slot at the place
+  abbrev pub LendsItemAt : MutBor R.Denot → ℕ → MutBor Item → Fml
+  LendsItemAt s at r = Lends R item_row s r (λ w. with_item_at entries with_entries at w s.now)
+
+  -- the same in the slot of the key, where an item is lent; it stays where none is
+  abbrev pub LendsUnder : MutBor R.Denot → Text → Option (MutBor Item) → Fml
+  LendsUnder s k r = LendsIf R item_row s r (λ w. with_item_under entries with_entries k w s.now) s.now

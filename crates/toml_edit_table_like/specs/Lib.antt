@@ -1,0 +1,4 @@
+-- What the contracts of this crate cite.
+pub mod Shown
+pub mod Kinds
+pub mod Lending

@@ -1,0 +1,11 @@
+//! Tables of either kind, through one trait.
+#![tactic(auto)]
+
+mod find;
+mod has_slots;
+mod inline;
+mod like;
+
+#[doc(hidden)]
+pub use has_slots::HasSlots;
+pub use like::TableLike;

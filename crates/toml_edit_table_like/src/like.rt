@@ -1,0 +1,237 @@
+//! Tables of either kind.
+ghost use Rattle.std.specs.Borrow.{sem};
+ghost use Rattle.std.specs.Option.{option_copied};
+ghost use Rattle.std.specs.Prelude.{◌≡◌, ◌↔◌, [], true, IfErr, IfOk, IsOk, IsTrue, OnErr, OnOk, length, option_map, slice_get};
+ghost use Rattle.toml_edit_model.specs.Conversions.{formatted};
+ghost use Rattle.toml_edit_model.specs.Iterating.{filled, filled_pairs};
+ghost use Rattle.toml_edit_model.specs.Slots.{changed, has_slot, lookup_key, with_item, without};
+ghost use Rattle.toml_edit_model.specs.Sorting.{IsDeepReorder};
+ghost use Rattle.toml_edit_model.specs.TableCalls.{get, get_slot};
+ghost use Rattle.toml_edit_model.specs.TableLike.{like_contains_key, like_get_values, like_inserted, like_old, of_inline_table, of_table, LikeSorted};
+ghost use Rattle.toml_edit_table_like.specs.Kinds.{stands_dotted, with_dotted};
+ghost use Rattle.toml_edit_table_like.specs.Lending.{with_item_under, LendsUnder};
+ghost use Rattle.toml_edit_tree.specs.Held.{held_left};
+ghost use Rattle.toml_edit_tree.specs.LineValues.{values_read};
+ghost use Rattle.toml_edit_tree.specs.SlotsOf.{slot_read};
+ghost use Rattle.toml_edit_tree.specs.View.{item_view};
+ghost use Rattle.toml_edit_tree.specs.declared.item.Item.{Item};
+
+use crate::HasSlots;
+use crate::find::{filled_len, filled_place, filled_slot};
+use crate::inline::insert_item;
+use std::alloc::Global;
+use toml_edit_key::Key;
+use toml_edit_repr::Mem;
+use toml_edit_slots::NoMemory;
+use toml_edit_tree::{InlineTable, Item, Iter, Table, Value};
+
+/// A table of either kind: a list of slots, which may hold any item. A placeholder counts as absent, but keeps its place.
+pub trait TableLike: HasSlots {
+    ghost use Rattle.toml_edit_model.specs.TableLike.{Differences};
+
+    /// In what tables of this kind differ from those of the other.
+    ghost differences: { Differences };
+
+    /// How many slots there are, placeholders too.
+    fn slots(&self) -> usize
+        ensures { result ≡ length (Self.slots_of self.now) }
+    {
+        self.as_slots().len()
+    }
+
+    /// How many slots hold an item.
+    fn len(&self) -> usize
+        ensures { result ≡ length (filled (Self.slots_of self.now)) }
+    {
+        filled_len(self.as_slots())
+    }
+
+    /// Whether no slot holds an item.
+    fn is_empty(&self) -> bool
+        ensures { IsTrue result ↔ (filled (Self.slots_of self.now) ≡ []) }
+    {
+        self.len() == 0
+    }
+
+    /// The keys' texts and the items in order, without placeholders.
+    fn iter(&self) -> Iter<'_>
+        ensures { held_left result ≡ filled_pairs (Self.slots_of self.now) }
+    {
+        Iter::over(self.as_slots().as_slice())
+    }
+
+    /// The item under the key, which is no placeholder.
+    fn get(&self, key: &str) -> Option<&Item>
+        ensures { option_map (λ x. item_view x.now) result ≡ get key.now (Self.slots_of self.now) }
+    {
+        let (_, item) = self.get_key_value(key)?;
+        Some(item)
+    }
+
+    /// The item under the key, which is no placeholder, to be changed.
+    fn get_mut(&mut self, key: &str) -> Option<&mut Item>
+        ensures* writes_back { sem 𝓛 (LendsUnder Self.row Self.entries Self.with_entries self.entry key.now result) }
+        ensures item { option_map (λ x. item_view x.now) result ≡ get key.now (Self.slots_of self.old) }
+        // What an item that is written leaves.
+        ensures leaves { (w : Item) → Self.slots_of (with_item_under Self.entries Self.with_entries key.now w self.old) ≡ changed key.now (with_item (item_view w)) (Self.slots_of self.old) }
+        ensures keeps { (w : Item) → Self.beside (with_item_under Self.entries Self.with_entries key.now w self.old) ≡ Self.beside self.old }
+    {
+        match filled_place(self.as_slots(), key) {
+            Some(at) => Some(self.item_at_mut(at)),
+            None => None,
+        }
+    }
+
+    /// The key of this text as it stands in the table, with its spelling and decors, if it has a slot of any kind.
+    fn key(&self, key: &str) -> Option<&Key>
+        ensures { option_copied result ≡ lookup_key key.now (Self.slots_of self.now) }
+    {
+        let (key, _) = self.as_slots().get_key_value(key)?;
+        Some(key)
+    }
+
+    /// The key and the item of the slot at the place, a placeholder too, or `None` where there is no slot.
+    fn key_value_at(&self, at: usize) -> Option<(&Key, &Item)>
+        ensures { option_map slot_read result ≡ slice_get (Self.slots_of self.now) at }
+    {
+        self.as_slots().key_value_at(at)
+    }
+
+    /// The key of this text and its item, which is no placeholder.
+    fn get_key_value(&self, key: &str) -> Option<(&Key, &Item)>
+        ensures { option_map slot_read result ≡ get_slot key.now (Self.slots_of self.now) }
+    {
+        filled_slot(self.as_slots(), key)
+    }
+
+    /// Whether an item stands under the key: in a table one that is no placeholder, in an inline table a value.
+    fn contains_key(&self, key: &str) -> bool
+        ensures { result ≡ like_contains_key differences key.now (Self.slots_of self.now) };
+
+    /// The keys and the value of each line that is printed of it, in order. The only error is want of memory.
+    fn get_values(&self, alloc: Global) -> Mem<Vec<(Vec<&Key>, &Value)>>
+        ensures { IfOk result (λ lines. values_read lines.items ≡ like_get_values differences (Self.slots_of self.now)) };
+
+    /// Whether it stands for a dotted key (TOML, "Keys").
+    fn is_dotted(&self) -> bool
+        ensures { result ≡ stands_dotted (Self.beside self.now) };
+
+    /// Says whether it stands for a dotted key.
+    fn set_dotted(&mut self, dotted: bool)
+        ensures slots { Self.slots_of self.new ≡ Self.slots_of self.old }
+        ensures beside { Self.beside self.new ≡ with_dotted dotted (Self.beside self.old) };
+
+    /// Puts the item under the key, in an inline table as a value, which a placeholder can't be made: a key that is there loses its spelling
+    /// and its decors and keeps its place, and the answer is its old item, of an inline table as a value, `None` for a placeholder; a new key
+    /// goes last. A present key takes no memory. The only error is want of memory: the slots stay, and the error has the item.
+    fn insert(&mut self, key: &str, item: Item) -> Result<Option<Item>, NoMemory<Item>>
+        requires { differences.insertion.takes (item_view item) ≡ true }
+        ensures old { IfOk result (λ old. option_map item_view old ≡ like_old differences key.now (Self.slots_of self.old)) }
+        ensures slots { OnOk result (Self.slots_of self.new ≡ like_inserted differences key.now (item_view item) (Self.slots_of self.old)) }
+        ensures present { IsTrue (has_slot key.now (Self.slots_of self.old)) → IsOk result }
+        ensures beside { Self.beside self.new ≡ Self.beside self.old }
+        ensures back { IfErr result (λ refused. refused.0 ≡ item) }
+        ensures err { OnErr result (Self.slots_of self.new ≡ Self.slots_of self.old) };
+
+    /// Takes the slot of the key out, if there is one: its item, `Item::None` for a placeholder; of an inline table made a value, and `None`
+    /// for a placeholder. The others keep their order. It takes no memory.
+    fn remove(&mut self, key: &str) -> Option<Item>
+        ensures item { option_map item_view result ≡ like_old differences key.now (Self.slots_of self.old) }
+        ensures slots { Self.slots_of self.new ≡ without key.now (Self.slots_of self.old) }
+        ensures beside { Self.beside self.new ≡ Self.beside self.old };
+
+    /// Takes all slots out.
+    fn clear(&mut self)
+        ensures slots { Self.slots_of self.new ≡ [] }
+        ensures beside { Self.beside self.new ≡ Self.beside self.old }
+    {
+        self.as_slots_mut().clear();
+    }
+
+    /// Unsets the decors of each key that holds a value, and of the value. Spellings stay. It takes no memory.
+    fn fmt(&mut self)
+        ensures slots { Self.slots_of self.new ≡ formatted (Self.slots_of self.old) }
+        ensures beside { Self.beside self.new ≡ Self.beside self.old };
+
+    /// Sorts the slots by the bytes of their names, and likewise those of the dotted tables of the same kind inside. The only error is want of
+    /// memory; then the slots of some tables may be sorted and others not, and none is lost.
+    fn sort_values(&mut self) -> Mem<()>
+        ensures reorders { IsDeepReorder differences.enters (Self.slots_of self.old) (Self.slots_of self.new) }
+        ensures sorted { OnOk result (LikeSorted differences (Self.slots_of self.old) (Self.slots_of self.new)) }
+        ensures beside { Self.beside self.new ≡ Self.beside self.old };
+}
+
+impl TableLike for Table {
+    ghost differences = { of_table };
+
+    fn contains_key(&self, key: &str) -> bool {
+        Table::contains_key(self, key)
+    }
+
+    fn get_values(&self, alloc: Global) -> Mem<Vec<(Vec<&Key>, &Value)>> {
+        Table::get_values(self, alloc)
+    }
+
+    fn is_dotted(&self) -> bool {
+        Table::is_dotted(self)
+    }
+
+    fn set_dotted(&mut self, dotted: bool) {
+        Table::set_dotted(self, dotted);
+    }
+
+    fn insert(&mut self, key: &str, item: Item) -> Result<Option<Item>, NoMemory<Item>> {
+        Table::insert(self, key, item)
+    }
+
+    fn remove(&mut self, key: &str) -> Option<Item> {
+        Table::remove(self, key)
+    }
+
+    fn fmt(&mut self) {
+        Table::fmt(self);
+    }
+
+    fn sort_values(&mut self) -> Mem<()> {
+        Table::sort_values(self)
+    }
+}
+
+impl TableLike for InlineTable {
+    ghost differences = { of_inline_table };
+
+    fn contains_key(&self, key: &str) -> bool {
+        InlineTable::get_key_value(self, key).is_some()
+    }
+
+    fn get_values(&self, alloc: Global) -> Mem<Vec<(Vec<&Key>, &Value)>> {
+        InlineTable::get_values(self, alloc)
+    }
+
+    fn is_dotted(&self) -> bool {
+        InlineTable::is_dotted(self)
+    }
+
+    fn set_dotted(&mut self, dotted: bool) {
+        InlineTable::set_dotted(self, dotted);
+    }
+
+    fn insert(&mut self, key: &str, item: Item) -> Result<Option<Item>, NoMemory<Item>> {
+        insert_item(self, key, item)
+    }
+
+    fn remove(&mut self, key: &str) -> Option<Item> {
+        match InlineTable::remove(self, key) {
+            Some(value) => Some(Item::Value(value)),
+            None => None,
+        }
+    }
+
+    fn fmt(&mut self) {
+        InlineTable::fmt(self);
+    }
+
+    fn sort_values(&mut self) -> Mem<()> {
+        InlineTable::sort_values(self)
+    }
+}
