@@ -59,6 +59,9 @@ fn value_item(item: Item) -> Option<Item>
 {
     match item.into_value() {
         Ok(value) => Some(Item::Value(value)),
-        Err(_) => None,
+        Err(placeholder) => {
+            drop(placeholder);
+            None
+        }
     }
 }
