@@ -1,3 +1,4 @@
 pub mod ShownLaws
 pub mod FoundLaws
 pub mod MadeLaws
+pub mod SlotLaws

@@ -2,3 +2,4 @@
 pub mod Shown
 pub mod Kinds
 pub mod Lending
+pub mod SlotParts

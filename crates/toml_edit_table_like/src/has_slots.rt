@@ -1,12 +1,17 @@
 //! What tables of either kind are made of.
-ghost use Rattle.std.specs.Prelude.{◌≡◌, ◌<◌, Some, length, slice_get};
+ghost use Rattle.std.specs.Prelude.{◌≡◌, ◌<◌, IfSome, IsTrue, Some, length, nat_lt, option_and_then, option_map, slice_get};
 ghost use Rattle.std.specs.Borrow.{sem};
-ghost use Rattle.toml_edit_slots.specs.Slots.{items_of};
+ghost use Rattle.toml_edit_model.specs.Slots.{AreApart, place as place_seen};
+ghost use Rattle.toml_edit_model.specs.TableCalls.{get};
+ghost use Rattle.toml_edit_slots.specs.Slots.{items_of, place};
 ghost use Rattle.toml_edit_table_like.specs.Kinds.{inline_beside, inline_entries, inline_keeps, inline_shows, inline_takes, table_beside, table_entries, table_keeps, table_shows, table_takes};
-ghost use Rattle.toml_edit_table_like.specs.Lending.{LendsItemAt, LendsSlots};
+ghost use Rattle.toml_edit_table_like.specs.Lending.{LendsDottedAt, LendsItemAt, LendsLeafAt, LendsSlots};
 ghost use Rattle.toml_edit_tree.specs.ContainerParts.{holding, table_holding};
 ghost use Rattle.toml_edit_tree.specs.SlotsOf.{inline_slots_of, slots_of as table_slots_of};
+ghost use Rattle.toml_edit_tree.specs.View.{item_view};
 
+use crate::find::filled_place;
+use toml_edit_repr::Decor;
 use toml_edit_slots::Slots;
 use toml_edit_tree::{InlineTable, Item, Table};
 
@@ -55,6 +60,55 @@ pub trait HasSlots {
     {
         let slots = self.as_slots_mut();
         slots.item_mut(at)
+    }
+
+    /// What stands around the key at the place where it ends a path, to be changed.
+    fn leaf_decor_at_mut(&mut self, at: usize) -> &mut Decor
+        requires { at < length (entries self.old) }
+        ensures* writes_back { sem 𝓛 (LendsLeafAt Self.row entries with_entries self.entry at result) }
+        ensures decor { option_map (λ slot. slot.key.leaf) (slice_get (entries self.old) at) ≡ Some result.now }
+    {
+        let slots = self.as_slots_mut();
+        slots.leaf_decor_mut(at)
+    }
+
+    /// What stands around the key at the place where it ends no path, to be changed.
+    fn dotted_decor_at_mut(&mut self, at: usize) -> &mut Decor
+        requires { at < length (entries self.old) }
+        ensures* writes_back { sem 𝓛 (LendsDottedAt Self.row entries with_entries self.entry at result) }
+        ensures decor { option_map (λ slot. slot.key.dotted) (slice_get (entries self.old) at) ≡ Some result.now }
+    {
+        let slots = self.as_slots_mut();
+        slots.dotted_decor_mut(at)
+    }
+
+    /// The place of the key's slot of any kind, among keys of which no two have one text.
+    fn place_of(&self, key: &str) -> Option<usize>
+        ensures place { result ≡ place key.now (entries self.now) }
+        ensures there { result ≡ place_seen key.now (slots_of self.now) }
+        ensures within { IfSome result (λ at. at < length (entries self.now)) }
+        ensures apart { AreApart (slots_of self.now) }
+    {
+        let slots = self.as_slots();
+        let _entries = slots.as_slice();
+        slots.find(key)
+    }
+
+    /// The place of the key's slot, unless it is a placeholder.
+    fn filled_place_of(&self, key: &str) -> Option<usize>
+        ensures item { option_map item_view (option_and_then (slice_get (items_of (entries self.now))) result) ≡ get key.now (slots_of self.now) }
+        ensures there { IfSome result (λ at. place_seen key.now (slots_of self.now) ≡ Some at) }
+        ensures within { IfSome result (λ at. at < length (entries self.now)) }
+    {
+        filled_place(self.as_slots(), key)
+    }
+
+    /// Whether there is a slot at the place.
+    fn has_place(&self, at: usize) -> bool
+        ensures there { result ≡ nat_lt at (length (slots_of self.now)) }
+        ensures within { IsTrue result → at < length (entries self.now) }
+    {
+        at < self.as_slots().len()
     }
 }
 

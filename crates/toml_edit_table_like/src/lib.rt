@@ -5,7 +5,9 @@ mod find;
 mod has_slots;
 mod inline;
 mod like;
+mod slot;
 
 #[doc(hidden)]
 pub use has_slots::HasSlots;
 pub use like::TableLike;
+pub use slot::TableLikeSlot;

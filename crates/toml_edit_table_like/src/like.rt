@@ -1,24 +1,25 @@
 //! Tables of either kind.
 ghost use Rattle.std.specs.Borrow.{sem};
 ghost use Rattle.std.specs.Option.{option_copied};
-ghost use Rattle.std.specs.Prelude.{◌≡◌, ◌↔◌, [], true, IfErr, IfOk, IsOk, IsTrue, OnErr, OnOk, length, option_map, slice_get};
+ghost use Rattle.std.specs.Prelude.{◌≡◌, ◌↔◌, [], true, IfErr, IfOk, IfSome, IsOk, IsTrue, None, OnErr, OnOk, Some, if◌then◌else◌, length, nat_lt, option_and_then, option_map, slice_get};
 ghost use Rattle.toml_edit_model.specs.Conversions.{formatted};
 ghost use Rattle.toml_edit_model.specs.Iterating.{filled, filled_pairs};
-ghost use Rattle.toml_edit_model.specs.Slots.{changed, has_slot, lookup_key, with_item, without};
+ghost use Rattle.toml_edit_model.specs.Slots.{changed, has_slot, lookup_key, place, with_item, without};
 ghost use Rattle.toml_edit_model.specs.Sorting.{IsDeepReorder};
 ghost use Rattle.toml_edit_model.specs.TableCalls.{get, get_slot};
 ghost use Rattle.toml_edit_model.specs.TableLike.{like_contains_key, like_get_values, like_inserted, like_old, of_inline_table, of_table, LikeSorted};
 ghost use Rattle.toml_edit_table_like.specs.Kinds.{stands_dotted, with_dotted};
 ghost use Rattle.toml_edit_table_like.specs.Lending.{with_item_under, LendsUnder};
+ghost use Rattle.toml_edit_table_like.specs.SlotParts.{slot_item, IsSlotOf, RestsIfAbsent};
 ghost use Rattle.toml_edit_tree.specs.Held.{held_left};
 ghost use Rattle.toml_edit_tree.specs.LineValues.{values_read};
 ghost use Rattle.toml_edit_tree.specs.SlotsOf.{slot_read};
 ghost use Rattle.toml_edit_tree.specs.View.{item_view};
 ghost use Rattle.toml_edit_tree.specs.declared.item.Item.{Item};
 
-use crate::HasSlots;
 use crate::find::{filled_len, filled_place, filled_slot};
 use crate::inline::insert_item;
+use crate::{HasSlots, TableLikeSlot};
 use std::alloc::Global;
 use toml_edit_key::Key;
 use toml_edit_repr::Mem;
@@ -104,6 +105,28 @@ pub trait TableLike: HasSlots {
         filled_slot(self.as_slots(), key)
     }
 
+    /// The slot of the key, if an item stands there which is no placeholder, to change that or what stands around the key.
+    fn get_key_value_mut(&mut self, key: &str) -> Option<TableLikeSlot<'_, Self>>
+        ensures* absent { sem 𝓛 (RestsIfAbsent Self.row self.entry result) }
+        ensures same_table { IfSome result (λ slot. slot.table.ghost_name ≡ self.entry.ghost_name) }
+        ensures slot { IfSome result (λ slot. IsSlotOf self.old slot) }
+        ensures item { option_and_then (λ slot. option_map item_view (slot_item slot)) result ≡ get key.now (Self.slots_of self.old) }
+        ensures place { IfSome result (λ slot. place key.now (Self.slots_of self.old) ≡ Some slot.at) };
+
+    /// The key's slot of any kind, if there is one, to change what stands around the key as it stands in the table.
+    fn key_mut(&mut self, key: &str) -> Option<TableLikeSlot<'_, Self>>
+        ensures* absent { sem 𝓛 (RestsIfAbsent Self.row self.entry result) }
+        ensures same_table { IfSome result (λ slot. slot.table.ghost_name ≡ self.entry.ghost_name) }
+        ensures slot { IfSome result (λ slot. IsSlotOf self.old slot) }
+        ensures place { option_map (λ slot. slot.at) result ≡ place key.now (Self.slots_of self.old) };
+
+    /// The slot at the place, a placeholder too, if there is one, to change its item or what stands around its key.
+    fn key_value_at_mut(&mut self, at: usize) -> Option<TableLikeSlot<'_, Self>>
+        ensures* absent { sem 𝓛 (RestsIfAbsent Self.row self.entry result) }
+        ensures same_table { IfSome result (λ slot. slot.table.ghost_name ≡ self.entry.ghost_name) }
+        ensures slot { IfSome result (λ slot. IsSlotOf self.old slot) }
+        ensures place { option_map (λ slot. slot.at) result ≡ if nat_lt at (length (Self.slots_of self.old)) then Some at else None };
+
     /// Whether an item stands under the key: in a table one that is no placeholder, in an inline table a value.
     fn contains_key(&self, key: &str) -> bool
         ensures { result ≡ like_contains_key differences key.now (Self.slots_of self.now) };
@@ -164,6 +187,28 @@ pub trait TableLike: HasSlots {
 impl TableLike for Table {
     ghost differences = { of_table };
 
+    fn get_key_value_mut(&mut self, key: &str) -> Option<TableLikeSlot<'_, Table>> {
+        match self.filled_place_of(key) {
+            Some(at) => Some(TableLikeSlot { table: self, at }),
+            None => None,
+        }
+    }
+
+    fn key_mut(&mut self, key: &str) -> Option<TableLikeSlot<'_, Table>> {
+        match HasSlots::place_of(self, key) {
+            Some(at) => Some(TableLikeSlot { table: self, at }),
+            None => None,
+        }
+    }
+
+    fn key_value_at_mut(&mut self, at: usize) -> Option<TableLikeSlot<'_, Table>> {
+        if HasSlots::has_place(self, at) {
+            Some(TableLikeSlot { table: self, at })
+        } else {
+            None
+        }
+    }
+
     fn contains_key(&self, key: &str) -> bool {
         Table::contains_key(self, key)
     }
@@ -199,6 +244,28 @@ impl TableLike for Table {
 
 impl TableLike for InlineTable {
     ghost differences = { of_inline_table };
+
+    fn get_key_value_mut(&mut self, key: &str) -> Option<TableLikeSlot<'_, InlineTable>> {
+        match self.filled_place_of(key) {
+            Some(at) => Some(TableLikeSlot { table: self, at }),
+            None => None,
+        }
+    }
+
+    fn key_mut(&mut self, key: &str) -> Option<TableLikeSlot<'_, InlineTable>> {
+        match HasSlots::place_of(self, key) {
+            Some(at) => Some(TableLikeSlot { table: self, at }),
+            None => None,
+        }
+    }
+
+    fn key_value_at_mut(&mut self, at: usize) -> Option<TableLikeSlot<'_, InlineTable>> {
+        if HasSlots::has_place(self, at) {
+            Some(TableLikeSlot { table: self, at })
+        } else {
+            None
+        }
+    }
 
     fn contains_key(&self, key: &str) -> bool {
         InlineTable::get_key_value(self, key).is_some()

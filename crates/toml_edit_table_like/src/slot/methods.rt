@@ -1,0 +1,87 @@
+//! What is done with a slot of a table of either kind.
+ghost use Rattle.std.specs.Prelude.{◌≡◌, IfSome, Some, option_map};
+ghost use Rattle.std.specs.Borrow.{sem};
+ghost use Rattle.toml_edit_model.specs.Keys.{reset_key};
+ghost use Rattle.toml_edit_model.specs.Slots.{without};
+ghost use Rattle.toml_edit_table_like.specs.Lending.{with_item_at, with_key_at};
+ghost use Rattle.toml_edit_table_like.specs.SlotParts.{slot_item, slot_key, SlotLends, SlotLendsDotted, SlotLendsLeaf};
+
+use super::TableLikeSlot;
+use crate::HasSlots;
+use toml_edit_key::Key;
+use toml_edit_repr::Decor;
+use toml_edit_tree::Item;
+
+impl<'a, T: HasSlots> TableLikeSlot<'a, T> {
+    /// The key that is there.
+    pub fn key(&self) -> &Key
+        ensures { Some result.now ≡ slot_key self.now }
+    {
+        &self.table.as_slots().as_slice()[self.at].key
+    }
+
+    /// The item that is there, which may be a placeholder.
+    pub fn get(&self) -> &Item
+        ensures { Some result.now ≡ slot_item self.now }
+    {
+        &self.table.as_slots().as_slice()[self.at].item
+    }
+
+    /// The item that is there, to be changed.
+    pub fn get_mut(&mut self) -> &mut Item
+        ensures* writes_back { sem 𝓛 (SlotLends T.row self.entry result) }
+        ensures item { Some result.now ≡ slot_item self.old }
+    {
+        let at = self.at;
+        self.table.item_at_mut(at)
+    }
+
+    /// What stands around the key where it ends a path, to be changed.
+    pub fn leaf_decor_mut(&mut self) -> &mut Decor
+        ensures* writes_back { sem 𝓛 (SlotLendsLeaf T.row self.entry result) }
+        ensures decor { option_map (λ key. key.leaf) (slot_key self.old) ≡ Some result.now }
+    {
+        let at = self.at;
+        self.table.leaf_decor_at_mut(at)
+    }
+
+    /// What stands around the key where it ends no path, to be changed.
+    pub fn dotted_decor_mut(&mut self) -> &mut Decor
+        ensures* writes_back { sem 𝓛 (SlotLendsDotted T.row self.entry result) }
+        ensures decor { option_map (λ key. key.dotted) (slot_key self.old) ≡ Some result.now }
+    {
+        let at = self.at;
+        self.table.dotted_decor_at_mut(at)
+    }
+
+    /// Gives the key its default spelling, and unsets its decors.
+    pub fn fmt_key(&mut self)
+        ensures same_table { self.new.table.ghost_name ≡ self.old.table.ghost_name }
+        ensures same_place { self.new.at ≡ self.old.at }
+        ensures table { self.new.table.now ≡ with_key_at T.entries T.with_entries self.old.at reset_key self.old.table.now }
+    {
+        let at = self.at;
+        self.table.as_slots_mut().fmt_key(at);
+    }
+
+    /// Puts another item here, and answers the one that was there.
+    pub fn insert(&mut self, item: Item) -> Item
+        ensures same_table { self.new.table.ghost_name ≡ self.old.table.ghost_name }
+        ensures same_place { self.new.at ≡ self.old.at }
+        ensures item { Some result ≡ slot_item self.old }
+        ensures table { self.new.table.now ≡ with_item_at T.entries T.with_entries self.old.at item self.old.table.now }
+    {
+        let at = self.at;
+        self.table.as_slots_mut().replace_item(at, item)
+    }
+
+    /// Takes the slot out, and answers its item. The others keep their order. It takes no memory.
+    pub fn remove(self) -> Item
+        ensures item { Some result ≡ slot_item self.entry }
+        ensures removed { IfSome (slot_key self.entry) (λ key. T.slots_of self.exit.0.now ≡ without key.name (T.slots_of self.entry.table.now)) }
+        ensures beside { T.beside self.exit.0.now ≡ T.beside self.entry.table.now }
+    {
+        let at = self.at;
+        self.table.as_slots_mut().remove_at(at).into_item()
+    }
+}
