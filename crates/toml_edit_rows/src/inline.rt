@@ -2,7 +2,7 @@
 use crate::said::Answer;
 use crate::slots::{Told, tell_old, tell_taken, write};
 use crate::steps::{behind, word};
-use crate::{inline_entry, made};
+use crate::{inline_entry, like, made};
 use serde_json::Value as Json;
 use toml_edit::{InlineTable, Key, Mem, Value};
 
@@ -49,6 +49,7 @@ fn change(table: &mut InlineTable, words: &[Json], out: &mut Answer) {
         "fmt" => table.fmt(),
         "sort_values" => out.done(table.sort_values()),
         "sort_values_by" => out.done(sort_by_type(table)),
+        "like" => like::change_inline(table, behind(words, 1), out),
         "get_or_insert" | "get_mut" => lend(table, words, made::value(behind(words, 2), out), out),
         _ => inline_entry::change(table, words, out),
     }

@@ -13,6 +13,7 @@ mod inline_entry;
 mod inline_slot;
 mod item;
 mod key;
+mod like;
 mod lines;
 mod list;
 mod made;

@@ -3,7 +3,7 @@ use crate::row::Row;
 use crate::said::Answer;
 use crate::steps::{Asked, Subject, behind, copied, word};
 use crate::{
-    array, convert, document, inline, item, key, made, refusal, slots, steps, tables, value,
+    array, convert, document, inline, item, key, like, made, refusal, slots, steps, tables, value,
 };
 use serde_json::Value as Json;
 use toml_edit::{ArrayOfTables, Item, Iter, Table, Value};
@@ -241,6 +241,7 @@ fn change_here(table: &mut Table, words: &[Json], out: &mut Answer) {
         "set_dotted" => table.set_dotted(word(words, 1) == "true"),
         "set_position" => table.set_position(word(words, 1).parse::<isize>().ok()),
         "decor_mut" => value::change_decor(table.decor_mut(), behind(words, 1), out),
+        "like" => like::change_table(table, behind(words, 1), out),
         _ => slots::change(table, words, out),
     }
 }
