@@ -1,5 +1,5 @@
 -- An item that is put under a key, where none stands.
-use Rattle.std.proofs.Common.{◌≡◌, ℕ, zero, suc, ◌+◌, ◌<◌, true, false, List, [], ◌∷◌, ◌++◌, Option, Some, None, is_some, length, get_or, option_map, slice_get, refl, sym, ap, ◌∙◌, arith}
+use Rattle.std.proofs.Common.{◌≡◌, ℕ, suc, ◌<◌, false, List, [], ◌∷◌, ◌++◌, Option, Some, None, is_some, length, get_or, option_map, slice_get, refl, sym, ap, ◌∙◌, arith}
 use Rattle.std.proofs.lemmas.Option.{slice_get-get_or}
 use Rattle.std.specs.Option.{option_map_or, unwrap_or}
 use Rattle.toml_edit_laws.proofs.slots.Places.{lookup_slot-at, lookup_slot-none, none_at, put-at, put-new}

@@ -2,7 +2,7 @@
 use Rattle.std.specs.Prelude.{◌≡◌, Bool, false, List}
 use Rattle.std.proofs.Common.{rules, refl, ap}
 use Rattle.toml_edit_model.specs.Lists.{slot_list}
-use Rattle.toml_edit_model.specs.Tree.{Node, Slots, inline, table, no_slots}
+use Rattle.toml_edit_model.specs.Tree.{Node, inline, table, no_slots}
 use Rattle.toml_edit_slots.specs.declared.slots.Slot.{Slot}
 use Rattle.toml_edit_tree.specs.ContainerParts.{holding, table_holding}
 use Rattle.toml_edit_tree.specs.InlineSlots.{inline_fields}
