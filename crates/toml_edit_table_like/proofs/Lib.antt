@@ -2,3 +2,4 @@ pub mod ShownLaws
 pub mod FoundLaws
 pub mod MadeLaws
 pub mod SlotLaws
+pub mod PutLaws

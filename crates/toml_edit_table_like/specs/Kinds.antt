@@ -2,7 +2,7 @@
 use Rattle.std.specs.Prelude.{◌≡◌, Bool, false, List}
 use Rattle.std.proofs.Common.{rules, refl, ap}
 use Rattle.toml_edit_model.specs.Lists.{slot_list}
-use Rattle.toml_edit_model.specs.Tree.{Node, Slots, inline, table, no_slots}
+use Rattle.toml_edit_model.specs.Tree.{Node, inline, table, no_slots}
 use Rattle.toml_edit_slots.specs.declared.slots.Slot.{Slot}
 use Rattle.toml_edit_tree.specs.ContainerParts.{holding, table_holding}
 use Rattle.toml_edit_tree.specs.InlineSlots.{inline_fields}
@@ -69,3 +69,15 @@ table_keeps es t = ap (λ f. table f no_slots) (same_fields t es)
 
 pub inline_keeps : (es : List (Slot Item)) (t : InlineTable) → inline_beside (holding es t) ≡ inline_beside t
 inline_keeps es t = ap (λ f. inline f no_slots) (same_inline_fields t es)
+
+pub table_again : (es fs : List (Slot Item)) (t : Table) → table_holding es (table_holding fs t) ≡ table_holding es t
+table_again es fs t = refl
+
+pub inline_again : (es fs : List (Slot Item)) (t : InlineTable) → holding es (holding fs t) ≡ holding es t
+inline_again es fs t = refl
+
+pub table_stays : (t : Table) → table_holding (table_entries t) t ≡ t
+table_stays t = search (rules, the_lemmas)
+
+pub inline_stays : (t : InlineTable) → holding (inline_entries t) t ≡ t
+inline_stays t = search (rules, the_lemmas)

@@ -3,3 +3,4 @@ pub mod Shown
 pub mod Kinds
 pub mod Lending
 pub mod SlotParts
+pub mod Putting

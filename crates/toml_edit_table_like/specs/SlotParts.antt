@@ -1,5 +1,5 @@
 -- What the contracts of a slot of a table of either kind cite.
-use Rattle.std.specs.Prelude.{◌≡◌, ℕ, ◌<◌, List, [], Option, Some, length, option_map, slice_get}
+use Rattle.std.specs.Prelude.{◌≡◌, ◌<◌, [], Option, length, option_map, slice_get}
 use Rattle.std.proofs.Common.{sym, ap, subst, ◌∙◌}
 use mir.Syntax.{named}
 use denote.RattleType.{RattleType}
@@ -9,7 +9,6 @@ use Rattle.toml_edit_model.specs.Slots as model
 use Rattle.toml_edit_repr.specs.contracts.repr.Decor.{the_row as decor_row}
 use Rattle.toml_edit_slots.specs.Entries.{length-on_key, length-with_item}
 use Rattle.toml_edit_slots.specs.Slots.{items_of, on_key, with_item}
-use Rattle.toml_edit_slots.specs.declared.slots.Slot.{Slot}
 use Rattle.toml_edit_table_like.specs.Lending.{with_item_at, with_key_at}
 use Rattle.toml_edit_table_like.specs.contracts.slot.TableLikeSlot as lent
 use Rattle.toml_edit_table_like.specs.declared.has_slots.HasSlots.{Ghosts}

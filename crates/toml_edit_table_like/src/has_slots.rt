@@ -4,7 +4,7 @@ ghost use Rattle.std.specs.Borrow.{sem};
 ghost use Rattle.toml_edit_model.specs.Slots.{AreApart, place as place_seen};
 ghost use Rattle.toml_edit_model.specs.TableCalls.{get};
 ghost use Rattle.toml_edit_slots.specs.Slots.{items_of, place};
-ghost use Rattle.toml_edit_table_like.specs.Kinds.{inline_beside, inline_entries, inline_keeps, inline_shows, inline_takes, table_beside, table_entries, table_keeps, table_shows, table_takes};
+ghost use Rattle.toml_edit_table_like.specs.Kinds.{inline_again, inline_beside, inline_entries, inline_keeps, inline_shows, inline_stays, inline_takes, table_again, table_beside, table_entries, table_keeps, table_shows, table_stays, table_takes};
 ghost use Rattle.toml_edit_table_like.specs.Lending.{LendsDottedAt, LendsItemAt, LendsLeafAt, LendsSlots};
 ghost use Rattle.toml_edit_tree.specs.ContainerParts.{holding, table_holding};
 ghost use Rattle.toml_edit_tree.specs.SlotsOf.{inline_slots_of, slots_of as table_slots_of};
@@ -42,6 +42,10 @@ pub trait HasSlots {
     ghost takes: { (es : List (code.Slot Item)) (t : Self) → entries (with_entries es t) ≡ es };
 
     ghost keeps: { (es : List (code.Slot Item)) (t : Self) → beside (with_entries es t) ≡ beside t };
+
+    ghost again: { (es fs : List (code.Slot Item)) (t : Self) → with_entries es (with_entries fs t) ≡ with_entries es t };
+
+    ghost stays: { (t : Self) → with_entries (entries t) t ≡ t };
 
     /// The slots.
     fn as_slots(&self) -> &Slots<Item>
@@ -127,6 +131,10 @@ impl HasSlots for Table {
 
     ghost keeps = { table_keeps };
 
+    ghost again = { table_again };
+
+    ghost stays = { table_stays };
+
     fn as_slots(&self) -> &Slots<Item> {
         &self.slots
     }
@@ -150,6 +158,10 @@ impl HasSlots for InlineTable {
     ghost takes = { inline_takes };
 
     ghost keeps = { inline_keeps };
+
+    ghost again = { inline_again };
+
+    ghost stays = { inline_stays };
 
     fn as_slots(&self) -> &Slots<Item> {
         &self.items

@@ -5,6 +5,7 @@ mod find;
 mod has_slots;
 mod inline;
 mod like;
+mod put;
 mod slot;
 
 #[doc(hidden)]

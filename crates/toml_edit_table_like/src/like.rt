@@ -1,15 +1,17 @@
 //! Tables of either kind.
 ghost use Rattle.std.specs.Borrow.{sem};
-ghost use Rattle.std.specs.Option.{option_copied};
+ghost use Rattle.std.specs.Option.{option_copied, unwrap_or};
 ghost use Rattle.std.specs.Prelude.{◌≡◌, ◌↔◌, [], true, IfErr, IfOk, IfSome, IsOk, IsTrue, None, OnErr, OnOk, Some, if◌then◌else◌, length, nat_lt, option_and_then, option_map, slice_get};
 ghost use Rattle.toml_edit_model.specs.Conversions.{formatted};
 ghost use Rattle.toml_edit_model.specs.Iterating.{filled, filled_pairs};
-ghost use Rattle.toml_edit_model.specs.Slots.{changed, has_slot, lookup_key, place, with_item, without};
+ghost use Rattle.toml_edit_model.specs.Keys.{new_key};
+ghost use Rattle.toml_edit_model.specs.Slots.{changed, has_slot, lookup, lookup_key, place, put, with_item, without};
 ghost use Rattle.toml_edit_model.specs.Sorting.{IsDeepReorder};
 ghost use Rattle.toml_edit_model.specs.TableCalls.{get, get_slot};
 ghost use Rattle.toml_edit_model.specs.TableLike.{like_contains_key, like_get_values, like_inserted, like_old, of_inline_table, of_table, LikeSorted};
 ghost use Rattle.toml_edit_table_like.specs.Kinds.{stands_dotted, with_dotted};
 ghost use Rattle.toml_edit_table_like.specs.Lending.{with_item_under, LendsUnder};
+ghost use Rattle.toml_edit_table_like.specs.Putting.{with_item_put, LendsPut};
 ghost use Rattle.toml_edit_table_like.specs.SlotParts.{slot_item, IsSlotOf, RestsIfAbsent};
 ghost use Rattle.toml_edit_tree.specs.Held.{held_left};
 ghost use Rattle.toml_edit_tree.specs.LineValues.{values_read};
@@ -19,6 +21,7 @@ ghost use Rattle.toml_edit_tree.specs.declared.item.Item.{Item};
 
 use crate::find::{filled_len, filled_place, filled_slot};
 use crate::inline::insert_item;
+use crate::put::{place_for, place_for_key};
 use crate::{HasSlots, TableLikeSlot};
 use std::alloc::Global;
 use toml_edit_key::Key;
@@ -155,6 +158,42 @@ pub trait TableLike: HasSlots {
         ensures beside { Self.beside self.new ≡ Self.beside self.old }
         ensures back { IfErr result (λ refused. refused.0 ≡ item) }
         ensures err { OnErr result (Self.slots_of self.new ≡ Self.slots_of self.old) };
+
+    /// The item under the key, a placeholder too, or else this one, put last with a key of the text alone. A present key takes no memory. The
+    /// only error is want of memory: the table stays as it was, and the error has the item.
+    fn or_insert(&mut self, key: &str, item: Item) -> Result<&mut Item, NoMemory<Item>>
+        ensures* writes_back { sem 𝓛 (LendsPut Self.row Self.entries Self.with_entries self.entry (new_key key.now) result) }
+        ensures item { IfOk result (λ lent. item_view lent.now ≡ unwrap_or (lookup key.now (Self.slots_of self.old)) (item_view item)) }
+        // What an item that is written leaves.
+        ensures leaves { (w : Item) → Self.slots_of (with_item_put Self.entries Self.with_entries (new_key key.now) w self.old)
+            ≡ put (with_item (item_view w)) (record { key = new_key key.now; item = item_view w }) (Self.slots_of self.old) }
+        ensures keeps { (w : Item) → Self.beside (with_item_put Self.entries Self.with_entries (new_key key.now) w self.old) ≡ Self.beside self.old }
+        ensures present { IsTrue (has_slot key.now (Self.slots_of self.old)) → IsOk result }
+        ensures back { IfErr result (λ refused. refused.0 ≡ item) }
+    {
+        match place_for(self.as_slots_mut(), key, item) {
+            Ok(at) => Ok(self.item_at_mut(at)),
+            Err(refused) => Err(refused),
+        }
+    }
+
+    /// The item under the key, a placeholder too, or else this one, put last with a copy of the key, with its spelling and decors. A present
+    /// key stays as it is, and takes no memory. The only error is want of memory: the table stays as it was, and the error has the item.
+    fn or_insert_format(&mut self, key: &Key, item: Item) -> Result<&mut Item, NoMemory<Item>>
+        ensures* writes_back { sem 𝓛 (LendsPut Self.row Self.entries Self.with_entries self.entry key.now result) }
+        ensures item { IfOk result (λ lent. item_view lent.now ≡ unwrap_or (lookup key.now.name (Self.slots_of self.old)) (item_view item)) }
+        // What an item that is written leaves.
+        ensures leaves { (w : Item) → Self.slots_of (with_item_put Self.entries Self.with_entries key.now w self.old)
+            ≡ put (with_item (item_view w)) (record { key = key.now; item = item_view w }) (Self.slots_of self.old) }
+        ensures keeps { (w : Item) → Self.beside (with_item_put Self.entries Self.with_entries key.now w self.old) ≡ Self.beside self.old }
+        ensures present { IsTrue (has_slot key.now.name (Self.slots_of self.old)) → IsOk result }
+        ensures back { IfErr result (λ refused. refused.0 ≡ item) }
+    {
+        match place_for_key(self.as_slots_mut(), key, item) {
+            Ok(at) => Ok(self.item_at_mut(at)),
+            Err(refused) => Err(refused),
+        }
+    }
 
     /// Takes the slot of the key out, if there is one: its item, `Item::None` for a placeholder; of an inline table made a value, and `None`
     /// for a placeholder. The others keep their order. It takes no memory.

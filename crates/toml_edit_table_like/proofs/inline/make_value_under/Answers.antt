@@ -1,5 +1,5 @@
 -- The item under a key, made a value.
-use Rattle.std.proofs.Common.{◌≡◌, Some, None, sym, ap, ◌∙◌}
+use Rattle.std.proofs.Common.{◌≡◌, Some, sym, ◌∙◌}
 use Rattle.toml_edit_laws.proofs.slots.Places.{changed-none, none_at}
 use Rattle.toml_edit_model.specs.Conversions.{made_value}
 use Rattle.toml_edit_model.specs.Slots.{on_item}

@@ -1,5 +1,5 @@
 -- The item of a key, to be changed, and what it leaves.
-use Rattle.std.proofs.Common.{◌≡◌, Some, option_and_then, option_map, slice_get, refl, sym, ap, subst, ◌∙◌}
+use Rattle.std.proofs.Common.{◌≡◌, Some, option_map, slice_get, refl, sym, ap, subst, ◌∙◌}
 use mathlib.Core.Logic.{inl}
 use Rattle.std.specs.Option.{option_map_or}
 use Rattle.toml_edit_model.specs.Slots.{AreApart, changed, with_item}

@@ -1,7 +1,6 @@
 -- The items of a table as a list of pairs.
 use Rattle.std.proofs.Common.{sym, ap, ◌∙◌}
 use Rattle.toml_edit_model.specs.Iterating.{filled_pairs}
-use Rattle.toml_edit_table_like.specs.Shown.{shown}
 use Rattle.toml_edit_tree.specs.Held.{held}
 use Rattle.toml_edit_tree.specs.View.{slots_view}
 use Rattle.toml_edit_table_like.proofs.FoundLaws.{held-pairs}
