@@ -1,5 +1,5 @@
 -- What the contracts of a slot of a table of either kind cite.
-use Rattle.std.specs.Prelude.{◌≡◌, ◌<◌, [], Option, length, option_map, slice_get}
+use Rattle.std.specs.Prelude.{◌≡◌, ◌<◌, ℕ, [], Option, length, option_map, slice_get}
 use Rattle.std.proofs.Common.{sym, ap, subst, ◌∙◌}
 use mir.Syntax.{named}
 use denote.RattleType.{RattleType}
@@ -18,6 +18,13 @@ use Rattle.toml_edit_tree.specs.contracts.item.Item.{the_row as item_row}
 use Rattle.toml_edit_tree.specs.declared.item.Item.{Item}
 
 module _ {X : Type 0} {g : Ghosts X} where
+  -- the reference to the table that it is a slot of, and its place there
+  abbrev pub slot_ref : TableLikeSlot X g → MutBor X
+  slot_ref p = p.table
+
+  abbrev pub slot_place : TableLikeSlot X g → ℕ
+  slot_place p = p.at
+
   -- the item and the key that are there
   abbrev pub slot_item : TableLikeSlot X g → Option Item
   slot_item p = slice_get (items_of (g.entries p.table.now)) p.at

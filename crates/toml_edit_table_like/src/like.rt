@@ -12,7 +12,7 @@ ghost use Rattle.toml_edit_model.specs.TableLike.{like_contains_key, like_get_va
 ghost use Rattle.toml_edit_table_like.specs.Kinds.{stands_dotted, with_dotted};
 ghost use Rattle.toml_edit_table_like.specs.Lending.{with_item_under, LendsUnder};
 ghost use Rattle.toml_edit_table_like.specs.Putting.{with_item_put, LendsPut};
-ghost use Rattle.toml_edit_table_like.specs.SlotParts.{slot_item, IsSlotOf, RestsIfAbsent};
+ghost use Rattle.toml_edit_table_like.specs.SlotParts.{slot_item, slot_place, slot_ref, IsSlotOf, RestsIfAbsent};
 ghost use Rattle.toml_edit_tree.specs.Held.{held_left};
 ghost use Rattle.toml_edit_tree.specs.LineValues.{values_read};
 ghost use Rattle.toml_edit_tree.specs.SlotsOf.{slot_read};
@@ -111,24 +111,24 @@ pub trait TableLike: HasSlots {
     /// The slot of the key, if an item stands there which is no placeholder, to change that or what stands around the key.
     fn get_key_value_mut(&mut self, key: &str) -> Option<TableLikeSlot<'_, Self>>
         ensures* absent { sem 𝓛 (RestsIfAbsent Self.row self.entry result) }
-        ensures same_table { IfSome result (λ slot. slot.table.ghost_name ≡ self.entry.ghost_name) }
+        ensures same_table { IfSome result (λ slot. (slot_ref slot).ghost_name ≡ self.entry.ghost_name) }
         ensures slot { IfSome result (λ slot. IsSlotOf self.old slot) }
         ensures item { option_and_then (λ slot. option_map item_view (slot_item slot)) result ≡ get key.now (Self.slots_of self.old) }
-        ensures place { IfSome result (λ slot. place key.now (Self.slots_of self.old) ≡ Some slot.at) };
+        ensures place { IfSome result (λ slot. place key.now (Self.slots_of self.old) ≡ Some (slot_place slot)) };
 
     /// The key's slot of any kind, if there is one, to change what stands around the key as it stands in the table.
     fn key_mut(&mut self, key: &str) -> Option<TableLikeSlot<'_, Self>>
         ensures* absent { sem 𝓛 (RestsIfAbsent Self.row self.entry result) }
-        ensures same_table { IfSome result (λ slot. slot.table.ghost_name ≡ self.entry.ghost_name) }
+        ensures same_table { IfSome result (λ slot. (slot_ref slot).ghost_name ≡ self.entry.ghost_name) }
         ensures slot { IfSome result (λ slot. IsSlotOf self.old slot) }
-        ensures place { option_map (λ slot. slot.at) result ≡ place key.now (Self.slots_of self.old) };
+        ensures place { option_map slot_place result ≡ place key.now (Self.slots_of self.old) };
 
     /// The slot at the place, a placeholder too, if there is one, to change its item or what stands around its key.
     fn key_value_at_mut(&mut self, at: usize) -> Option<TableLikeSlot<'_, Self>>
         ensures* absent { sem 𝓛 (RestsIfAbsent Self.row self.entry result) }
-        ensures same_table { IfSome result (λ slot. slot.table.ghost_name ≡ self.entry.ghost_name) }
+        ensures same_table { IfSome result (λ slot. (slot_ref slot).ghost_name ≡ self.entry.ghost_name) }
         ensures slot { IfSome result (λ slot. IsSlotOf self.old slot) }
-        ensures place { option_map (λ slot. slot.at) result ≡ if nat_lt at (length (Self.slots_of self.old)) then Some at else None };
+        ensures place { option_map slot_place result ≡ if nat_lt at (length (Self.slots_of self.old)) then Some at else None };
 
     /// Whether an item stands under the key: in a table one that is no placeholder, in an inline table a value.
     fn contains_key(&self, key: &str) -> bool

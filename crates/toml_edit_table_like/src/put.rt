@@ -31,7 +31,7 @@ pub(crate) fn place_for(
     let _entries = slots.as_slice();
     match slots.find(key) {
         Some(at) => {
-            discard(item);
+            drop(item);
             Ok(at)
         }
         None => {
@@ -65,7 +65,7 @@ pub(crate) fn place_for_key(
     let _entries = slots.as_slice();
     match slots.find(key.get()) {
         Some(at) => {
-            discard(item);
+            drop(item);
             Ok(at)
         }
         None => {
@@ -80,6 +80,3 @@ pub(crate) fn place_for_key(
         }
     }
 }
-
-/// Lets an item go.
-fn discard(_item: Item) {}

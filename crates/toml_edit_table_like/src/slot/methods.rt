@@ -4,7 +4,7 @@ ghost use Rattle.std.specs.Borrow.{sem};
 ghost use Rattle.toml_edit_model.specs.Keys.{reset_key};
 ghost use Rattle.toml_edit_model.specs.Slots.{without};
 ghost use Rattle.toml_edit_table_like.specs.Lending.{with_item_at, with_key_at};
-ghost use Rattle.toml_edit_table_like.specs.SlotParts.{slot_item, slot_key, SlotLends, SlotLendsDotted, SlotLendsLeaf};
+ghost use Rattle.toml_edit_table_like.specs.SlotParts.{slot_item, slot_key, slot_place, slot_ref, SlotLends, SlotLendsDotted, SlotLendsLeaf};
 
 use super::TableLikeSlot;
 use crate::HasSlots;
@@ -56,9 +56,9 @@ impl<'a, T: HasSlots> TableLikeSlot<'a, T> {
 
     /// Gives the key its default spelling, and unsets its decors.
     pub fn fmt_key(&mut self)
-        ensures same_table { self.new.table.ghost_name ≡ self.old.table.ghost_name }
-        ensures same_place { self.new.at ≡ self.old.at }
-        ensures table { self.new.table.now ≡ with_key_at T.entries T.with_entries self.old.at reset_key self.old.table.now }
+        ensures same_table { (slot_ref self.new).ghost_name ≡ (slot_ref self.old).ghost_name }
+        ensures same_place { slot_place self.new ≡ slot_place self.old }
+        ensures table { (slot_ref self.new).now ≡ with_key_at T.entries T.with_entries (slot_place self.old) reset_key (slot_ref self.old).now }
     {
         let at = self.at;
         self.table.as_slots_mut().fmt_key(at);
@@ -66,10 +66,10 @@ impl<'a, T: HasSlots> TableLikeSlot<'a, T> {
 
     /// Puts another item here, and answers the one that was there.
     pub fn insert(&mut self, item: Item) -> Item
-        ensures same_table { self.new.table.ghost_name ≡ self.old.table.ghost_name }
-        ensures same_place { self.new.at ≡ self.old.at }
+        ensures same_table { (slot_ref self.new).ghost_name ≡ (slot_ref self.old).ghost_name }
+        ensures same_place { slot_place self.new ≡ slot_place self.old }
         ensures item { Some result ≡ slot_item self.old }
-        ensures table { self.new.table.now ≡ with_item_at T.entries T.with_entries self.old.at item self.old.table.now }
+        ensures table { (slot_ref self.new).now ≡ with_item_at T.entries T.with_entries (slot_place self.old) item (slot_ref self.old).now }
     {
         let at = self.at;
         self.table.as_slots_mut().replace_item(at, item)
@@ -78,8 +78,8 @@ impl<'a, T: HasSlots> TableLikeSlot<'a, T> {
     /// Takes the slot out, and answers its item. The others keep their order. It takes no memory.
     pub fn remove(self) -> Item
         ensures item { Some result ≡ slot_item self.entry }
-        ensures removed { IfSome (slot_key self.entry) (λ key. T.slots_of self.exit.0.now ≡ without key.name (T.slots_of self.entry.table.now)) }
-        ensures beside { T.beside self.exit.0.now ≡ T.beside self.entry.table.now }
+        ensures removed { IfSome (slot_key self.entry) (λ key. T.slots_of self.exit.0.now ≡ without key.name (T.slots_of (slot_ref self.entry).now)) }
+        ensures beside { T.beside self.exit.0.now ≡ T.beside (slot_ref self.entry).now }
     {
         let at = self.at;
         self.table.as_slots_mut().remove_at(at).into_item()
