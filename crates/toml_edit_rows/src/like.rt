@@ -24,15 +24,20 @@ fn insert_in_table(table: &mut Table, name: &str, made: Option<Item>, out: &mut 
 /// Does a step with an inline table. It is given no placeholder, since the call asks for an item that is none.
 pub fn change_inline(table: &mut InlineTable, words: &[Json], out: &mut Answer) {
     match word(words, 0) {
-        "insert" => insert_in_inline(table, word(words, 1), made::item(word(words, 2), out), out),
+        "insert" => insert_inline(table, word(words, 1), made::item(word(words, 2), out), out),
         _ => change(table, words, out),
     }
 }
 
-fn insert_in_inline(table: &mut InlineTable, name: &str, made: Option<Item>, out: &mut Answer) {
-    match made {
-        Some(item) if !item.is_none() => tell_old(TableLike::insert(table, name, item), out),
-        _ => out.text("no item"),
+fn insert_inline(table: &mut InlineTable, name: &str, made: Option<Item>, out: &mut Answer) {
+    let Some(item) = made else {
+        return out.text("no item");
+    };
+    if item.is_none() {
+        drop(item);
+        out.text("no item");
+    } else {
+        tell_old(TableLike::insert(table, name, item), out);
     }
 }
 
@@ -108,11 +113,7 @@ fn change_lent<T: TableLike>(table: &mut T, words: &[Json], out: &mut Answer) {
 }
 
 /// Changes what stands around the key, or the item. Of a call that answers nothing the answer is empty.
-fn change_slot<T: TableLike>(
-    slot: &mut TableLikeSlot<'_, T>,
-    words: &[Json],
-    out: &mut Answer,
-) {
+fn change_slot<T: TableLike>(slot: &mut TableLikeSlot<'_, T>, words: &[Json], out: &mut Answer) {
     let rest = behind(words, 1);
     match word(words, 0) {
         "key" => out.shown(slot.key()),
@@ -126,11 +127,7 @@ fn change_slot<T: TableLike>(
     }
 }
 
-fn insert_at<T: TableLike>(
-    slot: &mut TableLikeSlot<'_, T>,
-    made: Option<Item>,
-    out: &mut Answer,
-) {
+fn insert_at<T: TableLike>(slot: &mut TableLikeSlot<'_, T>, made: Option<Item>, out: &mut Answer) {
     match made {
         Some(item) => tell_given(slot.insert(item), out),
         None => out.text("no item"),
