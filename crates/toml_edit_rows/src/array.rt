@@ -63,7 +63,10 @@ fn sort(array: &mut Array) -> Mem<()> {
 fn extend(array: &mut Array, more: Option<Value>, out: &mut Answer) {
     match more {
         Some(Value::Array(more)) => out.done(array.extend(more)),
-        _ => out.text("no array"),
+        other => {
+            drop(other);
+            out.text("no array");
+        }
     }
 }
 
@@ -71,7 +74,10 @@ fn extend(array: &mut Array, more: Option<Value>, out: &mut Answer) {
 fn from_iter(values: Option<Value>, out: &mut Answer) {
     match values {
         Some(Value::Array(values)) => out.made(Array::from_iter(out.alloc, values)),
-        _ => out.text("no array"),
+        other => {
+            drop(other);
+            out.text("no array");
+        }
     }
 }
 
@@ -79,7 +85,10 @@ fn from_iter(values: Option<Value>, out: &mut Answer) {
 fn value_from_iter(values: Option<Value>, out: &mut Answer) {
     match values {
         Some(Value::Array(values)) => out.made(Value::from_iter(out.alloc, values)),
-        _ => out.text("no array"),
+        other => {
+            drop(other);
+            out.text("no array");
+        }
     }
 }
 
@@ -94,14 +103,19 @@ fn put_at(array: &mut Array, words: &[Json], made: Option<Value>, out: &mut Answ
         "insert" if at <= array.len() => out.put(array.insert(at, value)),
         "insert_formatted" if at <= array.len() => out.put(array.insert_formatted(at, value)),
         "replace" if is_there => out.old(array.replace(at, value)),
-        "replace_formatted" if is_there => out.shown(&array.replace_formatted(at, value)),
-        _ => out.text("none"),
+        "replace_formatted" if is_there => {
+            slots::tell_given(array.replace_formatted(at, value), out);
+        }
+        _ => {
+            drop(value);
+            out.text("none");
+        }
     }
 }
 
 fn remove(array: &mut Array, at: usize, out: &mut Answer) {
     if array.get(at).is_some() {
-        out.shown(&array.remove(at));
+        slots::tell_given(array.remove(at), out);
     } else {
         out.text("none");
     }

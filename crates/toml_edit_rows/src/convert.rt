@@ -27,7 +27,7 @@ fn renew(item: &mut Item, made: Result<Item, Item>, out: &mut Answer) {
 }
 
 fn put_back(item: &mut Item, back: Item) {
-    *item = back;
+    drop(mem::replace(item, back));
 }
 
 /// Shows the inline table that was made of a copy.

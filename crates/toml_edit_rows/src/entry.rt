@@ -33,7 +33,10 @@ fn enter_formatted(table: &mut Table, words: &[Json], out: &mut Answer) {
 fn enter_at(table: &mut Table, key: Option<Key>, made: Option<Item>, out: &mut Answer) {
     match key {
         Some(key) => fill(table.entry_format(&key), made, out),
-        None => out.text("no key"),
+        None => {
+            drop(made);
+            out.text("no key");
+        }
     }
 }
 
@@ -42,7 +45,10 @@ fn fill(entry: Mem<Entry<'_>>, made: Option<Item>, out: &mut Answer) {
     match (entry, made) {
         (Ok(entry), Some(item)) => or_insert(entry, item, out),
         (Ok(_), None) => out.text("no item"),
-        (Err(_), _) => out.refuse(),
+        (Err(_), made) => {
+            drop(made);
+            out.refuse();
+        }
     }
 }
 

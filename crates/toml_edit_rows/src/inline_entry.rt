@@ -40,7 +40,10 @@ fn enter_formatted(table: &mut InlineTable, words: &[Json], out: &mut Answer) {
 fn enter_at(table: &mut InlineTable, key: Option<Key>, made: Option<Value>, out: &mut Answer) {
     match key {
         Some(key) => fill(table.entry_format(&key), made, out),
-        None => out.text("no key"),
+        None => {
+            drop(made);
+            out.text("no key");
+        }
     }
 }
 
@@ -49,7 +52,10 @@ fn fill(entry: Mem<InlineEntry<'_>>, made: Option<Value>, out: &mut Answer) {
     match (entry, made) {
         (Ok(entry), Some(value)) => or_insert(entry, value, out),
         (Ok(_), None) => out.text("no value"),
-        (Err(_), _) => out.refuse(),
+        (Err(_), made) => {
+            drop(made);
+            out.refuse();
+        }
     }
 }
 

@@ -63,9 +63,12 @@ pub fn item(text: &str, out: &mut Answer) -> Option<Item> {
 }
 
 fn new_table(made: Option<Value>) -> Option<Item> {
-    match made {
-        Some(Value::InlineTable(pairs)) => Some(Item::from(pairs.into_table())),
-        _ => None,
+    match made? {
+        Value::InlineTable(pairs) => Some(Item::from(pairs.into_table())),
+        other => {
+            drop(other);
+            None
+        }
     }
 }
 

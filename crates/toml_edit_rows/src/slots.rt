@@ -9,7 +9,7 @@ use toml_edit::{Item, Key, Mem, NoMemory, Table};
 /// Leaves a placeholder in the slot, if there is one.
 pub fn set_none(slot: Option<&mut Item>, out: &mut Answer) {
     match slot {
-        Some(item) => *item = Item::None,
+        Some(item) => drop(mem::replace(item, Item::None)),
         None => out.text("none"),
     }
 }
@@ -179,7 +179,10 @@ fn add_pair(table: &mut Table, words: &[Json], out: &mut Answer) {
             out.done(table.extend(Some((key, item))));
         }
         (Some(key), Some(item)) => out.made(Table::from_iter(out.alloc, Some((key, item)))),
-        _ => out.text("no pair"),
+        other => {
+            drop(other);
+            out.text("no pair");
+        }
     }
 }
 

@@ -46,7 +46,10 @@ fn push(tables: &mut ArrayOfTables, made: Option<Table>, out: &mut Answer) {
 fn extend(tables: &mut ArrayOfTables, more: Option<Item>, out: &mut Answer) {
     match more {
         Some(Item::ArrayOfTables(more)) => out.done(tables.extend(more)),
-        _ => out.text("no array of tables"),
+        other => {
+            drop(other);
+            out.text("no array of tables");
+        }
     }
 }
 
@@ -56,7 +59,10 @@ fn from_iter(tables: Option<Item>, out: &mut Answer) {
         Some(Item::ArrayOfTables(tables)) => {
             convert::into_array(ArrayOfTables::from_iter(out.alloc, tables), out);
         }
-        _ => out.text("no array of tables"),
+        other => {
+            drop(other);
+            out.text("no array of tables");
+        }
     }
 }
 
