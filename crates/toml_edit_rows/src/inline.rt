@@ -87,10 +87,7 @@ fn add_pair(table: &mut InlineTable, words: &[Json], out: &mut Answer) {
             out.made(Value::from_pairs(out.alloc, Some((key, value))));
         }
         (Some(key), Some(value)) => tell_old(table.insert_formatted(&key, value), out),
-        other => {
-            drop(other);
-            out.text("no pair");
-        }
+        _ => out.text("no pair"),
     }
 }
 

@@ -179,10 +179,7 @@ fn add_pair(table: &mut Table, words: &[Json], out: &mut Answer) {
             out.done(table.extend(Some((key, item))));
         }
         (Some(key), Some(item)) => out.made(Table::from_iter(out.alloc, Some((key, item)))),
-        other => {
-            drop(other);
-            out.text("no pair");
-        }
+        _ => out.text("no pair"),
     }
 }
 
