@@ -2,7 +2,7 @@
 use crate::row::Row;
 use crate::said::Answer;
 use crate::steps::{Asked, Subject, behind, copied, word};
-use crate::{events, refusal, run, steps, table};
+use crate::{events, indexing, refusal, run, steps, table};
 use serde_json::Value as Json;
 use toml_edit::{Document, DocumentMut, Item, Mem, ParseFault, RawString, SourceText, Table};
 
@@ -90,6 +90,7 @@ impl Subject for DocumentMut {
         match word(words, 0) {
             "clone" => copied(self.clone(out.alloc), behind(words, 1), out),
             "as_table_mut" => table::change(self.as_table_mut(), behind(words, 1), out),
+            "index_or_insert" => indexing::go_into(self, words, out),
             "set_trailing" => {
                 if let Ok(raw) = out.given(RawString::from_text(out.alloc, word(words, 1))) {
                     self.set_trailing(raw);
@@ -117,6 +118,7 @@ impl Asked for DocumentMut {
             "to_string" => out.shown(self),
             "print" => out.made(self.print(out.alloc)),
             "as_item" => table::ask_item(self.as_item(), behind(words, 1), out),
+            "document_brackets" => indexing::read_document(self, word(words, 1), out),
             _ => table::ask(self.as_table(), words, out),
         }
     }

@@ -1,7 +1,7 @@
 //! What is asked of arrays and inline tables, and what is changed in them.
 use crate::said::Answer;
 use crate::steps::{behind, index, word};
-use crate::{key, lines, slots, steps, value};
+use crate::{indexing, key, lines, slots, steps, value};
 use serde_json::Value as Json;
 use toml_edit::{Array, InlineTable, Mem, RawString, Value};
 
@@ -93,6 +93,7 @@ fn ask_inline_end(table: &InlineTable, words: &[Json], out: &mut Answer) {
         "get_values" => lines::tell(table.get_values(out.alloc), out),
         "into_iter" => steps::given_up(table.clone(out.alloc), out),
         "into_table" => lines_of(table.clone(out.alloc), out),
+        "brackets" => indexing::read_inline(table, word(words, 1), out),
         call => out.no_such(call),
     }
 }

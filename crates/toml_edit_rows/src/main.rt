@@ -8,6 +8,7 @@ mod date_time;
 mod document;
 mod entry;
 mod events;
+mod indexing;
 mod inline;
 mod inline_entry;
 mod inline_slot;

@@ -3,7 +3,8 @@ use crate::row::Row;
 use crate::said::Answer;
 use crate::steps::{Asked, Subject, behind, copied, word};
 use crate::{
-    array, convert, document, inline, item, key, like, made, refusal, slots, steps, tables, value,
+    array, convert, document, indexing, inline, item, key, like, made, refusal, slots, steps, tables,
+    value,
 };
 use serde_json::Value as Json;
 use toml_edit::{ArrayOfTables, Item, Iter, Table, Value};
@@ -178,6 +179,7 @@ fn tell_table(table: &Table, words: &[Json], out: &mut Answer) {
         "position" => out.shown_or_none(table.position().as_ref()),
         "decor" => value::ask_decor(table.decor(), word(words, 1), out),
         "span" => out.span(table.span()),
+        "brackets" => indexing::read_table(table, word(words, 1), out),
         _ => slots::tell(table, words, out),
     }
 }
@@ -191,6 +193,7 @@ fn tell_item(item: &Item, words: &[Json], out: &mut Answer) {
         "is_array_of_tables" => out.truth(item.is_array_of_tables()),
         "type_name" => out.text(item.type_name()),
         "as_value" => tell_value(item.as_value(), behind(words, 1), out),
+        "item_get" | "item_get_text" | "item_brackets" => indexing::ask(item, words, out),
         call if call.starts_with("item_") => item::tell(item, call, out),
         _ => tell_value(item.as_value(), words, out),
     }
@@ -242,6 +245,7 @@ fn change_here(table: &mut Table, words: &[Json], out: &mut Answer) {
         "set_position" => table.set_position(word(words, 1).parse::<isize>().ok()),
         "decor_mut" => value::change_decor(table.decor_mut(), behind(words, 1), out),
         "like" => like::change_table(table, behind(words, 1), out),
+        "index_or_insert" => indexing::go_down(table, words, out),
         _ => slots::change(table, words, out),
     }
 }
@@ -294,6 +298,7 @@ fn change_item(item: &mut Item, words: &[Json], out: &mut Answer) {
         "item_as_array_mut" => array::change_found(item.as_array_mut(), rest, out),
         "item_as_inline_table_mut" => inline::change_found(item.as_inline_table_mut(), rest, out),
         "make_value" => item.make_value(),
+        "item_get_mut" | "item_or_insert" | "index_or_insert" => indexing::change(item, words, out),
         "into_value" | "into_table" | "into_array_of_tables" => convert::change(item, words, out),
         _ => change_value(item, words, out),
     }

@@ -1,0 +1,147 @@
+//! Items inside of items, by a number or a key.
+use crate::made;
+use crate::said::Answer;
+use crate::slots::{Told, write};
+use crate::steps::{behind, word};
+use serde_json::Value as Json;
+use toml_edit::{DocumentMut, IndexFault, InlineTable, Item, Mem, Table};
+
+/// Asks an item for one inside: by a number where the second word is one, else by it as a key.
+pub fn ask(item: &Item, words: &[Json], out: &mut Answer) {
+    let place = word(words, 1);
+    match word(words, 0) {
+        "item_get_text" => by_text(item, String::from_str(out.alloc, place), out),
+        "item_brackets" => read(item, place, out),
+        _ => match place.parse::<usize>() {
+            Ok(at) => tell(item.get(at), out),
+            Err(_) => tell(item.get(place), out),
+        },
+    }
+}
+
+fn tell(found: Option<&Item>, out: &mut Answer) {
+    match found {
+        Some(item) => item.tell(out),
+        None => out.text("none"),
+    }
+}
+
+/// The same by a text that is lent, and then by one that is owned.
+fn by_text(item: &Item, key: Mem<String>, out: &mut Answer) {
+    match key {
+        Ok(key) => {
+            tell(item.get(&key), out);
+            out.text(" ");
+            tell(item.get(key), out);
+        }
+        Err(_) => out.refuse(),
+    }
+}
+
+/// The same by brackets, where it is there.
+fn read(item: &Item, key: &str, out: &mut Answer) {
+    match item.get(key) {
+        Some(_) => item[key].tell(out),
+        None => out.text("none"),
+    }
+}
+
+/// What stands under a key of a table, by brackets, where it is there.
+pub fn read_table(table: &Table, key: &str, out: &mut Answer) {
+    match table.get(key) {
+        Some(_) => table[key].tell(out),
+        None => out.text("none"),
+    }
+}
+
+/// The same of a document.
+pub fn read_document(document: &DocumentMut, key: &str, out: &mut Answer) {
+    match document.as_table().get(key) {
+        Some(_) => document[key].tell(out),
+        None => out.text("none"),
+    }
+}
+
+/// The value under a key of an inline table, by brackets, where it is there.
+pub fn read_inline(table: &InlineTable, key: &str, out: &mut Answer) {
+    match table.get(key) {
+        Some(_) => out.shown(&table[key]),
+        None => out.text("none"),
+    }
+}
+
+/// Changes an item, or one inside it.
+pub fn change(item: &mut Item, words: &[Json], out: &mut Answer) {
+    match word(words, 0) {
+        "item_get_mut" => write_found(item, words, out),
+        "item_or_insert" => fill(item, made::item(word(words, 1), out), out),
+        _ => go_on(item, behind(words, 1), out),
+    }
+}
+
+/// Writes an item over the one that the second word finds.
+fn write_found(item: &mut Item, words: &[Json], out: &mut Answer) {
+    let place = word(words, 1);
+    let made = made::item(word(words, 2), out);
+    match place.parse::<usize>() {
+        Ok(at) => write(item.get_mut(at), made, out),
+        Err(_) => write(item.get_mut(place), made, out),
+    }
+}
+
+/// Tells what stands there, once a placeholder is filled.
+fn fill(item: &mut Item, made: Option<Item>, out: &mut Answer) {
+    match made {
+        Some(made) => item.or_insert(made).tell(out),
+        None => out.text("no item"),
+    }
+}
+
+/// Goes down by keys, which are made where there are none, up to the word `then`, and does there what stands behind that.
+fn go_on(item: &mut Item, words: &[Json], out: &mut Answer) {
+    match words {
+        [] => item.tell(out),
+        [key, rest @ ..] => match key.as_str() {
+            Some("then") => end(item, rest, out),
+            Some(key) => match item.index_or_insert(out.alloc, key) {
+                Ok(found) => go_on(found, rest, out),
+                Err(fault) => tell_fault(fault, out),
+            },
+            None => out.text("no key"),
+        },
+    }
+}
+
+/// The same from a table.
+pub fn go_down(table: &mut Table, words: &[Json], out: &mut Answer) {
+    match table.index_or_insert(out.alloc, word(words, 1)) {
+        Ok(found) => go_on(found, behind(words, 2), out),
+        Err(fault) => tell_fault(fault, out),
+    }
+}
+
+/// The same from a document.
+pub fn go_into(document: &mut DocumentMut, words: &[Json], out: &mut Answer) {
+    match document.index_or_insert(out.alloc, word(words, 1)) {
+        Ok(found) => go_on(found, behind(words, 2), out),
+        Err(fault) => tell_fault(fault, out),
+    }
+}
+
+fn end(item: &mut Item, words: &[Json], out: &mut Answer) {
+    match word(words, 0) {
+        "fmt" => match item.as_inline_table_mut() {
+            Some(table) => table.fmt(),
+            None => out.text("no inline table"),
+        },
+        "becomes" => write(Some(item), made::item(word(words, 1), out), out),
+        call => out.no_such(call),
+    }
+}
+
+fn tell_fault(fault: IndexFault, out: &mut Answer) {
+    match fault {
+        IndexFault::WrongKind => out.shown(&fault),
+        IndexFault::Memory => out.refuse(),
+    }
+}
