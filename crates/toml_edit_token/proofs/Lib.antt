@@ -1,5 +1,6 @@
 -- Lemmas of this crate.
 pub mod ClassLaws
+pub mod TableLaws
 pub mod BlockLoop
 pub mod BasicLoop
 pub mod NumberLoop
