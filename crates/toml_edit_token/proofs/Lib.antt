@@ -1,6 +1,7 @@
 -- Lemmas of this crate.
 pub mod ClassLaws
 pub mod TableLaws
+pub mod LaneLaws
 pub mod BlockLoop
 pub mod BasicLoop
 pub mod NumberLoop

@@ -3,6 +3,7 @@
 
 mod block_string;
 pub mod decode;
+mod lanes;
 pub mod lone;
 mod number;
 pub mod run;

@@ -7,6 +7,8 @@ ghost use Rattle.toml_edit_model.specs.Spelling as spelling;
 ghost use Rattle.toml_edit_laws.specs.reading.Runs.{is_word_byte, split_while};
 ghost use Rattle.toml_edit_token.specs.Classes.{class_test};
 
+use crate::lanes::{LANES, lanes_run};
+
 /// The byte at `index`, or 0 past the end.
 pub(crate) fn byte_of(bytes: &[u8], index: usize) -> u8
     ensures { result ≡ slice_index bytes.now index }
@@ -134,7 +136,16 @@ pub fn run_len(bytes: &[u8], class: Class) -> usize
     ensures len { result ≡ prefix_len (class_test class) bytes.now }
     ensures within { result ≤ length bytes.now }
 {
-    bytes.iter().take_while(|b| is_in(class, **b)).count()
+    let mut at: usize = 0;
+    let mut run = LANES;
+    'lanes: while run == LANES && bytes.len() - at >= LANES {
+        run = lanes_run(bytes, at, class);
+        at += run;
+    }
+    while at < bytes.len() && is_in(class, bytes[at]) {
+        at += 1;
+    }
+    at
 }
 
 /// The bytes of the class at the front, and the rest.

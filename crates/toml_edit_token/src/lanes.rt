@@ -1,0 +1,76 @@
+//! Runs of bytes, sixteen at a time.
+ghost use Rattle.std.specs.Prelude.{◌≡◌, ◌+◌, ◌≤◌, length};
+ghost use Rattle.toml_edit_model.specs.Spelling.{is_literal, is_plain};
+ghost use Rattle.toml_edit_model.specs.Trivia.{is_visible};
+ghost use Rattle.toml_edit_token.specs.Classes.{class_test};
+ghost use Rattle.toml_edit_token.specs.Lanes.{PassesIn, first_set};
+
+use crate::run::Class;
+use std::simd::prelude::*;
+
+/// How many bytes are looked at in one step.
+pub(crate) const LANES: usize = 16;
+
+/// The place of the lowest bit that is set, or `LANES`.
+#[inline(always)]
+fn first_set(mask: u64) -> usize
+    ensures { result ≡ first_set mask 16 }
+{
+    if mask == 0 {
+        LANES
+    } else {
+        mask.trailing_zeros() as usize
+    }
+}
+
+/// How many of the next bytes are visible, from the first on.
+#[inline(always)]
+fn visible_run(bytes: &[u8], at: usize) -> usize
+    requires { at + LANES ≤ length bytes.now }
+    ensures { PassesIn is_visible bytes.now at LANES result }
+{
+    let v = u8x16::from_slice(&bytes[at..]);
+    let control = v.simd_lt(u8x16::splat(b' ')) & v.simd_ne(u8x16::splat(b'\t'));
+    let stops = control | v.simd_eq(u8x16::splat(0x7F));
+    first_set(stops.to_bitmask())
+}
+
+/// How many of the next bytes stand for themselves between double quotes, from the first on.
+#[inline(always)]
+fn plain_run(bytes: &[u8], at: usize) -> usize
+    requires { at + LANES ≤ length bytes.now }
+    ensures { PassesIn is_plain bytes.now at LANES result }
+{
+    let v = u8x16::from_slice(&bytes[at..]);
+    let control = v.simd_lt(u8x16::splat(b' ')) & v.simd_ne(u8x16::splat(b'\t'));
+    let hidden = control | v.simd_eq(u8x16::splat(0x7F));
+    let stops = hidden | v.simd_eq(u8x16::splat(b'"')) | v.simd_eq(u8x16::splat(b'\\'));
+    first_set(stops.to_bitmask())
+}
+
+/// How many of the next bytes stand between single quotes, from the first on.
+#[inline(always)]
+fn literal_run(bytes: &[u8], at: usize) -> usize
+    requires { at + LANES ≤ length bytes.now }
+    ensures { PassesIn is_literal bytes.now at LANES result }
+{
+    let v = u8x16::from_slice(&bytes[at..]);
+    let control = v.simd_lt(u8x16::splat(b' ')) & v.simd_ne(u8x16::splat(b'\t'));
+    let hidden = control | v.simd_eq(u8x16::splat(0x7F));
+    let stops = hidden | v.simd_eq(u8x16::splat(b'\''));
+    first_set(stops.to_bitmask())
+}
+
+/// Some of the next bytes that are of the class, from the first on: all of them in a class whose runs are long, and otherwise none.
+#[inline(always)]
+pub(crate) fn lanes_run(bytes: &[u8], at: usize, class: Class) -> usize
+    requires { at + LANES ≤ length bytes.now }
+    ensures { PassesIn (class_test class) bytes.now at LANES result }
+{
+    match class {
+        Class::Visible => visible_run(bytes, at),
+        Class::Plain => plain_run(bytes, at),
+        Class::Literal => literal_run(bytes, at),
+        Class::Blank | Class::Bare | Class::Word => 0,
+    }
+}
