@@ -27,3 +27,5 @@ pub mod InlineFillLaws
 pub mod InlineOccupiedLaws
 pub mod InlineSlotLaws
 pub mod SortLaws
+pub mod IndexedLaws
+pub mod SlotsInLaws

@@ -24,3 +24,5 @@ pub mod TableEntries
 pub mod InlineEntries
 pub mod InlineSlotParts
 pub mod Sorts
+pub mod Indexed
+pub mod Faults

@@ -21,6 +21,7 @@ use std::alloc::Global;
 use toml_edit_repr::{Mem, RawString};
 
 mod casts;
+mod index;
 mod shown;
 
 /// What stands under a key, or in an array.

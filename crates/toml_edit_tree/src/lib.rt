@@ -8,6 +8,7 @@ mod copy;
 mod despan;
 mod elements;
 mod encode;
+pub mod index;
 pub mod inline_table;
 pub mod item;
 mod lines;
@@ -20,6 +21,7 @@ pub use array::{Array, ArrayIntoIter, ArrayIter};
 pub use array_of_tables::{ArrayOfTables, ArrayOfTablesIntoIter, ArrayOfTablesIter};
 #[doc(hidden)]
 pub use encode::{Path, table_has_lines, write_path, write_table_lines};
+pub use index::{Index, IndexFault};
 pub use inline_table::{
     InlineEntry, InlineOccupiedEntry, InlineSlotMut, InlineTable, InlineTableIntoIter,
     InlineTableIter, InlineVacantEntry,

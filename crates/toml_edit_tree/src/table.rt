@@ -27,6 +27,7 @@ use toml_edit_slots::{Slot, Slots};
 mod at;
 mod change;
 pub mod entry;
+mod index;
 mod iterate;
 mod look_up;
 

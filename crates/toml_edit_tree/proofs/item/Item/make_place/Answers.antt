@@ -1,0 +1,26 @@
+-- The place of a key among the slots of an item, which may be new.
+use Rattle.std.proofs.Common.{option_and_then, ap, subst, sym, ◌∙◌}
+use Rattle.std.specs.Option.{IsSome}
+use Rattle.toml_edit_model.specs.Lists.{slots_in}
+use Rattle.toml_edit_model.specs.Slots.{lookup, place}
+use Rattle.toml_edit_tree.specs.Indexed.{with_slots}
+use Rattle.toml_edit_tree.specs.View.{item_view}
+use Rattle.toml_edit_tree.proofs.IndexedLaws.{has-found, slots-on}
+use Rattle.toml_edit_tree.proofs.SlotsLaws.{shown}
+use Rattle.toml_edit_tree.proofs.item.Item.make_place.Goals as goal
+
+pub returns-in-Ok-place_under-clause-place : goal.returns-in-Ok-place_under-clause-place
+returns-in-Ok-place_under-clause-place c =
+    let k = c.args.key.now in
+    let fs = c.place_under.new.slots in
+    ap (λ n. option_and_then (place k) (slots_in n)) (c.in-Some.ensures.others fs)
+    ∙ ap (option_and_then (place k)) (slots-on k (shown c.in-Some.slots.now) (shown fs) (item_view c.args.self.now) c.in-Some.ensures.slots)
+    ∙ c.in-Ok-place_under.ensures.place
+
+pub returns-in-Err-place_under-clause-present : goal.returns-in-Err-place_under-clause-present
+returns-in-Err-place_under-clause-present c h =
+    let k = c.args.key.now in
+    c.in-Err-place_under.ensures.present (has-found k (shown c.in-Some.slots.now) (subst (λ o. IsSome (option_and_then (lookup k) o)) (sym c.in-Some.ensures.slots) h))
+
+pub returns-in-Err-place_under-clause-err : goal.returns-in-Err-place_under-clause-err
+returns-in-Err-place_under-clause-err c = ap (λ es. with_slots es c.args.self.now) c.in-Err-place_under.ensures.err ∙ c.in-Some.ensures.own

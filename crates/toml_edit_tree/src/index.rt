@@ -1,0 +1,155 @@
+//! What is found in an item by a number or a key.
+ghost use Rattle.std.specs.Prelude.{◌≡◌, IsSome, Some, option_map, string_bytes};
+ghost use Rattle.toml_edit_model.specs.Indexing as indexing;
+ghost use Rattle.toml_edit_model.specs.TableCalls.{get};
+ghost use Rattle.toml_edit_tree.specs.Containers.{value_under};
+ghost use Rattle.toml_edit_tree.specs.SlotsOf.{slots_of};
+ghost use Rattle.toml_edit_tree.specs.View.{inline_view, item_view, value_view};
+
+use crate::inline_table::InlineTable;
+use crate::item::Item;
+use crate::table::Table;
+use crate::value::Value;
+use std::alloc::AllocError;
+use std::error::Error;
+use std::{fmt, ops};
+
+mod lent;
+pub(crate) mod slots;
+
+/// Why `index_or_insert` gives no item.
+#[derive(Clone, Copy, Debug, PartialEq, Eq, Hash)]
+pub enum IndexFault {
+    /// The item is neither a table nor an inline table, and no placeholder.
+    WrongKind,
+    /// No memory was left.
+    Memory,
+}
+
+/// `wrong kind of item` or `out of memory`.
+impl fmt::Display for IndexFault {
+    ghost use Rattle.toml_edit_tree.specs.Faults.{fault_text};
+
+    ghost output = { λ fault. Some (fault_text fault) };
+
+    fn fmt<W: fmt::Write>(&self, f: &mut fmt::Formatter<W>) -> fmt::Result {
+        match self {
+            IndexFault::WrongKind => f.write_str("wrong kind of item"),
+            IndexFault::Memory => f.write_str("out of memory"),
+        }
+    }
+}
+
+impl Error for IndexFault {}
+
+impl From<AllocError> for IndexFault {
+    ghost use Rattle.toml_edit_tree.specs.declared.index.IndexFault.TheVariants.{Memory};
+
+    ghost from_gives = { λ _ fault. fault ≡ Memory };
+
+    fn from(_refused: AllocError) -> IndexFault {
+        IndexFault::Memory
+    }
+}
+
+/// What finds an item in another one: a number, which is a place in an array or an array of tables, or the text of a key of a table or an
+/// inline table. Both calls find the same place.
+pub trait Index: Drop {
+    /// The number or the text.
+    ghost stands_for: { Self → indexing.Index };
+
+    /// The item that it finds: a slot of any kind by a number, and an item that is no placeholder by a text.
+    fn index<'v>(&self, item: &'v Item) -> Option<&'v Item>
+        ensures { option_map (λ x. item_view x.now) result ≡ indexing.indexed (stands_for self.now) (item_view item.now) };
+
+    /// The same, to be changed. Nothing is inserted.
+    fn index_mut<'v>(&self, item: &'v mut Item) -> Option<&'v mut Item>
+        ensures { option_map (λ x. item_view x.now) result ≡ indexing.indexed (stands_for self.now) (item_view item.old) };
+}
+
+impl Index for usize {
+    ghost stands_for = { λ at. indexing.number at };
+
+    fn index<'v>(&self, item: &'v Item) -> Option<&'v Item> {
+        item.slot_at(*self)
+    }
+
+    fn index_mut<'v>(&self, item: &'v mut Item) -> Option<&'v mut Item> {
+        item.slot_at_mut(*self)
+    }
+}
+
+impl Index for &str {
+    ghost stands_for = { λ key. indexing.text key.now };
+
+    fn index<'v>(&self, item: &'v Item) -> Option<&'v Item> {
+        item.item_under(*self)
+    }
+
+    fn index_mut<'v>(&self, item: &'v mut Item) -> Option<&'v mut Item> {
+        item.item_under_mut(*self)
+    }
+}
+
+impl Index for String {
+    ghost stands_for = { λ key. indexing.text (string_bytes key) };
+
+    fn index<'v>(&self, item: &'v Item) -> Option<&'v Item> {
+        item.item_under(self.as_str())
+    }
+
+    fn index_mut<'v>(&self, item: &'v mut Item) -> Option<&'v mut Item> {
+        item.item_under_mut(self.as_str())
+    }
+}
+
+impl Index for &String {
+    ghost stands_for = { λ key. indexing.text (string_bytes key.now) };
+
+    fn index<'v>(&self, item: &'v Item) -> Option<&'v Item> {
+        item.item_under(self.as_str())
+    }
+
+    fn index_mut<'v>(&self, item: &'v mut Item) -> Option<&'v mut Item> {
+        item.item_under_mut(self.as_str())
+    }
+}
+
+/// The item that the index finds, which must be there.
+impl<I: Index> ops::Index<I> for Item {
+    type Output = Item;
+
+    ghost can_index = { λ item index. IsSome (indexing.indexed (I.stands_for index) (item_view item)) };
+
+    ghost index_gives = { λ item index found. indexing.indexed (I.stands_for index) (item_view item) ≡ Some (item_view found) };
+
+    fn index(&self, index: I) -> &Item {
+        self.get(index).unwrap()
+    }
+}
+
+/// The item under the key, which must be there and no placeholder.
+impl ops::Index<&str> for Table {
+    type Output = Item;
+
+    ghost can_index = { λ table key. IsSome (get key.now (slots_of table)) };
+
+    ghost index_gives = { λ table key found. get key.now (slots_of table) ≡ Some (item_view found) };
+
+    fn index(&self, key: &str) -> &Item {
+        self.held_item(key).unwrap()
+    }
+}
+
+/// The value under the key, which must be there.
+impl ops::Index<&str> for InlineTable {
+    type Output = Value;
+
+    ghost can_index = { λ table key. IsSome (value_under key.now (inline_view table).slots) };
+
+    ghost index_gives = { λ table key found. value_under key.now (inline_view table).slots ≡ Some (value_view found) };
+
+    fn index(&self, key: &str) -> &Value {
+        self.get(key).unwrap()
+    }
+}

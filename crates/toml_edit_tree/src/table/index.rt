@@ -1,0 +1,43 @@
+//! The item of a key in a table, which may be new.
+ghost use Rattle.std.specs.Prelude.{◌≡◌, Some, IfErr, IfOk, IsOk, IsTrue, option_map};
+ghost use Rattle.std.specs.Borrow.{sem};
+ghost use Rattle.toml_edit_model.specs.Slots.{has_slot};
+ghost use Rattle.toml_edit_model.specs.TableCalls.{get};
+ghost use Rattle.toml_edit_tree.specs.Containers.{table_node};
+ghost use Rattle.toml_edit_tree.specs.Indexed.{item_put, lent_under, written_under, LendsMade};
+ghost use Rattle.toml_edit_tree.specs.SlotsOf.{slots_of};
+ghost use Rattle.toml_edit_tree.specs.View.{item_view, table_view};
+ghost use Rattle.toml_edit_tree.specs.declared.index.IndexFault.TheVariants.{Memory};
+ghost use Rattle.toml_edit_tree.specs.declared.item.Item.{Item};
+
+use super::Table;
+use crate::index::IndexFault;
+use crate::index::slots::{filled_item, place_under};
+use crate::item::Item;
+use std::alloc::Global;
+
+impl Table {
+    /// The item under the key, which is no placeholder.
+    pub(crate) fn held_item(&self, key: &str) -> Option<&Item>
+        ensures { option_map (λ x. item_view x.now) result ≡ get key.now (slots_of self.now) }
+    {
+        filled_item(&self.slots, key)
+    }
+
+    /// The item under the key, a placeholder too, to be changed. A new key goes last, with a key of the text alone and a placeholder, by the
+    /// allocator that the table was made with. The only error is `IndexFault::Memory`, at a new key: the table stays as it was.
+    pub fn index_or_insert(&mut self, _alloc: Global, key: &str) -> Result<&mut Item, IndexFault>
+        ensures* writes_back { sem 𝓛 (LendsMade self.entry key.now result) }
+        ensures item { IfOk result (λ lent. lent_under key.now (table_node (table_view self.old)) ≡ Some (item_view lent.now)) }
+        // What an item that is written leaves.
+        ensures leaves { (w : Item) → written_under key.now (item_view w) (table_node (table_view self.old))
+            ≡ Some (table_node (table_view (item_put key.now w self.old))) }
+        ensures present { IsTrue (has_slot key.now (slots_of self.old)) → IsOk result }
+        ensures fault { IfErr result (λ fault. fault ≡ Memory) }
+    {
+        match place_under(&mut self.slots, key) {
+            Ok(at) => Ok(self.item_at_mut(at)),
+            Err(_) => Err(IndexFault::Memory),
+        }
+    }
+}
