@@ -1,8 +1,8 @@
 -- The slots of an item that is a table or an inline table, and the item with others.
-use Rattle.std.proofs.Common.{◌≡◌, List, Option, Some, None, option_map, refl, sym, ap, ◌∙◌, rules}
+use Rattle.std.proofs.Common.{◌≡◌, List, Some, option_map, refl, sym, ap, ◌∙◌, rules}
 use Rattle.std.proofs.lemmas.Option.{same_Some}
 use Rattle.toml_edit_laws.proofs.slots.Lists.{slots_from-list}
-use Rattle.toml_edit_model.specs.Lists.{on_slots, slot_list, slots_from, slots_in}
+use Rattle.toml_edit_model.specs.Lists.{on_slots, slots_from, slots_in}
 use Rattle.toml_edit_model.specs.Tree.{inline, table}
 use Rattle.toml_edit_slots.specs.declared.slots.Slot.{Slot}
 use Rattle.toml_edit_tree.specs.ContainerParts.{holding, table_holding}

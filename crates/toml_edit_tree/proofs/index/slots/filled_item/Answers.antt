@@ -1,5 +1,5 @@
 -- The item of a key, unless it is a placeholder.
-use Rattle.std.proofs.Common.{◌≡◌, not, Some, None, cond, option_map, refl, sym, ap, ◌∙◌}
+use Rattle.std.proofs.Common.{not, Some, None, cond, option_map, sym, ap, ◌∙◌}
 use Rattle.toml_edit_tree.specs.View.{item_view}
 use Rattle.toml_edit_tree.proofs.IndexedLaws.{get-read, held_read}
 use Rattle.toml_edit_tree.proofs.SlotsLaws.{is_item-not}

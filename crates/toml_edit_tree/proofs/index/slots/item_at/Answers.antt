@@ -1,5 +1,5 @@
 -- The item at a place.
-use Rattle.std.proofs.Common.{arith, ap, sym, Some, slice_get, ◌∙◌}
+use Rattle.std.proofs.Common.{arith, ap, sym, Some, ◌∙◌}
 use Rattle.std.proofs.lemmas.Option.{slice_get-get_or}
 use Rattle.toml_edit_tree.proofs.PlaceLaws.{slot_here, slot_past}
 use Rattle.toml_edit_tree.proofs.index.slots.item_at.Goals as goal

@@ -1,10 +1,9 @@
 -- The place of a key's slot, which may be new.
-use Rattle.std.proofs.Common.{◌≡◌, Some, None, [], ◌∷◌, ◌++◌, length, rules, sym, ap, ◌∙◌}
+use Rattle.std.proofs.Common.{◌≡◌, rules, sym, ◌∙◌}
 use Rattle.std.proofs.lemmas.Cmp.{nat_list_eq_equiv}
 use Rattle.toml_edit_model.specs.Keys.{new_key}
-use Rattle.toml_edit_slots.specs.Slots.{place}
 use Rattle.toml_edit_tree.specs.declared.item.Item.TheVariants as items
-use Rattle.toml_edit_tree.proofs.IndexedLaws.{added, has-none, item-new, item-there, leaves, low-last, made-new, made-there, place-last, put-added, put-here}
+use Rattle.toml_edit_tree.proofs.IndexedLaws.{added, has-none, item-new, item-there, leaves, made-new, made-there, place-last, put-added, put-here}
 use Rattle.toml_edit_tree.proofs.TableEntryLaws.{apart-first, place-shown}
 use Rattle.toml_edit_tree.proofs.index.slots.place_under.Goals as goal
 

@@ -1,6 +1,6 @@
 -- The item of a key, which may be new.
 use mathlib.Core.Logic.{inl, inr}
-use Rattle.std.proofs.Common.{Some, option_map, refl, sym, ap, ◌∙◌}
+use Rattle.std.proofs.Common.{option_map, refl, sym, ap, ◌∙◌}
 use Rattle.toml_edit_model.specs.Slots.{has_slot}
 use Rattle.toml_edit_tree.specs.View.{item_view}
 use Rattle.toml_edit_tree.proofs.IndexedLaws.{same-table, table-lent, table-written}
