@@ -3,3 +3,4 @@ pub mod FoundLaws
 pub mod MadeLaws
 pub mod SlotLaws
 pub mod PutLaws
+pub mod RefLaws

@@ -3,6 +3,7 @@ use Rattle.std.specs.Prelude.{◌≡◌, Bool, false, List}
 use Rattle.std.proofs.Common.{rules, refl, ap}
 use Rattle.toml_edit_model.specs.Lists.{slot_list}
 use Rattle.toml_edit_model.specs.Tree.{Node, inline, table, no_slots}
+use Rattle.toml_edit_model.specs.TableLike.{Differences, of_inline_table, of_table}
 use Rattle.toml_edit_slots.specs.declared.slots.Slot.{Slot}
 use Rattle.toml_edit_tree.specs.ContainerParts.{holding, table_holding}
 use Rattle.toml_edit_tree.specs.InlineSlots.{inline_fields}
@@ -30,6 +31,11 @@ abbrev pub with_dotted : Bool → Node → Node
 with_dotted b (table f ss) = table (record f { is_dotted = b }) ss
 with_dotted b (inline f ss) = inline (record f { is_dotted = b }) ss
 with_dotted b n = n
+
+-- in what a table of its kind differs from one of the other
+abbrev pub differences_of : Node → Differences
+differences_of (inline f ss) = of_inline_table
+differences_of n = of_table
 
 -- the slots with their items
 abbrev pub table_entries : Table → List (Slot Item)

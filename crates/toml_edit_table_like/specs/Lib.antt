@@ -4,3 +4,4 @@ pub mod Kinds
 pub mod Lending
 pub mod SlotParts
 pub mod Putting
+pub mod Refs
