@@ -4,3 +4,6 @@ pub mod MadeLaws
 pub mod SlotLaws
 pub mod PutLaws
 pub mod RefLaws
+pub mod InItemLaws
+pub mod MutLaws
+pub mod EntryLaws

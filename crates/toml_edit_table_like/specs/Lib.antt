@@ -5,3 +5,6 @@ pub mod Lending
 pub mod SlotParts
 pub mod Putting
 pub mod Refs
+pub mod InItems
+pub mod MutRefs
+pub mod Entries

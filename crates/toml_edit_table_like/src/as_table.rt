@@ -1,15 +1,19 @@
 //! An item as a table of either kind.
-ghost use Rattle.std.specs.Prelude.{◌≡◌, option_map};
-ghost use Rattle.toml_edit_model.specs.Lists.{slots_in};
+ghost use Rattle.std.specs.Borrow.{sem};
+ghost use Rattle.std.specs.Prelude.{◌≡◌, IfSome, option_map};
+ghost use Rattle.toml_edit_model.specs.Lists.{on_slots, slots_in};
+ghost use Rattle.toml_edit_table_like.specs.MutRefs.{mut_beside, mut_item, mut_node, mut_slots, RestsIfOther};
 ghost use Rattle.toml_edit_table_like.specs.Refs.{is_table_like, ref_node, ref_slots, table_like_in};
 ghost use Rattle.toml_edit_tree.specs.View.{item_view};
 
+use crate::table_ref_mut::TableRefMut;
 use crate::TableRef;
 use toml_edit_tree::Item;
 
 /// What may be a table of either kind: an item.
 pub trait AsTableLike {
     ghost use Rattle.toml_edit_model.specs.Tree.{Node};
+    ghost use Rattle.toml_edit_table_like.specs.declared.table_ref_mut.TableRefMut.{TableRefMut};
 
     /// The item that it stands for.
     ghost node: { Self → Node };
@@ -18,6 +22,14 @@ pub trait AsTableLike {
     fn as_table_like(&self) -> Option<TableRef<'_>>
         ensures table { option_map ref_node result ≡ table_like_in (node self.now) }
         ensures slots { option_map ref_slots result ≡ slots_in (node self.now) };
+
+    /// The table, to be changed, if it is a table or an inline table.
+    fn as_table_like_mut(&mut self) -> Option<TableRefMut<'_>>
+        ensures* other { sem 𝓛 (RestsIfOther Self.row self.entry result) }
+        ensures same_item { IfSome result (λ t. (mut_item t).ghost_name ≡ self.entry.ghost_name) }
+        ensures table { option_map mut_node result ≡ table_like_in (node self.old) }
+        // What the table leaves is its item: told by its slots and by what it has beside them.
+        ensures whole { (t : TableRefMut) → mut_node t ≡ on_slots (λ _. mut_slots t) (mut_beside t) };
 
     /// Whether it is a table or an inline table.
     fn is_table_like(&self) -> bool
@@ -37,6 +49,14 @@ impl AsTableLike for Item {
                 Some(table) => Some(TableRef::InlineTable(table)),
                 None => None,
             },
+        }
+    }
+
+    fn as_table_like_mut(&mut self) -> Option<TableRefMut<'_>> {
+        if self.is_table_like() {
+            Some(TableRefMut { item: self })
+        } else {
+            None
         }
     }
 }

@@ -1,5 +1,6 @@
 //! What tables of either kind are made of.
-ghost use Rattle.std.specs.Prelude.{◌≡◌, ◌<◌, IfSome, IsTrue, Some, length, nat_lt, option_and_then, option_map, slice_get};
+ghost use Rattle.std.specs.Prelude.{◌≡◌, ◌<◌, IfSome, IsTrue, None, Some, length, nat_lt, option_and_then, option_map, slice_get};
+ghost use Rattle.std.proofs.Common.{refl};
 ghost use Rattle.std.specs.Borrow.{sem};
 ghost use Rattle.toml_edit_model.specs.Slots.{AreApart, place as place_seen};
 ghost use Rattle.toml_edit_model.specs.TableCalls.{get};
@@ -17,7 +18,8 @@ use toml_edit_tree::{InlineTable, Item, Table};
 
 /// What is made of slots: a table of either kind.
 pub trait HasSlots {
-    ghost use Rattle.std.specs.Prelude.{List};
+    ghost use Rattle.std.specs.Borrow.{GName};
+    ghost use Rattle.std.specs.Prelude.{List, Option};
     ghost use Rattle.toml_edit_model.specs.Slots.{Slot};
     ghost use Rattle.toml_edit_model.specs.Tree.{Node};
     ghost use Rattle.toml_edit_slots.specs.declared.slots.Slot as code;
@@ -46,6 +48,11 @@ pub trait HasSlots {
     ghost again: { (es fs : List (code.Slot Item)) (t : Self) → with_entries es (with_entries fs t) ≡ with_entries es t };
 
     ghost stays: { (t : Self) → with_entries (entries t) t ≡ t };
+
+    /// The reference that it came by, where it came by one, which stays.
+    ghost origin: { Self → Option GName };
+
+    ghost holds: { (es : List (code.Slot Item)) (t : Self) → origin (with_entries es t) ≡ origin t };
 
     /// The slots.
     fn as_slots(&self) -> &Slots<Item>
@@ -135,6 +142,10 @@ impl HasSlots for Table {
 
     ghost stays = { table_stays };
 
+    ghost origin = { λ t. None };
+
+    ghost holds = { λ es t. refl };
+
     fn as_slots(&self) -> &Slots<Item> {
         &self.slots
     }
@@ -162,6 +173,10 @@ impl HasSlots for InlineTable {
     ghost again = { inline_again };
 
     ghost stays = { inline_stays };
+
+    ghost origin = { λ t. None };
+
+    ghost holds = { λ es t. refl };
 
     fn as_slots(&self) -> &Slots<Item> {
         &self.items

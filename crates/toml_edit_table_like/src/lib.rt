@@ -2,6 +2,7 @@
 #![tactic(auto)]
 
 mod as_table;
+mod entry;
 mod find;
 mod has_slots;
 mod inline;
@@ -9,10 +10,13 @@ mod like;
 mod put;
 mod slot;
 mod table_ref;
+mod table_ref_mut;
 
 pub use as_table::AsTableLike;
+pub use entry::TableLikeEntry;
 #[doc(hidden)]
 pub use has_slots::HasSlots;
-pub use like::TableLike;
+pub use like::{AnyTable, TableLike};
 pub use slot::TableLikeSlot;
 pub use table_ref::TableRef;
+pub use table_ref_mut::TableRefMut;

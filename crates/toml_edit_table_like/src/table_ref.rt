@@ -14,7 +14,7 @@ ghost use Rattle.toml_edit_tree.specs.SlotsOf.{slot_read};
 ghost use Rattle.toml_edit_tree.specs.View.{item_view};
 
 use crate::find::{filled_len, filled_slot};
-use crate::{HasSlots, TableLike};
+use crate::{AnyTable, HasSlots};
 use std::alloc::Global;
 use toml_edit_key::Key;
 use toml_edit_repr::Mem;
@@ -95,7 +95,7 @@ impl<'a> TableRef<'a> {
     {
         match *self {
             TableRef::Table(table) => Table::contains_key(table, key),
-            TableRef::InlineTable(table) => TableLike::contains_key(table, key),
+            TableRef::InlineTable(table) => AnyTable::contains_key(table, key),
         }
     }
 

@@ -80,6 +80,7 @@ impl<'a, T: HasSlots> TableLikeSlot<'a, T> {
         ensures item { Some result ≡ slot_item self.entry }
         ensures removed { IfSome (slot_key self.entry) (λ key. T.slots_of self.exit.0.now ≡ without key.name (T.slots_of (slot_ref self.entry).now)) }
         ensures beside { T.beside self.exit.0.now ≡ T.beside (slot_ref self.entry).now }
+        ensures origin { T.origin self.exit.0.now ≡ T.origin (slot_ref self.entry).now }
     {
         let at = self.at;
         self.table.as_slots_mut().remove_at(at).into_item()
