@@ -15,7 +15,9 @@ pub use toml_edit_key::{Key, KeyMut};
 pub use toml_edit_repr::{Decor, Formatted, Mem, RawString, Repr, ScalarValue, ValueRepr};
 pub use toml_edit_slots::NoMemory;
 pub use toml_edit_stream::{Broken, Input, Output, Watched};
-pub use toml_edit_table_like::{TableLike, TableLikeSlot};
+pub use toml_edit_table_like::{
+    AnyTable, AsTableLike, TableLike, TableLikeEntry, TableLikeSlot, TableRef, TableRefMut,
+};
 pub use toml_edit_tree::{
     Array, ArrayIntoIter, ArrayIter, ArrayOfTables, ArrayOfTablesIntoIter, ArrayOfTablesIter,
     Entry, InlineEntry, InlineOccupiedEntry, InlineSlotMut, InlineTable, InlineTableIntoIter,

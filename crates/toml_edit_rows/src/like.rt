@@ -4,7 +4,7 @@ use crate::slots::{Told, tell_found, tell_given, tell_old, tell_taken, write};
 use crate::steps::{behind, index, word};
 use crate::{key, lines, made, table, value};
 use serde_json::Value as Json;
-use toml_edit::{InlineTable, Item, Key, Table, TableLike, TableLikeSlot};
+use toml_edit::{AnyTable, InlineTable, Item, Key, Table, TableLike, TableLikeSlot};
 
 /// Does a step with a table. Of a call that answers nothing the answer is empty.
 pub fn change_table(table: &mut Table, words: &[Json], out: &mut Answer) {
@@ -16,7 +16,7 @@ pub fn change_table(table: &mut Table, words: &[Json], out: &mut Answer) {
 
 fn insert_in_table(table: &mut Table, name: &str, made: Option<Item>, out: &mut Answer) {
     match made {
-        Some(item) => tell_old(TableLike::insert(table, name, item), out),
+        Some(item) => tell_old(AnyTable::insert(table, name, item), out),
         None => out.text("no item"),
     }
 }
@@ -37,7 +37,7 @@ fn insert_inline(table: &mut InlineTable, name: &str, made: Option<Item>, out: &
         drop(item);
         out.text("no item");
     } else {
-        tell_old(TableLike::insert(table, name, item), out);
+        tell_old(AnyTable::insert(table, name, item), out);
     }
 }
 

@@ -6,8 +6,8 @@ ghost use Rattle.toml_edit_table_like.specs.MutRefs.{mut_beside, mut_item, mut_n
 ghost use Rattle.toml_edit_table_like.specs.Refs.{is_table_like, ref_node, ref_slots, table_like_in};
 ghost use Rattle.toml_edit_tree.specs.View.{item_view};
 
-use crate::table_ref_mut::TableRefMut;
 use crate::TableRef;
+use crate::table_ref_mut::TableRefMut;
 use toml_edit_tree::Item;
 
 /// What may be a table of either kind: an item.
