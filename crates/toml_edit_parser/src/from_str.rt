@@ -4,16 +4,16 @@ ghost use Rattle.toml_edit_model.specs.Syntax as syntax;
 ghost use Rattle.toml_edit_model.specs.Lone.{IsLoneValue, is_accepted_value};
 ghost use Rattle.toml_edit_error.specs.Fault.{IfToml};
 ghost use Rattle.toml_edit_syntax.specs.LoneEvents.{AreLoneEvents};
-ghost use Rattle.toml_edit_parser.specs.LoneValue.{IsLoneReading, IsLoneRefusal, ReadsLone};
+ghost use Rattle.toml_edit_parser.specs.LoneValue.{IsLoneItemReading, IsLoneReading, IsLoneRefusal, ReadsLone, ReadsLoneItem};
 ghost use Rattle.toml_edit_parser.specs.ValueRead.{AreIn, IsRead};
-ghost use Rattle.toml_edit_tree.specs.View.{value_view};
+ghost use Rattle.toml_edit_tree.specs.View.{item_view, value_view};
 ghost use Rattle.toml_edit_model.specs.OwnedForm.{NodeFits};
 
 use crate::reader::{are_cut_short, read_value, refusal, refusal_of_all};
 use std::alloc::Global;
 use toml_edit_error::ParseFault;
 use toml_edit_syntax::{Event, SyntaxFault, lone_events};
-use toml_edit_tree::Value;
+use toml_edit_tree::{Item, Value};
 
 /// What can be read from a text of its own.
 pub trait FromStr: Sized {
@@ -48,6 +48,24 @@ impl FromStr for Value {
             Err(SyntaxFault::Text(mistake, span)) => {
                 Err(refusal(alloc, text, mistake.message(), span))
             }
+        }
+    }
+}
+
+impl FromStr for Item {
+    ghost answers = { ReadsLoneItem };
+
+    /// Reads a lone value, as `Value` does, and answers it as an item. It is refused for what the value is refused for.
+    fn from_str(alloc: Global, text: &str) -> Result<Item, ParseFault>
+        ensures read { IfOk result (λ x. IsLoneItemReading text.now (item_view x)) }
+        // An accepted value is never refused.
+        ensures every { (v : syntax.Value) → IsLoneValue text.now v → is_accepted_value v ≡ true
+            → IsOk result ⊎ IsErrOf result ParseFault.Memory }
+        ensures refused { IfErr result (λ e. IfToml e (IsLoneRefusal text.now)) }
+    {
+        match <Value as FromStr>::from_str(alloc, text) {
+            Ok(value) => Ok(Item::Value(value)),
+            Err(fault) => Err(fault),
         }
     }
 }
