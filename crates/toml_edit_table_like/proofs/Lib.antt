@@ -3,7 +3,6 @@ pub mod FoundLaws
 pub mod MadeLaws
 pub mod SlotLaws
 pub mod PutLaws
-pub mod RefLaws
 pub mod InItemLaws
 pub mod MutLaws
 pub mod EntryLaws

@@ -1,6 +1,6 @@
 -- A table that an item lends: its slots are those of the item.
 use mathlib.Core.Logic.{◌⊎◌, inl, inr}
-use Rattle.std.proofs.Common.{◌≡◌, List, [], Option, Some, sym, ap}
+use Rattle.std.proofs.Common.{◌≡◌, List, [], Some, sym, ap}
 use Rattle.std.specs.Borrow.{GName}
 use Rattle.std.specs.Option.{unwrap_or}
 use Rattle.toml_edit_slots.specs.declared.slots.Slot.{Slot}

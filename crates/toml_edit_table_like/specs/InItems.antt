@@ -1,5 +1,5 @@
 -- A table of either kind that an item holds: its slots with their items, and the item with others.
-use Rattle.std.specs.Prelude.{◌≡◌, Bool, true, List, [], Option, None, Some, is_some, option_map}
+use Rattle.std.specs.Prelude.{◌≡◌, List, [], Option, None, Some, option_map}
 use Rattle.std.proofs.Common.{rules, refl, sym, ap, ◌∙◌}
 use Rattle.std.specs.Option.{unwrap_or}
 use Rattle.toml_edit_model.specs.Lists.{on_slots, slots_in}
@@ -19,7 +19,7 @@ use Rattle.toml_edit_tree.specs.declared.item.Item.TheViews.{roll-Item, roll-Val
 use Rattle.toml_edit_tree.specs.declared.table.Table.{Table}
 use Rattle.toml_edit_tree.specs.declared.value.Value.{Value, out-Value}
 use Rattle.toml_edit_tree.specs.declared.value.Value.TheVariants as values
-use Rattle.toml_edit_table_like.specs.Kinds.{inline_again, inline_beside, inline_entries, inline_keeps, inline_shows, inline_stays, inline_takes, table_again, table_beside, table_entries, table_keeps, table_shows, table_stays, table_takes}
+use Rattle.toml_edit_table_like.specs.Kinds.{inline_entries, inline_keeps, inline_shows, inline_stays, table_entries, table_keeps, table_shows, table_stays}
 use Rattle.toml_edit_table_like.specs.Shown.{shown}
 
 -- ---- one level

@@ -1,6 +1,5 @@
 -- Whether the key has a slot.
 use Rattle.std.proofs.Common.{is_some, sym, ap, ◌∙◌}
-use Rattle.toml_edit_table_like.specs.Shown.{shown}
 use Rattle.toml_edit_model.specs.Slots.{has_slot}
 use Rattle.toml_edit_table_like.proofs.ShownLaws.{has_slot-shown}
 use Rattle.toml_edit_table_like.proofs.entry.TableLikeEntry.is_occupied.Goals as goal

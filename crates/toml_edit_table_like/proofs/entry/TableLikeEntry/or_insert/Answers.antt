@@ -1,6 +1,6 @@
 -- The item of an entry, which may be new.
 use mathlib.Core.Logic.{inl, inr}
-use Rattle.std.proofs.Common.{Some, option_map, refl, ap, ◌∙◌}
+use Rattle.std.proofs.Common.{option_map, refl, ap, ◌∙◌}
 use Rattle.std.proofs.lemmas.Option.{same_Some}
 use Rattle.toml_edit_tree.specs.View.{item_view}
 use Rattle.toml_edit_table_like.specs.Entries.{with_table}

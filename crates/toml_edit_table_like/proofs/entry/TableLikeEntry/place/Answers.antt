@@ -1,5 +1,4 @@
 -- The place of the slot of an entry.
-use Rattle.std.proofs.Common.{◌≡◌, refl}
 use Rattle.toml_edit_model.specs.Keys.{new_key}
 use Rattle.toml_edit_tree.specs.View.{item_view}
 use Rattle.toml_edit_table_like.proofs.EntryLaws.{placed-err, placed-item, placed-leaves, placed-present, placed-rest, placed-within}

@@ -1,5 +1,5 @@
 -- The items of a table as a list of pairs.
-use Rattle.std.proofs.Common.{sym, ap, ◌∙◌}
+use Rattle.std.proofs.Common.{ap, ◌∙◌}
 use Rattle.toml_edit_model.specs.Iterating.{filled_pairs}
 use Rattle.toml_edit_tree.specs.Held.{held}
 use Rattle.toml_edit_tree.specs.View.{slots_view}

@@ -1,5 +1,5 @@
 -- The slot at a place.
-use Rattle.std.proofs.Common.{slice_get, sym, ap, ◌∙◌}
+use Rattle.std.proofs.Common.{slice_get, ap, ◌∙◌}
 use Rattle.toml_edit_table_like.proofs.FoundLaws.{slot-read}
 use Rattle.toml_edit_table_like.proofs.table_ref.TableRef.key_value_at.Goals as goal
 

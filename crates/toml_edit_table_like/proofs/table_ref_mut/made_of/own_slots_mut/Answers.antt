@@ -1,7 +1,6 @@
 -- The slots of a table that an item is.
-use Rattle.std.proofs.Common.{◌≡◌, Some, rules, refl, sym, ap, ◌∙◌}
+use Rattle.std.proofs.Common.{rules, refl}
 use Rattle.toml_edit_tree.specs.declared.item.Item.{the_lemmas}
-use Rattle.toml_edit_table_like.specs.InItems.{entries_in}
 use Rattle.toml_edit_table_like.proofs.table_ref_mut.made_of.own_slots_mut.Goals as goal
 
 pub returns-in-Table : goal.returns-in-Table

@@ -1,8 +1,6 @@
 -- The slots of an inline table that a value is.
-use Rattle.std.proofs.Common.{◌≡◌, Some, rules, refl, sym, ap, ◌∙◌}
+use Rattle.std.proofs.Common.{rules, refl}
 use Rattle.toml_edit_tree.specs.declared.item.Item.{the_lemmas}
-use Rattle.toml_edit_tree.specs.declared.value.Value.{out-Value}
-use Rattle.toml_edit_table_like.specs.InItems.{entries_in_value, value_with}
 use Rattle.toml_edit_table_like.proofs.table_ref_mut.made_of.value_slots_mut.Goals as goal
 
 pub returns : goal.returns

@@ -2,7 +2,6 @@
 use Rattle.std.proofs.Common.{Some, option_map, refl, sym, ap, ◌∙◌}
 use Rattle.std.proofs.lemmas.Option.{same_Some}
 use Rattle.std.specs.Option.{unwrap_or}
-use Rattle.toml_edit_model.specs.Keys.{new_key}
 use Rattle.toml_edit_model.specs.Slots.{has_slot, lookup, put, with_item as with_item_seen}
 use Rattle.toml_edit_tree.specs.View.{item_view}
 use Rattle.toml_edit_table_like.specs.InItems.{stays-in, with_entries_in}
