@@ -1,5 +1,5 @@
 -- The first key of a path, by its events.
-use Rattle.std.proofs.Common.{◌≡◌, ℕ, ◌+◌, ◌-◌, List, [], ◌∷◌, length, refl, sym, ap, ◌∙◌, subst, arith, Option, Some, None}
+use Rattle.std.proofs.Common.{◌≡◌, ℕ, ◌+◌, ◌-◌, List, [], ◌∷◌, length, sym, ap, ◌∙◌, arith, Option, Some, None}
 use Rattle.toml_edit_model.specs.Text.{Text}
 use Rattle.toml_edit_model.specs.Spelling.{SpellsKey}
 use Rattle.toml_edit_model.specs.Syntax.{Segment, segment_text, path_text}
@@ -20,7 +20,7 @@ use Rattle.toml_edit_parser.specs.PathRead.{IsFirstKey, IsPathFrom, segment_key}
 use Rattle.toml_edit_parser.specs.ValueRead.{span_at, spanned_raw, split_first}
 use Rattle.toml_edit_parser.proofs.ArrayLaws.{spanned_raw-is}
 use Rattle.toml_edit_parser.proofs.EntryLaws.{key-spelled, same_dots}
-use Rattle.toml_edit_parser.proofs.ReadLaws.{mapped, same_parts}
+use Rattle.toml_edit_parser.proofs.ReadLaws.{same_parts}
 use Rattle.toml_edit_parser.proofs.SpellingLaws.{spelled-some, span_of-some}
 
 abbrev with_spelling : Decor → Segment → Raw → Raw → Raw → Key

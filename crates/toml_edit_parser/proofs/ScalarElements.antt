@@ -15,13 +15,14 @@ use Rattle.toml_edit_error.specs.Report.{Report, fault_of}
 use Rattle.toml_edit_error.specs.Fault.{IfToml}
 use Rattle.toml_edit_error.specs.declared.toml_error.ParseFault.{ParseFault}
 use Rattle.toml_edit_syntax.specs.declared.event.Event.{Event}
-use Rattle.toml_edit_syntax.specs.declared.event.EventKind.TheVariants.{After}
+use Rattle.toml_edit_syntax.specs.declared.event.EventKind.TheVariants.{After, LineEnd}
 use Rattle.toml_edit_syntax.specs.declared.event.Span.{Span}
 use Rattle.toml_edit_syntax.specs.ValueEvents.{event, value_events, shortened}
 use Rattle.toml_edit_tree.specs.declared.item.Item.{Item}
 use Rattle.toml_edit_tree.specs.declared.item.Item.TheVariants as items
 use Rattle.toml_edit_tree.specs.declared.value.Value as code
-use Rattle.toml_edit_tree.specs.View.{items_view, value_view}
+use Rattle.toml_edit_tree.specs.View.{item_view, items_view, value_view}
+use Rattle.toml_edit_parser.specs.StatementParts.{IsLineValue}
 use Rattle.toml_edit_parser.specs.ValueRead.{span_at, spanned_raw, split_first, split_scalar, NamesOne, AddsElement}
 use Rattle.toml_edit_parser.proofs.ArrayLaws.{spanned_raw-is}
 use Rattle.toml_edit_parser.proofs.HeadLaws.{no_fault, one_fault, scalar_node}
@@ -50,6 +51,17 @@ scalar_element source (array es comma t) at level after more tail place behind R
 scalar_element source (inline_table ps comma t) at level after more tail place behind R e is spells stands f =
     let g = e ∙ ap split_scalar is in
     elim (eqb_tells level nesting_limit) [ inl (full, same) ↦ let h = rw full at g in absurd cc | inr (below, apart) ↦ let h = rw below at g in absurd cc ]
+
+-- So is a value that begins with a scalar, whatever events follow it.
+pub scalar_first : (source : Text) (v : Value) (at : ℕ) (es : ℕ → List Event) (tail : List Event) (place : Span) (behind : List Event) (R : Value → Type 0)
+    → Some (place, behind) ≡ split_scalar tail → tail ≡ shortened 0 (value_events at v ++ es (at + length (value_text v))) → IsValue v → Stands source at (value_text v)
+    → ((s : scalars.Scalar) (t : Text) → Spells s t → Stands source at t → place ≡ span_at at t → behind ≡ shortened 0 (es (at + length t)) → R (scalar s t))
+    → R v
+scalar_first source (scalar s t) at es tail place behind R e is spells stands f =
+    let p = same_spans place (span_at at t) behind (shortened 0 (es (at + length t))) (e ∙ ap split_scalar is) in
+    f s t spells stands p.0 p.1
+scalar_first source (array xs comma t) at es tail place behind R e is spells stands f = absurd (let g = e ∙ ap split_scalar is in cc)
+scalar_first source (inline_table ps comma t) at es tail place behind R e is spells stands f = absurd (let g = e ∙ ap split_scalar is in cc)
 
 -- ---- what its place says
 
@@ -101,6 +113,31 @@ scalar_added a s t start level more old new before place first events rest w d s
       items = put;
       node = subst (λ n. IsValueNode spanned_form (scalar s t) start a.before a.after n) (sym known)
           (scalar_node s t at at (leaf s (Some (span at end)) unset) (scalar-some s t spells) refl refl start a.before a.after refl);
+    }
+
+-- the value of a key line
+pub scalar_put : (s : scalars.Scalar) (t : Text) (start : ℕ) (before : Span) (after : Text) (more : List Event) (place : Span) (first : Event) (events rest : List Event)
+    (w : code.Value) (d : Decor)
+    → Spells s t → place ≡ span_at start t → events ≡ shortened 0 (event LineEnd (start + length t) after ∷ more) → Some (first, rest) ≡ split_first events
+    → is_in_range s t ≡ true → value_view w ≡ leaf s (Some (span place.start place.end)) d → d ≡ put_decor before first.span
+    → IsLineValue (scalar s t) start before after more (item_view (items.Value w)) rest
+scalar_put s t start before after more place first events rest w d spells place_is events_are split fits view decor =
+    let end = start + length t in
+    let p = same_parts first (event LineEnd end after) rest (shortened 0 more) (split ∙ ap split_first events_are) in
+    let after_is : first.span ≡ span_at end after = ap (λ (x : Event). x.span) p.0 in
+    let spelling = λ (x : Span). leaf s (Some (span x.start x.end)) d in
+    record {
+      faultless = no_fault s t start fits;
+      node = λ i b here same.
+          let known =
+          view-Value w ∙ view ∙ ap spelling place_is ∙ ap (leaf s (Some (span start end))) (
+          decor ∙ ap (λ (x : Span). put_decor x first.span) same ∙ ap (put_decor (span_at i b)) after_is
+          ∙ ap (λ r. record { prefix = Some r; suffix = Some (spanned_raw (span_at end after)) }) (spanned_raw-is i b)
+          ∙ ap (λ r. record { prefix = Some (spanned_form.raw i b); suffix = Some r }) (spanned_raw-is end after)
+          ) in
+          subst (λ n. IsValueNode spanned_form (scalar s t) i b after n) (sym known)
+          (scalar_node s t start start (leaf s (Some (span start end)) unset) (scalar-some s t spells) refl refl i b after here);
+      rest_is = p.1;
     }
 
 -- ---- it fits

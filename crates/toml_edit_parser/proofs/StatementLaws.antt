@@ -1,13 +1,15 @@
 -- The parts of a key line, and of a header.
 use Rattle.std.proofs.Common.{◌≡◌, ℕ, ◌+◌, ◌-◌, ◌<◌, ◌≤◌, List, [], ◌∷◌, ◌++◌, get_or, length, take, drop, refl, sym, ap, ◌∙◌, subst, arith, Some, None}
+use Rattle.std.specs.Borrow.{Bor}
+use Rattle.std.specs.Prelude.{IfOk, Result, Ok, Err}
 use Rattle.std.proofs.Math.Seq.{drop-append_seam, take-append_seam}
 use Rattle.std.proofs.lemmas.List.{length-append, take_rest}
 use Rattle.std.proofs.lemmas.List.Elements.{Contains-append_left, Contains-append_right}
 use Rattle.toml_edit_model.specs.Text.{Text}
 use Rattle.toml_edit_model.specs.Syntax.{Segment, Frame, Value, Header, key_line, IsPath, path_text, value_text, opening_brackets, closing_brackets, brackets_text}
 use Rattle.toml_edit_model.specs.Faults.{recursion_limit, long_path, value_faults, own_faults}
-use Rattle.toml_edit_model.specs.Tree.{Decor, Node}
-use Rattle.toml_edit_model.specs.TreeOf.{spanned_form, span_of, decor_at, frame_leaf, header_leaf, value_start, IsValueNode}
+use Rattle.toml_edit_model.specs.Tree.{Decor, Node, Raw}
+use Rattle.toml_edit_model.specs.TreeOf.{spanned_form, span_of, frame_leaf, header_leaf, value_start, IsValueNode}
 use Rattle.toml_edit_model.specs.Conversions.{with_decor}
 use Rattle.toml_edit_error.specs.Fault.{IfToml}
 use Rattle.toml_edit_error.specs.declared.toml_error.ParseFault.{ParseFault}
@@ -18,10 +20,10 @@ use Rattle.toml_edit_syntax.specs.ValueEvents.{event, path_events, shortened, va
 use Rattle.toml_edit_tree.specs.Casts.{both_sides}
 use Rattle.toml_edit_parser.specs.declared.pairs.KeyPath.{KeyPath}
 use Rattle.toml_edit_parser.specs.declared.statement.HeaderSpans.{HeaderSpans}
-use Rattle.toml_edit_parser.specs.PairRead.{PathView, path_end, path_of}
+use Rattle.toml_edit_parser.specs.PairRead.{PathView, frame_parts, path_end, path_of}
 use Rattle.toml_edit_parser.specs.PathRead.{IsPathFrom}
-use Rattle.toml_edit_parser.specs.StatementParts.{IsHeaderRead, IsLineRead, header_behind}
-use Rattle.toml_edit_parser.specs.ValueRead.{IsRead, NamesOne, span_at, spanned_raw, split_first}
+use Rattle.toml_edit_parser.specs.StatementParts.{IsHeaderRead, IsLineRead, IsLineValue, header_behind}
+use Rattle.toml_edit_parser.specs.ValueRead.{AreIn, IsRead, NamesOne, span_at, spanned_raw, split_first}
 use Rattle.toml_edit_parser.proofs.ArrayLaws.{spanned_raw-is}
 use Rattle.toml_edit_parser.proofs.PairLaws.{path-begins, path-some, path-too-long, path-whole, path_end-is, short-path, value_place}
 use Rattle.toml_edit_parser.proofs.ReadLaws.{named, same_parts}
@@ -55,20 +57,42 @@ pub line-refused : (source : Text) (f : Frame) (v : Value) (start : ℕ) (e : Pa
 line-refused source f v start e h =
     named source (value_faults v (value_at_byte start f) 0) (own_faults start (key_line f v [])) e (Contains-append_right (long_path f.path) (value_faults v (value_at_byte start f) 0)) h
 
--- a line is read where its value is, and its item is put between the texts around it
-pub line-read : (f : Frame) (v : Value) (start : ℕ) (more : List Event) (n m : Node) (inner : List Event) (own : Decor) (path : KeyPath) (rest : List Event) → long_path f.path ≡ []
-    → IsRead v (value_at_byte start f) 0 (event LineEnd (value_at_byte start f + length (value_text v)) f.trailing ∷ more) n inner
-    → own ≡ decor_at spanned_form (start + value_start spanned_form f) f.after_equals (value_at_byte start f + length (value_text v)) f.trailing
-    → m ≡ with_decor own n → IsPathFrom (frame_leaf spanned_form start f) (start + length f.leading) f.path path → rest ≡ shortened 0 more
-    → IsLineRead f v start more m path rest
-line-read f v start more n m inner own path rest short h at is from left =
+after-equals-place : (start : ℕ) (f : Frame) → start + length f.leading + length (path_text f.path) + length f.before_equals + 1 ≡ start + value_start spanned_form f
+after-equals-place start f = omega arith
+
+-- a line is read where its value is
+pub line-read : (f : Frame) (v : Value) (start : ℕ) (more : List Event) (n : Node) (before : Span) (path : KeyPath) (rest : List Event) → long_path f.path ≡ []
+    → before ≡ (frame_parts start f).after_equals → IsLineValue v (value_at_byte start f) before f.trailing more n rest
+    → IsPathFrom (frame_leaf spanned_form start f) (start + length f.leading) f.path path → IsLineRead f v start more n path rest
+line-read f v start more n before path rest short at h from =
+    let place = value_place start f in
     record {
       faultless = λ end. ap (λ fs. fs ++ value_faults v (value_at_byte start f) 0) short ∙ h.faultless;
-      node = subst (λ x. IsValueNode spanned_form v (start + value_start spanned_form f) f.after_equals f.trailing x) (sym (is ∙ ap (λ d. with_decor d n) at))
-          (h.node (start + value_start spanned_form f) f.after_equals f.trailing (value_place start f));
+      node = h.node (start + value_start spanned_form f) f.after_equals place (at ∙ ap (λ i. span_at i f.after_equals) (after-equals-place start f));
       path_is = from;
-      rest_is = left;
+      rest_is = h.rest_is;
     }
+
+-- an item that is put between two texts
+pub line-value : (v : Value) (start : ℕ) (before : Span) (after : Text) (more : List Event) (n m : Node) (prefix suffix : Raw) (last : Span) (inner rest : List Event)
+    → IsRead v start 0 (event LineEnd (start + length (value_text v)) after ∷ more) n inner → prefix ≡ spanned_raw before → suffix ≡ spanned_raw last
+    → last ≡ span_at (start + length (value_text v)) after → m ≡ with_decor (both_sides prefix suffix) n → rest ≡ shortened 0 more → IsLineValue v start before after more m rest
+line-value v start before after more n m prefix suffix last inner rest h left right last_is is behind =
+    let end = start + length (value_text v) in
+    record {
+      faultless = h.faultless;
+      node = λ i b here same.
+          let sides = ap (λ r. both_sides r suffix) (left ∙ ap spanned_raw same ∙ spanned_raw-is i b)
+          ∙ ap (both_sides (span_of i b)) (right ∙ ap spanned_raw last_is ∙ spanned_raw-is end after) in
+          subst (λ x. IsValueNode spanned_form v i b after x) (sym (is ∙ ap (λ d. with_decor d n) sides)) (h.node i b after here);
+      rest_is = behind;
+    }
+
+-- what is behind the value is shorter than all
+pub shorter : (t : Text) (inner events : List Event) (result : Result (Bor (List Event)) ParseFault) → length inner < length events
+    → IfOk result (λ r. AreIn t r.now × (length r.now < length inner)) → IfOk result (λ r. AreIn t r.now × (length r.now < length events))
+shorter t inner events (Ok r) one h = (h.0, let n = h.1 in omega (arith, one, n))
+shorter t inner events (Err e) one h = h
 
 -- ---- a header
 

@@ -1,9 +1,9 @@
 -- What reading the parts of a key line, or of a header, answers, by the events of the text.
-use Rattle.std.specs.Prelude.{◌≡◌, ℕ, ◌+◌, Bool, List, [], ◌∷◌, ◌++◌, length, Result, Ok, Err}
+use Rattle.std.specs.Prelude.{◌≡◌, ℕ, ◌+◌, List, [], ◌∷◌, ◌++◌, length, Result, Ok, Err}
 use Rattle.std.specs.Borrow.{Bor}
 use Rattle.toml_edit_model.specs.Text.{Text}
 use Rattle.toml_edit_model.specs.Syntax.{Frame, Value, Header, key_line, path_text, value_text, opening_brackets, closing_brackets, brackets_text}
-use Rattle.toml_edit_model.specs.Faults.{own_faults, long_path}
+use Rattle.toml_edit_model.specs.Faults.{own_faults, long_path, value_faults}
 use Rattle.toml_edit_model.specs.Tree.{Node}
 use Rattle.toml_edit_model.specs.TreeOf.{spanned_form, frame_leaf, header_leaf, value_start, IsValueNode}
 use Rattle.toml_edit_error.specs.Fault.{IfToml}
@@ -37,6 +37,18 @@ pub record IsLineRead (f : Frame) (v : Value) (start : ℕ) (more : List Event) 
 abbrev pub ReadsLineParts : Text → Frame → Value → ℕ → List Event → Node → Result (KeyPath × Bor (List Event)) ParseFault → Type 0
 ReadsLineParts t f v start more n (Ok r) = IsLineRead f v start more n r.0 r.1.now
 ReadsLineParts t f v start more n (Err e) = IfToml e (NamesOne t (own_faults start (key_line f v [])))
+
+-- ---- its value
+
+-- It has no fault; this is its item, between the text at this span and that text behind it.
+pub record IsLineValue (v : Value) (start : ℕ) (before : Span) (after : Text) (more : List Event) (n : Node) (rest : List Event) : Type 0 where
+  pub faultless : value_faults v start 0 ≡ []
+  pub node : (i : ℕ) (b : Text) → start ≡ i + length b → before ≡ span_at i b → IsValueNode spanned_form v i b after n
+  pub rest_is : rest ≡ shortened 0 more
+
+abbrev pub ReadsLineValue : Text → Value → ℕ → Span → Text → List Event → Node → Result (Bor (List Event)) ParseFault → Type 0
+ReadsLineValue t v start before after more n (Ok r) = IsLineValue v start before after more n r.now
+ReadsLineValue t v start before after more n (Err e) = IfToml e (NamesOne t (value_faults v start 0))
 
 -- ---- a header
 

@@ -121,7 +121,7 @@ fn split_before(events: &[Event]) -> Option<(Span, &[Event])>
 }
 
 /// The place of a scalar, if one comes first, and the events behind it.
-fn split_scalar(events: &[Event]) -> Option<(Span, &[Event])>
+pub(crate) fn split_scalar(events: &[Event]) -> Option<(Span, &[Event])>
     ensures { option_map (λ p. (p.0, p.1.now)) result ≡ spec.split_scalar events.now }
 {
     let (first, rest) = split_first(events)?;

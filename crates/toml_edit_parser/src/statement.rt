@@ -1,23 +1,29 @@
 //! The parts of key lines and headers, from their events.
-ghost use Rattle.std.specs.Prelude.{◌≡◌, ◌<◌, List, [], ℕ, length, IfErr, IfOk};
+ghost use Rattle.std.specs.Prelude.{◌≡◌, ◌+◌, ◌<◌, ◌++◌, ◌∷◌, List, [], ℕ, length, IfErr, IfOk};
+ghost use Rattle.toml_edit_model.specs.Scalars.{Scalar};
+ghost use Rattle.toml_edit_model.specs.Spelling.{Spells};
 ghost use Rattle.toml_edit_model.specs.Syntax as syntax;
 ghost use Rattle.toml_edit_model.specs.Syntax.{Frame, Header, IsHeader, IsValue, IsFrame, frame_text, statement_text, value_text};
+ghost use Rattle.toml_edit_model.specs.Text.{Text};
 ghost use Rattle.toml_edit_model.specs.Trivia.{IsLineEnd};
 ghost use Rattle.toml_edit_laws.specs.Standing.{Stands};
 ghost use Rattle.toml_edit_error.specs.Fault.{IfToml};
 ghost use Rattle.toml_edit_syntax.specs.Events.{IsSpanOf};
-ghost use Rattle.toml_edit_syntax.specs.ValueEvents.{shortened};
+ghost use Rattle.toml_edit_syntax.specs.ValueEvents.{event, shortened, value_events};
+ghost use Rattle.toml_edit_syntax.specs.declared.event.EventKind.TheVariants.{LineEnd};
 ghost use Rattle.toml_edit_parser.specs.PairRead.{path_of};
-ghost use Rattle.toml_edit_parser.specs.StatementParts.{ReadsHeader, ReadsLineParts, header_behind, line_behind};
+ghost use Rattle.toml_edit_parser.specs.StatementParts.{ReadsHeader, ReadsLineParts, ReadsLineValue, header_behind, line_behind};
 ghost use Rattle.toml_edit_parser.specs.ValueRead.{span_at, AreIn};
 ghost use Rattle.toml_edit_tree.specs.View.{item_view};
 
 use crate::pairs::{KeyPath, MOST_PATH_EVENTS, path_end, split_frame};
-use crate::reader::{raw, read_value, refusal_of_all, split_first};
+use crate::reader::{cut, raw, read_value, refusal, refusal_of_all, split_first, split_scalar};
 use std::alloc::Global;
 use toml_edit_error::ParseFault;
+use toml_edit_repr::Decor;
 use toml_edit_syntax::{Event, Span};
-use toml_edit_tree::Item;
+use toml_edit_token::{decode_scalar, range_message};
+use toml_edit_tree::{Item, Value};
 
 /// The path of a header, where its closing brackets end, and where the text behind them stands.
 #[doc(hidden)]
@@ -67,14 +73,89 @@ pub fn read_key_line<'a>(
     if MOST_PATH_EVENTS < frame.path.len() {
         return Err(refusal_of_all(alloc, source, "recursion limit"));
     }
-    let (value, rest) = read_value(alloc, source, rest)?;
+    let rest = read_line_value(alloc, source, frame.after_equals, rest, item)?;
+    let path = path_behind(frame.leading, frame.path, frame.before_equals);
+    Ok((path, rest))
+}
+
+/// Puts the value of a key line, behind the text at this span, in the item's place, and gives the events behind the line. Most values are
+/// scalars, so these have a way of their own.
+fn read_line_value<'a>(
+    alloc: Global,
+    source: &str,
+    before: Span,
+    events: &'a [Event],
+    item: &mut Item,
+) -> Result<&'a [Event], ParseFault>
+    requires { AreIn source.now events.now }
+    ensures value { (v : syntax.Value) (start : ℕ) (after : Text) (more : List Event) → IsValue v → Stands source.now start (value_text v)
+        → events.now ≡ shortened 0 (value_events start v ++ (event LineEnd (start + length (value_text v)) after ∷ more))
+        → ReadsLineValue source.now v start before after more (item_view item.new) result }
+    ensures input { IfErr result (λ e. IfToml e (λ r. r.input ≡ source.now)) }
+    ensures rest { IfOk result (λ r. AreIn source.now r.now × (length r.now < length events.now)) }
+{
+    match split_scalar(events) {
+        Some((span, behind)) => read_line_scalar(alloc, source, before, span, behind, item),
+        None => read_line_list(alloc, source, before, events, item),
+    }
+}
+
+/// The same of a scalar, which is spelled at the span.
+fn read_line_scalar<'a>(
+    alloc: Global,
+    source: &str,
+    before: Span,
+    span: Span,
+    events: &'a [Event],
+    item: &mut Item,
+) -> Result<&'a [Event], ParseFault>
+    requires span { IsSpanOf source.now span }
+    requires spans { AreIn source.now events.now }
+    ensures value { (s : Scalar) (t : Text) (start : ℕ) (after : Text) (more : List Event) → Spells s t → Stands source.now start t
+        → span ≡ span_at start t → events.now ≡ shortened 0 (event LineEnd (start + length t) after ∷ more)
+        → ReadsLineValue source.now (syntax.scalar s t) start before after more (item_view item.new) result }
+    ensures input { IfErr result (λ e. IfToml e (λ r. r.input ≡ source.now)) }
+    ensures rest { IfOk result (λ r. AreIn source.now r.now × (length r.now < length events.now)) }
+{
+    let Some((end, rest)) = split_first(events) else {
+        return Err(refusal_of_all(alloc, source, "expected a newline"));
+    };
+    let text = cut(source, span);
+    match decode_scalar(alloc, text)? {
+        Some(scalar) => {
+            let decor = Decor::new(raw(before), raw(end.span));
+            let value = Value::spanned(scalar, span.start, span.end, decor);
+            put(item, Item::Value(value));
+            Ok(rest)
+        }
+        None => Err(refusal(alloc, source, range_message(text), span)),
+    }
+}
+
+/// The same of an array or an inline table.
+// Stands apart, since what calls it pays at entry for the locals of all that is put into it.
+#[inline(never)]
+fn read_line_list<'a>(
+    alloc: Global,
+    source: &str,
+    before: Span,
+    events: &'a [Event],
+    item: &mut Item,
+) -> Result<&'a [Event], ParseFault>
+    requires { AreIn source.now events.now }
+    ensures value { (v : syntax.Value) (start : ℕ) (after : Text) (more : List Event) → IsValue v → Stands source.now start (value_text v)
+        → events.now ≡ shortened 0 (value_events start v ++ (event LineEnd (start + length (value_text v)) after ∷ more))
+        → ReadsLineValue source.now v start before after more (item_view item.new) result }
+    ensures input { IfErr result (λ e. IfToml e (λ r. r.input ≡ source.now)) }
+    ensures rest { IfOk result (λ r. AreIn source.now r.now × (length r.now < length events.now)) }
+{
+    let (value, rest) = read_value(alloc, source, events)?;
     put(item, Item::Value(value));
     let Some((end, rest)) = split_first(rest) else {
         return Err(refusal_of_all(alloc, source, "expected a newline"));
     };
-    item.decorate(raw(frame.after_equals), raw(end.span));
-    let path = path_behind(frame.leading, frame.path, frame.before_equals);
-    Ok((path, rest))
+    item.decorate(raw(before), raw(end.span));
+    Ok(rest)
 }
 
 /// Puts a value in the place of another. What stood there goes in one call, where an assignment in the place of the caller would be taken apart

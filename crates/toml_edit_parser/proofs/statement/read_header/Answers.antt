@@ -1,5 +1,5 @@
 -- A header, by its parts.
-use Rattle.std.proofs.Common.{◌≡◌, ◌<◌, ◌≤◌, List, length, drop, sym, ap, subst, ◌∙◌, refl, arith}
+use Rattle.std.proofs.Common.{◌≡◌, ◌<◌, List, length, drop, sym, ap, subst, ◌∙◌, refl, arith}
 use Rattle.std.proofs.lemmas.List.{take_rest}
 use Rattle.toml_edit_syntax.specs.declared.event.Event.{Event}
 use Rattle.toml_edit_syntax.specs.ValueEvents.{shortened}

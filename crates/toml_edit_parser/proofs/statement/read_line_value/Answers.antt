@@ -1,0 +1,28 @@
+-- A value that begins with a scalar is one; another is read as any value.
+use Rattle.std.proofs.Common.{◌∷◌}
+use Rattle.toml_edit_syntax.specs.declared.event.EventKind.TheVariants.{LineEnd}
+use Rattle.toml_edit_syntax.specs.ValueEvents.{event}
+use Rattle.toml_edit_tree.specs.View.{item_view}
+use Rattle.toml_edit_parser.specs.StatementParts.{ReadsLineValue}
+use Rattle.toml_edit_parser.proofs.ScalarElements.{scalar_first}
+use Rattle.toml_edit_parser.proofs.SplitLaws.{scalar_in}
+use Rattle.toml_edit_parser.proofs.StatementLaws.{shorter}
+use Rattle.toml_edit_parser.proofs.statement.read_line_value.Goals as goal
+
+pub returns-in-Some-clause-value : goal.returns-in-Some-clause-value
+returns-in-Some-clause-value c =
+    λ v start after more is stands e.
+    scalar_first c.args.source.now v start (λ end. event LineEnd end after ∷ more) c.args.events.now c.in-Some.span c.in-Some.behind.now
+    (λ w. ReadsLineValue c.args.source.now w start c.args.before after more (item_view c.read_line_scalar.new.item) c.read_line_scalar.result)
+    c.in-Some.ensures e is stands (λ s t spells standing at rest_is. c.read_line_scalar.ensures.value s t start after more spells standing at rest_is)
+
+pub returns-in-Some-clause-rest : goal.returns-in-Some-clause-rest
+returns-in-Some-clause-rest c =
+    let inside = scalar_in c.args.source.now c.args.events.now c.in-Some.span c.in-Some.behind.now c.in-Some.ensures c.requires in
+    shorter c.args.source.now c.in-Some.behind.now c.args.events.now c.read_line_scalar.result inside.2 c.read_line_scalar.ensures.rest
+
+pub read_line_scalar-requires-clause-span : goal.read_line_scalar-requires-clause-span
+read_line_scalar-requires-clause-span c = (scalar_in c.args.source.now c.args.events.now c.in-Some.span c.in-Some.behind.now c.in-Some.ensures c.requires).0
+
+pub read_line_scalar-requires-clause-spans : goal.read_line_scalar-requires-clause-spans
+read_line_scalar-requires-clause-spans c = (scalar_in c.args.source.now c.args.events.now c.in-Some.span c.in-Some.behind.now c.in-Some.ensures c.requires).1
