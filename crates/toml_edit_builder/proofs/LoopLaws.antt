@@ -1,8 +1,8 @@
 -- The loop over the statements of a document: how far it is, and its steps.
-use Rattle.std.proofs.Common.{◌≡◌, ℕ, ◌+◌, Bool, true, false, List, [], ◌∷◌, ◌++◌, length, map, refl, sym, ap, subst, ◌∙◌, append_assoc, arith, Option, Some, None, is_some}
+use Rattle.std.proofs.Common.{◌≡◌, ℕ, ◌+◌, Bool, true, false, List, [], ◌∷◌, ◌++◌, length, map, refl, sym, ap, subst, ◌∙◌, append_assoc, arith, is_some}
 use Rattle.toml_edit_model.specs.Mode.{plain}
 use Rattle.toml_edit_model.specs.Text.{Text, joined}
-use Rattle.toml_edit_model.specs.Syntax.{Statement, key_line, header, Document, AreStatements, IsStatement, IsCut, IsDocument, statement_text, mark_text, document_text}
+use Rattle.toml_edit_model.specs.Syntax.{Statement, key_line, header, Document, AreStatements, IsStatement, IsCut, IsDocument, statement_text, mark_text}
 use Rattle.toml_edit_model.specs.Accepted.{is_accepted}
 use Rattle.toml_edit_model.specs.Tree.{Raw, Slots, no_slots}
 use Rattle.toml_edit_model.specs.TreeOf.{spanned_form, IsTreeOf}
@@ -11,7 +11,7 @@ use Rattle.toml_edit_laws.specs.PlaceOrder.{slots_by_place, ArePlaced}
 use Rattle.toml_edit_laws.specs.Standing.{Stands}
 use Rattle.toml_edit_laws.proofs.common.StandingLaws.{stands-left, stands-right, stands-whole}
 use Rattle.toml_edit_laws.proofs.building.Run.{stands_first, stands_next, stands_last, stands_block, stands_refused}
-use Rattle.toml_edit_error.specs.Report.{Report, fault_of}
+use Rattle.toml_edit_error.specs.Report.{fault_of}
 use Rattle.toml_edit_error.specs.Fault.{IfToml}
 use Rattle.toml_edit_error.specs.declared.toml_error.ParseFault.{ParseFault}
 use Rattle.toml_edit_error.specs.declared.toml_error.ParseFault.TheVariants.{Toml, Memory}

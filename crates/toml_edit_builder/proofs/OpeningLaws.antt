@@ -3,7 +3,6 @@ use Rattle.std.proofs.Common.{◌≡◌, ℕ, ◌+◌, Bool, true, false, refl, 
 use Rattle.toml_edit_model.specs.Text.{Text}
 use Rattle.toml_edit_model.specs.Syntax.{Segment, Frame, Value, Header, Statement, key_line, header, IsPath, closing_brackets, opening_brackets, path_text, value_text}
 use Rattle.toml_edit_syntax.specs.declared.event.Event.{Event}
-use Rattle.toml_edit_syntax.specs.declared.event.EventKind.{EventKind}
 use Rattle.toml_edit_syntax.specs.declared.event.EventKind.TheVariants.{Leading, Key, BeforeKey, AfterKey, HeaderClose, LineEnd, HeaderOpen, ArrayHeaderOpen}
 use Rattle.toml_edit_syntax.specs.Events.{header_open, statement_events}
 use Rattle.toml_edit_syntax.specs.ValueEvents.{event, path_events, shortened, value_at_byte, value_events}

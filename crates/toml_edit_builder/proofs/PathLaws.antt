@@ -1,5 +1,5 @@
 -- Adding at the end of a path, key by key: what is said of a part of a tree says the same of the whole.
-use Rattle.std.proofs.Common.{◌≡◌, ℕ, ◌+◌, Bool, true, false, List, [], ◌∷◌, length, refl, sym, ap, ◌∙◌, subst, Option, Some, None, option_map}
+use Rattle.std.proofs.Common.{◌≡◌, ℕ, ◌+◌, Bool, true, false, List, [], ◌∷◌, length, refl, sym, ap, ◌∙◌, subst, arith, Option, Some, None, option_map}
 use Rattle.std.specs.Prelude.{if◌then◌else◌, not, ◌&&◌, option_and_then, Result, Ok, Err}
 use Rattle.toml_edit_model.specs.Mode.{plain}
 use Rattle.toml_edit_model.specs.Roles.{Role, ends_path, extends}
@@ -24,7 +24,9 @@ use Rattle.toml_edit_error.specs.Report.{Report, fault_of}
 use Rattle.toml_edit_error.specs.Fault.{IfToml}
 use Rattle.toml_edit_error.specs.declared.toml_error.ParseFault.{ParseFault}
 use Rattle.toml_edit_error.specs.declared.toml_error.ParseFault.TheVariants.{Toml, Memory}
+use Rattle.toml_edit_syntax.specs.declared.event.Event.{Event}
 use Rattle.toml_edit_syntax.specs.declared.event.Span.{Span}
+use Rattle.toml_edit_syntax.specs.ValueEvents.{path_events}
 use Rattle.toml_edit_parser.specs.declared.key_path.PathKey.{PathKey}
 use Rattle.toml_edit_parser.specs.declared.pairs.KeyPath.{KeyPath}
 use Rattle.toml_edit_parser.specs.PathRead.{IsFirstKey, IsKeyBefore, IsPathFrom, segment_key}
@@ -178,6 +180,22 @@ last-here t r s (m ∷ n ∷ ms) k a ss new is none f = absurd (let e = sym none
 
 pub same_path : (p q : KeyPath) → ◌≡◌ {A = Option KeyPath} (Some p) (Some q) → p ≡ q
 same_path p q e = cc
+
+-- what is left of a path has an event
+no-events : (start : ℕ) (p : List Segment) → IsEndOfPath p → length (path_events start p) ≡ 0 → ⊥
+no-events start [] ends none = absurd (let e = ends.some in cc)
+no-events start (g ∷ []) ends none = absurd (omega (arith, none))
+no-events start (g ∷ h ∷ p) ends none = absurd (omega (arith, none))
+
+-- a path of one event doesn't go on
+pub single-step : (t : Text) (s : Source) (ms : List (Mention Source)) (k : PathKey) (inside : KeyPath) → IsStep t s ms k → k.rest ≡ Some inside
+    → length inside.events.now ≡ 0 → ⊥
+single-step t s [] k inside is some none = absurd is
+single-step t s (m ∷ []) k inside is some none = absurd (let e = sym some ∙ is.1 in cc)
+single-step t s (m ∷ n ∷ ms) k inside is some none =
+    let same = same_path is.1.0 inside (sym is.1.1 ∙ some) in
+    let f = is.1.2 in
+    no-events f.start f.segments f.ends (ap (λ (es : List Event). length es) (sym f.read.2) ∙ ap (λ (q : KeyPath). length q.events.now) same ∙ none)
 
 -- a key before the last that is new
 pub new-here : {A : Type 0} (t : Text) (r : Result A ParseFault) (s : Source) (ms : List (Mention Source)) (k : PathKey) (path : KeyPath) (a : Addition) (ss new : Slots)

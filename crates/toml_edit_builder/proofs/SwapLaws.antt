@@ -1,10 +1,10 @@
 -- Slots that are taken out of a block, part by part.
-use Rattle.std.proofs.Common.{◌≡◌, ℕ, List, [], ◌∷◌, refl, sym, ap, ◌∙◌, rules, Option, Some, None, Vec}
+use Rattle.std.proofs.Common.{◌≡◌, List, [], ◌∷◌, refl, sym, ap, ◌∙◌, rules, Option, Some, None, Vec}
 use Rattle.std.specs.Prelude.{option_and_then}
 use Rattle.toml_edit_model.specs.Text.{Text}
 use Rattle.toml_edit_model.specs.Tree.{Extent, Node, tables, Items, no_items, item, Slots}
 use Rattle.toml_edit_laws.specs.InlineTree.{node_at, with_node}
-use Rattle.toml_edit_laws.specs.Building.{slots_in, last_slots, slots_along, Builder}
+use Rattle.toml_edit_laws.specs.Building.{slots_in, last_slots, slots_along}
 use Rattle.toml_edit_laws.specs.AddPath.{put_last, put_in, put_along, last_item, with_last}
 use Rattle.toml_edit_laws.proofs.common.OptionSteps.{some-is}
 use Rattle.toml_edit_builder.proofs.SlotLaws.{node-same}

@@ -1,5 +1,5 @@
 -- From the events of a text to what parsing it answers.
-use Rattle.std.proofs.Common.{◌≡◌, ◌≤◌, ◌⊎◌, Result, Ok, Err, IsOk, IsErrOf, inl, inr, Bool, true, false, List, [], ◌∷◌, ◌++◌, refl, sym, ap, ◌∙◌, subst, None, Some, arith}
+use Rattle.std.proofs.Common.{◌≡◌, ◌≤◌, ◌⊎◌, Result, Ok, Err, IsOk, IsErrOf, inl, inr, true, false, List, [], ◌∷◌, ◌++◌, refl, sym, ap, ◌∙◌, subst, None, Some, arith}
 use Rattle.std.proofs.lemmas.Bool.Decides.{nat_tests}
 use Rattle.std.proofs.lemmas.Bool.{false≢true, leb-true, cases_Bool}
 use Rattle.std.specs.Prelude.{◌&&◌, nat_le}
@@ -28,7 +28,7 @@ use Rattle.toml_edit_syntax.specs.Faults.{syntax_message}
 use Rattle.toml_edit_syntax.specs.Events.{IsSpanOf, AreEventsOf, events_of, exceeds_depth, has_deep_value, OpensTooMany}
 use Rattle.toml_edit_syntax.specs.ValueEvents.{are_deep, shortened}
 use Rattle.toml_edit_builder.specs.StatementRead.{tree_of}
-use Rattle.toml_edit_builder.specs.DocumentRead.{IsParsed, IsRefusal, MarksMistake}
+use Rattle.toml_edit_builder.specs.DocumentRead.{IsParsed, IsRefusal}
 
 -- ---- no value of an accepted document is too deep
 

@@ -1,6 +1,6 @@
 -- What reading the statements of a text, one after another, does to what is held of its tree (TOML 1.1.0, "Key/Value Pair", "Table" and
 -- "Array of Tables").
-use Rattle.std.specs.Prelude.{◌≡◌, ℕ, ◌+◌, ◌-◌, Bool, true, if◌then◌else◌, List, [], ◌∷◌, ◌++◌, length, map, Option, Some, String, Vec, Result, Ok, Err}
+use Rattle.std.specs.Prelude.{◌≡◌, ℕ, ◌+◌, ◌-◌, Bool, true, if◌then◌else◌, List, [], length, map, Some, String, Vec, Result, Ok, Err}
 use Rattle.std.specs.declared.alloc.Global.{Global}
 use Rattle.std.specs.Borrow.{Bor}
 use Rattle.toml_edit_model.specs.Mode.{plain}
@@ -14,7 +14,7 @@ use Rattle.toml_edit_laws.specs.Building.{slots_along, Builder, added, clash_at,
 use Rattle.toml_edit_laws.specs.TableClash.{table_way_faults}
 use Rattle.toml_edit_laws.specs.AddPath.{put_along}
 use Rattle.toml_edit_laws.specs.PlaceOrder.{slots_by_place, ArePlaced}
-use Rattle.toml_edit_error.specs.Report.{Report, fault_of}
+use Rattle.toml_edit_error.specs.Report.{fault_of}
 use Rattle.toml_edit_error.specs.Fault.{IfToml}
 use Rattle.toml_edit_error.specs.declared.toml_error.ParseFault.{ParseFault}
 use Rattle.toml_edit_syntax.specs.declared.event.Event.{Event}

@@ -82,8 +82,9 @@ fn spanned(span: Span) -> RawString
     }
 }
 
-/// How many slots the key lines before the first header make at least, unless two keys are one: a line whose key has no dot makes one.
-fn slot_count(events: &[Event]) -> usize {
+/// How many slots the key lines before the next header make at least, unless two keys are one: a line whose key has no dot makes one.
+#[inline(never)]
+pub(crate) fn slot_count(events: &[Event]) -> usize {
     let mut count: usize = 0;
     for event in events {
         match event.kind {

@@ -6,7 +6,7 @@ ghost use Rattle.toml_edit_model.specs.Roles.{Role, extends};
 ghost use Rattle.toml_edit_model.specs.Tree.{Node, item as item_of, no_items, no_slots, table as table_of, tables as tables_of};
 ghost use Rattle.toml_edit_model.specs.TreeOf.{made_by_path, spanned_form};
 ghost use Rattle.toml_edit_laws.specs.InPlace as model;
-ghost use Rattle.toml_edit_laws.specs.AddPath.{Addition, makes_dotted, path_clash};
+ghost use Rattle.toml_edit_laws.specs.AddPath.{Addition, a_value, makes_dotted, path_clash};
 ghost use Rattle.toml_edit_laws.specs.FlatTree.{with_slot};
 ghost use Rattle.toml_edit_laws.specs.TableClash.{clash_in_last, table_way_message};
 ghost use Rattle.toml_edit_laws.specs.TableTree.{change_table};
@@ -23,7 +23,7 @@ use crate::last_key::put_last;
 use std::alloc::Global;
 use toml_edit_error::ParseFault;
 use toml_edit_key::Key;
-use toml_edit_parser::{KeyPath, PathKey, next_key, push_item, refusal};
+use toml_edit_parser::{KeyPath, PathKey, add_last, next_key, push_item, refusal, refusal_of_all};
 use toml_edit_slots::Slots;
 use toml_edit_syntax::Span;
 use toml_edit_tree::{ArrayOfTables, Item, Table, Value};
@@ -69,6 +69,31 @@ pub fn add_path(
             None => add_below(alloc, source, kind, key, span, inside, item, slots),
             Some(at) => add_in_item(alloc, source, kind, span, inside, item, slots.item_mut(at)),
         },
+    }
+}
+
+/// Adds the value of a key line at the end of its path; what is left in the value's place is not said. Most paths are one key: that is put
+/// there with none of the room that a longer one takes. The errors are those of `add_path`.
+#[inline(always)]
+pub(crate) fn add_value(
+    alloc: Global,
+    source: &str,
+    path: KeyPath<'_>,
+    item: &mut Item,
+    slots: &mut Slots<Item>,
+) -> Result<(), ParseFault>
+    requires { AreIn source.now path.events.now }
+    ensures added { (s : Source) (ms : List (Mention Source)) → IsPathOf source.now s ms path.entry
+        → AddsPath source.now (a_value (item_view item.old)) ms (slots_view slots.old) (slots_view slots.new) result }
+    ensures input { IfErr result (λ e. IfToml e (λ r. r.input ≡ source.now)) }
+{
+    if path.events.len() != 1 {
+        return add_path(alloc, source, Kind::Line, path, item, slots);
+    }
+    let PathKey { key, span, rest } = next_key(alloc, source, path)?;
+    match rest {
+        None => add_last(alloc, source, key, span, item, slots),
+        Some(_) => Err(refusal_of_all(alloc, source, "expected a key")),
     }
 }
 

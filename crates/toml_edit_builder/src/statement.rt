@@ -18,8 +18,8 @@ ghost use Rattle.toml_edit_builder.specs.StatementRead.{AreHeaderParts, IsHeld, 
 ghost use Rattle.toml_edit_builder.specs.TableRead.{IsHeaded};
 
 use crate::block::swap_block;
-use crate::parser::Building;
-use crate::path::{Kind, add_path};
+use crate::parser::{Building, slot_count};
+use crate::path::{Kind, add_path, add_value};
 use std::alloc::Global;
 use toml_edit_error::ParseFault;
 use toml_edit_parser::{
@@ -104,7 +104,7 @@ fn add_line<'a>(
 {
     let Building { item, current, .. } = building;
     let (path, rest) = read_key_line(alloc, source, leading, events, item)?;
-    add_path(alloc, source, Kind::Line, path, item, current)?;
+    add_value(alloc, source, path, item, current)?;
     Ok(rest)
 }
 
@@ -142,15 +142,17 @@ fn add_header<'a>(
         path: header.path,
         trailing: header.trailing,
     };
-    open_block(alloc, source, parts, building)?;
+    open_block(alloc, source, parts, slot_count(rest), building)?;
     Ok(rest)
 }
 
-/// Adds the table of a header to the whole, and takes the table's slots out of it.
+/// Adds the table of a header to the whole, and takes the table's slots out of it. There is room for so many, where there is the memory for
+/// it.
 fn open_block(
     alloc: Global,
     source: &str,
     header: HeaderParts<'_>,
+    room: usize,
     building: &mut Building,
 ) -> Result<(), ParseFault>
     requires path { AreIn source.now header.path.events.now }
@@ -168,7 +170,13 @@ fn open_block(
     );
     building.headers += 1;
     building.block = read_names(alloc, source, header.path)?;
-    head_item(alloc, header, building.headers as isize, &mut building.item);
+    head_item(
+        alloc,
+        header,
+        building.headers as isize,
+        room,
+        &mut building.item,
+    );
     add_path(
         alloc,
         source,
@@ -196,22 +204,23 @@ fn header_kind(header: HeaderParts<'_>) -> Kind
     }
 }
 
-/// Puts the table of a header, the one of this number, in the item's place, as yet without slots.
-fn head_item(alloc: Global, header: HeaderParts<'_>, position: isize, item: &mut Item)
+/// Puts the table of a header, the one of this number, in the item's place, as yet without slots, but with room for so many.
+fn head_item(alloc: Global, header: HeaderParts<'_>, position: isize, room: usize, item: &mut Item)
     ensures { (b : Builder) (h : Header) (end : Text) → AreHeaderParts h b.start header.entry → position ≡ pos (suc b.headers)
         → IsHeaded (source_at b (syntax.header h end)) (item_view item.new) }
 {
-    put(item, headed_item(alloc, header, position));
+    put(item, headed_item(alloc, header, position, room));
 }
 
-/// The table of a header, the one of this number, as yet without slots.
-fn headed_item(alloc: Global, header: HeaderParts<'_>, position: isize) -> Item
+/// The table of a header, the one of this number, as yet without slots, but with room for so many.
+fn headed_item(alloc: Global, header: HeaderParts<'_>, position: isize, room: usize) -> Item
     ensures { (b : Builder) (h : Header) (end : Text) → AreHeaderParts h b.start header.entry → position ≡ pos (suc b.headers)
         → IsHeaded (source_at b (syntax.header h end)) (item_view result) }
 {
     let decor = Decor::new(raw(header.leading), raw(header.trailing));
     let Span { start, end } = header.brackets;
-    Item::Table(Table::headed(Slots::new(alloc), decor, position, start, end))
+    let slots = Slots::with_room(alloc, room);
+    Item::Table(Table::headed(slots, decor, position, start, end))
 }
 
 /// The names of the keys of a path.

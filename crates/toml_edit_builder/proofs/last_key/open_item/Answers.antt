@@ -1,5 +1,4 @@
-use Rattle.std.proofs.Common.{rules, ap, ◌∙◌}
-use Rattle.toml_edit_tree.specs.declared.item.Item.{the_lemmas}
+use Rattle.std.proofs.Common.{ap, ◌∙◌}
 use Rattle.toml_edit_tree.specs.View.{item_view}
 use Rattle.toml_edit_builder.proofs.ItemLaws.{view-Table}
 use Rattle.toml_edit_builder.proofs.last_key.open_item.Goals as goal

@@ -17,15 +17,15 @@ returns-in_err-path-clause-line c =
     rw (q.1, q.2) (own-named t (own_faults b.start s) (table_way_faults (clash_at b s)) c.in_err-path.field-0.0
     (c.in_err-path.ensures.line f v b.start more is.0 is.1 (frame-stands t b f v end is stands) leading e))
 
-pub returns-in_err-add_path-clause-line : goal.returns-in_err-add_path-clause-line
-returns-in_err-add_path-clause-line c =
+pub returns-in_err-add_value-clause-line : goal.returns-in_err-add_value-clause-line
+returns-in_err-add_value-clause-line c =
     λ b f v end more is stands held leading e.
     let t = c.args.source.now in
     let s = key_line f v end in
-    let q = err_from_is_err_and c.from_residual-in_err-add_path.result c.from_residual-in_err-add_path.ensures.1 in
+    let q = err_from_is_err_and c.from_residual-in_err-add_value.result c.from_residual-in_err-add_value.ensures.1 in
     let read = c.in_ok-path.ensures.line f v b.start more is.0 is.1 (frame-stands t b f v end is stands) leading e in
-    rw (q.1, q.2) (line-stopped b f v end c.args.building.now held t c.in_err-add_path.field-0.0
-    (c.in_err-add_path.ensures.added (source_at b s) (mentions_at b s) tt (line-path t b f v end is stands c.in_ok-path.path read.path_is)))
+    rw (q.1, q.2) (line-stopped b f v end c.args.building.now held t c.in_err-add_value.field-0.0
+    (c.in_err-add_value.ensures.added (source_at b s) (mentions_at b s) (line-path t b f v end is stands c.in_ok-path.path read.path_is)))
 
 pub returns-clause-line : goal.returns-clause-line
 returns-clause-line c =
@@ -34,4 +34,4 @@ returns-clause-line c =
     let s = key_line f v end in
     let read = c.in_ok-path.ensures.line f v b.start more is.0 is.1 (frame-stands t b f v end is stands) leading e in
     line-is-added b f v end c.args.building.now held more _ c.in_ok-path.path _ _ is read
-    (c.in_ok-add_path.ensures.added (source_at b s) (mentions_at b s) tt (line-path t b f v end is stands c.in_ok-path.path read.path_is)) refl refl refl
+    (c.in_ok-add_value.ensures.added (source_at b s) (mentions_at b s) (line-path t b f v end is stands c.in_ok-path.path read.path_is)) refl refl refl

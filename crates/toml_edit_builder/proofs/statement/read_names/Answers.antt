@@ -5,7 +5,6 @@ use Rattle.std.proofs.lemmas.Result.{err_from_is_err_and}
 use Rattle.toml_edit_model.specs.Text.{Text}
 use Rattle.toml_edit_builder.specs.BlockRead.{names}
 use Rattle.toml_edit_builder.proofs.NamesLaws.{names-begin, names-next, names-end}
-use Rattle.toml_edit_builder.proofs.PathLaws.{mapped}
 use Rattle.toml_edit_builder.proofs.statement.read_names.Goals as goal
 
 pub keys-init : goal.keys-init
