@@ -2,14 +2,17 @@
 use Rattle.std.proofs.Common.{◌≡◌, ℕ, suc, ◌+◌, ◌<◌, ◌≤◌, Bool, true, false, ◌&&◌, ◌||◌, ◌==◌, List, [], ◌∷◌, ◌++◌, ◌⊎◌, length, get_or, take, drop, Option, Some, None, refl, sym, ap, ◌∙◌, subst, inl, inr, arith, add-zero, one-add, get_or-drop, append_assoc, append-nil, eqb-true}
 use Rattle.std.proofs.lemmas.Bool.{and_parts, and_from, or_cases, cases_eq, false≢true}
 use Rattle.std.proofs.lemmas.Bool.Decides.{nat_tests}
-use Rattle.std.proofs.lemmas.List.{drop_more, drop_all, length-append}
-use Rattle.std.specs.List.{flat_map, AllByRecursion, list_all}
-use Rattle.std.specs.Prelude.{slice_index}
+use Rattle.std.proofs.lemmas.List.{drop_more, drop_all, drop-drop, length-append, take-append-drop}
+use Rattle.std.proofs.lemmas.List.Folds.{length-prefix_len}
+use Rattle.std.specs.List.{flat_map, AllByRecursion, list_all, prefix_len}
+use Rattle.std.specs.Prelude.{if◌then◌else◌, slice_index}
+use Rattle.std.specs.Str.{IsCharBoundary}
 use Rattle.toml_edit_laws.specs.reading.Runs.{first}
 use Rattle.toml_edit_model.specs.Text.{Text}
 use Rattle.toml_edit_model.specs.Trivia.{is_blank, is_visible, Each, Newline, lf, crlf, newline_text, comment, Piece, blank, break, remark, piece_text, IsPiece, IsWholeTrivia}
 use Rattle.toml_edit_syntax.specs.Scanning.{turn, scan}
 use Rattle.toml_edit_syntax.specs.ValueReading.{got, trivia_at}
+use Rattle.toml_edit_laws.proofs.reading.RunLaws.{Each-run}
 use Rattle.toml_edit_laws.proofs.reading.Steps.{chosen}
 
 -- ---- the loop, a turn at a time
@@ -84,6 +87,34 @@ scan-body (c ∷ cs) rest h =
     let r = scan true rest in
     let next : 1 + (length cs + r.0) ≡ suc (length cs) + r.0 = omega arith in
     scan_more true c (cs ++ rest) true (grind (arith, nat_tests)) ∙ ap (further 1) (scan-body cs rest more) ∙ rw next refl
+
+-- a comment goes on as far as its bytes are visible
+scan-run : (t : Text) → scan true t ≡ further (prefix_len is_visible t) (scan true (drop (prefix_len is_visible t) t))
+scan-run t =
+    let n = prefix_len is_visible t in
+    ap (λ (x : Text). scan true x) (sym (take-append-drop n t)) ∙ scan-body (take n t) (drop n t) (Each-run is_visible t)
+    ∙ ap (λ k. further k (scan true (drop n t))) (length-prefix_len is_visible t)
+
+pub scan-skips : (start : ℕ × Bool) (xs : Text) (i n : ℕ) → n ≡ prefix_len is_visible (drop i xs) → start ≡ further i (scan true (drop i xs))
+    → start ≡ further (i + n) (scan true (drop (i + n) xs))
+scan-skips start xs i n run loop =
+    let rest = scan true (drop n (drop i xs)) in
+    let more : i + (n + rest.0) ≡ i + n + rest.0 = omega arith in
+    loop ∙ ap (further i) (scan-run (drop i xs) ∙ ap (λ k. further k (scan true (drop k (drop i xs)))) (sym run))
+    ∙ ap (λ k. (k, rest.1)) more ∙ ap (λ (l : Text). further (i + n) (scan true l)) (drop-drop n i xs)
+
+-- what is passed over in one step: the visible bytes of a comment, and none elsewhere
+abbrev pub passed : Bool → Text → ℕ
+passed inside t = if inside then prefix_len is_visible t else 0
+
+pub skipped : (inside : Bool) (start : ℕ × Bool) (xs : Text) (i n : ℕ) → n ≡ passed inside (drop i xs) → start ≡ further i (scan inside (drop i xs))
+    → start ≡ further (i + n) (scan inside (drop (i + n) xs))
+skipped true start xs i n run loop = scan-skips start xs i n run loop
+skipped false start xs i n run loop = rw (run, add-zero) loop
+
+pub skipped_at : (inside : Bool) (xs : Text) (i n : ℕ) → n ≡ passed inside (drop i xs) → inside ≡ false → IsCharBoundary xs i → IsCharBoundary xs (i + n)
+skipped_at true xs i n run outside h = absurd cc
+skipped_at false xs i n run outside h = rw (run, add-zero) h
 
 scan-piece : (p : Piece) (rest : Text) → IsPiece p → scan false (piece_text p ++ rest) ≡ further (length (piece_text p)) (scan false rest)
 scan-piece (blank c) rest h = scan_more false c rest false (grind (arith, nat_tests))

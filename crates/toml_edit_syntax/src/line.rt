@@ -1,6 +1,8 @@
 //! Trivia, the sign of a pair, and the end of a line.
-ghost use Rattle.std.specs.Prelude.{◌≡◌, false, ◌+◌, ◌<◌, ◌≤◌, length, option_map, IfOk, IfSome};
+ghost use Rattle.std.specs.Prelude.{◌≡◌, false, ◌+◌, ◌<◌, ◌≤◌, if◌then◌else◌, length, option_map, IfOk, IfSome};
+ghost use Rattle.std.specs.List.{prefix_len};
 ghost use Rattle.std.specs.Str.{IsCharBoundary};
+ghost use Rattle.toml_edit_model.specs.Trivia.{is_visible};
 ghost use Rattle.toml_edit_syntax.specs.Gives.{Adds};
 ghost use Rattle.toml_edit_syntax.specs.Scanning as spec;
 ghost use Rattle.toml_edit_syntax.specs.StatementReading as read;
@@ -8,7 +10,7 @@ ghost use Rattle.toml_edit_syntax.specs.StatementReading as read;
 use crate::event::{Event, EventKind};
 use crate::lexer::{Stop, part};
 use crate::mistake::{Mistake, behind_value};
-use toml_edit_token::run::{Class, byte_at, first, is_blank, is_visible, skip, split_run};
+use toml_edit_token::run::{Class, byte_at, first, is_blank, is_visible, run_len, skip, split_run};
 
 fn turn(inside: bool, byte: u8, next: u8) -> Option<bool>
     ensures { result ≡ spec.turn inside byte next }
@@ -24,6 +26,18 @@ fn turn(inside: bool, byte: u8, next: u8) -> Option<bool>
     }
 }
 
+/// How far a comment goes on, inside one.
+fn comment_len(inside: bool, bytes: &[u8]) -> usize
+    ensures len { result ≡ (if inside then prefix_len is_visible bytes.now else 0) }
+    ensures within { result ≤ length bytes.now }
+{
+    if inside {
+        run_len(bytes, Class::Visible)
+    } else {
+        0
+    }
+}
+
 /// How many bytes of trivia stand at the front, and whether they stop inside a comment.
 pub(crate) fn trivia(s: &str) -> (usize, bool)
     ensures value { result ≡ spec.scan false s.now }
@@ -31,12 +45,15 @@ pub(crate) fn trivia(s: &str) -> (usize, bool)
     ensures boundary { IsCharBoundary s.now result.0 }
 {
     let bytes = s.as_bytes();
+    let mut at: usize = 0;
     let mut inside = false;
-    'bytes: for at in 0..bytes.len() {
+    'bytes: while at < bytes.len() {
         match turn(inside, bytes[at], byte_at(s, at + 1)) {
             Some(state) => inside = state,
             None => return (at, inside),
         }
+        at += 1;
+        at += comment_len(inside, &bytes[at..]);
     }
     (bytes.len(), inside)
 }
