@@ -40,7 +40,7 @@ pub fn of_accepted(question: &str, out: &mut Answer) {
         "refused" | "at" | "error" | "fault" | "from_str_at" | "from_str_error" => {
             out.text("not refused");
         }
-        "steps" | "reads" | "into_item" | "owned_into_item" => {}
+        "steps" | "reads" | "into_item" | "owned_into_item" | "as_item" => {}
         _ => out.no_such(question),
     }
 }

@@ -4,12 +4,13 @@ use crate::said::Answer;
 use crate::steps::{Asked, Subject, behind, copied, word};
 use crate::{array, date_time, events, inline, list, refusal, scalar, steps};
 use serde_json::Value as Json;
-use toml_edit::{Decor, FromStr, RawString, Value};
+use toml_edit::{Decor, FromStr, Item, RawString, Value};
 
 pub fn answer(row: Row<'_>, out: &mut Answer) {
     match row.question {
         "events" => events::all_lone(row.text(), out),
         "last_event" => events::last_lone(row.text(), out),
+        "as_item" => steps::read(Item::from_str(out.alloc, row.text()), row, out),
         _ => steps::read(Value::from_str(out.alloc, row.text()), row, out),
     }
 }
