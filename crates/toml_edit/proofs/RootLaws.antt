@@ -1,12 +1,12 @@
 -- The item that is the root of a document.
 use denote.Struct.Props.{props}
-use Rattle.std.proofs.Common.{◌≡◌, ap, subst, ◌∙◌, true, rules}
-use Rattle.toml_edit_model.specs.Tree.{Raw, table}
+use Rattle.std.proofs.Common.{◌≡◌, ap, refl, subst, ◌∙◌, true, rules}
+use Rattle.toml_edit_model.specs.Tree.{Raw, Node, nothing, leaf, list, inline, table, tables}
 use Rattle.toml_edit_tree.specs.View.{item_view, fields_view, table_slots, tree_view}
 use Rattle.toml_edit_tree.specs.declared.item.Item.{Item, the_lemmas}
 use Rattle.toml_edit_tree.specs.declared.item.Item.TheVariants as items
 use Rattle.toml_edit_tree.specs.declared.table.Table.{Table}
-use Rattle.toml_edit.specs.Roots.{is_table, tree_at, tree_under}
+use Rattle.toml_edit.specs.Roots.{is_table, root_node, tree_at, tree_under}
 use Rattle.toml_edit.specs.declared.document.DocumentMut.{DocumentMut}
 
 -- what a table is seen as
@@ -33,3 +33,16 @@ same-root x y r p q e =
 pub same-parts : (a b : DocumentMut) → a.root ≡ b.root → a.trailing ≡ b.trailing → a ≡ b
 same-parts a b e f =
     subst (λ (r : Raw). a ≡ document b.root r b.rooted) f (same-root a.root b.root a.trailing a.rooted b.rooted e)
+
+-- ---- what is behind the root, and the root as a node
+
+pub trailing-at : (n : Node) (r : Raw) → (tree_at n r).trailing ≡ r
+trailing-at nothing r = refl
+trailing-at (leaf s spelling d) r = refl
+trailing-at (list f xs) r = refl
+trailing-at (inline f ss) r = refl
+trailing-at (table f ss) r = refl
+trailing-at (tables e xs) r = refl
+
+pub root-under : (t : Table) (r : Raw) → root_node (tree_under (items.Table t) r) ≡ table (fields_view t) (table_slots t)
+root-under t r = ap (λ n. root_node (tree_at n r)) (view-table t)

@@ -11,6 +11,8 @@ use toml_edit_fits::tree_fits;
 use toml_edit_repr::{Mem, RawString};
 use toml_edit_tree::{Item, Iter, Table};
 
+mod index;
+
 /// What holds the text of a document: the same text each time.
 pub trait SourceText: Drop {
     ghost use Rattle.std.specs.Prelude.{◌≡◌, List, ℕ};

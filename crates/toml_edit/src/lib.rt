@@ -20,7 +20,7 @@ pub use toml_edit_table_like::{
 };
 pub use toml_edit_tree::{
     Array, ArrayIntoIter, ArrayIter, ArrayOfTables, ArrayOfTablesIntoIter, ArrayOfTablesIter,
-    Entry, InlineEntry, InlineOccupiedEntry, InlineSlotMut, InlineTable, InlineTableIntoIter,
-    InlineTableIter, InlineVacantEntry, IntoIter, Item, Iter, OccupiedEntry, Table, VacantEntry,
-    Value, array, array_of_tables, inline_table, item, table, value,
+    Entry, Index, IndexFault, InlineEntry, InlineOccupiedEntry, InlineSlotMut, InlineTable,
+    InlineTableIntoIter, InlineTableIter, InlineVacantEntry, IntoIter, Item, Iter, OccupiedEntry,
+    Table, VacantEntry, Value, array, array_of_tables, inline_table, item, table, value,
 };

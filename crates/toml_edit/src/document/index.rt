@@ -1,0 +1,45 @@
+//! Items of the root of a document, by their keys.
+ghost use Rattle.std.specs.Prelude.{◌≡◌, IfErr, IfOk, IsOk, IsSome, Some};
+ghost use Rattle.std.specs.Borrow.{sem};
+ghost use Rattle.toml_edit_model.specs.Indexing.{item_under};
+ghost use Rattle.toml_edit_model.specs.Lists.{slot_list};
+ghost use Rattle.toml_edit_model.specs.TableCalls.{get};
+ghost use Rattle.toml_edit_tree.specs.Indexed.{lent_under};
+ghost use Rattle.toml_edit_tree.specs.View.{item_view};
+ghost use Rattle.toml_edit_tree.specs.declared.index.IndexFault.TheVariants.{Memory};
+ghost use Rattle.toml_edit.specs.DocumentLending.{LendsUnder};
+ghost use Rattle.toml_edit.specs.DocumentView.{tree_owned};
+ghost use Rattle.toml_edit.specs.Roots.{root_node};
+
+use super::DocumentMut;
+use std::alloc::Global;
+use std::ops;
+use toml_edit_tree::{IndexFault, Item};
+
+impl DocumentMut {
+    /// The item under the key in the root, a placeholder too, to be changed. A new key goes last, with a key of the text alone and a
+    /// placeholder, by the allocator that the root was made with. The only error is `IndexFault::Memory`, at a new key: the document stays as
+    /// it was.
+    pub fn index_or_insert(&mut self, alloc: Global, key: &str) -> Result<&mut Item, IndexFault>
+        ensures* writes_back { sem 𝓛 (LendsUnder self.entry key.now result) }
+        ensures item { IfOk result (λ lent. lent_under key.now (root_node (tree_owned self.old)) ≡ Some (item_view lent.now)) }
+        ensures present { IsSome (item_under key.now (root_node (tree_owned self.old))) → IsOk result }
+        ensures fault { IfErr result (λ fault. fault ≡ Memory) }
+    {
+        self.as_table_mut().index_or_insert(alloc, key)
+    }
+}
+
+/// The item under the key in the root, which must be there and no placeholder.
+impl ops::Index<&str> for DocumentMut {
+    type Output = Item;
+
+    ghost can_index = { λ document key. IsSome (get key.now (slot_list (tree_owned document).slots)) };
+
+    ghost index_gives = { λ document key found. get key.now (slot_list (tree_owned document).slots) ≡ Some (item_view found) };
+
+    fn index(&self, key: &str) -> &Item {
+        let root = self.as_table();
+        &root[key]
+    }
+}
