@@ -1,10 +1,13 @@
 -- The slots of an entry, once its item has a place.
-use Rattle.std.proofs.Common.{◌≡◌, ℕ, ◌<◌, List, Result, Ok, Err, IfOk, OnErr, IsOk, IsTrue, Some, length, option_map, slice_get, sym, ap, subst, ◌∙◌}
-use Rattle.std.specs.Option.{unwrap_or}
+use Rattle.std.proofs.Common.{◌≡◌, ℕ, ◌<◌, List, Result, Ok, Err, IfOk, OnErr, IsOk, IsTrue, Option, Some, None, length, option_map, slice_get, refl, sym, ap, subst, ◌∙◌}
+use Rattle.std.proofs.lemmas.Option.{same_Some}
+use Rattle.std.specs.Option.{unwrap_or, UnwrapsOrElse}
+use Rattle.std.specs.Prelude.{⊤, IfSome}
 use Rattle.toml_edit_model.specs.Slots as model
 use Rattle.toml_edit_model.specs.Tree.{Key, Node}
-use Rattle.toml_edit_slots.specs.Slots.{items_of, with_item}
+use Rattle.toml_edit_slots.specs.Slots.{items_of, place, with_item}
 use Rattle.toml_edit_slots.specs.declared.slots.Slot.{Slot}
+use Rattle.toml_edit_table_like.proofs.PutLaws.{item-or-else, put-leaves}
 use Rattle.toml_edit_table_like.specs.Lending.{with_item_at}
 use Rattle.toml_edit_table_like.specs.Putting.{item_put, with_item_put}
 use Rattle.toml_edit_table_like.specs.Shown.{shown}
@@ -19,6 +22,11 @@ on-ok (Err e) f p = tt
 on-err : {A E : Type 0} {P Q : Type 0} (r : Result A E) → (P → Q) → OnErr r P → OnErr r Q
 on-err (Ok a) f p = tt
 on-err (Err e) f p = f p
+
+-- what is said of the item that is there is said of the one that is lent
+pub lent-item : (o : Option Item) (x : Item) (Q : Item → Type 0) → Some x ≡ o → IfSome o Q → Q x
+lent-item None x Q e q = absurd cc
+lent-item (Some y) x Q e q = subst Q (sym (same_Some x y e)) q
 
 module _ {X E : Type 0} (g : Ghosts X) (t : X) (k : Key) (es fs : List (Slot Item)) (is : es ≡ g.entries t) (r : Result ℕ E) where
   seen : shown es ≡ g.slots_of t
@@ -48,3 +56,16 @@ module _ {X E : Type 0} (g : Ghosts X) (t : X) (k : Key) (es fs : List (Slot Ite
 
   pub placed-err : OnErr r (fs ≡ es) → OnErr r (g.with_entries fs t ≡ t)
   placed-err h = on-err r (λ e. ap (λ l. g.with_entries l t) (e ∙ is) ∙ g.stays t) h
+
+-- of a key that has a slot, where nothing is put
+module _ {X : Type 0} (g : Ghosts X) (t : X) (k : Key) where
+  pub found-or-else : (i : ℕ) → place k.name (g.entries t) ≡ Some i → i < length (g.entries t) → (P : Node → Type 0)
+      → IfSome (slice_get (items_of (g.entries t)) i) (λ x. UnwrapsOrElse (model.lookup k.name (g.slots_of t)) P (item_view x))
+  found-or-else i at low P =
+      subst (λ l. IfSome (slice_get (items_of (g.entries t)) i) (λ x. UnwrapsOrElse (model.lookup k.name l) P (item_view x))) (sym (g.shows t))
+      (item-or-else k (g.entries t) i at low P)
+
+  pub found-leaves : model.AreApart (g.slots_of t)
+      → (w : Item) → g.slots_of (with_item_put g.entries g.with_entries k w t) ≡ model.put (model.with_item (item_view w)) (record { key = k; item = item_view w }) (g.slots_of t)
+  found-leaves apart =
+      placed-leaves {E = ⊤} g t k (g.entries t) (g.entries t) refl (Err tt) (put-leaves k (g.entries t) (subst model.AreApart (g.shows t) apart))

@@ -1,7 +1,8 @@
 -- An item that is put under a key, where none stands.
-use Rattle.std.proofs.Common.{◌≡◌, ℕ, suc, ◌<◌, false, List, [], ◌∷◌, ◌++◌, Option, Some, None, is_some, length, get_or, option_map, slice_get, refl, sym, ap, ◌∙◌, arith}
+use Rattle.std.proofs.Common.{◌≡◌, ℕ, suc, ◌<◌, false, List, [], ◌∷◌, ◌++◌, Option, Some, None, is_some, length, get_or, option_map, slice_get, refl, sym, ap, subst, ◌∙◌, arith}
 use Rattle.std.proofs.lemmas.Option.{slice_get-get_or}
-use Rattle.std.specs.Option.{option_map_or, unwrap_or}
+use Rattle.std.specs.Option.{option_map_or, unwrap_or, UnwrapsOrElse}
+use Rattle.std.specs.Prelude.{IfSome}
 use Rattle.toml_edit_laws.proofs.slots.Places.{lookup_slot-at, lookup_slot-none, none_at, put-at, put-new}
 use Rattle.toml_edit_model.specs.Slots as model
 use Rattle.toml_edit_model.specs.Tree.{Key, Node}
@@ -52,15 +53,28 @@ module _ (k : Key) (es : List (Slot Item)) where
   pub put-gone : place k.name es ≡ None → (w : Item) → es ++ record { key = k; item = w } ∷ [] ≡ item_put k w es
   put-gone none w = ap (λ o. option_map_or (λ j. with_item j w es) o (es ++ record { key = k; item = w } ∷ [])) (sym none)
 
+  held-there : (i : ℕ) → place k.name es ≡ Some i → (s : Slot Item) → slice_get es i ≡ Some s → model.lookup_slot k.name (shown es) ≡ Some (slot_shown s)
+  held-there i at s got = lookup_slot-at k.name (shown es) i (slot_shown s) (place-shown k.name es ∙ at) ∙ ap Some (get-shown es i s got)
+
   pub item-there : (i : ℕ) → place k.name es ≡ Some i → i < length es → (d : Node) → option_map item_view (slice_get (items_of es) i) ≡ Some (unwrap_or (model.lookup k.name (shown es)) d)
   item-there i at low d =
       let fill : Slot Item = record { key = k; item = items.None } in
       let s = get_or es i fill in
       let got : slice_get es i ≡ Some s = slice_get-get_or es i fill low in
-      let found : model.lookup_slot k.name (shown es) ≡ Some (slot_shown s) =
-      lookup_slot-at k.name (shown es) i (slot_shown s) (place-shown k.name es ∙ at) ∙ ap Some (get-shown es i s got) in
       ap (option_map item_view) (item-at es i s got)
-      ∙ sym (ap (λ f. Some (unwrap_or (option_map (λ (r : model.Slot Node). r.item) f) d)) found)
+      ∙ sym (ap (λ f. Some (unwrap_or (option_map (λ (r : model.Slot Node). r.item) f) d)) (held-there i at s got))
+
+  -- the item at the key's place is the one that is found, whatever would be made
+  pub item-or-else : (i : ℕ) → place k.name es ≡ Some i → i < length es → (P : Node → Type 0)
+      → IfSome (slice_get (items_of es) i) (λ x. UnwrapsOrElse (model.lookup k.name (shown es)) P (item_view x))
+  item-or-else i at low P =
+      let fill : Slot Item = record { key = k; item = items.None } in
+      let s = get_or es i fill in
+      let got : slice_get es i ≡ Some s = slice_get-get_or es i fill low in
+      let item : slice_get (items_of es) i ≡ Some s.item = item-at es i s got in
+      let found : model.lookup k.name (shown es) ≡ Some (item_view s.item) = ap (option_map (λ (r : model.Slot Node). r.item)) (held-there i at s got) in
+      subst (λ o. IfSome o (λ x. UnwrapsOrElse (model.lookup k.name (shown es)) P (item_view x))) (sym item)
+      (subst (λ o. UnwrapsOrElse o P (item_view s.item)) (sym found) refl)
 
   pub item-gone : place k.name es ≡ None → (d : Node) → Some d ≡ Some (unwrap_or (model.lookup k.name (shown es)) d)
   item-gone none d =

@@ -1,16 +1,17 @@
 -- What the contracts of an entry of a table of either kind cite.
-use Rattle.std.specs.Prelude.{List, [], Result}
+use Rattle.std.specs.Prelude.{◌≡◌, List, [], Result}
 use Rattle.std.specs.Borrow.{Fml, MutBor, follows_if, name_if_ok}
 use denote.RattleType.{RattleType}
 use mir.Syntax.{named}
 use Rattle.toml_edit_model.specs.Keys.{new_key}
-use Rattle.toml_edit_model.specs.Tree.{Key}
+use Rattle.toml_edit_model.specs.Tree.{Key, Node}
 use Rattle.toml_edit_slots.specs.declared.slots.Slot.{Slot}
 use Rattle.toml_edit_table_like.specs.Putting.{with_item_put}
 use Rattle.toml_edit_table_like.specs.contracts.entry.TableLikeEntry as lent
 use Rattle.toml_edit_table_like.specs.declared.entry.EntryKey.{EntryKey}
 use Rattle.toml_edit_table_like.specs.declared.entry.EntryKey.TheVariants as keys
 use Rattle.toml_edit_table_like.specs.declared.entry.TableLikeEntry.{TableLikeEntry}
+use Rattle.toml_edit_tree.specs.View.{item_view}
 use Rattle.toml_edit_tree.specs.contracts.item.Item.{the_row as item_row}
 use Rattle.toml_edit_tree.specs.declared.item.Item.{Item}
 
@@ -30,6 +31,10 @@ module _ {X : Type 0} where
   -- the entry of another state of the table
   abbrev pub with_table : X → TableLikeEntry X → TableLikeEntry X
   with_table t e = record e { table = record e.table { now = t } }
+
+-- it is seen of an item that P holds of
+abbrev pub IsViewOf : (Item → Type 0) → Node → Type 0
+IsViewOf P n = (x : Item) × P x × (n ≡ item_view x)
 
 -- the entry once the item is in its slot
 abbrev pub with_entry_item : {X : Type 0} → (X → List (Slot Item)) → (List (Slot Item) → X → X) → TableLikeEntry X → Item → TableLikeEntry X
