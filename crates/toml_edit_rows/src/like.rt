@@ -6,7 +6,7 @@ use crate::{key, lines, made, table, value};
 use serde_json::Value as Json;
 use toml_edit::{
     AnyTable, InlineTable, Item, Key, Table, TableLike, TableLikeEntry, TableLikeSlot, TableRef,
-    TableRefMut,
+    TableRefMut, Value,
 };
 
 /// Does a step with a table. Of a call that answers nothing the answer is empty.
@@ -69,12 +69,7 @@ fn change_ref(table: &mut TableRefMut<'_>, words: &[Json], out: &mut Answer) {
     }
 }
 
-fn insert_in_ref(
-    table: &mut TableRefMut<'_>,
-    name: &str,
-    made: Option<Item>,
-    out: &mut Answer,
-) {
+fn insert_in_ref(table: &mut TableRefMut<'_>, name: &str, made: Option<Item>, out: &mut Answer) {
     let Some(item) = made else {
         return out.text("no item");
     };
@@ -110,6 +105,7 @@ fn go_in<T: AnyTable>(entry: &mut TableLikeEntry<'_, T>, words: &[Json], out: &m
         "is_occupied" => out.truth(entry.is_occupied()),
         "get" => tell_item(entry.get(), out),
         "or_insert" => put_in(entry, made::item(word(words, 1), out), out),
+        "or_insert_with" => put_made(entry, out),
         call => out.no_such(call),
     }
 }
@@ -119,6 +115,15 @@ fn put_in<T: AnyTable>(entry: &mut TableLikeEntry<'_, T>, made: Option<Item>, ou
         return out.text("no item");
     };
     if let Ok(there) = entry.or_insert(item) {
+        there.tell(out);
+        return;
+    }
+    out.refuse();
+}
+
+/// The same of the value 0 of a closure.
+fn put_made<T: AnyTable>(entry: &mut TableLikeEntry<'_, T>, out: &mut Answer) {
+    if let Ok(there) = entry.or_insert_with(|| Item::from(Value::from(0_i64))) {
         there.tell(out);
         return;
     }

@@ -49,7 +49,9 @@ impl<'a> Row<'a> {
     /// The steps that come before the question.
     pub fn steps(self) -> &'a [Json] {
         match self.question {
-            "reads" | "into_item" | "owned_into_item" | "as_item" => items_of(self.json.get(self.question)),
+            "reads" | "into_item" | "owned_into_item" | "as_item" => items_of(
+                self.json.get(self.question),
+            ),
             _ => items_of(self.json.get("steps")),
         }
     }

@@ -3,8 +3,8 @@ use crate::row::Row;
 use crate::said::Answer;
 use crate::steps::{Asked, Subject, behind, copied, word};
 use crate::{
-    array, convert, document, indexing, inline, item, key, like, made, refusal, slots, steps, tables,
-    value,
+    array, convert, document, indexing, inline, item, key, like, made, refusal, slots, steps,
+    tables, value,
 };
 use serde_json::Value as Json;
 use toml_edit::{ArrayOfTables, AsTableLike, Item, Iter, Table, Value};
