@@ -118,7 +118,6 @@ impl Asked for DocumentMut {
             "to_string" => out.shown(self),
             "print" => out.made(self.print(out.alloc)),
             "as_item" => table::ask_item(self.as_item(), behind(words, 1), out),
-            "document_brackets" => indexing::read_document(self, word(words, 1), out),
             _ => table::ask(self.as_table(), words, out),
         }
     }

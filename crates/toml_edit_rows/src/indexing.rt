@@ -46,22 +46,6 @@ fn read(item: &Item, key: &str, out: &mut Answer) {
     }
 }
 
-/// What stands under a key of a table, by brackets, where it is there.
-pub fn read_table(table: &Table, key: &str, out: &mut Answer) {
-    match table.get(key) {
-        Some(_) => table[key].tell(out),
-        None => out.text("none"),
-    }
-}
-
-/// The same of a document.
-pub fn read_document(document: &DocumentMut, key: &str, out: &mut Answer) {
-    match document.as_table().get(key) {
-        Some(_) => document[key].tell(out),
-        None => out.text("none"),
-    }
-}
-
 /// The value under a key of an inline table, by brackets, where it is there.
 pub fn read_inline(table: &InlineTable, key: &str, out: &mut Answer) {
     match table.get(key) {
@@ -75,7 +59,7 @@ pub fn change(item: &mut Item, words: &[Json], out: &mut Answer) {
     match word(words, 0) {
         "item_get_mut" => write_found(item, words, out),
         "item_or_insert" => fill(item, made::item(word(words, 1), out), out),
-        _ => go_on(item, behind(words, 1), out),
+        _ => go_on(item, words, out),
     }
 }
 
@@ -97,25 +81,18 @@ fn fill(item: &mut Item, made: Option<Item>, out: &mut Answer) {
     }
 }
 
-/// Goes down by keys, which are made where there are none, up to the word `then`, and does there what stands behind that.
+/// Finds the item under a key, which is made where there is none, and does there what stands behind the key.
 fn go_on(item: &mut Item, words: &[Json], out: &mut Answer) {
-    match words {
-        [] => item.tell(out),
-        [key, rest @ ..] => match key.as_str() {
-            Some("then") => end(item, rest, out),
-            Some(key) => match item.index_or_insert(out.alloc, key) {
-                Ok(found) => go_on(found, rest, out),
-                Err(fault) => tell_fault(fault, out),
-            },
-            None => out.text("no key"),
-        },
+    match item.index_or_insert(out.alloc, word(words, 1)) {
+        Ok(found) => below(found, behind(words, 2), out),
+        Err(fault) => tell_fault(fault, out),
     }
 }
 
 /// The same from a table.
 pub fn go_down(table: &mut Table, words: &[Json], out: &mut Answer) {
     match table.index_or_insert(out.alloc, word(words, 1)) {
-        Ok(found) => go_on(found, behind(words, 2), out),
+        Ok(found) => below(found, behind(words, 2), out),
         Err(fault) => tell_fault(fault, out),
     }
 }
@@ -123,11 +100,23 @@ pub fn go_down(table: &mut Table, words: &[Json], out: &mut Answer) {
 /// The same from a document.
 pub fn go_into(document: &mut DocumentMut, words: &[Json], out: &mut Answer) {
     match document.index_or_insert(out.alloc, word(words, 1)) {
-        Ok(found) => go_on(found, behind(words, 2), out),
+        Ok(found) => below(found, behind(words, 2), out),
         Err(fault) => tell_fault(fault, out),
     }
 }
 
+/// Does what stands behind the key, or goes down by one key more behind the word `below`.
+fn below(item: &mut Item, words: &[Json], out: &mut Answer) {
+    if word(words, 0) != "below" {
+        return end(item, words, out);
+    }
+    match item.index_or_insert(out.alloc, word(words, 1)) {
+        Ok(found) => end(found, behind(words, 2), out),
+        Err(fault) => tell_fault(fault, out),
+    }
+}
+
+/// Tells what stands there, or changes it.
 fn end(item: &mut Item, words: &[Json], out: &mut Answer) {
     match word(words, 0) {
         "fmt" => match item.as_inline_table_mut() {
@@ -135,6 +124,7 @@ fn end(item: &mut Item, words: &[Json], out: &mut Answer) {
             None => out.text("no inline table"),
         },
         "becomes" => write(Some(item), made::item(word(words, 1), out), out),
+        "" => item.tell(out),
         call => out.no_such(call),
     }
 }

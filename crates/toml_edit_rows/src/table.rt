@@ -179,7 +179,6 @@ fn tell_table(table: &Table, words: &[Json], out: &mut Answer) {
         "position" => out.shown_or_none(table.position().as_ref()),
         "decor" => value::ask_decor(table.decor(), word(words, 1), out),
         "span" => out.span(table.span()),
-        "brackets" => indexing::read_table(table, word(words, 1), out),
         _ => slots::tell(table, words, out),
     }
 }
