@@ -4,7 +4,10 @@ use crate::slots::{Told, tell_found, tell_given, tell_old, tell_taken, write};
 use crate::steps::{behind, index, word};
 use crate::{key, lines, made, table, value};
 use serde_json::Value as Json;
-use toml_edit::{AnyTable, InlineTable, Item, Key, Table, TableLike, TableLikeSlot};
+use toml_edit::{
+    AnyTable, InlineTable, Item, Key, Table, TableLike, TableLikeEntry, TableLikeSlot, TableRef,
+    TableRefMut, Value,
+};
 
 /// Does a step with a table. Of a call that answers nothing the answer is empty.
 pub fn change_table(table: &mut Table, words: &[Json], out: &mut Answer) {
@@ -42,6 +45,36 @@ fn insert_inline(table: &mut InlineTable, name: &str, made: Option<Item>, out: &
 }
 
 fn change<T: TableLike>(table: &mut T, words: &[Json], out: &mut Answer) {
+    match word(words, 0) {
+        "key_mut" | "get_key_value_mut" | "key_value_at_mut" | "slot_remove" => {
+            change_lent(table, words, out);
+        }
+        _ => change_any(table, words, out),
+    }
+}
+
+/// Does a step with a table that an item lends. It is given no placeholder either.
+pub fn change_ref(table: &mut TableRefMut<'_>, words: &[Json], out: &mut Answer) {
+    match word(words, 0) {
+        "insert" => insert_in_ref(table, word(words, 1), made::item(word(words, 2), out), out),
+        "as_table_ref" => ask_ref(table.as_table_ref(), behind(words, 1), out),
+        _ => change_any(table, words, out),
+    }
+}
+
+fn insert_in_ref(table: &mut TableRefMut<'_>, name: &str, made: Option<Item>, out: &mut Answer) {
+    let Some(item) = made else {
+        return out.text("no item");
+    };
+    if item.is_none() {
+        drop(item);
+        out.text("no item");
+    } else {
+        tell_old(AnyTable::insert(table, name, item), out);
+    }
+}
+
+fn change_any<T: AnyTable>(table: &mut T, words: &[Json], out: &mut Answer) {
     let name = word(words, 1);
     match word(words, 0) {
         "remove" => tell_taken(table.remove(name), out),
@@ -52,12 +85,58 @@ fn change<T: TableLike>(table: &mut T, words: &[Json], out: &mut Answer) {
         "get_mut" => write(table.get_mut(name), made::item(word(words, 2), out), out),
         "or_insert" => put(table, name, made::item(word(words, 2), out), out),
         "or_insert_format" => put_formatted(table, words, out),
-        _ => change_lent(table, words, out),
+        "entry" => go_in(&mut table.entry(name), behind(words, 2), out),
+        "entry_format" => go_in_formatted(table, words, out),
+        _ => ask(table, words, out),
+    }
+}
+
+/// What an entry says, and what stands there once the item was put in where nothing stood.
+fn go_in<T: AnyTable>(entry: &mut TableLikeEntry<'_, T>, words: &[Json], out: &mut Answer) {
+    match word(words, 0) {
+        "key" => out.text(entry.key()),
+        "is_occupied" => out.truth(entry.is_occupied()),
+        "get" => tell_item(entry.get(), out),
+        "or_insert" => put_in(entry, made::item(word(words, 1), out), out),
+        "or_insert_with" => put_made(entry, out),
+        call => out.no_such(call),
+    }
+}
+
+fn put_in<T: AnyTable>(entry: &mut TableLikeEntry<'_, T>, made: Option<Item>, out: &mut Answer) {
+    let Some(item) = made else {
+        return out.text("no item");
+    };
+    if let Ok(there) = entry.or_insert(item) {
+        there.tell(out);
+        return;
+    }
+    out.refuse();
+}
+
+/// The same of the value 0 of a closure.
+fn put_made<T: AnyTable>(entry: &mut TableLikeEntry<'_, T>, out: &mut Answer) {
+    if let Ok(there) = entry.or_insert_with(|| Item::from(Value::from(0_i64))) {
+        there.tell(out);
+        return;
+    }
+    out.refuse();
+}
+
+/// The same of a key with its spelling and decor, which stands behind the item.
+fn go_in_formatted<T: AnyTable>(table: &mut T, words: &[Json], out: &mut Answer) {
+    match made::key(behind(words, 2), out) {
+        Some(key) => put_in(
+            &mut table.entry_format(&key),
+            made::item(word(words, 1), out),
+            out,
+        ),
+        None => out.text("no key"),
     }
 }
 
 /// Tells what stands under the key once the item was put in where nothing stood.
-fn put<T: TableLike>(table: &mut T, name: &str, made: Option<Item>, out: &mut Answer) {
+fn put<T: AnyTable>(table: &mut T, name: &str, made: Option<Item>, out: &mut Answer) {
     let Some(item) = made else {
         return out.text("no item");
     };
@@ -69,14 +148,14 @@ fn put<T: TableLike>(table: &mut T, name: &str, made: Option<Item>, out: &mut An
 }
 
 /// The same under a key with its spelling and decor, which stands behind the item.
-fn put_formatted<T: TableLike>(table: &mut T, words: &[Json], out: &mut Answer) {
+fn put_formatted<T: AnyTable>(table: &mut T, words: &[Json], out: &mut Answer) {
     match made::key(behind(words, 2), out) {
         Some(key) => put_under(table, &key, made::item(word(words, 1), out), out),
         None => out.text("no key"),
     }
 }
 
-fn put_under<T: TableLike>(table: &mut T, key: &Key, made: Option<Item>, out: &mut Answer) {
+fn put_under<T: AnyTable>(table: &mut T, key: &Key, made: Option<Item>, out: &mut Answer) {
     let Some(item) = made else {
         return out.text("no item");
     };
@@ -104,11 +183,10 @@ fn change_lent<T: TableLike>(table: &mut T, words: &[Json], out: &mut Answer) {
             Some(mut slot) => change_slot(&mut slot, rest, out),
             None => out.text("none"),
         },
-        "slot_remove" => match table.key_mut(name) {
+        _ => match table.key_mut(name) {
             Some(slot) => tell_given(slot.remove(), out),
             None => out.text("none"),
         },
-        _ => ask(table, words, out),
     }
 }
 
@@ -134,7 +212,7 @@ fn insert_at<T: TableLike>(slot: &mut TableLikeSlot<'_, T>, made: Option<Item>, 
     }
 }
 
-fn ask<T: TableLike>(table: &T, words: &[Json], out: &mut Answer) {
+fn ask<T: AnyTable>(table: &T, words: &[Json], out: &mut Answer) {
     match word(words, 0) {
         "iter" => table::names(table.iter(), out),
         "len" => out.shown(&table.len()),
@@ -146,7 +224,7 @@ fn ask<T: TableLike>(table: &T, words: &[Json], out: &mut Answer) {
     }
 }
 
-fn ask_slot<T: TableLike>(table: &T, words: &[Json], out: &mut Answer) {
+fn ask_slot<T: AnyTable>(table: &T, words: &[Json], out: &mut Answer) {
     let name = word(words, 1);
     match word(words, 0) {
         "get" => tell_item(table.get(name), out),
@@ -162,5 +240,37 @@ fn tell_item(found: Option<&Item>, out: &mut Answer) {
     match found {
         Some(item) => item.tell(out),
         None => out.text("none"),
+    }
+}
+
+/// Asks of a table that an item lends.
+pub fn ask_lent(table: Option<TableRef<'_>>, words: &[Json], out: &mut Answer) {
+    match table {
+        Some(table) => ask_ref(table, words, out),
+        None => out.text("none"),
+    }
+}
+
+fn ask_ref(table: TableRef<'_>, words: &[Json], out: &mut Answer) {
+    match word(words, 0) {
+        "iter" => table::names(table.iter(), out),
+        "len" => out.shown(&table.len()),
+        "is_empty" => out.truth(table.is_empty()),
+        "slots" => out.shown(&table.slots()),
+        "is_dotted" => out.truth(table.is_dotted()),
+        "get_values" => lines::tell(table.get_values(out.alloc), out),
+        _ => ask_ref_slot(table, words, out),
+    }
+}
+
+fn ask_ref_slot(table: TableRef<'_>, words: &[Json], out: &mut Answer) {
+    let name = word(words, 1);
+    match word(words, 0) {
+        "get" => tell_item(table.get(name), out),
+        "get_key_value" => tell_found(table.get_key_value(name), out),
+        "key_value_at" => tell_found(table.key_value_at(index(words)), out),
+        "contains_key" => out.truth(table.contains_key(name)),
+        "key" => key::ask_found(table.key(name), behind(words, 2), out),
+        call => out.no_such(call),
     }
 }

@@ -7,7 +7,7 @@ use crate::{
     tables, value,
 };
 use serde_json::Value as Json;
-use toml_edit::{ArrayOfTables, Item, Iter, Table, Value};
+use toml_edit::{ArrayOfTables, AsTableLike, Item, Iter, Table, Value};
 
 /// Rows on an item that is made: of what, the row says.
 pub fn answer(row: Row<'_>, out: &mut Answer) {
@@ -191,6 +191,8 @@ fn tell_item(item: &Item, words: &[Json], out: &mut Answer) {
         "is_table" => out.truth(item.is_table()),
         "is_array_of_tables" => out.truth(item.is_array_of_tables()),
         "type_name" => out.text(item.type_name()),
+        "is_table_like" => out.truth(item.is_table_like()),
+        "as_table_like" => like::ask_lent(item.as_table_like(), behind(words, 1), out),
         "as_value" => tell_value(item.as_value(), behind(words, 1), out),
         "item_get" | "item_get_text" | "item_brackets" => indexing::ask(item, words, out),
         call if call.starts_with("item_") => item::tell(item, call, out),
@@ -296,6 +298,10 @@ fn change_item(item: &mut Item, words: &[Json], out: &mut Answer) {
         },
         "item_as_array_mut" => array::change_found(item.as_array_mut(), rest, out),
         "item_as_inline_table_mut" => inline::change_found(item.as_inline_table_mut(), rest, out),
+        "as_table_like_mut" => match item.as_table_like_mut() {
+            Some(mut table) => like::change_ref(&mut table, rest, out),
+            None => out.text("none"),
+        },
         "make_value" => item.make_value(),
         "item_get_mut" | "item_or_insert" | "index_or_insert" => indexing::change(item, words, out),
         "into_value" | "into_table" | "into_array_of_tables" => convert::change(item, words, out),
