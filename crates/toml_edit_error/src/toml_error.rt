@@ -14,6 +14,12 @@ use std::ops::Range;
 /// Why a text is refused: a message, mostly with the span that it is about. It owns its input text.
 #[derive(Debug, Drop)]
 pub struct TomlError {
+    // In a box, so that the answer of a call that mostly succeeds isn't larger for what it says where it doesn't.
+    parts: Box<Parts>,
+}
+
+#[derive(Debug, Drop)]
+struct Parts {
     message: String,
     span: Option<(usize, usize)>,
     input: String,
@@ -25,29 +31,37 @@ impl Model for TomlError {
 
     ghost Value = { Report };
 
-    ghost view = { λ a. record { message = string_bytes a.message; span = a.span; input = string_bytes a.input } };
+    ghost view = { λ a. record { message = string_bytes a.parts.value.message; span = a.parts.value.span; input = string_bytes a.parts.value.input } };
 
-    ghost invariant = { λ a. ∥ SpanIsIn (string_bytes a.input) a.span ∥₁ };
+    ghost invariant = { λ a. ∥ SpanIsIn (string_bytes a.parts.value.input) a.parts.value.span ∥₁ };
 }
 
 impl TomlError {
-    /// An error with a message about the bytes of `input` in the span, if it has one.
-    pub fn new(message: String, span: Option<(usize, usize)>, input: String) -> TomlError
+    /// An error with a message about the bytes of `input` in the span, if it has one. The only error is want of memory.
+    pub fn new(
+        alloc: Global,
+        message: String,
+        span: Option<(usize, usize)>,
+        input: String,
+    ) -> Result<TomlError, AllocError>
         requires { ∥ SpanIsIn (string_bytes input) span ∥₁ }
-        ensures { result ≡ record { message = string_bytes message; span = span; input = string_bytes input } }
+        ensures { IfOk result (λ e. e ≡ record { message = string_bytes message; span = span; input = string_bytes input }) }
     {
-        TomlError {
+        let parts = Parts {
             message,
             span,
             input,
-        }
+        };
+        Ok(TomlError {
+            parts: Box::new(alloc, parts)?,
+        })
     }
 
     /// What is wrong.
     pub fn message(&self) -> &str
         ensures { result.now ≡ self.now.message }
     {
-        self.message.as_str()
+        self.parts.message.as_str()
     }
 
     /// The bytes of the input that the message is about, on the boundaries of characters. `None` if it is about no place.
@@ -55,14 +69,19 @@ impl TomlError {
         ensures span { option_map (λ r. (r.start, r.end)) result ≡ self.now.span }
         ensures within { ∥ SpanIsIn self.now.input self.now.span ∥₁ }
     {
-        self.span.map(|(start, end)| start..end)
+        self.parts.span.map(|(start, end)| start..end)
     }
 
     /// An equal copy: its message, its span and its text. The only error is want of memory.
     pub fn clone(&self, alloc: Global) -> Result<TomlError, AllocError>
         ensures { IfOk result (λ copy. copy ≡ self.now) }
     {
-        error(alloc, self.input.as_str(), self.message.as_str(), self.span)
+        error(
+            alloc,
+            self.parts.input.as_str(),
+            self.parts.message.as_str(),
+            self.parts.span,
+        )
     }
 }
 
@@ -79,7 +98,9 @@ impl PartialEq for TomlError {
         ensures answer { result ≡ same_report self.now other.now }
         ensures exact { IsTrue result ↔ (self.now ≡ other.now) }
     {
-        self.message == other.message && self.span == other.span && self.input == other.input
+        self.parts.message == other.parts.message
+            && self.parts.span == other.parts.span
+            && self.parts.input == other.parts.input
     }
 }
 
@@ -98,9 +119,9 @@ impl Hash for TomlError {
     ghost respects_eq = { report_hash_respects };
 
     fn hash<H: Hasher>(&self, state: &mut H) {
-        self.message.hash(state);
-        self.span.hash(state);
-        self.input.hash(state);
+        self.parts.message.hash(state);
+        self.parts.span.hash(state);
+        self.parts.input.hash(state);
     }
 }
 
@@ -113,11 +134,17 @@ impl fmt::Display for TomlError {
     ghost output = { λ e. Some (excerpt e.input e.span e.message) };
 
     fn fmt<W: fmt::Write>(&self, f: &mut fmt::Formatter<W>) -> fmt::Result {
-        match self.span {
+        match self.parts.span {
             Some((start, end)) => {
-                write_excerpt(f, self.input.as_str(), start, end, self.message.as_str())
+                write_excerpt(
+                    f,
+                    self.parts.input.as_str(),
+                    start,
+                    end,
+                    self.parts.message.as_str(),
+                )
             }
-            None => write_message(f, self.message.as_str()),
+            None => write_message(f, self.parts.message.as_str()),
         }
     }
 }
@@ -194,5 +221,5 @@ fn error(
 {
     let message = String::from_str(alloc, message)?;
     let input = String::from_str(alloc, text)?;
-    Ok(TomlError::new(message, span, input))
+    TomlError::new(alloc, message, span, input)
 }
