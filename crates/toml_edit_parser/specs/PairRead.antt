@@ -73,7 +73,7 @@ path_end es = position (λ e. ends_path e.kind) es
 abbrev pub between : Span → Span → Span
 between left right = record { start = left.end; end = max left.end right.start }
 
--- the sign `=` comes first, and then the value
+-- those of a pair whose path this is, where the sign `=` and the value come behind it
 abbrev pub frame_behind : Span → List Event → List Event → Option (FrameParts × List Event)
 frame_behind leading path (sign ∷ value ∷ es) =
     option_map (λ key. (record { leading = leading; path = path; before_equals = between key.span sign.span; after_equals = between sign.span value.span }, value ∷ es))

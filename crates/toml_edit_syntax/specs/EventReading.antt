@@ -52,7 +52,7 @@ close_read b whole comma inner t = close_events (closing b) (closing_byte b ∷ 
 abbrev pub path_read : ℕ → ℕ → Text → Text → Reading (List Event)
 path_read n whole before t = seen (λ p _. path_events (whole - length t - length before) p) (reading (segments_at n before t))
 
--- the sign `=`, behind white space and before white space
+-- the sign `=`, between white space and white space
 abbrev pub equals_read : ℕ → Text → Reading (List Event)
 equals_read whole t =
     seen (λ e rest. event Equals (whole - length rest - length e.1 - 1) (codes "=") ∷ []) (reading (equals_at t))

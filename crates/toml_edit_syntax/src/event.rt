@@ -18,7 +18,7 @@ pub enum EventKind {
     BeforeDot,
     /// The white space between a dot and the simple key after it.
     AfterDot,
-    /// The sign `=` between a key and a value. What stands between the key and the sign, and between the sign and the value, is white space.
+    /// The sign `=` between a key and a value. What else stands there is white space.
     Equals,
     /// A scalar, as it is spelled.
     Scalar,
