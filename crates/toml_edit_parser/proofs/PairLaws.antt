@@ -1,14 +1,17 @@
 -- One pair of an inline table: its parts, its key's length, and what its value becomes.
-use Rattle.std.proofs.Common.{◌≡◌, ℕ, zero, suc, ◌+◌, ◌*◌, ◌<◌, ◌≤◌, true, false, List, [], ◌∷◌, ◌++◌, length, take, drop, refl, sym, ap, ◌∙◌, subst, append_assoc, arith, Option, Some, None, cond, nat_lt, option_map, rules, codes, inl, inr}
-use Rattle.std.specs.Prelude.{Contains, IfOk, option_and_then, Result, Ok, Err}
+use Rattle.std.proofs.Common.{◌≡◌, ℕ, zero, suc, ◌+◌, ◌*◌, ◌<◌, ◌≤◌, true, false, ◌==◌, List, [], ◌∷◌, ◌++◌, length, take, drop, refl, sym, ap, ◌∙◌, subst, append_assoc, arith, Option, Some, None, cond, nat_lt, option_map, rules, codes, inl, inr}
+use Rattle.std.specs.Prelude.{Contains, IfOk, IfSome, max, option_and_then, Result, Ok, Err}
 use Rattle.std.specs.Borrow.{Bor}
-use Rattle.std.specs.List.{position_or_len}
-use Rattle.std.proofs.lemmas.Bool.{cases_Bool}
+use Rattle.std.specs.List.{last_or, position_or_len, slice_get}
+use Rattle.std.specs.Str.{IsCharBoundary}
+use Rattle.std.proofs.lemmas.Bool.{cases_Bool, cases_lt, false≢true}
 use Rattle.std.proofs.lemmas.Bool.Decides.{nat_tests}
 use Rattle.std.proofs.lemmas.List.Elements.{Contains-append_left, Contains-append_right}
+use Rattle.std.proofs.Math.Nat.{le-max_left}
 use Rattle.std.proofs.Math.Seq.{drop-append_seam, take-append_seam}
+use Rattle.std.proofs.lemmas.List.{length-append}
 use Rattle.toml_edit_model.specs.Text.{Text, is_empty}
-use Rattle.toml_edit_model.specs.Syntax.{Segment, Frame, Value, IsPath, begins_unspaced, is_short, segment_text, path_text, frame_text, value_text}
+use Rattle.toml_edit_model.specs.Syntax.{Segment, Frame, Value, scalar, array, inline_table, IsPath, begins_unspaced, ends_unspaced, is_short, nesting_limit, segment_text, path_text, frame_text, value_text}
 use Rattle.toml_edit_model.specs.Faults.{Fault, recursion_limit, long_path, value_faults}
 use Rattle.toml_edit_model.specs.Tree.{Raw, Node, Slots}
 use Rattle.toml_edit_model.specs.TreeOf.{spanned_form, span_of, decor_at, frame_leaf, value_start}
@@ -21,15 +24,15 @@ use Rattle.toml_edit_error.specs.Report.{fault_of}
 use Rattle.toml_edit_error.specs.Fault.{IfToml}
 use Rattle.toml_edit_error.specs.declared.toml_error.ParseFault.{ParseFault}
 use Rattle.toml_edit_syntax.specs.declared.event.Event.{Event}
-use Rattle.toml_edit_syntax.specs.declared.event.EventKind.TheVariants.{Key, BeforeDot, AfterDot, BeforeEquals, AfterEquals, After}
+use Rattle.toml_edit_syntax.specs.declared.event.EventKind.TheVariants.{Key, BeforeDot, AfterDot, Equals, After}
 use Rattle.toml_edit_syntax.specs.declared.event.Span.{Span}
 use Rattle.toml_edit_syntax.specs.Events.{IsSpanOf}
-use Rattle.toml_edit_syntax.specs.ValueEvents.{event, path_events, shortened, value_at_byte}
+use Rattle.toml_edit_syntax.specs.ValueEvents.{event, path_events, shortened, value_at_byte, value_events}
 use Rattle.toml_edit_tree.specs.Casts.{both_sides}
-use Rattle.toml_edit_parser.specs.PairRead.{FrameParts, EndsPair, IsEndOfPath, NamesPair, ReadsPair, ends_path, first_before, frame_behind, frame_parts, key_events, path_end, split_frame}
-use Rattle.toml_edit_parser.specs.ValueRead.{AreIn, IsRead, NamesOne, is_leading, span_at, spanned_raw, split_leading}
+use Rattle.toml_edit_parser.specs.PairRead.{FrameParts, EndsPair, IsEndOfPath, NamesPair, ReadsPair, between, ends_path, first_before, frame_behind, frame_parts, key_events, path_end, split_frame}
+use Rattle.toml_edit_parser.specs.ValueRead.{AreIn, IsRead, NamesOne, is_leading, span_at, spanned_raw, split_first, split_leading}
 use Rattle.toml_edit_parser.proofs.ArrayLaws.{spanned_raw-is}
-use Rattle.toml_edit_parser.proofs.ReadLaws.{here, mapped, same_spans}
+use Rattle.toml_edit_parser.proofs.ReadLaws.{here, mapped, same_parts, same_spans}
 
 -- ---- the parts of a pair
 
@@ -68,21 +71,100 @@ path_end-is p start e es ends = place-position (path_events start p ++ (e ∷ es
 abbrev parts_at : Span → List Event → Span → Span → FrameParts
 parts_at leading path before after = record { leading = leading; path = path; before_equals = before; after_equals = after }
 
+-- the parts behind a path, where its last key is this
+abbrev split_by : Span → List Event → Event → Event → List Event → Event → FrameParts × List Event
+split_by leading path sign value es key = (parts_at leading path (between key.span sign.span) (between sign.span value.span), value ∷ es)
+
+abbrev sign_of : ℕ → Frame → Event
+sign_of start f = event Equals (start + length f.leading + length (path_text f.path) + length f.before_equals) (codes "=")
+
+segment_length : (s : Segment) → length (segment_text s) ≡ length s.before + (length s.spelled + length s.after)
+segment_length s = omega (arith, length-append s.before (s.spelled ++ s.after), length-append s.spelled s.after)
+
+-- a path ends where its last key does
+key_ends : (s : Segment) (p : List Segment) (start : ℕ) (o : Option Event) → ends_unspaced (s ∷ p) ≡ true
+    → (key : Event) × (last_or o (path_events start (s ∷ p)) ≡ Some key) × (key.span.end ≡ start + length (path_text (s ∷ p)))
+key_ends s [] start o ends =
+    let none = ap (λ (t : Text). length t) (is_empty-nil s.after ends) in
+    (event Key (start + length s.before) s.spelled, refl, omega (arith, none, segment_length s))
+key_ends s (r ∷ rest) start o ends =
+    let dot = start + length (segment_text s) in
+    let (key, is, end) = key_ends r rest (dot + 1) (Some (event AfterDot (dot + 1) r.before)) ends in
+    (key, is, omega (arith, end, length-append (segment_text s) (46 ∷ path_text (r ∷ rest))))
+
+last_key : (p : List Segment) (start : ℕ) → IsPath p → (key : Event) × (last_or None (path_events start p) ≡ Some key) × (key.span.end ≡ start + length (path_text p))
+last_key [] start is = absurd (false≢true is.begins)
+last_key (s ∷ p) start is = key_ends s p start None is.ends
+
+-- between the end of a part and the start of another stands this text
+between-is : (left right : Span) (at : ℕ) (t : Text) → left.end ≡ at → right.start ≡ at + length t → between left right ≡ span_at at t
+between-is left right at t l r =
+    let end : max left.end right.start ≡ at + length t = omega (arith, l, r) in
+    ap (λ i. let s : Span = record { start = i; end = max left.end right.start } in s) l ∙ ap (λ i. let s : Span = record { start = at; end = i } in s) end
+
+-- the first of these begins at this byte
+abbrev BeginAt : ℕ → List Event → Type 0
+BeginAt at [] = ⊥
+BeginAt at (e ∷ es) = e.span.start ≡ at
+
+-- as the first event of a value does
+value_begins : (v : Value) (at level : ℕ) (more : List Event) → BeginAt at (shortened level (value_events at v ++ more))
+value_begins (scalar s t) at level more = refl
+value_begins (array es comma t) at level more = elim (cases_Bool (level == nesting_limit)) [ inl full ↦ rw full refl | inr room ↦ rw room refl ]
+value_begins (inline_table ps comma t) at level more = elim (cases_Bool (level == nesting_limit)) [ inl full ↦ rw full refl | inr room ↦ rw room refl ]
+
+behind_path : (start : ℕ) (f : Frame) (leading : Span) (es : List Event) (key : Event) → leading ≡ span_at start f.leading → BeginAt (value_at_byte start f) es
+    → last_or None (path_events (start + length f.leading) f.path) ≡ Some key → key.span.end ≡ start + length f.leading + length (path_text f.path)
+    → frame_behind leading (path_events (start + length f.leading) f.path) (sign_of start f ∷ es) ≡ Some (frame_parts start f, es)
+behind_path start f leading [] key e begins last ends = absurd begins
+behind_path start f leading (x ∷ es) key e begins last ends =
+    let at = start + length f.leading + length (path_text f.path) in
+    let path = path_events (start + length f.leading) f.path in
+    let sign = sign_of start f in
+    ap (option_map (split_by leading path sign x es)) last
+    ∙ ap (λ (b : Span). Some (parts_at leading path b (between sign.span x.span), x ∷ es)) (between-is key.span sign.span at f.before_equals ends refl)
+    ∙ ap (λ (a : Span). Some (parts_at leading path (span_at at f.before_equals) a, x ∷ es)) (between-is sign.span x.span (at + length f.before_equals + 1) f.after_equals refl begins)
+    ∙ ap (λ (l : Span). Some (parts_at l path (span_at at f.before_equals) (span_at (at + length f.before_equals + 1) f.after_equals), x ∷ es)) e
+
 -- a pair is split behind its key
-pub frame-split : (start : ℕ) (f : Frame) (leading : Span) (es : List Event) → leading ≡ span_at start f.leading
+frame-split : (start : ℕ) (f : Frame) (leading : Span) (es : List Event) → IsPath f.path → leading ≡ span_at start f.leading → BeginAt (value_at_byte start f) es
     → split_frame leading (key_events start f ++ es) ≡ Some (frame_parts start f, es)
-frame-split start f leading es e =
+frame-split start f leading es is e begins =
     let key = start + length f.leading in
-    let at = key + length (path_text f.path) in
     let path = path_events key f.path in
-    let before = event BeforeEquals at f.before_equals in
-    let after = event AfterEquals (at + length f.before_equals + 1) f.after_equals in
-    let behind = before ∷ after ∷ es in
-    ap (split_frame leading) (append_assoc path (before ∷ after ∷ []) es)
-    ∙ ap (option_and_then (λ n. frame_behind leading (take n (path ++ behind)) (drop n (path ++ behind)))) (path_end-is f.path key before (after ∷ es) refl)
+    let sign = sign_of start f in
+    let behind = sign ∷ es in
+    let (last, same, ends) = last_key f.path key is in
+    ap (split_frame leading) (append_assoc path (sign ∷ []) es)
+    ∙ ap (option_and_then (λ n. frame_behind leading (take n (path ++ behind)) (drop n (path ++ behind)))) (path_end-is f.path key sign es refl)
     ∙ ap (λ (q : List Event). frame_behind leading q (drop (length path) (path ++ behind))) (take-append_seam path behind)
     ∙ ap (λ (q : List Event). frame_behind leading path q) (drop-append_seam path behind)
-    ∙ ap (λ (l : Span). Some (parts_at l path before.span after.span, es)) e
+    ∙ behind_path start f leading es last e begins same ends
+
+last_from : (x : Event) (xs : List Event) → slice_get (x ∷ xs) (length xs) ≡ last_or (Some x) xs
+last_from x [] = refl
+last_from x (y ∷ ys) = last_from y ys
+
+-- the last event, by its place
+last_at : (es : List Event) → slice_get es (length es - 1) ≡ last_or None es
+last_at [] = refl
+last_at (x ∷ xs) =
+    let place : suc (length xs) - 1 ≡ length xs = omega arith in
+    ap (slice_get (x ∷ xs)) place ∙ last_from x xs
+
+-- the parts behind a path are split off one by one
+pub frame-behind : (leading : Span) (path signs rest more : List Event) (key sign value : Event) (before after : Span) → Some key ≡ slice_get path (length path - 1)
+    → Some (sign, rest) ≡ split_first signs → Some (value, more) ≡ split_first rest → before ≡ between key.span sign.span → after ≡ between sign.span value.span
+    → Some (parts_at leading path before after, rest) ≡ frame_behind leading path signs
+frame-behind leading path [] rest more key sign value before after k s v b a = absurd cc
+frame-behind leading path (x ∷ []) rest more key sign value before after k s v b a =
+    let first = same_parts sign x rest [] s in
+    absurd (let none = v ∙ ap split_first first.1 in cc)
+frame-behind leading path (x ∷ y ∷ es) rest more key sign value before after k s v b a =
+    let first = same_parts sign x rest (y ∷ es) s in
+    let second = same_parts value y more es (v ∙ ap split_first first.1) in
+    let same : Some (parts_at leading path before after, rest) ≡ Some (split_by leading path x y es key) = rw (b, a, first.0, second.0, first.1) refl in
+    same ∙ ap (option_map (split_by leading path x y es)) (k ∙ last_at path)
 
 -- the text before a pair
 pub leading-in : (t : Text) (es : List Event) (leading : Span) (rest : List Event) → Some (leading, rest) ≡ split_leading es → AreIn t es
@@ -115,19 +197,26 @@ path-whole level start (s ∷ r ∷ rest) more =
 pub key-whole : (level start : ℕ) (f : Frame) (more : List Event) → shortened level (key_events start f ++ more) ≡ key_events start f ++ shortened level more
 key-whole level start f more =
     let path = path_events (start + length f.leading) f.path in
-    let before_equals = start + length f.leading + length (path_text f.path) in
-    let signs : List Event = event BeforeEquals before_equals f.before_equals ∷ event AfterEquals (before_equals + length f.before_equals + 1) f.after_equals ∷ [] in
-    ap (shortened level) (append_assoc path signs more) ∙ path-whole level (start + length f.leading) f.path (signs ++ more) ∙ sym (append_assoc path signs (shortened level more))
+    let sign = sign_of start f in
+    ap (shortened level) (append_assoc path (sign ∷ []) more) ∙ path-whole level (start + length f.leading) f.path (sign ∷ more)
+    ∙ sym (append_assoc path (sign ∷ []) (shortened level more))
 
 -- a pair has its parts
-pub no-frame : (start : ℕ) (f : Frame) (leading : Span) (events es : List Event) (P : Type 0) → leading ≡ span_at start f.leading → events ≡ key_events start f ++ es
+pub no-frame : (start : ℕ) (f : Frame) (v : Value) (level : ℕ) (more : List Event) (leading : Span) (events : List Event) (P : Type 0) → IsPath f.path
+    → leading ≡ span_at start f.leading → events ≡ key_events start f ++ shortened level (value_events (value_at_byte start f) v ++ more)
     → None ≡ split_frame leading events → P
-no-frame start f leading events es P same e none = absurd (let g = none ∙ ap (split_frame leading) e ∙ frame-split start f leading es same in cc)
+no-frame start f v level more leading events P is same e none =
+    let es = shortened level (value_events (value_at_byte start f) v ++ more) in
+    let split = frame-split start f leading es is same (value_begins v (value_at_byte start f) level more) in
+    absurd (let g = none ∙ ap (split_frame leading) e ∙ split in cc)
 
-pub the-frame : (start : ℕ) (f : Frame) (leading : Span) (events es : List Event) (parts : FrameParts) (rest : List Event) → leading ≡ span_at start f.leading
-    → events ≡ key_events start f ++ es → Some (parts, rest) ≡ split_frame leading events → (parts ≡ frame_parts start f) × (rest ≡ es)
-the-frame start f leading events es parts rest same e g =
-    same_frames parts (frame_parts start f) rest es (g ∙ ap (split_frame leading) e ∙ frame-split start f leading es same)
+pub the-frame : (start : ℕ) (f : Frame) (v : Value) (level : ℕ) (more : List Event) (leading : Span) (events : List Event) (parts : FrameParts) (rest : List Event) → IsPath f.path
+    → leading ≡ span_at start f.leading → events ≡ key_events start f ++ shortened level (value_events (value_at_byte start f) v ++ more)
+    → Some (parts, rest) ≡ split_frame leading events → (parts ≡ frame_parts start f) × (rest ≡ shortened level (value_events (value_at_byte start f) v ++ more))
+the-frame start f v level more leading events parts rest is same e g =
+    let es = shortened level (value_events (value_at_byte start f) v ++ more) in
+    let split = frame-split start f leading es is same (value_begins v (value_at_byte start f) level more) in
+    same_frames parts (frame_parts start f) rest es (g ∙ ap (split_frame leading) e ∙ split)
 
 -- ---- the parts lie in the text
 
@@ -155,21 +244,45 @@ pub record FrameIn (t : Text) (leading : Span) (events : List Event) (parts : Fr
   pub others : AreIn t rest
   pub fewer : length rest < length events
 
-behind_in : (t : Text) (leading : Span) (events path behind : List Event) (parts : FrameParts) (rest : List Event) → AreIn t path → AreIn t behind
-    → length behind ≤ length events → Some (parts, rest) ≡ frame_behind leading path behind → FrameIn t leading events parts rest
-behind_in t leading events path [] parts rest p b n e = absurd cc
-behind_in t leading events path (x ∷ []) parts rest p b n e = absurd cc
-behind_in t leading events path (x ∷ y ∷ es) parts rest p b n e =
-    let same = same_frames parts (parts_at leading path x.span y.span) rest es e in
+-- so does the last event, and what stands between two parts
+last_in : (t : Text) (o : Option Event) (es : List Event) → IfSome o (λ e. IsSpanOf t e.span) → AreIn t es → IfSome (last_or o es) (λ e. IsSpanOf t e.span)
+last_in t o [] before h = before
+last_in t o (e ∷ es) before h = last_in t (Some e) es h.0 h.1
+
+between_in : (t : Text) (left right : Span) → IsSpanOf t left → IsSpanOf t right → IsSpanOf t (between left right)
+between_in t left right l r =
+    record {
+      start = l.end;
+      end = elim (cases_lt left.end right.start) [
+        | inl before ↦ subst (IsCharBoundary t) (let e : right.start ≡ max left.end right.start = omega (arith, before) in e) r.start
+        | inr behind ↦ subst (IsCharBoundary t) (let e : left.end ≡ max left.end right.start = omega (arith, behind) in e) l.end
+      ];
+      order = le-max_left left.end right.start;
+    }
+
+parts_in : (t : Text) (leading : Span) (events path : List Event) (sign value : Event) (es : List Event) (o : Option Event) (parts : FrameParts) (rest : List Event)
+    → IfSome o (λ e. IsSpanOf t e.span) → AreIn t path → AreIn t (sign ∷ value ∷ es) → length (sign ∷ value ∷ es) ≤ length events
+    → Some (parts, rest) ≡ option_map (split_by leading path sign value es) o
+    → FrameIn t leading events parts rest
+parts_in t leading events path sign value es None parts rest k p b n e = absurd cc
+parts_in t leading events path sign value es (Some key) parts rest k p b n e =
+    let same = same_frames parts (parts_at leading path (between key.span sign.span) (between sign.span value.span)) rest (value ∷ es) e in
     let l = ap (λ (ys : List Event). length ys) same.1 in
     record {
       front = ap (λ (q : FrameParts). q.leading) same.0;
       path = subst (λ (q : FrameParts). AreIn t q.path) (sym same.0) p;
-      before_equals = subst (λ (q : FrameParts). IsSpanOf t q.before_equals) (sym same.0) b.0;
-      after_equals = subst (λ (q : FrameParts). IsSpanOf t q.after_equals) (sym same.0) b.1.0;
-      others = subst (AreIn t) (sym same.1) b.1.1;
+      before_equals = subst (λ (q : FrameParts). IsSpanOf t q.before_equals) (sym same.0) (between_in t key.span sign.span k b.0);
+      after_equals = subst (λ (q : FrameParts). IsSpanOf t q.after_equals) (sym same.0) (between_in t sign.span value.span b.0 b.1.0);
+      others = subst (AreIn t) (sym same.1) b.1;
       fewer = omega (arith, l, n);
     }
+
+behind_in : (t : Text) (leading : Span) (events path behind : List Event) (parts : FrameParts) (rest : List Event) → AreIn t path → AreIn t behind
+    → length behind ≤ length events → Some (parts, rest) ≡ frame_behind leading path behind → FrameIn t leading events parts rest
+behind_in t leading events path [] parts rest p b n e = absurd cc
+behind_in t leading events path (sign ∷ []) parts rest p b n e = absurd cc
+behind_in t leading events path (sign ∷ value ∷ es) parts rest p b n e =
+    parts_in t leading events path sign value es (last_or None path) parts rest (last_in t None path tt p) p b n e
 
 in_of : (t : Text) (leading : Span) (events : List Event) (parts : FrameParts) (rest : List Event) (o : Option ℕ) → AreIn t events
     → Some (parts, rest) ≡ option_and_then (λ n. frame_behind leading (take n events) (drop n events)) o → FrameIn t leading events parts rest

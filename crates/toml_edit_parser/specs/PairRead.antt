@@ -1,6 +1,6 @@
 -- What reading the pairs of an inline table or one of them does, by the events of the text.
-use Rattle.std.specs.Prelude.{◌≡◌, ◌⊎◌, ℕ, ◌+◌, Bool, true, false, List, [], ◌∷◌, ◌++◌, length, take, drop, Option, Some, None, option_map, option_and_then, position, if◌then◌else◌, Result, Ok, Err}
-use Rattle.std.specs.List.{AllByRecursion}
+use Rattle.std.specs.Prelude.{◌≡◌, ◌⊎◌, ℕ, ◌+◌, Bool, true, false, List, [], ◌∷◌, ◌++◌, length, take, drop, Option, Some, None, option_map, option_and_then, max, codes, position, if◌then◌else◌, Result, Ok, Err}
+use Rattle.std.specs.List.{AllByRecursion, last_or}
 use Rattle.std.specs.Borrow.{Bor}
 use Rattle.toml_edit_model.specs.Text.{Text, is_empty}
 use Rattle.toml_edit_model.specs.Syntax.{Segment, Frame, Value, Pairs, no_pairs, pair, IsSpelledSegment, ends_unspaced, path_text, pairs_text}
@@ -17,7 +17,7 @@ use Rattle.toml_edit_error.specs.Fault.{IfToml}
 use Rattle.toml_edit_error.specs.declared.toml_error.ParseFault.{ParseFault}
 use Rattle.toml_edit_syntax.specs.declared.event.Event.{Event}
 use Rattle.toml_edit_syntax.specs.declared.event.EventKind.{EventKind}
-use Rattle.toml_edit_syntax.specs.declared.event.EventKind.TheVariants.{AfterKey, BeforeEquals, AfterEquals}
+use Rattle.toml_edit_syntax.specs.declared.event.EventKind.TheVariants.{AfterKey, Equals}
 use Rattle.toml_edit_syntax.specs.declared.event.Span.{Span}
 use Rattle.toml_edit_syntax.specs.ValueEvents.{event, path_events, shortened, value_at_byte}
 use Rattle.toml_edit_parser.specs.declared.pairs.FrameSpans.{FrameSpans}
@@ -57,15 +57,11 @@ frame_parts start f =
 abbrev pub key_events : ℕ → Frame → List Event
 key_events start f =
     let key = start + length f.leading in
-    let before_equals = key + length (path_text f.path) in
-    path_events key f.path
-    ++ (event BeforeEquals before_equals f.before_equals
-    ∷ event AfterEquals (before_equals + length f.before_equals + 1) f.after_equals
-    ∷ [])
+    path_events key f.path ++ (event Equals (key + length (path_text f.path) + length f.before_equals) (codes "=") ∷ [])
 
 -- what stands behind the last key of a path, of a key line or of a header
 abbrev pub ends_path : EventKind → Bool
-ends_path BeforeEquals = true
+ends_path Equals = true
 ends_path AfterKey = true
 ends_path _ = false
 
@@ -73,8 +69,15 @@ ends_path _ = false
 abbrev pub path_end : List Event → Option ℕ
 path_end es = position (λ e. ends_path e.kind) es
 
+-- what stands between two parts
+abbrev pub between : Span → Span → Span
+between left right = record { start = left.end; end = max left.end right.start }
+
+-- those of a pair whose path this is, where the sign `=` and the value come behind it
 abbrev pub frame_behind : Span → List Event → List Event → Option (FrameParts × List Event)
-frame_behind leading path (b ∷ a ∷ es) = Some (record { leading = leading; path = path; before_equals = b.span; after_equals = a.span }, es)
+frame_behind leading path (sign ∷ value ∷ es) =
+    option_map (λ key. (record { leading = leading; path = path; before_equals = between key.span sign.span; after_equals = between sign.span value.span }, value ∷ es))
+    (last_or None path)
 frame_behind leading path _ = None
 
 -- the parts of a pair behind its leading text, and the events behind them

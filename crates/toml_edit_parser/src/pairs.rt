@@ -173,7 +173,7 @@ pub(crate) fn path_end(events: &[Event]) -> Option<usize>
 fn ends_path(kind: EventKind) -> bool
     ensures { result ≡ spec.ends_path kind }
 {
-    matches!(kind, EventKind::BeforeEquals | EventKind::AfterKey)
+    matches!(kind, EventKind::Equals | EventKind::AfterKey)
 }
 
 /// The parts of a pair behind its leading text, and the events behind them.
@@ -184,15 +184,26 @@ pub(crate) fn split_frame<'a>(
     ensures { option_map (λ p. (spec.parts_of p.0, p.1.now)) result ≡ spec.split_frame leading events.now }
 {
     let (path, signs) = events.split_at(path_end(events)?);
-    let (before_equals, behind) = split_first(signs)?;
-    let (after_equals, rest) = split_first(behind)?;
+    let last = path.last()?;
+    let (sign, rest) = split_first(signs)?;
+    let (value, _) = split_first(rest)?;
     let frame = FrameSpans {
         leading,
         path,
-        before_equals: before_equals.span,
-        after_equals: after_equals.span,
+        before_equals: between(last.span, sign.span),
+        after_equals: between(sign.span, value.span),
     };
     Some((frame, rest))
+}
+
+/// What stands between two parts.
+fn between(left: Span, right: Span) -> Span
+    ensures { result ≡ spec.between left right }
+{
+    Span {
+        start: left.end,
+        end: left.end.max(right.start),
+    }
 }
 
 /// Adds an item that was read at the end of its key's path, between the text before it and the text after it, which comes first, leaves

@@ -7,7 +7,7 @@ use Rattle.std.proofs.lemmas.Bool.Decides.{nat_tests}
 use Rattle.std.proofs.lemmas.List.Folds.{list_any-append}
 use Rattle.toml_edit_model.specs.Text.{Text}
 use Rattle.toml_edit_model.specs.Syntax.{Segment, Frame, Value, scalar, array, inline_table, Elements, no_elements, element, Pairs, no_pairs, pair, Header, segment_text, path_text, value_text, opening_brackets, closing_brackets, statement_text, depth, elements_depth, pairs_depth, nesting_limit, Statement, key_line, header, Document, document_text, mark_text}
-use Rattle.toml_edit_syntax.specs.declared.event.EventKind.TheVariants.{BeforeEquals, AfterEquals, ArrayOpen, ArrayClose, InlineTableOpen, InlineTableClose, Before, After, BeforeKey, AfterKey, HeaderClose, LineEnd, Final}
+use Rattle.toml_edit_syntax.specs.declared.event.EventKind.TheVariants.{Equals, ArrayOpen, ArrayClose, InlineTableOpen, InlineTableClose, Before, After, BeforeKey, AfterKey, HeaderClose, LineEnd, Final}
 use Rattle.toml_edit_syntax.specs.declared.event.Event.{Event}
 use Rattle.toml_edit_syntax.specs.ValueEvents.{event, opens, path_events, frame_events, value_at_byte, close_events, value_events, elements_events, pairs_events, shortened, is_too_deep, are_deep}
 use Rattle.toml_edit_syntax.specs.Events.{line_events, header_open, header_events, statement_events, events_from, events_of, exceeds_depth, has_deep_value}
@@ -27,8 +27,8 @@ shallow_path start (s ∷ r ∷ rest) = shallow_path (start + length (segment_te
 shallow_frame : (start : ℕ) (f : Frame) → are_deep (frame_events start f) ≡ false
 shallow_frame start f =
     let key = start + length f.leading in
-    let before_equals = key + length (path_text f.path) in
-    shallow_then (path_events key f.path) (event BeforeEquals before_equals f.before_equals ∷ event AfterEquals (before_equals + length f.before_equals + 1) f.after_equals ∷ []) (shallow_path key f.path) refl
+    let sign = event Equals (key + length (path_text f.path) + length f.before_equals) (codes "=") in
+    shallow_then (path_events key f.path) (sign ∷ []) (shallow_path key f.path) refl
 
 shallow_array_end : (at : ℕ) (comma : Bool) (t : Text) → are_deep (close_events ArrayClose (codes "]") at comma t) ≡ false
 shallow_array_end at true t = refl

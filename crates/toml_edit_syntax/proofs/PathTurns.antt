@@ -1,5 +1,5 @@
 -- The events of a key and of a pair up to its value, a step at a time.
-use Rattle.std.proofs.Common.{◌≡◌, ◌≢◌, ℕ, zero, suc, ◌+◌, ◌-◌, ◌≤◌, ◌==◌, List, [], ◌∷◌, ◌++◌, length, drop, Option, Some, None, refl, sym, ap, ◌∙◌, inl, inr, arith}
+use Rattle.std.proofs.Common.{◌≡◌, ◌≢◌, ℕ, zero, suc, ◌+◌, ◌-◌, ◌≤◌, ◌==◌, List, [], ◌∷◌, ◌++◌, length, drop, Option, Some, None, refl, sym, ap, ◌∙◌, inl, inr, arith, codes}
 use Rattle.std.specs.Prelude.{option_map}
 use Rattle.std.proofs.lemmas.Bool.{ne_eqb, eq-eqb}
 use Rattle.std.proofs.lemmas.Option.{none-some}
@@ -7,7 +7,7 @@ use Rattle.std.proofs.lemmas.List.{length-append, length-take-le}
 use Rattle.toml_edit_model.specs.Text.{Text}
 use Rattle.toml_edit_model.specs.Trivia.{is_blank}
 use Rattle.toml_edit_model.specs.Syntax.{Segment, Frame, segment_text, path_text}
-use Rattle.toml_edit_syntax.specs.declared.event.EventKind.TheVariants.{Leading, Key, BeforeDot, AfterDot, BeforeEquals, AfterEquals}
+use Rattle.toml_edit_syntax.specs.declared.event.EventKind.TheVariants.{Leading, Key, BeforeDot, AfterDot, Equals}
 use Rattle.toml_edit_syntax.specs.declared.event.Event.{Event}
 use Rattle.toml_edit_laws.specs.reading.Runs.{first, split_while, Read}
 use Rattle.toml_edit_laws.specs.reading.Tokens.{key_at, string_at}
@@ -155,22 +155,21 @@ module _ (whole : ℕ) (leading t : Text) (fits : length leading + length t ≤ 
   framed p e = record { leading = leading; path = p; before_equals = e.0; after_equals = e.1; trailing = [] }
 
   sides : (p : List Segment) (rest : Text) (e : Text × Text) (more : Text) → path_at t ≡ Some (p, rest) → equals_at rest ≡ Some (e, more)
-      → frame_events front_at (framed p e) ≡ lead ∷ path_events (whole - length t - 0) p ++ (event BeforeEquals (whole - length rest) e.0 ∷ event AfterEquals (whole - length more - length e.1) e.1 ∷ [])
+      → frame_events front_at (framed p e) ≡ lead ∷ path_events (whole - length t - 0) p ++ (event Equals (whole - length more - length e.1 - 1) (codes "=") ∷ [])
   sides p rest e more found sign =
       let x = ap length (path_takes t rest p found).parts in
       let y = ap length (equals_takes rest more e sign).2 in
       let before = front_at + length leading + length (path_text p) in
       let lens : length (path_text p) + length rest ≡ length t = omega (arith, x, length-append (path_text p) rest) in
       let white : length e.0 + (length e.1 + length more) + 1 ≡ length rest = omega (arith, y, length-append e.0 (61 ∷ (e.1 ++ more)), length-append e.1 more) in
-      in_frame _ lead _ _ _ _ _ _ p (event_is Leading front_at _ _ leading refl (omega arith)) (omega arith)
-      (ap (λ (n : ℕ). event BeforeEquals n e.0) (omega arith))
-      (ap (λ (n : ℕ). event AfterEquals n e.1) (omega arith))
+      in_frame _ lead _ _ _ _ p (event_is Leading front_at _ _ leading refl (omega arith)) (omega arith)
+      (ap (λ (n : ℕ). event Equals n (codes "=")) (omega arith))
     where
-      in_frame : (a b c d f g : Event) (m n : ℕ) (p : List Segment) → a ≡ b → m ≡ n → c ≡ d → f ≡ g → a ∷ path_events m p ++ (c ∷ f ∷ []) ≡ b ∷ path_events n p ++ (d ∷ g ∷ [])
-      in_frame a b c d f g m n p x y z w = rw (x, y, z, w) refl
+      in_frame : (a b c d : Event) (m n : ℕ) (p : List Segment) → a ≡ b → m ≡ n → c ≡ d → a ∷ path_events m p ++ (c ∷ []) ≡ b ∷ path_events n p ++ (d ∷ [])
+      in_frame a b c d m n p x y z = rw (x, y, z) refl
 
   sign_read : (p : List Segment) (rest : Text) (q : Read (Text × Text)) → path_at t ≡ Some (p, rest) → equals_at rest ≡ q
-      → seen (λ f _. frame_events front_at f) (changed (framed p) (reading q)) ≡ preceded (lead ∷ []) (preceded (path_events (whole - length t - 0) p) (seen (λ e more. event BeforeEquals (whole - length rest) e.0 ∷ event AfterEquals (whole - length more - length e.1) e.1 ∷ []) (reading q)))
+      → seen (λ f _. frame_events front_at f) (changed (framed p) (reading q)) ≡ preceded (lead ∷ []) (preceded (path_events (whole - length t - 0) p) (seen (λ e more. event Equals (whole - length more - length e.1 - 1) (codes "=") ∷ []) (reading q)))
   sign_read p rest None found sign = refl
   sign_read p rest (Some (e, more)) found sign = ap (λ (es : List Event). got es more) (sides p rest e more found sign)
 

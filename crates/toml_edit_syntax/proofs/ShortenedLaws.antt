@@ -4,7 +4,7 @@ use Rattle.std.proofs.lemmas.Bool.{cases_lt, ne_eqb}
 use Rattle.std.proofs.lemmas.Bool.Decides.{eqb_tells}
 use Rattle.toml_edit_model.specs.Text.{Text}
 use Rattle.toml_edit_model.specs.Syntax.{Segment, Frame, Value, scalar, array, inline_table, Elements, no_elements, element, Pairs, no_pairs, pair, segment_text, path_text, value_text, depth, elements_depth, pairs_depth, nesting_limit}
-use Rattle.toml_edit_syntax.specs.declared.event.EventKind.TheVariants.{Leading, Key, BeforeDot, AfterDot, BeforeEquals, AfterEquals, ArrayOpen, ArrayClose, InlineTableOpen, InlineTableClose, Before, After}
+use Rattle.toml_edit_syntax.specs.declared.event.EventKind.TheVariants.{Leading, Key, BeforeDot, AfterDot, Equals, ArrayOpen, ArrayClose, InlineTableOpen, InlineTableClose, Before, After}
 use Rattle.toml_edit_syntax.specs.declared.event.Event.{Event}
 use Rattle.toml_edit_syntax.specs.ValueEvents.{event, path_events, frame_events, value_at_byte, close_events, value_events, elements_events, pairs_events, opens, shortened}
 
@@ -40,9 +40,8 @@ stays_path level start (s ∷ r ∷ rest) more =
 pub stays_frame : (level start : ℕ) (f : Frame) → Stays level (frame_events start f)
 stays_frame level start f more =
     let key = start + length f.leading in
-    let before_equals = key + length (path_text f.path) in
-    let signs = event BeforeEquals before_equals f.before_equals ∷ event AfterEquals (before_equals + length f.before_equals + 1) f.after_equals ∷ [] in
-    ap (λ (x : List Event). event Leading start f.leading ∷ x) (stays_then level (path_events key f.path) signs (stays_path level key f.path) (λ m. refl) more)
+    let sign = event Equals (key + length (path_text f.path) + length f.before_equals) (codes "=") in
+    ap (λ (x : List Event). event Leading start f.leading ∷ x) (stays_then level (path_events key f.path) (sign ∷ []) (stays_path level key f.path) (λ m. refl) more)
 
 -- ---- brackets
 

@@ -8,7 +8,7 @@ use Rattle.toml_edit_model.specs.Text.{Text}
 use Rattle.toml_edit_model.specs.Trivia.{IsWholeTrivia}
 use Rattle.toml_edit_model.specs.Syntax.{Segment, Around, Frame, Value, scalar, array, inline_table, Elements, no_elements, element, Pairs, no_pairs, pair, segment_text, path_text, frame_text, comma_text, value_text, elements_text, pairs_text, IsSpacedSegment, IsSpelledSegment, IsFrame, has_elements, has_pairs, IsValue, AreElements, ArePairs}
 use Rattle.toml_edit_syntax.specs.declared.event.EventKind.{EventKind}
-use Rattle.toml_edit_syntax.specs.declared.event.EventKind.TheVariants.{Leading, Key, BeforeDot, AfterDot, BeforeEquals, AfterEquals, Scalar, ArrayOpen, ArrayClose, InlineTableOpen, InlineTableClose, Before, After, Comma, Inner}
+use Rattle.toml_edit_syntax.specs.declared.event.EventKind.TheVariants.{Leading, Key, BeforeDot, AfterDot, Equals, Scalar, ArrayOpen, ArrayClose, InlineTableOpen, InlineTableClose, Before, After, Comma, Inner}
 use Rattle.toml_edit_syntax.specs.declared.event.Event.{Event}
 use Rattle.toml_edit_syntax.specs.Events.{IsSpanOf}
 use Rattle.toml_edit_laws.specs.reading.Runs.{first}
@@ -114,17 +114,15 @@ frame_spans MayFollow t rest at f (spaced, path) ascii c =
     let c1 = further t f.leading r1 at c in
     let c2 = further t (path_text f.path) r2 _ c1 in
     let c3 = further t f.before_equals (61 ∷ r3) _ c2 in
-    let c4 = further t (61 ∷ []) r3 _ c3 in
     let a3 = ascii_blank f.after_equals rest spaced.after_equals ascii in
     let a2 = ascii_blank f.before_equals (61 ∷ r3) spaced.before_equals (omega arith) in
     let a1 = ascii_begins (path_text f.path) r2 (path_begins f.path path) in
     let key = at + length f.leading in
-    let before_equals = key + length (path_text f.path) in
     let keys = path_spans t r2 key f.path path.spelled spaced.segments a2 c1 in
     let leading = part_span t f.leading r1 at Leading c (ascii_trivia f.leading r1 spaced.leading a1) a1 in
-    let first_sign = part_span t f.before_equals (61 ∷ r3) before_equals BeforeEquals c2 a2 (omega arith) in
-    let second = part_span t f.after_equals rest (before_equals + length f.before_equals + 1) AfterEquals c4 a3 ascii in
-    (leading, both_spans t (path_events key f.path) (event BeforeEquals before_equals f.before_equals ∷ event AfterEquals (before_equals + length f.before_equals + 1) f.after_equals ∷ []) keys (first_sign, (second, tt)))
+    let place = key + length (path_text f.path) + length f.before_equals in
+    let sign = part_span t (61 ∷ []) r3 place Equals c3 (omega arith) a3 in
+    (leading, both_spans t (path_events key f.path) (event Equals place (codes "=") ∷ []) keys (sign, tt))
 
 -- ---- values
 

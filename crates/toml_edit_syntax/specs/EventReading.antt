@@ -2,7 +2,7 @@
 use Rattle.std.specs.Prelude.{◌≡◌, ◌≢◌, ℕ, ◌-◌, Bool, List, [], ◌∷◌, ◌++◌, length, codes, Option, Some, None}
 use Rattle.toml_edit_model.specs.Text.{Text}
 use Rattle.toml_edit_syntax.specs.declared.event.EventKind.{EventKind}
-use Rattle.toml_edit_syntax.specs.declared.event.EventKind.TheVariants.{ArrayOpen, ArrayClose, InlineTableOpen, InlineTableClose, Before, BeforeEquals, AfterEquals}
+use Rattle.toml_edit_syntax.specs.declared.event.EventKind.TheVariants.{ArrayOpen, ArrayClose, InlineTableOpen, InlineTableClose, Before, Equals}
 use Rattle.toml_edit_syntax.specs.declared.event.Event.{Event}
 use Rattle.toml_edit_syntax.specs.declared.value.Brackets.{Brackets}
 use Rattle.toml_edit_syntax.specs.declared.value.Brackets.TheVariants as brackets
@@ -52,10 +52,10 @@ close_read b whole comma inner t = close_events (closing b) (closing_byte b ∷ 
 abbrev pub path_read : ℕ → ℕ → Text → Text → Reading (List Event)
 path_read n whole before t = seen (λ p _. path_events (whole - length t - length before) p) (reading (segments_at n before t))
 
--- the white space on both sides of `=`
+-- the sign `=`, between white space and white space
 abbrev pub equals_read : ℕ → Text → Reading (List Event)
 equals_read whole t =
-    seen (λ e rest. event BeforeEquals (whole - length t) e.0 ∷ event AfterEquals (whole - length rest - length e.1) e.1 ∷ []) (reading (equals_at t))
+    seen (λ e rest. event Equals (whole - length rest - length e.1 - 1) (codes "=") ∷ []) (reading (equals_at t))
 
 -- a pair up to its value, behind its trivia
 abbrev pub frame_read : ℕ → Text → Text → Reading (List Event)

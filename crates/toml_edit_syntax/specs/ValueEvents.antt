@@ -4,7 +4,7 @@ use Rattle.std.specs.List.{list_any}
 use Rattle.toml_edit_model.specs.Text.{Text}
 use Rattle.toml_edit_model.specs.Syntax.{Segment, Frame, Value, scalar, array, inline_table, Elements, no_elements, element, Pairs, no_pairs, pair, segment_text, path_text, value_text, nesting_limit}
 use Rattle.toml_edit_syntax.specs.declared.event.EventKind.{EventKind}
-use Rattle.toml_edit_syntax.specs.declared.event.EventKind.TheVariants.{Leading, Key, BeforeDot, AfterDot, BeforeEquals, AfterEquals, Scalar, ArrayOpen, ArrayClose, InlineTableOpen, InlineTableClose, Before, After, Comma, Inner, TooDeep}
+use Rattle.toml_edit_syntax.specs.declared.event.EventKind.TheVariants.{Leading, Key, BeforeDot, AfterDot, Equals, Scalar, ArrayOpen, ArrayClose, InlineTableOpen, InlineTableClose, Before, After, Comma, Inner, TooDeep}
 use Rattle.toml_edit_syntax.specs.declared.event.Event.{Event}
 
 -- a part of this kind, that begins at this byte and has this text
@@ -26,12 +26,9 @@ path_events start (s ∷ r ∷ rest) =
 abbrev pub frame_events : ℕ → Frame → List Event
 frame_events start f =
     let key = start + length f.leading in
-    let before_equals = key + length (path_text f.path) in
     event Leading start f.leading
     ∷ path_events key f.path
-    ++ (event BeforeEquals before_equals f.before_equals
-    ∷ event AfterEquals (before_equals + length f.before_equals + 1) f.after_equals
-    ∷ [])
+    ++ (event Equals (key + length (path_text f.path) + length f.before_equals) (codes "=") ∷ [])
 
 -- where the value of a pair begins
 abbrev pub value_at_byte : ℕ → Frame → ℕ

@@ -18,10 +18,8 @@ pub enum EventKind {
     BeforeDot,
     /// The white space between a dot and the simple key after it.
     AfterDot,
-    /// The white space between a key and `=`.
-    BeforeEquals,
-    /// The white space between `=` and a value.
-    AfterEquals,
+    /// The sign `=` between a key and a value. What else stands there is white space.
+    Equals,
     /// A scalar, as it is spelled.
     Scalar,
     /// The bracket that opens an array.

@@ -154,26 +154,18 @@ pub(crate) fn path<'a>(events: &mut Vec<Event>, whole: usize, s: &'a str) -> Res
     }
 }
 
-/// Adds the white space on both sides of `=`.
+/// Adds `=`, which white space may surround.
 fn sides<'a>(events: &mut Vec<Event>, whole: usize, s: &'a str) -> Result<&'a str, Stop>
     requires { length s.now ≤ whole }
     ensures adds { Adds events.old.items events.new.items result (read.equals_read whole s.now) }
     ensures within { IfOk result (λ r. length r.now ≤ length s.now) }
 {
-    let Some(((before, after), rest)) = equals(s) else {
+    let Some(((_, after), rest)) = equals(s) else {
         let (_, other) = split_run(s, Class::Blank);
         return Err(Stop::Before(Mistake::ExpectedEquals, other.len()));
     };
-    events.push(part(
-        EventKind::BeforeEquals,
-        whole - s.len(),
-        whole - s.len() + before.len(),
-    ))?;
-    events.push(part(
-        EventKind::AfterEquals,
-        whole - rest.len() - after.len(),
-        whole - rest.len(),
-    ))?;
+    let end = whole - rest.len() - after.len();
+    events.push(part(EventKind::Equals, end - 1, end))?;
     Ok(rest)
 }
 

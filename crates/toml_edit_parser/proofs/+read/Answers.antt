@@ -289,20 +289,20 @@ pairs::read_pairs-returns-clause-pairs t c =
 
 pub pairs::read_pair-returns-in_default-clause-pair : goal.pairs::read_pair-returns-in_default-clause-pair
 pairs::read_pair-returns-in_default-clause-pair t c =
-    λ f v start level more is value stands below same e. no-frame start f c.args.leading c.args.events.now _ _ same e c.in_default.ensures
+    λ f v start level more is value stands below same e. no-frame start f v level _ c.args.leading c.args.events.now _ is.1 same e c.in_default.ensures
 
 pub pairs::read_pair-returns-in_err-value-clause-pair : goal.pairs::read_pair-returns-in_err-value-clause-pair
 pairs::read_pair-returns-in_err-value-clause-pair t c =
     λ f v start level more is value stands below same e.
     let p = err_from_is_err_and c.from_residual.result c.from_residual.ensures.1 in
-    let parts = the-frame start f c.args.leading c.args.events.now _ (parts_of c.in-Some.frame) c.in-Some.rest.now same e c.in-Some.ensures in
+    let parts = the-frame start f v level _ c.args.leading c.args.events.now (parts_of c.in-Some.frame) c.in-Some.rest.now is.1 same e c.in-Some.ensures in
     rw (p.1, p.2) (value-refused c.args.source.now f v start level (slots_view c.args.slots.now) c.in_err-value.field-0.0
     (c.in_err-value.ensures.value v (value_at_byte start f) level _ value (value-stands c.args.source.now start f (value_text v) stands) below parts.1))
 
 pub pairs::read_pair-returns-then-frame-gt-MOST_PATH_EVENTS-clause-pair : goal.pairs::read_pair-returns-then-frame-gt-MOST_PATH_EVENTS-clause-pair
 pairs::read_pair-returns-then-frame-gt-MOST_PATH_EVENTS-clause-pair t c =
     λ f v start level more is value stands below same e.
-    let parts = the-frame start f c.args.leading c.args.events.now _ (parts_of c.in-Some.frame) c.in-Some.rest.now same e c.in-Some.ensures in
+    let parts = the-frame start f v level _ c.args.leading c.args.events.now (parts_of c.in-Some.frame) c.in-Some.rest.now is.1 same e c.in-Some.ensures in
     too-long c.args.source.now f v start level (slots_view c.args.slots.now) c.refusal_of_all.result is.1
     (subst (λ (q : FrameParts). 238 < length q.path) parts.0 c.if-frame-gt-MOST_PATH_EVENTS.true) c.refusal_of_all.ensures
 
@@ -311,7 +311,7 @@ pairs::read_pair-returns-clause-pair t c =
     λ f v start level more is value stands below same e.
     let s = c.args.source.now in
     let end = value_at_byte start f + length (value_text v) in
-    let parts = the-frame start f c.args.leading c.args.events.now _ (parts_of c.in-Some.frame) c.in-Some.rest.now same e c.in-Some.ensures in
+    let parts = the-frame start f v level _ c.args.leading c.args.events.now (parts_of c.in-Some.frame) c.in-Some.rest.now is.1 same e c.in-Some.ensures in
     let short = short-path f.path (start + length f.leading) (path-some f.path is.1)
     (subst (λ (q : FrameParts). length q.path ≤ 238) parts.0 c.if-frame-gt-MOST_PATH_EVENTS.false) in
     let h = c.in_ok-value.ensures.value v (value_at_byte start f) level (event After end f.trailing ∷ more) value (value-stands s start f (value_text v) stands) below parts.1 in

@@ -13,12 +13,12 @@ use Rattle.toml_edit_parser.proofs.statement.read_key_line.Goals as goal
 pub returns-in_default-clause-line : goal.returns-in_default-clause-line
 returns-in_default-clause-line c =
     λ f v start more is value stands same e.
-    no-frame start f c.args.leading c.args.events.now _ _ same (e ∙ key-whole 0 start f _) c.in_default.ensures
+    no-frame start f v 0 _ c.args.leading c.args.events.now _ is.1 same (e ∙ key-whole 0 start f _) c.in_default.ensures
 
 pub returns-then-frame-gt-MOST_PATH_EVENTS-clause-line : goal.returns-then-frame-gt-MOST_PATH_EVENTS-clause-line
 returns-then-frame-gt-MOST_PATH_EVENTS-clause-line c =
     λ f v start more is value stands same e.
-    let parts = the-frame start f c.args.leading c.args.events.now _ (parts_of c.in-Some.frame) c.in-Some.rest.now same (e ∙ key-whole 0 start f _) c.in-Some.ensures in
+    let parts = the-frame start f v 0 _ c.args.leading c.args.events.now (parts_of c.in-Some.frame) c.in-Some.rest.now is.1 same (e ∙ key-whole 0 start f _) c.in-Some.ensures in
     line-too-long c.args.source.now f v start c.refusal_of_all-then-frame-gt-MOST_PATH_EVENTS.result is.1
     (subst (λ (q : FrameParts). 238 < length q.path) parts.0 c.if-frame-gt-MOST_PATH_EVENTS.true) c.refusal_of_all-then-frame-gt-MOST_PATH_EVENTS.ensures
 
@@ -26,7 +26,7 @@ pub returns-in_err-rest-clause-line : goal.returns-in_err-rest-clause-line
 returns-in_err-rest-clause-line c =
     λ f v start more is value stands same e.
     let p = err_from_is_err_and c.from_residual.result c.from_residual.ensures.1 in
-    let parts = the-frame start f c.args.leading c.args.events.now _ (parts_of c.in-Some.frame) c.in-Some.rest.now same (e ∙ key-whole 0 start f _) c.in-Some.ensures in
+    let parts = the-frame start f v 0 _ c.args.leading c.args.events.now (parts_of c.in-Some.frame) c.in-Some.rest.now is.1 same (e ∙ key-whole 0 start f _) c.in-Some.ensures in
     rw (p.1, p.2) (line-refused c.args.source.now f v start c.in_err-rest.field-0.0
     (c.in_err-rest.ensures.value v (value_at_byte start f) f.trailing more value (value-stands c.args.source.now start f (value_text v) stands) parts.1))
 
@@ -34,7 +34,7 @@ pub returns-clause-line : goal.returns-clause-line
 returns-clause-line c =
     λ f v start more is value stands same e.
     let s = c.args.source.now in
-    let parts = the-frame start f c.args.leading c.args.events.now _ (parts_of c.in-Some.frame) c.in-Some.rest.now same (e ∙ key-whole 0 start f _) c.in-Some.ensures in
+    let parts = the-frame start f v 0 _ c.args.leading c.args.events.now (parts_of c.in-Some.frame) c.in-Some.rest.now is.1 same (e ∙ key-whole 0 start f _) c.in-Some.ensures in
     let short = short-path f.path (start + length f.leading) (path-some f.path is.1)
     (subst (λ (q : FrameParts). length q.path ≤ 238) parts.0 c.if-frame-gt-MOST_PATH_EVENTS.false) in
     let h = c.in_ok-rest.ensures.value v (value_at_byte start f) f.trailing more value (value-stands s start f (value_text v) stands) parts.1 in
