@@ -1,15 +1,15 @@
 -- Where texts stand in a list, and in an index of it.
-use Rattle.std.proofs.Common.{◌≡◌, ℕ, zero, suc, ◌+◌, ◌-◌, ◌<◌, ◌≤◌, Bool, true, false, cond, List, [], ◌∷◌, ◌++◌, Option, Some, None, option_map, is_some, length, remove, take, refl, sym, ap, subst, ◌∙◌, inl, inr, ◌⊎◌, arith, String, Global, slice_get}
+use Rattle.std.proofs.Common.{◌≡◌, ℕ, zero, suc, ◌+◌, ◌-◌, ◌<◌, ◌≤◌, Bool, true, false, cond, List, [], ◌∷◌, ◌++◌, Option, Some, None, option_map, is_some, length, remove, take, refl, sym, ap, subst, ◌∙◌, inl, inr, ◌⊎◌, arith, slice_get}
 use Rattle.std.proofs.lemmas.Bool.{cases_Bool, cases_lt, false≢true}
 use Rattle.std.proofs.lemmas.Cmp.{nat_list_eq_equiv}
 use Rattle.std.proofs.lemmas.Option.{none-some, same_Some, slice_get_within}
 use Rattle.std.proofs.lemmas.Slice.Eq.{bytes_eq-Decides}
-use Rattle.std.specs.HashMap.{HashMap, get_by_text}
 use Rattle.std.specs.List.{IsDistinct, AllByRecursion}
 use Rattle.toml_edit_model.specs.Text.{Text, same_text}
 use Rattle.toml_edit_slots.specs.declared.slots.Slot.{Slot}
 use Rattle.toml_edit_slots.specs.Slots.{names, place, place_in}
-use Rattle.toml_edit_slots.specs.SlotIndex.{IsIndexOf, IsPutAt, IsRightBefore}
+use Rattle.toml_edit_slots.specs.SlotIndex.{IsIndexOf, IsPutAt, IsRightBefore, place_of}
+use Rattle.toml_edit_slots.specs.declared.places.Places.{Places}
 use Rattle.toml_edit_slots.proofs.SlotLaws.{some_next, none_next}
 
 pub cases_option : {A : Type 0} (o : Option A) → (o ≡ None) ⊎ ((x : A) × (o ≡ Some x))
@@ -159,10 +159,10 @@ names-get (x ∷ es) zero s h = ap (λ (y : Slot _). Some y.key.name) (same_Some
 names-get (x ∷ es) (suc i) s h = names-get es i s h
 
 -- ---- an index, put right place by place
-module _ {S : Type 0} (us : List Text) (apart : IsDistinct same_text us) (m n : HashMap (String Global) ℕ S) (at : ℕ) (u : Text)
+module _ (us : List Text) (apart : IsDistinct same_text us) (m n : Places) (at : ℕ) (u : Text)
     (here : slice_get us at ≡ Some u) (put : IsPutAt at u m n) where
   -- the same texts are in it
-  pub keys-kept : ((t : Text) → is_some (get_by_text m t) ≡ is_some (place_in t us)) → (t : Text) → is_some (get_by_text n t) ≡ is_some (place_in t us)
+  pub keys-kept : ((t : Text) → is_some (place_of m t) ≡ is_some (place_in t us)) → (t : Text) → is_some (place_of n t) ≡ is_some (place_in t us)
   keys-kept keys t =
       elim (cases_Bool (same_text u t)) [
         | inl same ↦ rw (put t, same, ← place_in-congr u t same us, place_in-own us at u here apart) refl
@@ -196,11 +196,11 @@ long-removed (u ∷ us) zero h = omega arith
 long-removed (u ∷ us) (suc i) h = omega (arith, long-removed us i (omega (arith, h)))
 
 -- where all places are right, it is the index of the texts
-pub right-all : {S : Type 0} (us : List Text) (m : HashMap (String Global) ℕ S) (at : ℕ) → length us ≤ at
-    → ((t : Text) → is_some (get_by_text m t) ≡ is_some (place_in t us)) → IsRightBefore at m us → IsIndexOf m us
+pub right-all : (us : List Text) (m : Places) (at : ℕ) → length us ≤ at
+    → ((t : Text) → is_some (place_of m t) ≡ is_some (place_in t us)) → IsRightBefore at m us → IsIndexOf m us
 right-all us m at long keys right t =
     elim (cases_option (place_in t us)) [
-      | inl gone ↦ rw gone (none_of (get_by_text m t) (keys t ∙ ap is_some gone))
+      | inl gone ↦ rw gone (none_of (place_of m t) (keys t ∙ ap is_some gone))
       | inr found ↦
           let there = place_in-is t us found.0 found.1 in
           rw (found.1) (right found.0 t (omega (arith, slice_get_within us found.0 t there, long)) there)
@@ -211,8 +211,8 @@ taken_out true o = refl
 taken_out false o = refl
 
 -- an index without the text at a place has the right places before
-pub right-before : {S : Type 0} (us : List Text) (apart : IsDistinct same_text us) (m n : HashMap (String Global) ℕ S) (i : ℕ) (u : Text) → place_in u us ≡ Some i → IsIndexOf m us
-    → ((t : Text) → get_by_text n t ≡ cond (same_text u t) None (get_by_text m t)) → IsRightBefore i n (remove us i)
+pub right-before : (us : List Text) (apart : IsDistinct same_text us) (m n : Places) (i : ℕ) (u : Text) → place_in u us ≡ Some i → IsIndexOf m us
+    → ((t : Text) → place_of n t ≡ cond (same_text u t) None (place_of m t)) → IsRightBefore i n (remove us i)
 right-before us apart m n i u at is gone k t below there =
     let own : place_in t us ≡ Some k = place_in-own us k t (sym (before-removed us i k below) ∙ there) apart in
     elim (cases_Bool (same_text u t)) [
@@ -223,11 +223,11 @@ right-before us apart m n i u at is gone k t below there =
     ]
 
 -- one more text in an index
-index-push : {S : Type 0} (us : List Text) (m n : HashMap (String Global) ℕ S) (at : ℕ) (u : Text) → length us ≡ at → place_in u us ≡ None → IsIndexOf m us
+index-push : (us : List Text) (m n : Places) (at : ℕ) (u : Text) → length us ≡ at → place_in u us ≡ None → IsIndexOf m us
     → IsPutAt at u m n → IsIndexOf n (us ++ u ∷ [])
 index-push us m n at u long new is put t = put t ∙ rw (is t, ← long) (sym (place_in-push us u new t))
 
-pub index-slot : {T S : Type 0} (es : List (Slot T)) (m n : HashMap (String Global) ℕ S) (u : Text) → place u es ≡ None → IsIndexOf m (names es)
+pub index-slot : {T : Type 0} (es : List (Slot T)) (m n : Places) (u : Text) → place u es ≡ None → IsIndexOf m (names es)
     → IsPutAt (length es) u m n → IsIndexOf n (names es ++ u ∷ [])
 index-slot es m n u new is put = index-push (names es) m n (length es) u (length-names es) new is put
 
@@ -256,7 +256,7 @@ take-all (u ∷ us) zero h = absurd (omega (arith, h))
 take-all (u ∷ us) (suc n) h = ap (λ l. u ∷ l) (take-all us n (omega (arith, h)))
 
 -- the index of the first slots, with the next one
-pub index-next : {S : Type 0} (us : List Text) (m n : HashMap (String Global) ℕ S) (at : ℕ) (u : Text) → slice_get us at ≡ Some u → IsDistinct same_text us
+pub index-next : (us : List Text) (m n : Places) (at : ℕ) (u : Text) → slice_get us at ≡ Some u → IsDistinct same_text us
     → IsIndexOf m (take at us) → IsPutAt at u m n → IsIndexOf n (take (at + 1) us)
 index-next us m n at u here apart is put =
     let one : suc at ≡ at + 1 = omega arith in

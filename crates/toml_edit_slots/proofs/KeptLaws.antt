@@ -1,5 +1,5 @@
 -- An index that is made that of slots of which it has the names; slots that are kept, and slots in another order.
-use Rattle.std.proofs.Common.{◌≡◌, ℕ, zero, suc, ◌+◌, ◌≤◌, Bool, true, false, cond, List, [], ◌∷◌, map, filter, Option, Some, None, option_map, is_some, length, refl, sym, ap, subst, ◌∙◌, inl, inr, arith, String, Global, string_bytes, slice_get, IsPermutation}
+use Rattle.std.proofs.Common.{◌≡◌, ℕ, zero, suc, ◌≤◌, Bool, true, false, cond, List, [], ◌∷◌, filter, Option, Some, None, option_map, is_some, length, refl, sym, ap, ◌∙◌, inl, inr, arith, string_bytes, slice_get, IsPermutation}
 use Rattle.std.proofs.lemmas.Bool.{cases_Bool, false≢true}
 use Rattle.std.proofs.lemmas.Cmp.{nat_list_eq_equiv}
 use Rattle.std.proofs.lemmas.List.Sorted.{IsPermutation-map, length_permutation, list_any-IsPermutation}
@@ -7,30 +7,27 @@ use Rattle.std.proofs.lemmas.Map.Keys.{IsDistinct-IsPermutation}
 use Rattle.std.proofs.lemmas.Map.Text.{is_text}
 use Rattle.std.proofs.lemmas.Option.{none-some, same_Some, slice_get_within, slice_get-map}
 use Rattle.std.specs.Global.{Box}
-use Rattle.std.specs.HashMap.{HashMap, get_by_text}
 use Rattle.std.specs.List.{IsDistinct, AllByRecursion, list_any}
 use Rattle.std.specs.Map.{lookup}
 use Rattle.std.specs.Option.{option_map_or}
 use Rattle.toml_edit_model.specs.Text.{Text, same_text}
 use Rattle.toml_edit_model.specs.Retaining.{RetainsBy}
 use Rattle.toml_edit_slots.specs.declared.slots.Slot.{Slot}
+use Rattle.toml_edit_slots.specs.ShortNames.{is_short}
 use Rattle.toml_edit_slots.specs.Slots.{AreApart, is_at, names, place, place_in}
 use Rattle.toml_edit_slots.specs.SlotIndex.{HasTexts, IsIndexed, IsIndexOf, IsPutAt, IsRightBefore, MayIndex, stands_at}
-use Rattle.toml_edit_slots.proofs.IndexLaws.{cases_option, length-names, place_in-is}
+use Rattle.toml_edit_slots.specs.declared.places.Places.{Places}
+use Rattle.toml_edit_slots.proofs.IndexLaws.{cases_option, place_in-is}
 
 -- ---- an index put right
 
 -- the texts that were there are, once a place is put
-pub texts-put : {S : Type 0} (us : List Text) (m n : HashMap (String Global) ℕ S) (at : ℕ) (u : Text) → IsPutAt at u m n → HasTexts m us → HasTexts n us
+pub texts-put : (us : List Text) (m n : Places) (at : ℕ) (u : Text) → IsPutAt at u m n → HasTexts m us → HasTexts n us
 texts-put us m n at u put has t there =
     elim (cases_Bool (same_text u t)) [
       | inl same ↦ rw (put t, same) refl
       | inr other ↦ rw (put t, other) (has t there)
     ]
-
--- the entry says where its text stands
-abbrev pub fits : List Text → String Global × ℕ → Bool
-fits us p = stands_at us p.1 (string_bytes p.0)
 
 some_after : (o : Option ℕ) → is_some o ≡ true → is_some (option_map suc o) ≡ true
 some_after None h = h
@@ -59,43 +56,60 @@ stands-some us k t v same stands =
           some_place us k t found.0 found.1 (nat_list_eq_equiv.congr t v found.0 same ∙ nat_list_eq_equiv.symm v found.0 ∙ here)
     ]
 
--- what is looked up, among the entries that fit
-lookup-kept : (us : List Text) (t : Text) (k : ℕ) → slice_get us k ≡ Some t → (es : List (String Global × ℕ)) → lookup (is_text t) es ≡ Some k → lookup (is_text t) (filter (fits us) es) ≡ Some k
-lookup-kept us t k is [] e = absurd (none-some k e)
-lookup-kept us t k is (p ∷ es) e =
-    elim (cases_Bool (is_text t p.0)) [
-      | inl same ↦
-          let at : p.1 ≡ k = same_Some p.1 k (rw same at e) in
-          let stays : fits us p ≡ true = ap (λ j. stands_at us j (string_bytes p.0)) at ∙ ap (λ o. option_map_or (λ u. same_text u (string_bytes p.0)) o false) is ∙ same in
-          rw (stays, same) (ap Some at)
-      | inr other ↦
-          let rest = lookup-kept us t k is es (rw other at e) in
-          elim (cases_Bool (fits us p)) [
-            | inl stays ↦ rw (stays, other) rest
-            | inr goes ↦ rw goes rest
-          ]
-    ]
+module _ {K : Type 0} (text : K → Text) (us : List Text) where
+  -- the entry says where its text stands
+  abbrev pub fits : K × ℕ → Bool
+  fits p = stands_at us p.1 (text p.0)
 
-lookup-gone : (us : List Text) (t : Text) → place_in t us ≡ None → (es : List (String Global × ℕ)) → lookup (is_text t) (filter (fits us) es) ≡ None
-lookup-gone us t none [] = refl
-lookup-gone us t none (p ∷ es) =
-    elim (cases_Bool (fits us p)) [
-      | inl stays ↦ elim (cases_Bool (is_text t p.0)) [
-        | inl same ↦ absurd (false≢true (ap is_some (sym none) ∙ stands-some us p.1 t (string_bytes p.0) same stays))
-        | inr other ↦ rw (stays, other) (lookup-gone us t none es)
+  -- what is looked up, among the entries that fit
+  lookup-kept : (t : Text) (k : ℕ) → slice_get us k ≡ Some t → (es : List (K × ℕ)) → lookup (λ x. same_text t (text x)) es ≡ Some k
+      → lookup (λ x. same_text t (text x)) (filter fits es) ≡ Some k
+  lookup-kept t k is [] e = absurd (none-some k e)
+  lookup-kept t k is (p ∷ es) e =
+      elim (cases_Bool (same_text t (text p.0))) [
+        | inl same ↦
+            let at : p.1 ≡ k = same_Some p.1 k (rw same at e) in
+            let stays : fits p ≡ true = ap (λ j. stands_at us j (text p.0)) at ∙ ap (λ o. option_map_or (λ u. same_text u (text p.0)) o false) is ∙ same in
+            rw (stays, same) (ap Some at)
+        | inr other ↦
+            let rest = lookup-kept t k is es (rw other at e) in
+            elim (cases_Bool (fits p)) [
+              | inl stays ↦ rw (stays, other) rest
+              | inr goes ↦ rw goes rest
+            ]
       ]
-      | inr goes ↦ rw goes (lookup-gone us t none es)
-    ]
+
+  lookup-gone : (t : Text) → place_in t us ≡ None → (es : List (K × ℕ)) → lookup (λ x. same_text t (text x)) (filter fits es) ≡ None
+  lookup-gone t none [] = refl
+  lookup-gone t none (p ∷ es) =
+      elim (cases_Bool (fits p)) [
+        | inl stays ↦ elim (cases_Bool (same_text t (text p.0))) [
+          | inl same ↦ absurd (false≢true (ap is_some (sym none) ∙ stands-some us p.1 t (text p.0) same stays))
+          | inr other ↦ rw (stays, other) (lookup-gone t none es)
+        ]
+        | inr goes ↦ rw goes (lookup-gone t none es)
+      ]
+
+  -- where each text stands with its place, the entries that fit have the places
+  lookup-fitting : (t : Text) (es : List (K × ℕ)) → ((k : ℕ) → slice_get us k ≡ Some t → lookup (λ x. same_text t (text x)) es ≡ Some k)
+      → lookup (λ x. same_text t (text x)) (filter fits es) ≡ place_in t us
+  lookup-fitting t es right =
+      elim (cases_option (place_in t us)) [
+        | inl gone ↦ rw gone (lookup-gone t gone es)
+        | inr found ↦ let there = place_in-is t us found.0 found.1 in rw found.1 (lookup-kept t found.0 there es (right found.0 there))
+      ]
 
 -- the entries that fit are the index
-pub index-fitting : {S : Type 0} (us : List Text) (m n : HashMap (String Global) ℕ S) → IsRightBefore (length us) m us → n.entries ≡ filter (fits us) m.entries → IsIndexOf n us
-index-fitting us m n right left t =
-    ap (lookup (is_text t)) left
-    ∙ elim (cases_option (place_in t us)) [
-      | inl gone ↦ rw gone (lookup-gone us t gone m.entries)
-      | inr found ↦
-          let there = place_in-is t us found.0 found.1 in
-          rw found.1 (lookup-kept us t found.0 there m.entries (right found.0 t (slice_get_within us found.0 t there) there))
+pub index-fitting : (us : List Text) (m n : Places) → IsRightBefore (length us) m us → n.short.entries ≡ filter (fits (λ t. t) us) m.short.entries
+    → n.long.entries ≡ filter (fits string_bytes us) m.long.entries → IsIndexOf n us
+index-fitting us m n right short long t =
+    elim (cases_Bool (is_short t)) [
+      | inl here ↦
+          rw here (ap (lookup (same_text t)) short
+          ∙ lookup-fitting (λ u. u) us t m.short.entries (λ k is. rw here at (right k t (slice_get_within us k t is) is)))
+      | inr there ↦
+          rw there (ap (lookup (is_text t)) long
+          ∙ lookup-fitting string_bytes us t m.long.entries (λ k is. rw there at (right k t (slice_get_within us k t is) is)))
     ]
 
 -- what stands at a place among slots
@@ -103,7 +117,7 @@ pub stands-at : {T : Type 0} (es : List (Slot T)) (k : ℕ) (t : Text) (o : Opti
 stands-at es k t o is = ap (λ p. option_map_or (λ u. same_text u t) p false) (ap (option_map (λ s. s.key.name)) is ∙ sym (slice_get-map (λ s. s.key.name) es k))
 
 -- an index of some texts has the names of others among them
-pub may_index : {S : Type 0} (o : Option (Box (HashMap (String Global) ℕ S))) (us vs : List Text) → IsIndexed o us → length vs ≤ length us
+pub may_index : (o : Option (Box Places)) (us vs : List Text) → IsIndexed o us → length vs ≤ length us
     → ((t : Text) → is_some (place_in t vs) ≡ true → is_some (place_in t us) ≡ true) → MayIndex o vs
 may_index None us vs is long among = omega (arith, is, long)
 may_index (Some m) us vs is long among = λ t there. ap is_some (is t) ∙ among t there

@@ -1,4 +1,5 @@
 -- Lemmas of this crate.
+pub mod PlacesLaws
 pub mod IndexLaws
 pub mod NewLaws
 pub mod SlotLaws

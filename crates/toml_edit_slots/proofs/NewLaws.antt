@@ -1,10 +1,10 @@
 -- A text that comes behind others where it is new.
-use Rattle.std.proofs.Common.{◌≡◌, ℕ, true, List, [], ◌∷◌, ◌++◌, Some, None, is_some, length, Result, Ok, Err, OnErr, refl, sym, ap, subst, ◌∙◌, inl, inr, String, Global}
-use Rattle.std.specs.HashMap.{HashMap, get_by_text}
+use Rattle.std.proofs.Common.{◌≡◌, ℕ, true, List, [], ◌∷◌, ◌++◌, Some, None, is_some, length, Result, Ok, Err, OnErr, refl, sym, ap, subst, ◌∙◌, inl, inr}
 use Rattle.toml_edit_model.specs.Text.{Text}
 use Rattle.toml_edit_slots.specs.declared.slots.Slot.{Slot}
 use Rattle.toml_edit_slots.specs.Slots.{names, place_in}
-use Rattle.toml_edit_slots.specs.SlotIndex.{IsIndexOf, IsPutAt, with_text}
+use Rattle.toml_edit_slots.specs.SlotIndex.{IsIndexOf, IsPutAt, with_text, place_of}
+use Rattle.toml_edit_slots.specs.declared.places.Places.{Places}
 use Rattle.toml_edit_slots.proofs.IndexLaws.{cases_option, index-slot}
 
 -- what holds anyway holds of an error
@@ -19,8 +19,8 @@ pub with_text-there : (u : Text) (us : List Text) (i : ℕ) → place_in u us �
 with_text-there u us i h = rw h refl
 
 -- an index in which a text was put, if it was new
-pub index-with : {T S : Type 0} (es : List (Slot T)) (m n : HashMap (String Global) ℕ S) (u : Text) → IsIndexOf m (names es)
-    → (get_by_text m u ≡ None → IsPutAt (length es) u m n) → (is_some (get_by_text m u) ≡ true → (t : Text) → get_by_text n t ≡ get_by_text m t)
+pub index-with : {T : Type 0} (es : List (Slot T)) (m n : Places) (u : Text) → IsIndexOf m (names es)
+    → (place_of m u ≡ None → IsPutAt (length es) u m n) → (is_some (place_of m u) ≡ true → (t : Text) → place_of n t ≡ place_of m t)
     → IsIndexOf n (with_text u (names es))
 index-with es m n u is put same =
     elim (cases_option (place_in u (names es))) [

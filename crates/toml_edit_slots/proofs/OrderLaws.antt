@@ -1,10 +1,8 @@
 -- Slots put in the order of their places.
-use Rattle.std.proofs.Common.{◌≡◌, ℕ, zero, suc, ◌≤◌, ◌<◌, Bool, true, false, List, [], ◌∷◌, Option, Some, None, is_some, length, get_or, set, refl, sym, ap, ◌∙◌, inl, inr, arith, nat_le, option_map, String}
+use Rattle.std.proofs.Common.{◌≡◌, ℕ, suc, ◌≤◌, ◌<◌, Bool, true, false, List, [], ◌∷◌, Option, Some, None, is_some, length, get_or, set, refl, sym, ap, ◌∙◌, inl, inr, arith, nat_le, option_map}
 use Rattle.std.specs.Prelude.{◌||◌, ◌&&◌, if◌then◌else◌}
 use Rattle.std.specs.Global.{Box}
-use Rattle.std.specs.HashMap.{HashMap, get_by_text}
 use Rattle.std.specs.List.{IsDistinct, AllByRecursion}
-use Rattle.std.specs.declared.alloc.Global.{Global}
 use Rattle.std.proofs.lemmas.Bool.{cases_Bool}
 use Rattle.std.proofs.lemmas.Bool.Decides.{nat_tests}
 use Rattle.std.proofs.lemmas.Cmp.{nat_list_eq_equiv}
@@ -16,6 +14,7 @@ use Rattle.toml_edit_laws.specs.PlaceOrder.{key_place}
 use Rattle.toml_edit_slots.specs.declared.slots.Slot.{Slot}
 use Rattle.toml_edit_slots.specs.Slots.{is_at, names, AreApart, place, place_in}
 use Rattle.toml_edit_slots.specs.SlotIndex.{IsIndexed, MayIndex}
+use Rattle.toml_edit_slots.specs.declared.places.Places.{Places}
 use Rattle.toml_edit_slots.specs.InPlace.{by_place, replaced}
 use Rattle.toml_edit_slots.proofs.SlotLaws.{some_next}
 
@@ -134,7 +133,7 @@ module _ {T : Type 0} where
       apart-inserted s (sorted_by by_place es) (all-sorted (λ y. same_text s.key.name y ≡ false) es h.0) (apart-sorted es h.1)
 
   -- the index has their names still
-  pub texts-sorted : {S : Type 0} (o : Option (Box (HashMap (String Global) ℕ S))) (es : List (Slot T)) → IsIndexed o (names es)
+  pub texts-sorted : (o : Option (Box Places)) (es : List (Slot T)) → IsIndexed o (names es)
       → MayIndex o (names (sorted_by by_place es))
   texts-sorted None es h = let e = long-sorted es in omega (arith, e, h)
   texts-sorted (Some m) es h = λ t some. ap is_some (h t) ∙ sym (has-sorted t es) ∙ some

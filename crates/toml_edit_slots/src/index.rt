@@ -1,12 +1,11 @@
 //! The index of a table's slots: from the name of each key to the place of its slot.
 ghost use Rattle.std.specs.Prelude.{◌≡◌, ◌<◌, ◌++◌, ◌∷◌, [], None, Some, true, is_some, length, position, remove, IfOk, OnOk, OnErr};
-ghost use Rattle.std.specs.HashMap.{get_by_text};
 ghost use Rattle.toml_edit_model.specs.Text.{Text};
 ghost use Rattle.toml_edit_slots.specs.Slots.{AreApart, is_at, names, place, place_in};
-ghost use Rattle.toml_edit_slots.specs.SlotIndex.{IsIndexed, IsIndexOf, IsRightBefore, IsPutAt, HasTexts, MayIndex, stands_at, with_text};
+ghost use Rattle.toml_edit_slots.specs.SlotIndex.{IsIndexed, IsIndexOf, IsRightBefore, IsPutAt, HasTexts, MayIndex, place_of, with_text};
 
+use crate::places::Places;
 use crate::slots::Slot;
-use indexmap::IndexMap;
 use std::alloc::Global;
 use toml_edit_repr::Mem;
 
@@ -15,7 +14,7 @@ const FEW: usize = 8;
 
 /// The place of the slot of the name, if there is one.
 pub(crate) fn find_place<T>(
-    index: &Option<Box<IndexMap<String, usize>>>,
+    index: &Option<Box<Places>>,
     entries: &[Slot<T>],
     name: &str,
 ) -> Option<usize>
@@ -23,10 +22,7 @@ pub(crate) fn find_place<T>(
     ensures { result ≡ place name.now entries.now }
 {
     match index {
-        Some(places) => {
-            let at = places.get(name)?;
-            Some(*at)
-        }
+        Some(places) => places.get(name),
         None => walk(entries, name),
     }
 }
@@ -41,7 +37,7 @@ fn walk<T>(entries: &[Slot<T>], name: &str) -> Option<usize>
 /// Notes that the slot of a new name comes behind the others, which have room for so many. The only error is want of memory: the index
 /// stays.
 fn add_place<T>(
-    index: &mut Option<Box<IndexMap<String, usize>>>,
+    index: &mut Option<Box<Places>>,
     alloc: Global,
     entries: &[Slot<T>],
     room: usize,
@@ -54,28 +50,26 @@ fn add_place<T>(
     ensures err { OnErr result (IsIndexed index.new (names entries.now)) }
 {
     if let Some(places) = index {
-        put_place(places, alloc, name, entries.len())?;
+        places.insert(alloc, name, entries.len())?;
         return Ok(());
     }
     if entries.len() < FEW {
         return Ok(());
     }
     let mut places = index_of(alloc, entries, room)?;
-    put_place(&mut places, alloc, name, entries.len())?;
+    places.insert(alloc, name, entries.len())?;
     *index = Some(Box::new(alloc, places)?);
     Ok(())
 }
 
 /// The index of these slots, with room for so many.
-fn index_of<T>(alloc: Global, entries: &[Slot<T>], room: usize) -> Mem<IndexMap<String, usize>>
+fn index_of<T>(alloc: Global, entries: &[Slot<T>], room: usize) -> Mem<Places>
     requires { AreApart entries.now }
     ensures { IfOk result (λ places. IsIndexOf places (names entries.now)) }
 {
-    let mut places = IndexMap::with_capacity(alloc, room)?;
-    // It takes room for a full table, which may be nearly twice as much.
-    places.shrink_to(room);
+    let mut places = Places::with_room(alloc, room)?;
     for at in 0..entries.len() {
-        put_place(&mut places, alloc, entries[at].key.get(), at)?;
+        places.insert(alloc, entries[at].key.get(), at)?;
     }
     Ok(places)
 }
@@ -83,7 +77,7 @@ fn index_of<T>(alloc: Global, entries: &[Slot<T>], room: usize) -> Mem<IndexMap<
 /// Notes that the slot of a name comes behind the others, which have room for so many, if the name is new; the answer is the place where it
 /// stands already, if it does. The only error is want of memory, at a new name: the index stays.
 pub(crate) fn add_new_place<T>(
-    index: &mut Option<Box<IndexMap<String, usize>>>,
+    index: &mut Option<Box<Places>>,
     alloc: Global,
     entries: &[Slot<T>],
     room: usize,
@@ -111,60 +105,29 @@ pub(crate) fn add_new_place<T>(
 /// Puts the place of a name into an index, if the name is new; the answer is the place that it has already, if it does. The only error
 /// is want of memory, at a new name. The name is hashed once where it is new and there is memory.
 #[inline(always)]
-fn put_new_place(
-    places: &mut IndexMap<String, usize>,
-    alloc: Global,
-    name: &str,
-    at: usize,
-) -> Mem<Option<usize>>
-    ensures place { IfOk result (λ there. there ≡ get_by_text places.old name.now) }
-    ensures put { OnOk result (get_by_text places.old name.now ≡ None → IsPutAt at name.now places.old places.new) }
-    ensures new { OnErr result (get_by_text places.old name.now ≡ None) }
-    ensures stays { OnErr result ((t : Text) → get_by_text places.new t ≡ get_by_text places.old t) }
-    ensures present { is_some (get_by_text places.old name.now) ≡ true → (t : Text) → get_by_text places.new t ≡ get_by_text places.old t }
+fn put_new_place(places: &mut Places, alloc: Global, name: &str, at: usize) -> Mem<Option<usize>>
+    ensures place { IfOk result (λ there. there ≡ place_of places.old name.now) }
+    ensures put { OnOk result (place_of places.old name.now ≡ None → IsPutAt at name.now places.old places.new) }
+    ensures new { OnErr result (place_of places.old name.now ≡ None) }
+    ensures stays { OnErr result ((t : Text) → place_of places.new t ≡ place_of places.old t) }
+    ensures present { is_some (place_of places.old name.now) ≡ true → (t : Text) → place_of places.new t ≡ place_of places.old t }
 {
-    match put_place(places, alloc, name, at) {
+    match places.insert(alloc, name, at) {
         Ok(None) => Ok(None),
         Ok(Some(there)) => {
-            put_back(places, name, there);
+            places.set(name, there);
             Ok(Some(there))
         }
         Err(refused) => match places.get(name) {
-            Some(there) => Ok(Some(*there)),
+            Some(there) => Ok(Some(there)),
             None => Err(refused),
         },
     }
 }
 
-/// Puts another place of a name into an index that has the name.
-fn put_back(places: &mut IndexMap<String, usize>, name: &str, at: usize)
-    requires { is_some (get_by_text places.old name.now) ≡ true }
-    ensures { IsPutAt at name.now places.old places.new }
-{
-    if let Some(place) = places.get_mut(name) {
-        *place = at;
-    }
-}
-
-/// Puts the place of a name into an index, and answers the one that it had. The only error is want of memory: the index stays.
-fn put_place(
-    places: &mut IndexMap<String, usize>,
-    alloc: Global,
-    name: &str,
-    at: usize,
-) -> Mem<Option<usize>>
-    ensures old { IfOk result (λ old. old ≡ get_by_text places.old name.now) }
-    ensures ok { OnOk result (IsPutAt at name.now places.old places.new) }
-    ensures err { OnErr result ((t : Text) → get_by_text places.new t ≡ get_by_text places.old t) }
-{
-    let text = String::from_str(alloc, name)?;
-    let old = places.insert(text, at)?;
-    Ok(old)
-}
-
 /// Takes out the place of a name whose slot is about to be taken out, and moves the places behind it down by one. It takes no memory.
 pub(crate) fn close_gap<T>(
-    index: &mut Option<Box<IndexMap<String, usize>>>,
+    index: &mut Option<Box<Places>>,
     entries: &[Slot<T>],
     name: &str,
     gap: usize,
@@ -175,66 +138,43 @@ pub(crate) fn close_gap<T>(
     ensures { IsIndexed index.new (remove (names entries.now) gap) }
 {
     if let Some(places) = index {
-        let _ = places.swap_remove(name);
+        places.remove(name);
         move_down(places, entries, gap);
     }
 }
 
 /// Moves the places behind the gap down by one. The index has all names but the one at the gap.
-fn move_down<T>(places: &mut IndexMap<String, usize>, entries: &[Slot<T>], gap: usize)
+fn move_down<T>(places: &mut Places, entries: &[Slot<T>], gap: usize)
     requires apart { AreApart entries.now }
     requires gap { gap < length entries.now }
-    requires names { (t : Text) → is_some (get_by_text places.old t) ≡ is_some (place_in t (remove (names entries.now) gap)) }
+    requires names { (t : Text) → is_some (place_of places.old t) ≡ is_some (place_in t (remove (names entries.now) gap)) }
     requires before { IsRightBefore gap places.old (remove (names entries.now) gap) }
     ensures { IsIndexOf places.new (remove (names entries.now) gap) }
 {
     for at in gap + 1..entries.len() {
-        let name = entries[at].key.get();
-        if let Some(place) = places.get_mut(name) {
-            *place = at - 1;
-        }
+        places.set(entries[at].key.get(), at - 1);
     }
 }
 
 /// Makes it the index of these slots: it has their names, and may have more. It takes no memory.
-pub(crate) fn index_those<T>(index: &mut Option<Box<IndexMap<String, usize>>>, entries: &[Slot<T>])
+pub(crate) fn index_those<T>(index: &mut Option<Box<Places>>, entries: &[Slot<T>])
     requires apart { AreApart entries.now }
     requires named { MayIndex index.old (names entries.now) }
     ensures { IsIndexed index.new (names entries.now) }
 {
     if let Some(places) = index {
         renumber(places, entries);
-        drop_others(places, entries);
+        places.drop_others(entries);
     }
 }
 
 /// Puts the places of these slots right. The index has their names.
-fn renumber<T>(places: &mut IndexMap<String, usize>, entries: &[Slot<T>])
+fn renumber<T>(places: &mut Places, entries: &[Slot<T>])
     requires apart { AreApart entries.now }
     requires named { HasTexts places.old (names entries.now) }
     ensures { IsRightBefore (length entries.now) places.new (names entries.now) }
 {
     for at in 0..entries.len() {
-        if let Some(place) = places.get_mut(entries[at].key.get()) {
-            *place = at;
-        }
-    }
-}
-
-/// Takes out what is the place of none of these slots.
-fn drop_others<T>(places: &mut IndexMap<String, usize>, entries: &[Slot<T>])
-    requires { IsRightBefore (length entries.now) places.old (names entries.now) }
-    ensures { IsIndexOf places.new (names entries.now) }
-{
-    places.retain(|name, place| is_named_at(entries, *place, name));
-}
-
-/// Whether the slot at the place has the name.
-fn is_named_at<T>(entries: &[Slot<T>], at: usize, name: &str) -> bool
-    ensures { result ≡ stands_at (names entries.now) at name.now }
-{
-    match entries.get(at) {
-        Some(slot) => slot.key.get() == name,
-        None => false,
+        places.set(entries[at].key.get(), at);
     }
 }

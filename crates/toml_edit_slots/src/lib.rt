@@ -3,6 +3,8 @@
 
 mod index;
 mod order;
+mod places;
+mod short_name;
 pub mod slots;
 
 pub use slots::entry::{Entry, OccupiedEntry, VacantEntry};

@@ -4,7 +4,7 @@ ghost use Rattle.std.specs.Option.{ForSome, option_copied, option_copied_mut};
 
 use crate::index::{add_new_place, close_gap, find_place, index_those};
 use crate::order::{is_in_order, sort_entries};
-use indexmap::IndexMap;
+use crate::places::Places;
 use std::alloc::{AllocError, Global};
 use std::marker::Model;
 use std::mem;
@@ -78,7 +78,7 @@ impl<T> Slot<T> {
 pub struct Slots<T> {
     entries: Vec<Slot<T>>,
     // From the name of each key to the place of its slot. Few slots have none.
-    index: Option<Box<IndexMap<String, usize>>>,
+    index: Option<Box<Places>>,
 }
 
 impl<T> Model for Slots<T> {

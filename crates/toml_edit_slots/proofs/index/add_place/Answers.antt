@@ -10,9 +10,9 @@ returns-in-Some-clause-ok g c =
     let es = c.args.entries.now in
     let was = c.deref_mut.result.now in
     let is : IsIndexOf was (names es) = subst (λ m. IsIndexOf m (names es)) (sym c.deref_mut.ensures.value) (subst (λ x. IsIndexed x (names es)) c.in-Some.is c.requires.indexed) in
-    index-slot es was c.put_place.new.places c.args.name.now c.requires.new is c.in_ok-put_place.ensures.ok
+    index-slot es was c.insert.new.self c.args.name.now c.requires.new is c.in_ok-insert.ensures.ok
 
 pub returns-clause-ok : goal.returns-clause-ok
 returns-clause-ok g c =
     let es = c.args.entries.now in
-    subst (λ m. IsIndexOf m (names es ++ c.args.name.now ∷ [])) (sym c.in_ok-new.ensures.ok) (index-slot es c.in_ok-places.places c.put_place-2.new.places c.args.name.now c.requires.new c.in_ok-places.ensures c.in_ok-put_place-2.ensures.ok)
+    subst (λ m. IsIndexOf m (names es ++ c.args.name.now ∷ [])) (sym c.in_ok-new.ensures.ok) (index-slot es c.in_ok-places.places c.insert-2.new.self c.args.name.now c.requires.new c.in_ok-places.ensures c.in_ok-insert-2.ensures.ok)

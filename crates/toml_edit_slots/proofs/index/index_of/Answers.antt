@@ -13,7 +13,7 @@ loop-at-preserved g c =
     let s = c.index-entries-at.result in
     let within : at < length es = omega arith in
     let here = names-get es at (get_or es at s) (slice_get-get_or es at s within) ∙ ap Some (sym c.get.ensures.name) in
-    index-next (names es) c.loop-at.places c.put_place.new.places at c.get.result.now here c.requires c.loop-at.invariant c.in_ok-put_place.ensures.ok
+    index-next (names es) c.loop-at.places c.insert.new.self at c.get.result.now here c.requires c.loop-at.invariant c.in_ok-insert.ensures.ok
 
 pub returns : goal.returns
 returns g c =

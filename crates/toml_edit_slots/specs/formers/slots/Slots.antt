@@ -15,17 +15,15 @@ use Rattle.std.specs.declared.alloc.Global.{Global}
 use Rattle.std.specs.contracts.alloc.Global as heap
 use Rattle.std.specs.contracts.impls.GlobalAllocator.TheImpl.{ghosts}
 use Rattle.std.specs.List.{IsDistinct, IsDistinct-prop}
-use Rattle.std.specs.Prelude.{ℕ, Option, None, Some, String}
+use Rattle.std.specs.Prelude.{Option, None, Some}
 use Rattle.std.specs.Global.{Box}
-use Rattle.std.specs.HashMap.{HashMap, get_by_text}
 use Rattle.std.specs.Coded.{Coded-set, coded_option, coded_ℕ, ×_prop, le_prop}
-use Rattle.std.specs.declared.hash.BuildHasherDefault.{BuildHasherDefault}
-use Rattle.std.specs.declared.hash.FoldHasher.{FoldHasher}
 use Rattle.toml_edit_model.specs.Text.{Text, same_text}
 use Rattle.toml_edit_model.specs.Tree.{Key}
 use Rattle.toml_edit_slots.specs.Slots.{names, on_item, place_in}
-use Rattle.toml_edit_slots.specs.SlotIndex.{IsIndexed}
+use Rattle.toml_edit_slots.specs.SlotIndex.{IsIndexed, place_of}
 use Rattle.toml_edit_slots.specs.SlotCode.{slot_code}
+use Rattle.toml_edit_slots.specs.declared.places.Places.{Places}
 use Rattle.toml_edit_key.specs.contracts.key.Key as key
 use Rattle.toml_edit_slots.specs.declared.slots.Slot.{Slot}
 use Rattle.toml_edit_slots.specs.contracts.slots.Slot as slot
@@ -64,14 +62,14 @@ names_kept h (s ∷ es) = ap (λ l. s.key.name ∷ l) (names_kept h es)
 
 -- the index, to a contract
 abbrev IndexValue : Type 0
-IndexValue = Option (Box (HashMap (String Global) ℕ (BuildHasherDefault FoldHasher)))
+IndexValue = Option (Box Places)
 
 abbrev fields : Former {0}
 fields = via (pair (vec.the_former (of_slot this) Global) (const IndexValue)) Inside (λ X a. (a.entries, a.index)) (λ X v. record { entries = v.0; index = v.1 }) (λ X a. refl) (λ X v. refl)
 
 IsIndexed-prop : (index : IndexValue) (us : List Text) → IsProp (IsIndexed index us)
 IsIndexed-prop None us = le_prop
-IsIndexed-prop (Some m) us = λ p q i t. Coded-set (coded_option coded_ℕ) (get_by_text m.value t) (place_in t us) (p t) (q t) i
+IsIndexed-prop (Some m) us = λ p q i t. Coded-set (coded_option coded_ℕ) (place_of m.value t) (place_in t us) (p t) (q t) i
 
 module _ (R S : RattleType) (h : R.Denot → S.Denot) where
   slot_places : Alike R S h → Alike (slot.the_row R) (slot.the_row S) (on_item h)

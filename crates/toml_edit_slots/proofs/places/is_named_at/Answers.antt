@@ -3,14 +3,14 @@ use Rattle.std.proofs.Common.{◌≡◌, Some, None, ap, sym, ◌∙◌, inl, in
 use Rattle.std.proofs.lemmas.Option.{slice_get-get_or, slice_get_cases}
 use Rattle.toml_edit_model.specs.Text.{same_text}
 use Rattle.toml_edit_slots.proofs.KeptLaws.{stands-at}
-use Rattle.toml_edit_slots.proofs.index.is_named_at.Goals as goal
+use Rattle.toml_edit_slots.proofs.places.is_named_at.Goals as goal
 
 pub returns-in-Some : goal.returns-in-Some
 returns-in-Some g c =
     let es = c.args.entries.now in
     let slot = c.in-Some.slot.now in
     let found = c.in-Some.ensures.lookup.3 in
-    c.eq.ensures ∙ ap (λ u. same_text u c.args.name.now) c.get-in-Some.ensures.name
+    c.eq.ensures ∙ ap (λ u. same_text u c.args.name.now) (c.as_bytes.ensures.value ∙ c.get-in-Some.ensures.name)
     ∙ stands-at es c.args.at c.args.name.now (Some slot) (ap Some (found.1 slot) ∙ sym (slice_get-get_or es c.args.at slot found.0))
 
 pub returns-in-None : goal.returns-in-None
