@@ -3,3 +3,4 @@ pub mod DocumentView
 pub mod Documents
 pub mod HeadersView
 pub mod DocumentLending
+pub mod Faults

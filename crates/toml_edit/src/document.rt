@@ -12,6 +12,9 @@ use toml_edit_repr::{Mem, RawString};
 use toml_edit_tree::{Item, Iter, Table};
 
 mod index;
+mod print;
+
+pub use print::PrintFault;
 
 /// What holds the text of a document: the same text each time.
 pub trait SourceText: Drop {

@@ -7,7 +7,7 @@ mod headers;
 pub mod laws;
 mod root;
 
-pub use document::{Document, DocumentMut, SourceText};
+pub use document::{Document, DocumentMut, PrintFault, SourceText};
 pub use toml_edit_builder::FromStr;
 pub use toml_edit_datetime::{Date, Datetime, DatetimeFault, FloatText, Offset, Time};
 pub use toml_edit_error::{ParseFault, TomlError};

@@ -2,7 +2,7 @@
 use crate::row::Row;
 use crate::said::Answer;
 use crate::steps::{Asked, Subject, behind, copied, word};
-use crate::{events, indexing, refusal, run, steps, table};
+use crate::{events, indexing, prints, refusal, run, steps, table};
 use serde_json::Value as Json;
 use toml_edit::{Document, DocumentMut, Item, Mem, ParseFault, RawString, SourceText, Table};
 
@@ -104,7 +104,7 @@ impl Subject for DocumentMut {
         match question {
             "settles" => settles(self.print(out.alloc), out),
             "fits" | "root_fits" => out.told(self.fits(out.alloc)),
-            _ if question.ends_with("prints") => out.made(self.print(out.alloc)),
+            _ if question.ends_with("prints") => prints::answer(self, out),
             _ => refusal::of_accepted(question, out),
         }
     }

@@ -18,6 +18,7 @@ mod like;
 mod lines;
 mod list;
 mod made;
+mod prints;
 mod refusal;
 mod report;
 mod row;

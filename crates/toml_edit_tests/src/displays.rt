@@ -5,8 +5,8 @@ use std::alloc::Global;
 use std::fmt::Display;
 use std::str::FromStr;
 use toml_edit::{
-    Broken, Date, Datetime, DatetimeFault, Document, FloatText, Formatted, Key, ParseFault, Time,
-    Value,
+    Broken, Date, Datetime, DatetimeFault, Document, FloatText, Formatted, Key, ParseFault,
+    PrintFault, Time, Value,
 };
 use toml_edit_stream::ReadFault;
 
@@ -124,4 +124,5 @@ fn shows_errors(rt: HostRuntime) {
     assert!(rt; holds_moved(alloc, Key::parse(alloc, LONG_PATH).err(), shows_fault));
     assert!(rt; shows(alloc, Broken, "broken"));
     assert!(rt; shows(alloc, ReadFault::Memory, "out of memory"));
+    assert!(rt; shows(alloc, PrintFault::Device, "write failed"));
 }

@@ -11,6 +11,8 @@ mod holding;
 #[cfg(test)]
 mod makers;
 #[cfg(test)]
+mod prints;
+#[cfg(test)]
 mod runs;
 #[cfg(test)]
 mod slots;
