@@ -27,6 +27,7 @@ mod said;
 mod scalar;
 mod slots;
 mod steps;
+mod streams;
 mod table;
 mod tables;
 mod tokens;

@@ -1,6 +1,7 @@
 //! Rows on the program: its words and its input, and how it ends.
 use crate::row::{self, Row};
 use crate::said::Answer;
+use crate::streams;
 use serde_json::Value as Json;
 use std::alloc::Global;
 use toml_edit::{Mem, Watched};
@@ -32,6 +33,13 @@ fn ended(words: &[String], input: &[u8], question: &str, out: &mut Answer) {
         "status" => out.shown(&status),
         "output" => bytes(output.as_slice(), out),
         "errors" => bytes(errors.as_slice(), out),
+        "streams_fail" => out.truth(streams::hold(
+            out.alloc,
+            words,
+            input,
+            status,
+            output.as_slice(),
+        )),
         _ => out.no_such(question),
     }
 }

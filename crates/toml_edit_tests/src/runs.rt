@@ -1,6 +1,5 @@
-//! Runs over streams that fail, or that give and take little at a time. Where memory is refused in a run, what it has written is right.
-use crate::holding::holds_moved;
-use crate::streams::{Drip, Short};
+//! Runs that can't tell their end, or in want of memory: what they have written is right.
+use crate::streams::Short;
 use std::alloc::Global;
 use std::io::{Read, Write};
 use toml_edit::{Mem, Watched};
@@ -29,94 +28,6 @@ fn status<R: Read + Drop, W: Write + Drop, E: Write + Drop>(
         &mut Watched::new(output),
         &mut Watched::new(told),
     )
-}
-
-/// Whether the run over this reader ends with the status, and has then written the output and told the line.
-fn ends<R: Read + Drop>(
-    alloc: Global,
-    words: &[String],
-    reader: R,
-    wanted: (u8, &str, &str),
-) -> bool {
-    let (mut output, mut told) = (Vec::new(alloc), Vec::new(alloc));
-    let status = status(alloc, words, reader, &mut output, &mut told);
-    status == wanted.0
-        && output.as_slice() == wanted.1.as_bytes()
-        && told.as_slice() == wanted.2.as_bytes()
-}
-
-fn prints(alloc: Global, words: Vec<String>) -> bool {
-    let drip = Drip::of(TEXT.as_bytes(), 100);
-    ends(alloc, words.as_slice(), drip, (0, TEXT, ""))
-}
-
-#[test]
-fn prints_what_comes_byte_by_byte(rt: HostRuntime) {
-    assert!(rt; holds_moved(rt.alloc(), print_word(rt.alloc()).ok(), prints));
-}
-
-fn fails_to_read(alloc: Global, words: Vec<String>) -> bool {
-    let mut is_told = true;
-    for calls in 0..7 {
-        let drip = Drip::of(b"a = 1\n", calls);
-        is_told = is_told
-            && ends(
-                alloc,
-                words.as_slice(),
-                drip,
-                (4, "", "tomled: read failed\n"),
-            );
-    }
-    is_told
-}
-
-#[test]
-fn tells_of_a_failed_read(rt: HostRuntime) {
-    assert!(rt; holds_moved(rt.alloc(), print_word(rt.alloc()).ok(), fails_to_read));
-}
-
-fn refuses_cut(alloc: Global, words: Vec<String>) -> bool {
-    let drip = Drip::of(b"a = '\xE2\x82'", 100);
-    ends(
-        alloc,
-        words.as_slice(),
-        drip,
-        (1, "", "tomled: input is not UTF-8\n"),
-    )
-}
-
-#[test]
-fn refuses_bytes_that_are_cut_short(rt: HostRuntime) {
-    assert!(rt; holds_moved(rt.alloc(), print_word(rt.alloc()).ok(), refuses_cut));
-}
-
-/// Whether a run whose output has so much room ends with status 4, the room filled.
-fn leaves_a_beginning(alloc: Global, words: &[String], room: usize) -> bool {
-    let (mut held, mut told) = (Vec::new(alloc), Vec::new(alloc));
-    let short = Short::of(&mut held, room);
-    let status = status(alloc, words, TEXT.as_bytes(), short, &mut told);
-    status == 4
-        && told.as_slice() == b"tomled: write failed\n".as_slice()
-        && Some(held.as_slice()) == TEXT.as_bytes().get(..room)
-}
-
-fn leaves_each_beginning(alloc: Global, words: Vec<String>) -> bool {
-    let mut is_left = true;
-    for room in 0..TEXT.len() {
-        is_left = is_left && leaves_a_beginning(alloc, words.as_slice(), room);
-    }
-    is_left
-}
-
-#[test]
-fn leaves_a_beginning_where_a_write_fails(rt: HostRuntime) {
-    assert!(rt;
-        holds_moved(
-            rt.alloc(),
-            print_word(rt.alloc()).ok(),
-            leaves_each_beginning
-        )
-    );
 }
 
 /// Whether a run of no command, which can't tell so, ends with status 2 and has written nothing.
