@@ -1,6 +1,6 @@
 -- Which texts name numbers.
-use Rattle.std.proofs.Common.{◌≡◌, refl, sym, ap, subst, ℕ, zero, suc, ◌^◌, ◌<◌, ◌≤◌, Bool, true, false, List, [], ◌∷◌, length, get_or, Some, None, Result, Ok, Err, arith, inl, inr}
-use Rattle.std.specs.Prelude.{cond, drop, if◌then◌else◌}
+use Rattle.std.proofs.Common.{◌≡◌, refl, sym, ap, subst, ℕ, zero, suc, ◌^◌, ◌<◌, ◌≤◌, true, [], ◌∷◌, length, get_or, Some, None, Result, Ok, Err, arith, inl, inr}
+use Rattle.std.specs.Prelude.{cond, drop}
 use Rattle.std.specs.Fmt.{decimal}
 use Rattle.std.specs.Result.{result_ok}
 use Rattle.std.specs.Str.Parse.{digits_value, ParsesUnsigned, IsNumeral, without_leading_plus}

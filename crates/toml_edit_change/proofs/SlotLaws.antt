@@ -1,20 +1,21 @@
 -- Slots by the places of their keys, and what is left where one is changed, added or taken out.
-use Rattle.std.proofs.Common.{◌≡◌, ℕ, zero, suc, true, false, List, [], ◌∷◌, ◌++◌, cond, Bool, refl, sym, ◌∙◌, ap, subst, inl, inr, arith, Option, Some, None, option_map, slice_get}
-use Rattle.std.specs.Prelude.{not, filter, if◌then◌else◌, Result}
-use Rattle.std.proofs.lemmas.Bool.{cases_Bool}
+use Rattle.std.proofs.Common.{◌≡◌, ℕ, zero, suc, true, false, List, [], ◌∷◌, ◌++◌, cond, Bool, refl, sym, ◌∙◌, ap, subst, arith, Option, Some, None, option_map, slice_get}
+use Rattle.std.specs.Prelude.{if◌then◌else◌, Result}
 use Rattle.toml_edit_model.specs.Keys.{new_key}
 use Rattle.toml_edit_model.specs.SlotLists as seen
-use Rattle.toml_edit_model.specs.SlotLists.{changed, slot_of, without_key}
-use Rattle.toml_edit_model.specs.Text.{Text, same_text}
-use Rattle.toml_edit_model.specs.Tree.{Key, Node, nothing}
+use Rattle.toml_edit_model.specs.SlotLists.{changed, slot_list, slot_of, without_key}
+use Rattle.toml_edit_model.specs.Text.{Text}
+use Rattle.toml_edit_model.specs.Tree.{Key, Node, nothing, leaf, list, inline, table, tables, no_slots, slot}
 use Rattle.toml_edit_laws.specs.CommandLaws.{made_below}
-use Rattle.toml_edit_laws.specs.Commands.{Answer, done, mapped, missing, change_slot, set_below}
+use Rattle.toml_edit_laws.specs.Commands.{Answer, done, refused, no_such_path, mapped, change_slot, drop_slot, present, set_below}
+use Rattle.toml_edit_laws.specs.Locality.{slots_from}
 use Rattle.toml_edit_laws.proofs.commands.Setting.{made-below-is}
 use Rattle.toml_edit_laws.proofs.common.OptionSteps.{some-is}
+use Rattle.toml_edit_laws.proofs.locality.Slots.{slots_from-list}
 use Rattle.toml_edit_slots.specs.declared.slots.Slot.{Slot}
-use Rattle.toml_edit_slots.specs.Slots.{is_at, items_of, place, with_item, without}
+use Rattle.toml_edit_slots.specs.Slots.{is_at, items_of, lookup, lookup_slot, place, with_item, without}
 use Rattle.toml_edit_tree.specs.declared.item.Item.{Item}
-use Rattle.toml_edit_tree.specs.View.{item_view}
+use Rattle.toml_edit_tree.specs.View.{item_view, slots_view}
 use Rattle.toml_edit_change.specs.Changes.{Changes, pairs}
 use Rattle.toml_edit_change.specs.declared.fault.ChangeFault.{ChangeFault}
 use Rattle.toml_edit_change.proofs.ChangeLaws.{carried, renamed}
@@ -119,3 +120,63 @@ pairs-without k (e ∷ es) h = by_test (is_at k e) refl h (pairs-without k es)
         → pairs (if b then es else e ∷ without k es) ≡ without_key k (pairs (e ∷ es))
     by_test true same g f = rw same (sym (kept k es g))
     by_test false same g f = rw same (ap (λ (r : List seen.Slot). (e.key, item_view e.item) ∷ r) (f (none-left (place k (without k es)) (rw same at g))))
+
+-- ---- an inline table with one slot
+
+pub none-in-empty : (k : Text) (es : List (Slot Item)) → slots_view es ≡ no_slots → place k es ≡ None
+none-in-empty k [] h = refl
+none-in-empty k (e ∷ es) h = absurd cc
+
+pub only-slot : (k : Key) (n : Node) (es new : List (Slot Item)) → slots_view es ≡ no_slots → pairs new ≡ pairs es ++ ((k, n) ∷ []) → slots_view new ≡ slot k n no_slots
+only-slot k n es new empty h =
+    sym (slots_from-list (slots_view new)) ∙ ap slots_from (h ∙ ap (λ ss. slot_list ss ++ ((k, n) ∷ [])) empty)
+
+-- ---- what stands under a key
+
+looked : (k : Text) (es : List (Slot Item)) → slot_of k (pairs es) ≡ option_map (λ (e : Slot Item). (e.key, item_view e.item)) (lookup_slot k es)
+looked k [] = refl
+looked k (e ∷ es) = by_test (is_at k e) (looked k es)
+  where
+    by_test : (b : Bool) → slot_of k (pairs es) ≡ option_map (λ (e : Slot Item). (e.key, item_view e.item)) (lookup_slot k es)
+        → (if b then Some (e.key, item_view e.item) else slot_of k (pairs es))
+        ≡ option_map (λ (e : Slot Item). (e.key, item_view e.item)) (if b then Some e else lookup_slot k es)
+    by_test true f = refl
+    by_test false f = f
+
+present-slot : (l : Key) (n : Node) → (n ≡ nothing → ⊥) → present (Some (l, n)) ≡ Some n
+present-slot l nothing h = absurd (h refl)
+present-slot l (leaf s r d) h = refl
+present-slot l (list f xs) h = refl
+present-slot l (inline f ss) h = refl
+present-slot l (table f ss) h = refl
+present-slot l (tables e xs) h = refl
+
+pub absent : (k : Text) (es : List (Slot Item)) → None ≡ lookup k es → present (slot_of k (pairs es)) ≡ None
+absent k es h = ap present (looked k es) ∙ by_slot (lookup_slot k es) h
+  where
+    by_slot : (o : Option (Slot Item)) → None ≡ option_map (λ (e : Slot Item). e.item) o → present (option_map (λ (e : Slot Item). (e.key, item_view e.item)) o) ≡ None
+    by_slot None g = refl
+    by_slot (Some e) g = absurd cc
+
+pub unfilled : (k : Text) (es : List (Slot Item)) (x : Item) → Some x ≡ lookup k es → item_view x ≡ nothing → present (slot_of k (pairs es)) ≡ None
+unfilled k es x h none = ap present (looked k es) ∙ by_slot (lookup_slot k es) h
+  where
+    by_slot : (o : Option (Slot Item)) → Some x ≡ option_map (λ (e : Slot Item). e.item) o → present (option_map (λ (e : Slot Item). (e.key, item_view e.item)) o) ≡ None
+    by_slot None g = absurd cc
+    by_slot (Some e) g = ap (λ (n : Node). present (Some (e.key, n))) (ap item_view (sym (some-is x e.item g)) ∙ none)
+
+pub filled : (k : Text) (es : List (Slot Item)) (x : Item) → Some x ≡ lookup k es → (item_view x ≡ nothing → ⊥) → present (slot_of k (pairs es)) ≡ Some (item_view x)
+filled k es x h some = ap present (looked k es) ∙ by_slot (lookup_slot k es) h
+  where
+    by_slot : (o : Option (Slot Item)) → Some x ≡ option_map (λ (e : Slot Item). e.item) o
+        → present (option_map (λ (e : Slot Item). (e.key, item_view e.item)) o) ≡ Some (item_view x)
+    by_slot None g = absurd cc
+    by_slot (Some e) g = ap (λ (n : Node). present (Some (e.key, n))) (ap item_view (sym (some-is x e.item g))) ∙ present-slot e.key (item_view x) some
+
+pub none-taken : (k : Text) (ss : List seen.Slot) → present (slot_of k ss) ≡ None → drop_slot k ss (present (slot_of k ss)) ≡ refused no_such_path
+none-taken k ss h = ap (drop_slot k ss) h
+
+pub slot-taken : (k : Text) (es new : List (Slot Item)) (n : Node) → present (slot_of k (pairs es)) ≡ Some n → new ≡ without k es → place k new ≡ None
+    → drop_slot k (pairs es) (present (slot_of k (pairs es))) ≡ done (pairs new)
+slot-taken k es new n h less gone =
+    ap (drop_slot k (pairs es)) h ∙ ap done (sym (ap pairs less ∙ pairs-without k es (subst (λ ys. place k ys ≡ None) less gone)))

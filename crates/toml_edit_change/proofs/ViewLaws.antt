@@ -1,11 +1,12 @@
 -- What items and values are seen as.
-use Rattle.std.proofs.Common.{◌≡◌, ap, ◌∙◌, sym, rules}
+use Rattle.std.proofs.Common.{◌≡◌, ap, ◌∙◌, rules, Vec}
+use Rattle.std.specs.declared.alloc.Global.{Global}
 use Rattle.toml_edit_model.specs.Conversions.{with_decor}
 use Rattle.toml_edit_model.specs.Tree.{Decor, nothing}
 use Rattle.toml_edit_tree.specs.Casts.{decorated, decorated_open}
 use Rattle.toml_edit_tree.specs.Containers.{array_node, inline_node, table_node, tables_node}
-use Rattle.toml_edit_tree.specs.declared.array.Array.{Array, out-Array}
-use Rattle.toml_edit_tree.specs.declared.array_of_tables.ArrayOfTables.{ArrayOfTables, out-ArrayOfTables}
+use Rattle.toml_edit_tree.specs.declared.array.Array.{Array, out-Array, roll-Array}
+use Rattle.toml_edit_tree.specs.declared.array_of_tables.ArrayOfTables.{ArrayOfTables, out-ArrayOfTables, roll-ArrayOfTables}
 use Rattle.toml_edit_tree.specs.declared.inline_table.InlineTable.{InlineTable}
 use Rattle.toml_edit_tree.specs.declared.item.Item.{Item, the_lemmas}
 use Rattle.toml_edit_tree.specs.declared.item.Item.TheOpen.{Value-F}
@@ -49,3 +50,27 @@ rolled v = search (rules, the_lemmas)
 
 pub decorated-view : (d : Decor) (v : Value) → value_view (decorated d v) ≡ with_decor d (value_view v)
 decorated-view d v = decorated-open d (out-Value v) ∙ ap (λ w. with_decor d (value_view w)) (rolled v)
+
+-- ---- arrays and arrays of tables with other items
+
+pub array-items : (a : Array) → (array_view a).items ≡ items_view (out-Array a).values.items
+array-items a = search (rules, the_lemmas)
+
+pub array-made : (a : Array) (v : Vec Item Global)
+    → array_view
+    (roll-Array (record {
+      values = v;
+      decor = (out-Array a).decor;
+      trailing = (out-Array a).trailing;
+      trailing_comma = (out-Array a).trailing_comma;
+      span = (out-Array a).span;
+    }))
+    ≡ record { fields = (array_view a).fields; items = items_view v.items }
+array-made a v = search (rules, the_lemmas)
+
+pub tables-items : (a : ArrayOfTables) → (tables_view a).items ≡ items_view (out-ArrayOfTables a).values.items
+tables-items a = search (rules, the_lemmas)
+
+pub tables-made : (a : ArrayOfTables) (v : Vec Item Global)
+    → tables_view (roll-ArrayOfTables (record { values = v; span = (out-ArrayOfTables a).span })) ≡ record { extent = (tables_view a).extent; items = items_view v.items }
+tables-made a v = search (rules, the_lemmas)

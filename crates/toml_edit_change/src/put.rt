@@ -1,10 +1,10 @@
 //! A value put at a path.
-ghost use Rattle.std.specs.Prelude.{◌≡◌, ◌<◌, ◌∷◌, ◌++◌, [], Bool, true, None, IfErr, IfSome, OnErr, OnOk, length};
+ghost use Rattle.std.specs.Prelude.{◌≡◌, ◌<◌, ◌∷◌, ◌++◌, [], Bool, true, None, IfSome, OnErr, OnOk, length};
 ghost use Rattle.toml_edit_model.specs.Conversions.{with_decor};
 ghost use Rattle.toml_edit_model.specs.Keys.{new_key};
 ghost use Rattle.toml_edit_model.specs.SlotLists.{slot_of};
 ghost use Rattle.toml_edit_model.specs.Text.{Text};
-ghost use Rattle.toml_edit_model.specs.Tree.{Node, node_decor};
+ghost use Rattle.toml_edit_model.specs.Tree.{Node, node_decor, nothing};
 ghost use Rattle.toml_edit_laws.specs.CommandLaws.{made_below};
 ghost use Rattle.toml_edit_laws.specs.Commands.{change_element, change_slot, element_of, set_below, set_here};
 ghost use Rattle.toml_edit_slots.specs.Slots.{place};
@@ -12,7 +12,6 @@ ghost use Rattle.toml_edit_tree.specs.Containers.{array_node, inline_node, table
 ghost use Rattle.toml_edit_tree.specs.View.{array_view, inline_view, item_view, table_view, tables_view, value_view};
 ghost use Rattle.toml_edit_change.specs.Changes.{Changes, names, pairs};
 ghost use Rattle.toml_edit_change.specs.Elements.{nodes, place_named};
-ghost use Rattle.toml_edit_change.specs.declared.fault.ChangeFault.TheVariants.{Memory};
 
 use crate::element::{table_named, value_named};
 use crate::fault::ChangeFault;
@@ -27,22 +26,30 @@ use toml_edit_tree::{Array, ArrayOfTables, InlineTable, Item, Table, Value};
 /// missing is put last in its table, with inline tables down to the value. A segment below an array or an array of tables is the number of
 /// an element, as `number_of` reads it. The errors are `NoSuchPath` where it names no element, `WrongKind` for a table or an array of tables
 /// at the end of the path and a scalar before it, and want of memory: the root is as it was.
-pub fn set(
-    alloc: Global,
-    root: &mut Table,
-    path: &[Key],
-    value: Value,
-) -> Result<(), ChangeFault>
+pub fn set(alloc: Global, root: &mut Table, path: &[Key], value: Value) -> Result<(), ChangeFault>
     ensures { Changes (set_below (value_view value) (names path.now) (table_node (table_view root.old))) (table_node (table_view root.old))
         (table_node (table_view root.new)) result }
 {
     let mut item = Item::Value(value);
-    let outcome = match path.split_first() {
-        None => Err(ChangeFault::WrongKind),
-        Some((key, rest)) => set_in_table(alloc, root, key, rest, &mut item),
-    };
+    let outcome = set_in_root(alloc, root, path, &mut item);
     drop(item);
     outcome
+}
+
+/// The same; what is left in the value's place is not said.
+fn set_in_root(
+    alloc: Global,
+    root: &mut Table,
+    path: &[Key],
+    value: &mut Item,
+) -> Result<(), ChangeFault>
+    ensures { Changes (set_below (item_view value.old) (names path.now) (table_node (table_view root.old))) (table_node (table_view root.old))
+        (table_node (table_view root.new)) result }
+{
+    match path.split_first() {
+        None => Err(ChangeFault::WrongKind),
+        Some((key, rest)) => set_in_table(alloc, root, key, rest, value),
+    }
 }
 
 /// Puts the value at the path below the item; what is left in the value's place is not said. The errors are those of `set`.
@@ -207,20 +214,26 @@ fn keep_decor(old: &mut Value, value: &mut Item)
     ensures { item_view value.new ≡ with_decor (node_decor (value_view old.old)) (item_view value.old) }
 {
     if let Item::Value(new) = value {
-        mem::swap(new.decor_mut(), old.decor_mut());
+        swap_decors(old, new);
     }
 }
 
-/// Fills a placeholder with inline tables down the path to the value.
+/// Gives each of two values the decor of the other.
+fn swap_decors(old: &mut Value, new: &mut Value)
+    ensures { value_view new.new ≡ with_decor (node_decor (value_view old.old)) (value_view new.old) }
+{
+    mem::swap(old.decor_mut(), new.decor_mut());
+}
+
+/// Fills a placeholder with inline tables down the path to the value. The only error is want of memory.
 fn fill_below(
     alloc: Global,
     item: &mut Item,
     path: &[Key],
     value: &mut Item,
 ) -> Result<(), ChangeFault>
-    ensures made { OnOk result (item_view item.new ≡ made_below (names path.now) (item_view value.old)) }
-    ensures memory { IfErr result (λ fault. fault ≡ Memory) }
-    ensures err { OnErr result (item.new ≡ item.old) }
+    requires { item_view item.old ≡ nothing }
+    ensures { Changes (set_below (item_view value.old) (names path.now) (item_view item.old)) (item_view item.old) (item_view item.new) result }
 {
     make_below(alloc, path, value)?;
     mem::swap(item, value);

@@ -86,11 +86,7 @@ fn remove_in_array(array: &mut Array, key: &Key, rest: &[Key]) -> Result<(), Cha
 
 /// The same below the key of an array of tables, which names an element.
 #[cycle(remove)]
-fn remove_in_tables(
-    tables: &mut ArrayOfTables,
-    key: &Key,
-    rest: &[Key],
-) -> Result<(), ChangeFault>
+fn remove_in_tables(tables: &mut ArrayOfTables, key: &Key, rest: &[Key]) -> Result<(), ChangeFault>
     ensures { Changes (remove_below (key.now.name ∷ names rest.now) (tables_node (tables_view tables.old))) (tables_node (tables_view tables.old))
         (tables_node (tables_view tables.new)) result }
 {

@@ -1,5 +1,5 @@
 -- A text with a zero or a sign in front names no place, and what is read of another is what it names.
-use Rattle.std.proofs.Common.{◌≡◌, ℕ, ◌<◌, ◌≤◌, length, get_or, sym, ap, ◌∙◌, subst, arith}
+use Rattle.std.proofs.Common.{◌≡◌, ◌<◌, ◌≤◌, length, get_or, sym, ap, ◌∙◌, subst, arith}
 use Rattle.std.proofs.lemmas.Bool.{eqb-true}
 use Rattle.toml_edit_model.specs.Text.{Text}
 use Rattle.toml_edit_change.specs.Elements.{IsNumberOf}
