@@ -1,0 +1,5 @@
+pub mod NumberLaws
+pub mod ElementLaws
+pub mod SlotLaws
+pub mod ChangeLaws
+pub mod ViewLaws

@@ -1,0 +1,182 @@
+-- Slots by the places of their keys, and what is left where one is changed, added or taken out.
+use Rattle.std.proofs.Common.{◌≡◌, ℕ, zero, suc, true, false, List, [], ◌∷◌, ◌++◌, cond, Bool, refl, sym, ◌∙◌, ap, subst, arith, Option, Some, None, option_map, slice_get}
+use Rattle.std.specs.Prelude.{if◌then◌else◌, Result}
+use Rattle.toml_edit_model.specs.Keys.{new_key}
+use Rattle.toml_edit_model.specs.SlotLists as seen
+use Rattle.toml_edit_model.specs.SlotLists.{changed, slot_list, slot_of, without_key}
+use Rattle.toml_edit_model.specs.Text.{Text}
+use Rattle.toml_edit_model.specs.Tree.{Key, Node, nothing, leaf, list, inline, table, tables, no_slots, slot}
+use Rattle.toml_edit_laws.specs.CommandLaws.{made_below}
+use Rattle.toml_edit_laws.specs.Commands.{Answer, done, refused, no_such_path, mapped, change_slot, drop_slot, present, set_below}
+use Rattle.toml_edit_laws.specs.Locality.{slots_from}
+use Rattle.toml_edit_laws.proofs.commands.Setting.{made-below-is}
+use Rattle.toml_edit_laws.proofs.common.OptionSteps.{some-is}
+use Rattle.toml_edit_laws.proofs.locality.Slots.{slots_from-list}
+use Rattle.toml_edit_slots.specs.declared.slots.Slot.{Slot}
+use Rattle.toml_edit_slots.specs.Slots.{is_at, items_of, lookup, lookup_slot, place, with_item, without}
+use Rattle.toml_edit_tree.specs.declared.item.Item.{Item}
+use Rattle.toml_edit_tree.specs.View.{item_view, slots_view}
+use Rattle.toml_edit_change.specs.Changes.{Changes, pairs}
+use Rattle.toml_edit_change.specs.declared.fault.ChangeFault.{ChangeFault}
+use Rattle.toml_edit_change.proofs.ChangeLaws.{carried, renamed}
+
+-- ---- the slot of a key
+
+slot_none : (b : Bool) (s : seen.Slot) (o : Option seen.Slot) (i : Option ℕ) → cond b (Some 0) (option_map suc i) ≡ None → (i ≡ None → o ≡ None) → cond b (Some s) o ≡ None
+slot_none true s o i h f = absurd cc
+slot_none false s o None h f = f refl
+slot_none false s o (Some j) h f = absurd cc
+
+pub slot-none : (k : Text) (es : List (Slot Item)) → place k es ≡ None → slot_of k (pairs es) ≡ None
+slot-none k [] h = refl
+slot-none k (e ∷ es) h = slot_none (is_at k e) (e.key, item_view e.item) (slot_of k (pairs es)) (place k es) h (slot-none k es)
+
+same_place : (i j : ℕ) → ◌≡◌ {A = Option ℕ} (Some (suc i)) (Some (suc j)) → i ≡ j
+same_place i j h = let e = some-is (suc i) (suc j) h in omega (arith, e)
+
+slot_some : (b : Bool) (e : Slot Item) (es : List (Slot Item)) (o : Option seen.Slot) (i : Option ℕ) (at : ℕ) (x : Item)
+    → cond b (Some 0) (option_map suc i) ≡ Some at → Some x ≡ slice_get (items_of (e ∷ es)) at
+    → ((j : ℕ) → i ≡ Some j → Some x ≡ slice_get (items_of es) j → (l : Key) × (o ≡ Some (l, item_view x)))
+    → (l : Key) × (cond b (Some (e.key, item_view e.item)) o ≡ Some (l, item_view x))
+slot_some true e es o i zero x h g f = (e.key, ap (λ (y : Item). Some (e.key, item_view y)) (sym (some-is x e.item g)))
+slot_some true e es o i (suc at) x h g f = absurd cc
+slot_some false e es o None at x h g f = absurd cc
+slot_some false e es o (Some j) zero x h g f = absurd cc
+slot_some false e es o (Some j) (suc at) x h g f = f at (ap Some (same_place j at h)) g
+
+pub slot-some : (k : Text) (es : List (Slot Item)) (at : ℕ) (x : Item) → place k es ≡ Some at → Some x ≡ slice_get (items_of es) at
+    → (l : Key) × (slot_of k (pairs es) ≡ Some (l, item_view x))
+slot-some k [] at x h g = absurd cc
+slot-some k (e ∷ es) at x h g = slot_some (is_at k e) e es (slot_of k (pairs es)) (place k es) at x h g (λ j same there. slot-some k es j x same there)
+
+-- ---- a slot with another item
+
+with_some : (b : Bool) (e : Slot Item) (es : List (Slot Item)) (i : Option ℕ) (at : ℕ) (y : Item) (ss : List seen.Slot)
+    → cond b (Some 0) (option_map suc i) ≡ Some at → ((j : ℕ) → i ≡ Some j → pairs (with_item j y es) ≡ ss)
+    → pairs (with_item at y (e ∷ es)) ≡ cond b ((e.key, item_view y) ∷ pairs es) ((e.key, item_view e.item) ∷ ss)
+with_some true e es i zero y ss h f = refl
+with_some true e es i (suc at) y ss h f = absurd cc
+with_some false e es None at y ss h f = absurd cc
+with_some false e es (Some j) zero y ss h f = absurd cc
+with_some false e es (Some j) (suc at) y ss h f = ap (λ (r : List seen.Slot). (e.key, item_view e.item) ∷ r) (f at (ap Some (same_place j at h)))
+
+pairs-with : (k : Text) (es : List (Slot Item)) (at : ℕ) (y : Item) → place k es ≡ Some at
+    → pairs (with_item at y es) ≡ changed k (λ old. (old.0, item_view y)) (pairs es)
+pairs-with k [] at y h = absurd cc
+pairs-with k (e ∷ es) at y h =
+    with_some (is_at k e) e es (place k es) at y (changed k (λ old. (old.0, item_view y)) (pairs es)) h (λ j same. pairs-with k es j y same)
+
+with-same : (es : List (Slot Item)) (at : ℕ) (x : Item) → Some x ≡ slice_get (items_of es) at → with_item at x es ≡ es
+with-same [] at x h = refl
+with-same (e ∷ es) zero x h = ap (λ (y : Item). record { key = e.key; item = y } ∷ es) (some-is x e.item h)
+with-same (e ∷ es) (suc at) x h = ap (λ r. e ∷ r) (with-same es at x h)
+
+-- a change of the item is one of the slots
+pub slot-changes : (makes : Bool) (k : Text) (go : Node → Answer Node) (es : List (Slot Item)) (at : ℕ) (x y : Item) (r : Result (Unit {0}) ChangeFault)
+    → place k es ≡ Some at → Some x ≡ slice_get (items_of es) at → Changes (go (item_view x)) (item_view x) (item_view y) r
+    → Changes (change_slot makes k go (pairs es) (slot_of k (pairs es))) (pairs es) (pairs (with_item at y es)) r
+slot-changes makes k go es at x y r h g change =
+    let s = slot-some k es at x h g in
+    let F = λ (m : Node). changed k (λ (old : seen.Slot). (old.0, m)) (pairs es) in
+    renamed (mapped F (go (item_view x))) _ (F (item_view x)) (F (item_view y)) _ _ r
+    (ap (change_slot makes k go (pairs es)) (sym s.1)) (sym (pairs-with k es at x h) ∙ ap pairs (with-same es at x g)) (sym (pairs-with k es at y h))
+    (carried F (go (item_view x)) (item_view x) (item_view y) r change)
+
+-- ---- a new slot
+
+pub pairs-last : (es : List (Slot Item)) (e : Slot Item) → pairs (es ++ (e ∷ [])) ≡ pairs es ++ ((e.key, item_view e.item) ∷ [])
+pairs-last [] e = refl
+pairs-last (x ∷ es) e = ap (λ (r : List seen.Slot). (x.key, item_view x.item) ∷ r) (pairs-last es e)
+
+-- what is set below a key that is missing
+pub new-slot : (k : Text) (v : Node) (path : List Text) (ss new : List seen.Slot) (n : Node) → slot_of k ss ≡ None → n ≡ made_below path v
+    → new ≡ ss ++ ((new_key k, n) ∷ []) → change_slot true k (set_below v path) ss (slot_of k ss) ≡ done new
+new-slot k v path ss new n none made last =
+    ap (change_slot true k (set_below v path) ss) none
+    ∙ ap (mapped (λ m. ss ++ ((new_key k, m) ∷ []))) (made-below-is v path)
+    ∙ ap done (ap (λ (m : Node). ss ++ ((new_key k, m) ∷ [])) (sym made) ∙ sym last)
+
+-- ---- a slot that is taken out
+
+none-left : (i : Option ℕ) → option_map suc i ≡ None → i ≡ None
+none-left None h = refl
+none-left (Some j) h = absurd cc
+
+kept : (k : Text) (es : List (Slot Item)) → place k es ≡ None → without_key k (pairs es) ≡ pairs es
+kept k [] h = refl
+kept k (e ∷ es) h = by_test (is_at k e) refl h (kept k es)
+  where
+    by_test : (b : Bool) → is_at k e ≡ b → cond b (Some 0) (option_map suc (place k es)) ≡ None → (place k es ≡ None → without_key k (pairs es) ≡ pairs es)
+        → without_key k (pairs (e ∷ es)) ≡ pairs (e ∷ es)
+    by_test true same g f = absurd cc
+    by_test false same g f = rw same (ap (λ (r : List seen.Slot). (e.key, item_view e.item) ∷ r) (f (none-left (place k es) g)))
+
+pub pairs-without : (k : Text) (es : List (Slot Item)) → place k (without k es) ≡ None → pairs (without k es) ≡ without_key k (pairs es)
+pairs-without k [] h = refl
+pairs-without k (e ∷ es) h = by_test (is_at k e) refl h (pairs-without k es)
+  where
+    by_test : (b : Bool) → is_at k e ≡ b → place k (if b then es else e ∷ without k es) ≡ None
+        → (place k (without k es) ≡ None → pairs (without k es) ≡ without_key k (pairs es))
+        → pairs (if b then es else e ∷ without k es) ≡ without_key k (pairs (e ∷ es))
+    by_test true same g f = rw same (sym (kept k es g))
+    by_test false same g f = rw same (ap (λ (r : List seen.Slot). (e.key, item_view e.item) ∷ r) (f (none-left (place k (without k es)) (rw same at g))))
+
+-- ---- an inline table with one slot
+
+pub none-in-empty : (k : Text) (es : List (Slot Item)) → slots_view es ≡ no_slots → place k es ≡ None
+none-in-empty k [] h = refl
+none-in-empty k (e ∷ es) h = absurd cc
+
+pub only-slot : (k : Key) (n : Node) (es new : List (Slot Item)) → slots_view es ≡ no_slots → pairs new ≡ pairs es ++ ((k, n) ∷ []) → slots_view new ≡ slot k n no_slots
+only-slot k n es new empty h =
+    sym (slots_from-list (slots_view new)) ∙ ap slots_from (h ∙ ap (λ ss. slot_list ss ++ ((k, n) ∷ [])) empty)
+
+-- ---- what stands under a key
+
+looked : (k : Text) (es : List (Slot Item)) → slot_of k (pairs es) ≡ option_map (λ (e : Slot Item). (e.key, item_view e.item)) (lookup_slot k es)
+looked k [] = refl
+looked k (e ∷ es) = by_test (is_at k e) (looked k es)
+  where
+    by_test : (b : Bool) → slot_of k (pairs es) ≡ option_map (λ (e : Slot Item). (e.key, item_view e.item)) (lookup_slot k es)
+        → (if b then Some (e.key, item_view e.item) else slot_of k (pairs es))
+        ≡ option_map (λ (e : Slot Item). (e.key, item_view e.item)) (if b then Some e else lookup_slot k es)
+    by_test true f = refl
+    by_test false f = f
+
+present-slot : (l : Key) (n : Node) → (n ≡ nothing → ⊥) → present (Some (l, n)) ≡ Some n
+present-slot l nothing h = absurd (h refl)
+present-slot l (leaf s r d) h = refl
+present-slot l (list f xs) h = refl
+present-slot l (inline f ss) h = refl
+present-slot l (table f ss) h = refl
+present-slot l (tables e xs) h = refl
+
+pub absent : (k : Text) (es : List (Slot Item)) → None ≡ lookup k es → present (slot_of k (pairs es)) ≡ None
+absent k es h = ap present (looked k es) ∙ by_slot (lookup_slot k es) h
+  where
+    by_slot : (o : Option (Slot Item)) → None ≡ option_map (λ (e : Slot Item). e.item) o → present (option_map (λ (e : Slot Item). (e.key, item_view e.item)) o) ≡ None
+    by_slot None g = refl
+    by_slot (Some e) g = absurd cc
+
+pub unfilled : (k : Text) (es : List (Slot Item)) (x : Item) → Some x ≡ lookup k es → item_view x ≡ nothing → present (slot_of k (pairs es)) ≡ None
+unfilled k es x h none = ap present (looked k es) ∙ by_slot (lookup_slot k es) h
+  where
+    by_slot : (o : Option (Slot Item)) → Some x ≡ option_map (λ (e : Slot Item). e.item) o → present (option_map (λ (e : Slot Item). (e.key, item_view e.item)) o) ≡ None
+    by_slot None g = absurd cc
+    by_slot (Some e) g = ap (λ (n : Node). present (Some (e.key, n))) (ap item_view (sym (some-is x e.item g)) ∙ none)
+
+pub filled : (k : Text) (es : List (Slot Item)) (x : Item) → Some x ≡ lookup k es → (item_view x ≡ nothing → ⊥) → present (slot_of k (pairs es)) ≡ Some (item_view x)
+filled k es x h some = ap present (looked k es) ∙ by_slot (lookup_slot k es) h
+  where
+    by_slot : (o : Option (Slot Item)) → Some x ≡ option_map (λ (e : Slot Item). e.item) o
+        → present (option_map (λ (e : Slot Item). (e.key, item_view e.item)) o) ≡ Some (item_view x)
+    by_slot None g = absurd cc
+    by_slot (Some e) g = ap (λ (n : Node). present (Some (e.key, n))) (ap item_view (sym (some-is x e.item g))) ∙ present-slot e.key (item_view x) some
+
+pub none-taken : (k : Text) (ss : List seen.Slot) → present (slot_of k ss) ≡ None → drop_slot k ss (present (slot_of k ss)) ≡ refused no_such_path
+none-taken k ss h = ap (drop_slot k ss) h
+
+pub slot-taken : (k : Text) (es new : List (Slot Item)) (n : Node) → present (slot_of k (pairs es)) ≡ Some n → new ≡ without k es → place k new ≡ None
+    → drop_slot k (pairs es) (present (slot_of k (pairs es))) ≡ done (pairs new)
+slot-taken k es new n h less gone =
+    ap (drop_slot k (pairs es)) h ∙ ap done (sym (ap pairs less ∙ pairs-without k es (subst (λ ys. place k ys ≡ None) less gone)))
