@@ -1,0 +1,86 @@
+-- The tree of a document whose root was changed.
+use Rattle.std.proofs.Common.{◌≡◌, refl, sym, ap, ◌∙◌, rules, true, false, List, [], ◌∷◌, Result, Ok, Err}
+use Rattle.std.specs.Prelude.{OnOk}
+use Rattle.toml_edit_model.specs.Text.{Text}
+use Rattle.toml_edit_model.specs.Tree.{Raw, Node, nothing, leaf, list, inline, table, tables, TableFields, Slots, Tree}
+use Rattle.toml_edit_model.specs.SlotLists.{Slot, slot_list, slot_of}
+use Rattle.toml_edit_laws.specs.Locality.{slots_from}
+use Rattle.toml_edit_laws.specs.Commands.{Answer, done, mapped, root_item, with_slots, change_slot, drop_slot, present, set_below, set_at, remove_below, remove_at}
+use Rattle.toml_edit_laws.proofs.commands.Setting.{was-mapped}
+use Rattle.toml_edit_tree.specs.View.{fields_view, item_view, table_slots, tree_view}
+use Rattle.toml_edit_tree.specs.declared.item.Item.{the_lemmas}
+use Rattle.toml_edit_tree.specs.declared.item.Item.TheVariants as items
+use Rattle.toml_edit_tree.specs.declared.table.Table.{Table}
+use Rattle.toml_edit.specs.DocumentView.{tree_owned}
+use Rattle.toml_edit.specs.Roots.{tree_at, tree_under}
+use Rattle.toml_edit.specs.declared.document.DocumentMut.{DocumentMut}
+
+abbrev fields-of : TableFields → Node → TableFields
+fields-of f (table g ss) = g
+fields-of f nothing = f
+fields-of f (leaf s r d) = f
+fields-of f (list g xs) = f
+fields-of f (inline g ss) = f
+fields-of f (tables e xs) = f
+
+abbrev tree : TableFields → Slots → Raw → Tree
+tree f ss r = record { root = f; slots = ss; trailing = r }
+
+-- a root of which only the slots change
+module _ (t u : Tree) (trailing : u.trailing ≡ t.trailing) where
+  slots-change : (a : Answer (List Slot)) → mapped (λ xs. table t.root (slots_from xs)) a ≡ done (root_item u) → with_slots t (root_item u) ≡ u
+  slots-change a h =
+      ap (λ f. tree f u.slots t.trailing) (sym (ap (fields-of u.root) (was-mapped (λ xs. table t.root (slots_from xs)) a (root_item u) h).gives))
+      ∙ ap (tree u.root u.slots) (sym trailing)
+
+  pub set-done : (path : List Text) (v : Node) → set_below v path (root_item t) ≡ done (root_item u) → set_at path v t ≡ done u
+  set-done [] v h = cc
+  set-done (k ∷ path) v h =
+      ap (mapped (with_slots t)) h
+      ∙ ap done (slots-change (change_slot true k (set_below v path) (slot_list t.slots) (slot_of k (slot_list t.slots))) h)
+
+  pub remove-done : (path : List Text) → remove_below path (root_item t) ≡ done (root_item u) → remove_at path t ≡ done u
+  remove-done [] h = cc
+  remove-done (k ∷ []) h =
+      ap (mapped (with_slots t)) h ∙ ap done (slots-change (drop_slot k (slot_list t.slots) (present (slot_of k (slot_list t.slots)))) h)
+  remove-done (k ∷ l ∷ path) h =
+      ap (mapped (with_slots t)) h
+      ∙ ap done (slots-change (change_slot false k (remove_below (l ∷ path)) (slot_list t.slots) (slot_of k (slot_list t.slots))) h)
+
+-- ---- the root that a document lends
+
+view-table : (t : Table) → item_view (items.Table t) ≡ table (fields_view t) (table_slots t)
+view-table t = search (rules, the_lemmas)
+
+trailing-at : (n : Node) (r : Raw) → (tree_at n r).trailing ≡ r
+trailing-at nothing r = refl
+trailing-at (leaf s r d) x = refl
+trailing-at (list f xs) r = refl
+trailing-at (inline f ss) r = refl
+trailing-at (table f ss) r = refl
+trailing-at (tables e xs) r = refl
+
+abbrev node_of : Table → Node
+node_of t = table (fields_view t) (table_slots t)
+
+-- a document whose root is this table first, and then that one
+module _ (d : DocumentMut) (t w : Table) (fields : fields_view t ≡ (tree_owned d).root) (slots : table_slots t ≡ (tree_owned d).slots) where
+  was : node_of t ≡ root_item (tree_owned d)
+  was = ap (λ f. table f (table_slots t)) fields ∙ ap (table (tree_owned d).root) slots
+
+  is : tree_view w d.trailing ≡ tree_under (items.Table w) d.trailing
+  is = ap (λ n. tree_at n d.trailing) (sym (view-table w))
+
+  pub set-root : (path : List Text) (v : Node) → set_below v path (node_of t) ≡ done (node_of w)
+      → set_at path v (tree_owned d) ≡ done (tree_under (items.Table w) d.trailing)
+  set-root path v h =
+      set-done (tree_owned d) (tree_view w d.trailing) (sym (trailing-at (item_view d.root) d.trailing)) path v (ap (set_below v path) (sym was) ∙ h) ∙ ap done is
+
+  pub remove-root : (path : List Text) → remove_below path (node_of t) ≡ done (node_of w)
+      → remove_at path (tree_owned d) ≡ done (tree_under (items.Table w) d.trailing)
+  remove-root path h =
+      remove-done (tree_owned d) (tree_view w d.trailing) (sym (trailing-at (item_view d.root) d.trailing)) path (ap (remove_below path) (sym was) ∙ h) ∙ ap done is
+
+pub on-ok : {A E : Type 0} {P Q : Type 0} (r : Result A E) → (P → Q) → OnOk r P → OnOk r Q
+on-ok (Ok x) f p = f p
+on-ok (Err e) f p = tt
