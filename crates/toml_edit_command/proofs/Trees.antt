@@ -1,16 +1,18 @@
 -- The tree of a document whose root was changed.
 use Rattle.std.proofs.Common.{◌≡◌, refl, sym, ap, ◌∙◌, rules, true, false, List, [], ◌∷◌, Result, Ok, Err}
-use Rattle.std.specs.Prelude.{OnOk}
 use Rattle.toml_edit_model.specs.Text.{Text}
 use Rattle.toml_edit_model.specs.Tree.{Raw, Node, nothing, leaf, list, inline, table, tables, TableFields, Slots, Tree}
 use Rattle.toml_edit_model.specs.SlotLists.{Slot, slot_list, slot_of}
 use Rattle.toml_edit_laws.specs.Locality.{slots_from}
-use Rattle.toml_edit_laws.specs.Commands.{Answer, done, mapped, root_item, with_slots, change_slot, drop_slot, present, set_below, set_at, remove_below, remove_at}
+use Rattle.toml_edit_laws.specs.Commands.{Answer, Refusal, done, refused, no_such_path, wrong_kind, mapped, slots_in, root_item, with_slots, change_slot, drop_slot, present, set_below, set_at, remove_below, remove_at}
 use Rattle.toml_edit_laws.proofs.commands.Setting.{was-mapped}
 use Rattle.toml_edit_tree.specs.View.{fields_view, item_view, table_slots, tree_view}
 use Rattle.toml_edit_tree.specs.declared.item.Item.{the_lemmas}
 use Rattle.toml_edit_tree.specs.declared.item.Item.TheVariants as items
 use Rattle.toml_edit_tree.specs.declared.table.Table.{Table}
+use Rattle.toml_edit_change.specs.Changes.{Changes}
+use Rattle.toml_edit_change.specs.declared.fault.ChangeFault.{ChangeFault}
+use Rattle.toml_edit_change.specs.declared.fault.ChangeFault.TheVariants.{NoSuchPath, WrongKind, Memory}
 use Rattle.toml_edit.specs.DocumentView.{tree_owned}
 use Rattle.toml_edit.specs.Roots.{tree_at, tree_under}
 use Rattle.toml_edit.specs.declared.document.DocumentMut.{DocumentMut}
@@ -71,16 +73,32 @@ module _ (d : DocumentMut) (t w : Table) (fields : fields_view t ≡ (tree_owned
   is : tree_view w d.trailing ≡ tree_under (items.Table w) d.trailing
   is = ap (λ n. tree_at n d.trailing) (sym (view-table w))
 
-  pub set-root : (path : List Text) (v : Node) → set_below v path (node_of t) ≡ done (node_of w)
-      → set_at path v (tree_owned d) ≡ done (tree_under (items.Table w) d.trailing)
-  set-root path v h =
-      set-done (tree_owned d) (tree_view w d.trailing) (sym (trailing-at (item_view d.root) d.trailing)) path v (ap (set_below v path) (sym was) ∙ h) ∙ ap done is
+  stays : node_of w ≡ node_of t → tree_under (items.Table w) d.trailing ≡ tree_owned d
+  stays h =
+      sym is ∙ ap (λ n. tree (fields-of (fields_view w) n) (slots_in n) d.trailing) (h ∙ was)
+      ∙ ap (tree (tree_owned d).root (tree_owned d).slots) (sym (trailing-at (item_view d.root) d.trailing))
 
-  pub remove-root : (path : List Text) → remove_below path (node_of t) ≡ done (node_of w)
-      → remove_at path (tree_owned d) ≡ done (tree_under (items.Table w) d.trailing)
-  remove-root path h =
-      remove-done (tree_owned d) (tree_view w d.trailing) (sym (trailing-at (item_view d.root) d.trailing)) path (ap (remove_below path) (sym was) ∙ h) ∙ ap done is
+  -- what is done to the root's node is done to the tree
+  changed : (r : Result (Unit {0}) ChangeFault) (meant : Answer Node) (seen : Answer Tree)
+      → (meant ≡ done (node_of w) → seen ≡ done (tree_under (items.Table w) d.trailing)) → ((q : Refusal) → meant ≡ refused q → seen ≡ refused q)
+      → Changes meant (node_of t) (node_of w) r → Changes seen (tree_owned d) (tree_under (items.Table w) d.trailing) r
+  changed (Ok u) meant seen is_done is_refused h = is_done h
+  changed (Err NoSuchPath) meant seen is_done is_refused h = (is_refused no_such_path h.0, stays h.1)
+  changed (Err WrongKind) meant seen is_done is_refused h = (is_refused wrong_kind h.0, stays h.1)
+  changed (Err Memory) meant seen is_done is_refused h = stays h
 
-pub on-ok : {A E : Type 0} {P Q : Type 0} (r : Result A E) → (P → Q) → OnOk r P → OnOk r Q
-on-ok (Ok x) f p = f p
-on-ok (Err e) f p = tt
+  pub set-root : (path : List Text) (v : Node) (r : Result (Unit {0}) ChangeFault) → Changes (set_below v path (node_of t)) (node_of t) (node_of w) r
+      → Changes (set_at path v (tree_owned d)) (tree_owned d) (tree_under (items.Table w) d.trailing) r
+  set-root path v r =
+      changed r (set_below v path (node_of t)) (set_at path v (tree_owned d))
+      (λ h. set-done (tree_owned d) (tree_view w d.trailing) (sym (trailing-at (item_view d.root) d.trailing)) path v (ap (set_below v path) (sym was) ∙ h)
+      ∙ ap done is)
+      (λ q h. ap (mapped (with_slots (tree_owned d))) (ap (set_below v path) (sym was) ∙ h))
+
+  pub remove-root : (path : List Text) (r : Result (Unit {0}) ChangeFault) → Changes (remove_below path (node_of t)) (node_of t) (node_of w) r
+      → Changes (remove_at path (tree_owned d)) (tree_owned d) (tree_under (items.Table w) d.trailing) r
+  remove-root path r =
+      changed r (remove_below path (node_of t)) (remove_at path (tree_owned d))
+      (λ h. remove-done (tree_owned d) (tree_view w d.trailing) (sym (trailing-at (item_view d.root) d.trailing)) path (ap (remove_below path) (sym was) ∙ h)
+      ∙ ap done is)
+      (λ q h. ap (mapped (with_slots (tree_owned d))) (ap (remove_below path) (sym was) ∙ h))

@@ -1,11 +1,10 @@
 -- Why a run stops, and what it leaves then.
-use Rattle.std.specs.Prelude.{◌≡◌, ℕ, nat_lt, Bool, true, false, if◌then◌else◌, List, map, Option, None, Some, IfSome, IsUtf8, string_bytes}
+use Rattle.std.specs.Prelude.{◌≡◌, ℕ, nat_lt, Bool, true, false, if◌then◌else◌, List, Option, None, Some, IfSome, IsUtf8, string_bytes}
 use Rattle.std.specs.Io.KnownBytes.{Appends}
 use Rattle.toml_edit_model.specs.Text.{Text}
 use Rattle.toml_edit_model.specs.Syntax.{Document}
 use Rattle.toml_edit_model.specs.Fits.{Fits}
-use Rattle.toml_edit_model.specs.Tree.{Key, Tree}
-use Rattle.toml_edit_laws.specs.Commands.{Answer, refused, no_such_path, wrong_kind}
+use Rattle.toml_edit_model.specs.Tree.{Tree}
 use Rattle.toml_edit_stream.specs.Whole.{AppendsBeginning}
 use Rattle.toml_edit_tree.specs.View.{value_view}
 use Rattle.toml_edit_command.specs.Words.{Action, printing, getting, setting, removing, IsCommand}
@@ -14,23 +13,20 @@ use Rattle.toml_edit_command.specs.Mistakes.{InWords, InTree, InRead, mistake_li
 use Rattle.toml_edit_command.specs.Run.{IsExcerptOf, IsRefused, Tells}
 use Rattle.toml_edit_command.specs.declared.words.Command.{Command}
 use Rattle.toml_edit_command.specs.declared.words.Command.TheVariants.{Print, Get, Set, Remove}
-use Rattle.toml_edit_change.specs.declared.ChangeFault.{ChangeFault}
-use Rattle.toml_edit_change.specs.declared.ChangeFault.TheVariants.{NoSuchPath, WrongKind}
-use Rattle.toml_edit_change.specs.declared.ChangeFault.TheVariants as faults
+use Rattle.toml_edit_change.specs.Changes.{names}
+use Rattle.toml_edit_change.specs.declared.fault.ChangeFault.{ChangeFault}
+use Rattle.toml_edit_change.specs.declared.fault.ChangeFault.TheVariants.{NoSuchPath, WrongKind}
+use Rattle.toml_edit_change.specs.declared.fault.ChangeFault.TheVariants as faults
 use Rattle.toml_edit_command.specs.declared.stop.Mistake.TheVariants as mistakes
 use Rattle.toml_edit_command.specs.declared.stop.Stop.{Stop}
 use Rattle.toml_edit_command.specs.declared.stop.Stop.TheVariants.{Mistaken, NotUtf8, Refused, Memory, ReadFailed, WriteFailed}
 
--- the texts of keys
-abbrev pub names_of : List Key → List Text
-names_of ks = map (λ k. k.name) ks
-
 -- what a command does
 abbrev pub action_of : Command → Action
 action_of Print = printing
-action_of (Get path) = getting (names_of path.items)
-action_of (Set path value) = setting (names_of path.items) (value_view value)
-action_of (Remove path) = removing (names_of path.items)
+action_of (Get path) = getting (names path.items)
+action_of (Set path value) = setting (names path.items) (value_view value)
+action_of (Remove path) = removing (names path.items)
 
 -- the status that a run ends with
 abbrev pub status_of : Stop → ℕ
@@ -110,13 +106,7 @@ StopsDoing a known failed s WriteFailed =
 abbrev pub WroteRead : Action → Option Text → Option Text → Option Text → Type 0
 WroteRead a known old new = IfSome known (λ bytes. (d : Document) × (t : Tree) × IsReadAs bytes d t × Wrote a t old new)
 
--- nothing is changed in a tree, for this fault
-abbrev pub IsRefusedAs : {A : Type 0} → Answer A → ChangeFault → Type 0
-IsRefusedAs x NoSuchPath = x ≡ refused no_such_path
-IsRefusedAs x WrongKind = x ≡ refused wrong_kind
-IsRefusedAs x faults.Memory = Unit {0}
-
--- which stops the run so
+-- a fault of a change stops the run so
 abbrev pub stop_for : ChangeFault → Stop
 stop_for NoSuchPath = Mistaken mistakes.NoSuchPath
 stop_for WrongKind = Mistaken mistakes.WrongKind

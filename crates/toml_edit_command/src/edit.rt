@@ -1,9 +1,10 @@
 // What `set` and `remove` do.
 ghost use Rattle.std.specs.Prelude.{◌≡◌, false, IfErr, OnOk};
 ghost use Rattle.toml_edit.specs.DocumentView.{tree_owned};
-ghost use Rattle.toml_edit_laws.specs.Commands.{done, remove_at, set_at};
+ghost use Rattle.toml_edit_laws.specs.Commands.{remove_at, set_at};
 ghost use Rattle.toml_edit_tree.specs.View.{value_view};
-ghost use Rattle.toml_edit_command.specs.Steps.{IsRefusedAs, Printed, StopsActing, StopsPrinting, Wrote, names_of, stop_for};
+ghost use Rattle.toml_edit_change.specs.Changes.{Changes, names};
+ghost use Rattle.toml_edit_command.specs.Steps.{Printed, StopsActing, StopsPrinting, Wrote, stop_for};
 ghost use Rattle.toml_edit_command.specs.Words.{removing, setting};
 
 use super::act::print;
@@ -22,9 +23,9 @@ pub fn set<O: Output>(
     output: &mut O,
 ) -> Result<(), Stop>
     requires { O.has_failed output.old ≡ false }
-    ensures wrote { OnOk result (Wrote (setting (names_of path.now) (value_view value)) (tree_owned document.old) (O.contents output.old) (O.contents output.new)) }
+    ensures wrote { OnOk result (Wrote (setting (names path.now) (value_view value)) (tree_owned document.old) (O.contents output.old) (O.contents output.new)) }
     ensures ok { OnOk result (O.has_failed output.new ≡ false) }
-    ensures err { IfErr result (StopsActing (setting (names_of path.now) (value_view value)) (tree_owned document.old) (record {
+    ensures err { IfErr result (StopsActing (setting (names path.now) (value_view value)) (tree_owned document.old) (record {
       old = O.contents output.old;
       new = O.contents output.new;
       failed = O.has_failed output.new;
@@ -44,15 +45,15 @@ pub fn remove<O: Output>(
     output: &mut O,
 ) -> Result<(), Stop>
     requires { O.has_failed output.old ≡ false }
-    ensures wrote { OnOk result (Wrote (removing (names_of path.now)) (tree_owned document.old) (O.contents output.old) (O.contents output.new)) }
+    ensures wrote { OnOk result (Wrote (removing (names path.now)) (tree_owned document.old) (O.contents output.old) (O.contents output.new)) }
     ensures ok { OnOk result (O.has_failed output.new ≡ false) }
-    ensures err { IfErr result (StopsActing (removing (names_of path.now)) (tree_owned document.old) (record {
+    ensures err { IfErr result (StopsActing (removing (names path.now)) (tree_owned document.old) (record {
       old = O.contents output.old;
       new = O.contents output.new;
       failed = O.has_failed output.new;
     })) }
 {
-    match remove_item(alloc, document, path) {
+    match remove_item(document, path) {
         Ok(()) => write_fitting(alloc, document, output),
         Err(fault) => Err(stop_of(fault)),
     }
@@ -65,18 +66,16 @@ fn set_value(
     path: &[Key],
     value: Value,
 ) -> Result<(), ChangeFault>
-    ensures done { OnOk result (set_at (names_of path.now) (value_view value) (tree_owned document.old) ≡ done (tree_owned document.new)) }
-    ensures refused { IfErr result (IsRefusedAs (set_at (names_of path.now) (value_view value) (tree_owned document.old))) }
+    ensures { Changes (set_at (names path.now) (value_view value) (tree_owned document.old)) (tree_owned document.old) (tree_owned document.new) result }
 {
     toml_edit_change::set(alloc, document.as_table_mut(), path, value)
 }
 
 // Removes what is at the path.
-fn remove_item(alloc: Global, document: &mut DocumentMut, path: &[Key]) -> Result<(), ChangeFault>
-    ensures done { OnOk result (remove_at (names_of path.now) (tree_owned document.old) ≡ done (tree_owned document.new)) }
-    ensures refused { IfErr result (IsRefusedAs (remove_at (names_of path.now) (tree_owned document.old))) }
+fn remove_item(document: &mut DocumentMut, path: &[Key]) -> Result<(), ChangeFault>
+    ensures { Changes (remove_at (names path.now) (tree_owned document.old)) (tree_owned document.old) (tree_owned document.new) result }
 {
-    toml_edit_change::remove(alloc, document.as_table_mut(), path)
+    toml_edit_change::remove(document.as_table_mut(), path)
 }
 
 // Why a run stops that can't change the document.

@@ -12,7 +12,8 @@ ghost use Rattle.toml_edit_model.specs.Tree.{is_value_node};
 ghost use Rattle.toml_edit_laws.specs.Commands as commands;
 ghost use Rattle.toml_edit_laws.specs.Locality.{is_table};
 ghost use Rattle.toml_edit_tree.specs.View.{item_view, value_view};
-ghost use Rattle.toml_edit_command.specs.Steps.{StopsActing, Wrote, among, names_of};
+ghost use Rattle.toml_edit_change.specs.Changes.{names};
+ghost use Rattle.toml_edit_command.specs.Steps.{StopsActing, Wrote, among};
 ghost use Rattle.toml_edit_command.specs.Words.{getting};
 
 use super::stop::{Mistake, Stop};
@@ -29,9 +30,9 @@ pub fn get<O: Output>(
     output: &mut O,
 ) -> Result<(), Stop>
     requires { O.has_failed output.old ≡ false }
-    ensures wrote { OnOk result (Wrote (getting (names_of path.now)) (tree_owned document.now) (O.contents output.old) (O.contents output.new)) }
+    ensures wrote { OnOk result (Wrote (getting (names path.now)) (tree_owned document.now) (O.contents output.old) (O.contents output.new)) }
     ensures ok { OnOk result (O.has_failed output.new ≡ false) }
-    ensures err { IfErr result (StopsActing (getting (names_of path.now)) (tree_owned document.now) (record {
+    ensures err { IfErr result (StopsActing (getting (names path.now)) (tree_owned document.now) (record {
       old = O.contents output.old;
       new = O.contents output.new;
       failed = O.has_failed output.new;
@@ -51,7 +52,7 @@ pub fn get<O: Output>(
 
 // The item at the path below this one.
 fn item_below<'d>(item: &'d Item, path: &[Key]) -> Option<&'d Item>
-    ensures { option_map (λ x. item_view x.now) result ≡ commands.item_below (names_of path.now) (item_view item.now) }
+    ensures { option_map (λ x. item_view x.now) result ≡ commands.item_below (names path.now) (item_view item.now) }
 {
     let mut found = item;
     'keys: for key in path {

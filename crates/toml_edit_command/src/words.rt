@@ -1,6 +1,7 @@
 // What the words of a command say.
 ghost use Rattle.std.specs.Prelude.{[], ◌∷◌, IfErr, IfOk, map, string_bytes};
-ghost use Rattle.toml_edit_command.specs.Steps.{StopsInWords, action_of, names_of};
+ghost use Rattle.toml_edit_change.specs.Changes.{names};
+ghost use Rattle.toml_edit_command.specs.Steps.{StopsInWords, action_of};
 ghost use Rattle.toml_edit_command.specs.Words.{Says, SpellsPath, SpellsValue};
 ghost use Rattle.toml_edit_command.specs.Forms.{IsForm, MayStopPath, MayStopValue};
 ghost use Rattle.toml_edit_tree.specs.View.{value_view};
@@ -91,7 +92,7 @@ fn form_with_value<'a>(name: &str, path: &'a str, value: &'a str) -> Option<Form
 
 // The keys of PATH.
 fn path_of(alloc: Global, text: &str) -> Result<Vec<Key>, Stop>
-    ensures spelled { IfOk result (λ keys. SpellsPath text.now (names_of keys.items)) }
+    ensures spelled { IfOk result (λ keys. SpellsPath text.now (names keys.items)) }
     ensures stops { IfErr result (MayStopPath text.now) }
 {
     match Key::parse(alloc, text) {

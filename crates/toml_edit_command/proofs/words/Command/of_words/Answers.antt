@@ -2,7 +2,7 @@
 use Rattle.std.proofs.Common.{◌≡◌, List, map, Some, String, Global, string_bytes, subst, inl, inr}
 use Rattle.std.proofs.lemmas.Result.{err_from_is_err_and}
 use Rattle.toml_edit_command.specs.Forms.{IsForm}
-use Rattle.toml_edit_command.specs.Steps.{names_of}
+use Rattle.toml_edit_change.specs.Changes.{names}
 use Rattle.toml_edit_command.specs.declared.words.Form.{Form}
 use Rattle.toml_edit_command.proofs.Reading.{path-stops, value-stops}
 use Rattle.toml_edit_command.proofs.words.Command.of_words.Goals as goal
@@ -29,7 +29,7 @@ pub returns-in_err-value_of-in-Some-Set-clause-stops : goal.returns-in_err-value
 returns-in_err-value_of-in-Some-Set-clause-stops c =
     let q = err_from_is_err_and c.from_residual-in_err-value_of-in-Some-Set.result c.from_residual-in_err-value_of-in-Some-Set.ensures.1 in
     rw (q.1, q.2)
-    (value-stops (map string_bytes c.args.words.now) c.in-Some-Set.path.now c.in-Some-Set.value.now (names_of c.in_ok-path-in-Some-Set.path.items)
+    (value-stops (map string_bytes c.args.words.now) c.in-Some-Set.path.now c.in-Some-Set.value.now (names c.in_ok-path-in-Some-Set.path.items)
     c.in_err-value_of-in-Some-Set.field-0.0 (is-form c.args.words.now c.in-Some-Set.field-0 _ c.in-Some-Set.field-0-is c.in-Some-Set.ensures) c.in_ok-path-in-Some-Set.ensures.spelled c.in_err-value_of-in-Some-Set.ensures.stops)
 
 pub returns-in_err-path_of-in-Some-Remove-clause-stops : goal.returns-in_err-path_of-in-Some-Remove-clause-stops
