@@ -1,3 +1,7 @@
 -- Lemmas on runs.
-pub mod Words
-pub mod Refusals
+pub mod Reading
+pub mod Spelled
+pub mod Trees
+pub mod Local
+pub mod Items
+pub mod Ends

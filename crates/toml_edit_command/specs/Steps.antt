@@ -1,49 +1,131 @@
 -- Why a run stops, and what it leaves then.
-use Rattle.std.specs.Prelude.{◌≡◌, ℕ, Bool, true, false, Option, IfSome, IsUtf8, string_bytes}
+use Rattle.std.specs.Prelude.{◌≡◌, ℕ, nat_lt, Bool, true, false, if◌then◌else◌, List, Option, None, Some, IfSome, IsUtf8, string_bytes}
+use Rattle.std.specs.Io.KnownBytes.{Appends}
 use Rattle.toml_edit_model.specs.Text.{Text}
-use Rattle.toml_edit_command.specs.Run.{IsExcerptOf, IsRefused, PrintsBeginning, Tells, encoding_line, memory_line, read_line, write_line}
+use Rattle.toml_edit_model.specs.Syntax.{Document}
+use Rattle.toml_edit_model.specs.Fits.{Fits}
+use Rattle.toml_edit_model.specs.Tree.{Tree}
+use Rattle.toml_edit_stream.specs.Whole.{AppendsBeginning}
+use Rattle.toml_edit_tree.specs.View.{value_view}
+use Rattle.toml_edit_command.specs.Words.{Action, printing, getting, setting, removing, IsCommand}
+use Rattle.toml_edit_command.specs.Written.{IsPrintOf, IsReadAs, Makes}
+use Rattle.toml_edit_command.specs.Mistakes.{InWords, InTree, InRead, mistake_line, encoding_line, memory_line, read_line, write_line}
+use Rattle.toml_edit_command.specs.Run.{IsExcerptOf, IsRefused, Tells}
+use Rattle.toml_edit_command.specs.declared.words.Command.{Command}
+use Rattle.toml_edit_command.specs.declared.words.Command.TheVariants.{Print, Get, Set, Remove}
+use Rattle.toml_edit_change.specs.Changes.{names}
+use Rattle.toml_edit_change.specs.declared.fault.ChangeFault.{ChangeFault}
+use Rattle.toml_edit_change.specs.declared.fault.ChangeFault.TheVariants.{NoSuchPath, WrongKind}
+use Rattle.toml_edit_change.specs.declared.fault.ChangeFault.TheVariants as faults
+use Rattle.toml_edit_command.specs.declared.stop.Mistake.TheVariants as mistakes
 use Rattle.toml_edit_command.specs.declared.stop.Stop.{Stop}
-use Rattle.toml_edit_command.specs.declared.stop.Stop.TheVariants.{NotUtf8, Refused, Memory, ReadFailed, WriteFailed}
+use Rattle.toml_edit_command.specs.declared.stop.Stop.TheVariants.{Mistaken, NotUtf8, Refused, Memory, ReadFailed, WriteFailed}
+
+-- what a command does
+abbrev pub action_of : Command → Action
+action_of Print = printing
+action_of (Get path) = getting (names path.items)
+action_of (Set path value) = setting (names path.items) (value_view value)
+action_of (Remove path) = removing (names path.items)
 
 -- the status that a run ends with
 abbrev pub status_of : Stop → ℕ
+status_of (Mistaken m) = 2
 status_of NotUtf8 = 1
 status_of (Refused e) = 1
 status_of Memory = 3
 status_of ReadFailed = 4
 status_of WriteFailed = 4
 
+-- what is told of it
+abbrev pub TellsStop : Stop → Option Text → Option Text → Bool → Type 0
+TellsStop (Mistaken m) old new failed = Tells old new failed (mistake_line m)
+TellsStop NotUtf8 old new failed = Tells old new failed encoding_line
+TellsStop (Refused e) old new failed = Tells old new failed (string_bytes e)
+TellsStop Memory old new failed = Tells old new failed memory_line
+TellsStop ReadFailed old new failed = Tells old new failed read_line
+TellsStop WriteFailed old new failed = Tells old new failed write_line
+
+-- the words stop it so
+abbrev pub StopsInWords : List Text → Stop → Type 0
+StopsInWords ws (Mistaken m) = InWords ws m
+StopsInWords ws NotUtf8 = ⊥
+StopsInWords ws (Refused e) = ⊥
+StopsInWords ws Memory = IsCommand ws
+StopsInWords ws ReadFailed = ⊥
+StopsInWords ws WriteFailed = ⊥
+
 -- a step that reads stops so: what was left to read, and whether the input has failed then
 abbrev pub StopsReading : Option Text → Bool → Stop → Type 0
+StopsReading known failed (Mistaken m) = ⊥
 StopsReading known failed NotUtf8 = IfSome known (λ bytes. ¬ (IsUtf8 bytes)) × (failed ≡ false)
 StopsReading known failed (Refused e) = IfSome known (λ bytes. IsUtf8 bytes × IsRefused bytes × IsExcerptOf bytes (string_bytes e)) × (failed ≡ false)
 StopsReading known failed Memory = failed ≡ false
 StopsReading known failed ReadFailed = failed ≡ true
 StopsReading known failed WriteFailed = ⊥
 
--- what a run that stops has seen: what was left to read, what the output held before and after, and which streams have failed
-pub record Seen : Type 0 where
-  pub known : Option Text
+-- what a step that writes has seen: what the output held before and after, and whether it has failed then
+pub record Outcome : Type 0 where
   pub old : Option Text
   pub new : Option Text
-  pub input_failed : Bool
-  pub output_failed : Bool
+  pub failed : Bool
 
 -- nothing was written
-abbrev pub IsUnwritten : Seen → Type 0
-IsUnwritten s = (s.new ≡ s.old) × (s.output_failed ≡ false)
+abbrev pub IsUnwritten : Outcome → Type 0
+IsUnwritten s = (s.new ≡ s.old) × (s.failed ≡ false)
 
-abbrev pub StopsPrinting : Seen → Stop → Type 0
-StopsPrinting s NotUtf8 = StopsReading s.known s.input_failed NotUtf8 × IsUnwritten s
-StopsPrinting s (Refused e) = StopsReading s.known s.input_failed (Refused e) × IsUnwritten s
-StopsPrinting s Memory = StopsReading s.known s.input_failed Memory × IsUnwritten s
-StopsPrinting s ReadFailed = StopsReading s.known s.input_failed ReadFailed × IsUnwritten s
-StopsPrinting s WriteFailed = (s.input_failed ≡ false) × PrintsBeginning s.known s.old s.new × (s.output_failed ≡ true)
+-- what the action makes of the tree was written, or a beginning of it
+abbrev pub Wrote : Action → Tree → Option Text → Option Text → Type 0
+Wrote a t old new = (x : Text) × Makes a t x × Appends old new x
 
--- what is told of it
-abbrev pub TellsStop : Stop → Option Text → Option Text → Bool → Type 0
-TellsStop NotUtf8 old new failed = Tells old new failed encoding_line
-TellsStop (Refused e) old new failed = Tells old new failed (string_bytes e)
-TellsStop Memory old new failed = Tells old new failed memory_line
-TellsStop ReadFailed old new failed = Tells old new failed read_line
-TellsStop WriteFailed old new failed = Tells old new failed write_line
+abbrev pub BeganToWrite : Action → Tree → Option Text → Option Text → Type 0
+BeganToWrite a t old new = (x : Text) × Makes a t x × AppendsBeginning old new x
+
+-- the action on a tree stops so
+abbrev pub StopsActing : Action → Tree → Outcome → Stop → Type 0
+StopsActing a t s (Mistaken m) = InTree a t m × IsUnwritten s
+StopsActing a t s NotUtf8 = ⊥
+StopsActing a t s (Refused e) = ⊥
+StopsActing a t s Memory = IsUnwritten s
+StopsActing a t s ReadFailed = ⊥
+StopsActing a t s WriteFailed = BeganToWrite a t s.old s.new × (s.failed ≡ true)
+
+-- the action on what was left to read stops so, and whether the input has failed then
+abbrev pub StopsDoing : Action → Option Text → Bool → Outcome → Stop → Type 0
+StopsDoing a known failed s (Mistaken m) = InRead a known m × (failed ≡ false) × IsUnwritten s
+StopsDoing a known failed s NotUtf8 = StopsReading known failed NotUtf8 × IsUnwritten s
+StopsDoing a known failed s (Refused e) = StopsReading known failed (Refused e) × IsUnwritten s
+StopsDoing a known failed s Memory = StopsReading known failed Memory × IsUnwritten s
+StopsDoing a known failed s ReadFailed = StopsReading known failed ReadFailed × IsUnwritten s
+StopsDoing a known failed s WriteFailed =
+    (failed ≡ false) × IfSome known (λ bytes. (d : Document) × (t : Tree) × IsReadAs bytes d t × BeganToWrite a t s.old s.new) × (s.failed ≡ true)
+
+-- ---- on the way
+
+-- what the action makes of the tree of what was left to read was written
+abbrev pub WroteRead : Action → Option Text → Option Text → Option Text → Type 0
+WroteRead a known old new = IfSome known (λ bytes. (d : Document) × (t : Tree) × IsReadAs bytes d t × Wrote a t old new)
+
+-- a fault of a change stops the run so
+abbrev pub stop_for : ChangeFault → Stop
+stop_for NoSuchPath = Mistaken mistakes.NoSuchPath
+stop_for WrongKind = Mistaken mistakes.WrongKind
+stop_for faults.Memory = Memory
+
+-- a tree that fits was printed
+abbrev pub Printed : Tree → Option Text → Option Text → Type 0
+Printed u old new = (x : Text) × IsPrintOf u x × Appends old new x
+
+-- the print of a tree, if it fits, stops so
+abbrev pub StopsPrinting : Tree → Outcome → Stop → Type 0
+StopsPrinting u s (Mistaken m) = (m ≡ mistakes.Unfit) × (¬ (Fits u)) × IsUnwritten s
+StopsPrinting u s NotUtf8 = ⊥
+StopsPrinting u s (Refused e) = ⊥
+StopsPrinting u s Memory = IsUnwritten s
+StopsPrinting u s ReadFailed = ⊥
+StopsPrinting u s WriteFailed = ((x : Text) × IsPrintOf u x × AppendsBeginning s.old s.new x) × (s.failed ≡ true)
+
+-- the place that the text names among so many
+abbrev pub among : ℕ → Option ℕ → Option ℕ
+among count None = None
+among count (Some i) = if nat_lt i count then Some i else None

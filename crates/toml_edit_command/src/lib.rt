@@ -1,9 +1,13 @@
 //! The command `tomled`, over any streams: its words, its steps and its exit status.
 #![tactic(auto)]
 
+mod act;
 mod command;
-mod steps;
+mod edit;
+mod get;
+mod read;
 mod stop;
 mod tell;
+mod words;
 
 pub use command::{end_without_memory, run};

@@ -1,8 +1,9 @@
 ghost use Rattle.std.specs.Prelude.{◌≡◌};
+ghost use Rattle.toml_edit_command.specs.Mistakes.{mistake_line};
 ghost use Rattle.toml_edit_command.specs.Run.{Tells};
 ghost use Rattle.toml_edit_command.specs.Steps.{TellsStop, status_of};
 
-use super::stop::Stop;
+use super::stop::{Mistake, Stop};
 use toml_edit_stream::{Output, write_all};
 
 // Tells why a run stopped, and answers its status.
@@ -11,6 +12,10 @@ pub fn end<E: Output>(stop: &Stop, errors: &mut E) -> u8
     ensures told { TellsStop stop.now (E.contents errors.old) (E.contents errors.new) (E.has_failed errors.new) }
 {
     match stop {
+        Stop::Mistaken(mistake) => {
+            tell(errors, mistake_text(*mistake));
+            2
+        }
         Stop::NotUtf8 => {
             tell(errors, "tomled: input is not UTF-8\n");
             1
@@ -34,8 +39,24 @@ pub fn end<E: Output>(stop: &Stop, errors: &mut E) -> u8
     }
 }
 
+// What is told of a mistake.
+fn mistake_text(mistake: Mistake) -> &'static str
+    ensures { result.now ≡ mistake_line mistake }
+{
+    match mistake {
+        Mistake::Words => {
+            "tomled: usage: tomled print | get PATH | set PATH VALUE | remove PATH\n"
+        }
+        Mistake::Path => "tomled: bad path\n",
+        Mistake::Value => "tomled: bad value\n",
+        Mistake::NoSuchPath => "tomled: no such path\n",
+        Mistake::WrongKind => "tomled: wrong kind\n",
+        Mistake::Unfit => "tomled: does not fit\n",
+    }
+}
+
 // Writes what is told. A fault in that is passed over.
-pub fn tell<E: Output>(errors: &mut E, text: &str)
+fn tell<E: Output>(errors: &mut E, text: &str)
     ensures { Tells (E.contents errors.old) (E.contents errors.new) (E.has_failed errors.new) text.now }
 {
     let _ = write_all(errors, text.as_bytes());

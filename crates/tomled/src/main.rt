@@ -1,4 +1,5 @@
-//! `tomled print`: reads a TOML document from standard input, and prints it to standard output.
+//! `tomled print | get PATH | set PATH VALUE | remove PATH`: reads a TOML document from standard input, and writes to standard output the
+//! document, the item at a path of keys, or the document with that item set or removed.
 #![tactic(auto)]
 
 use std::io::ErrorKind;

@@ -1,0 +1,41 @@
+-- What PATH and VALUE are read as.
+use Rattle.std.proofs.Common.{◌≡◌, refl, ap, ◌∙◌, true, List, [], ◌∷◌, map}
+use Rattle.std.specs.Prelude.{not, ℕ}
+use Rattle.toml_edit_model.specs.Text.{Text}
+use Rattle.toml_edit_model.specs.Syntax.{Segment, Value, scalar, array, inline_table}
+use Rattle.toml_edit_model.specs.Tree.{Node, nothing, leaf, list, inline, table, tables, unset}
+use Rattle.toml_edit_model.specs.TreeOf.{owned_form, IsValueNode}
+use Rattle.toml_edit_model.specs.Conversions.{with_decor}
+use Rattle.toml_edit_model.specs.Lone.{lone_keys}
+use Rattle.toml_edit_laws.specs.Locality.{is_plain_value}
+use Rattle.toml_edit_command.specs.Words.{SpellsValue}
+
+-- the keys of a lone path have the texts of its segments
+pub lone-names : (before : Text) (p : List Segment) (after : Text) → map (λ k. k.name) (lone_keys before p after) ≡ map (λ s. s.key) p
+lone-names before [] after = refl
+lone-names before (s ∷ []) after = refl
+lone-names before (s ∷ r ∷ rest) after = ap (λ xs. s.key ∷ xs) (lone-names before (r ∷ rest) after)
+
+-- the item of a value is no dotted inline table
+plain-item : (v : Value) (i : ℕ) (before after : Text) (m : Node) → IsValueNode owned_form v i before after m → is_plain_value (with_decor unset m) ≡ true
+plain-item (scalar s t) i before after (leaf r spelling d) h = refl
+plain-item (array es comma t) i before after (list f xs) h = refl
+plain-item (inline_table ps comma t) i before after (inline f ss) h = ap (λ g. not g.is_dotted) h.0
+plain-item (scalar s t) i before after nothing h = absurd h
+plain-item (scalar s t) i before after (list f xs) h = absurd h
+plain-item (scalar s t) i before after (inline f ss) h = absurd h
+plain-item (scalar s t) i before after (table f ss) h = absurd h
+plain-item (scalar s t) i before after (tables e xs) h = absurd h
+plain-item (array es comma t) i before after nothing h = absurd h
+plain-item (array es comma t) i before after (leaf r spelling d) h = absurd h
+plain-item (array es comma t) i before after (inline f ss) h = absurd h
+plain-item (array es comma t) i before after (table f ss) h = absurd h
+plain-item (array es comma t) i before after (tables e xs) h = absurd h
+plain-item (inline_table ps comma t) i before after nothing h = absurd h
+plain-item (inline_table ps comma t) i before after (leaf r spelling d) h = absurd h
+plain-item (inline_table ps comma t) i before after (list f xs) h = absurd h
+plain-item (inline_table ps comma t) i before after (table f ss) h = absurd h
+plain-item (inline_table ps comma t) i before after (tables e xs) h = absurd h
+
+pub spelled-plain : (t : Text) (n : Node) → SpellsValue t n → is_plain_value n ≡ true
+spelled-plain t n (v, lone, accepted, (m, is, same)) = ap is_plain_value same ∙ plain-item v 0 [] [] m is

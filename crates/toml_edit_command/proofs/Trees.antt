@@ -1,0 +1,104 @@
+-- The tree of a document whose root was changed.
+use Rattle.std.proofs.Common.{◌≡◌, refl, sym, ap, ◌∙◌, rules, true, false, List, [], ◌∷◌, Result, Ok, Err}
+use Rattle.toml_edit_model.specs.Text.{Text}
+use Rattle.toml_edit_model.specs.Tree.{Raw, Node, nothing, leaf, list, inline, table, tables, TableFields, Slots, Tree}
+use Rattle.toml_edit_model.specs.SlotLists.{Slot, slot_list, slot_of}
+use Rattle.toml_edit_laws.specs.Locality.{slots_from}
+use Rattle.toml_edit_laws.specs.Commands.{Answer, Refusal, done, refused, no_such_path, wrong_kind, mapped, slots_in, root_item, with_slots, change_slot, drop_slot, present, set_below, set_at, remove_below, remove_at}
+use Rattle.toml_edit_laws.proofs.commands.Setting.{was-mapped}
+use Rattle.toml_edit_tree.specs.View.{fields_view, item_view, table_slots, tree_view}
+use Rattle.toml_edit_tree.specs.declared.item.Item.{the_lemmas}
+use Rattle.toml_edit_tree.specs.declared.item.Item.TheVariants as items
+use Rattle.toml_edit_tree.specs.declared.table.Table.{Table}
+use Rattle.toml_edit_change.specs.Changes.{Changes}
+use Rattle.toml_edit_change.specs.declared.fault.ChangeFault.{ChangeFault}
+use Rattle.toml_edit_change.specs.declared.fault.ChangeFault.TheVariants.{NoSuchPath, WrongKind, Memory}
+use Rattle.toml_edit.specs.DocumentView.{tree_owned}
+use Rattle.toml_edit.specs.Roots.{tree_at, tree_under}
+use Rattle.toml_edit.specs.declared.document.DocumentMut.{DocumentMut}
+
+abbrev fields-of : TableFields → Node → TableFields
+fields-of f (table g ss) = g
+fields-of f nothing = f
+fields-of f (leaf s r d) = f
+fields-of f (list g xs) = f
+fields-of f (inline g ss) = f
+fields-of f (tables e xs) = f
+
+abbrev tree : TableFields → Slots → Raw → Tree
+tree f ss r = record { root = f; slots = ss; trailing = r }
+
+-- a root of which only the slots change
+module _ (t u : Tree) (trailing : u.trailing ≡ t.trailing) where
+  slots-change : (a : Answer (List Slot)) → mapped (λ xs. table t.root (slots_from xs)) a ≡ done (root_item u) → with_slots t (root_item u) ≡ u
+  slots-change a h =
+      ap (λ f. tree f u.slots t.trailing) (sym (ap (fields-of u.root) (was-mapped (λ xs. table t.root (slots_from xs)) a (root_item u) h).gives))
+      ∙ ap (tree u.root u.slots) (sym trailing)
+
+  pub set-done : (path : List Text) (v : Node) → set_below v path (root_item t) ≡ done (root_item u) → set_at path v t ≡ done u
+  set-done [] v h = cc
+  set-done (k ∷ path) v h =
+      ap (mapped (with_slots t)) h
+      ∙ ap done (slots-change (change_slot true k (set_below v path) (slot_list t.slots) (slot_of k (slot_list t.slots))) h)
+
+  pub remove-done : (path : List Text) → remove_below path (root_item t) ≡ done (root_item u) → remove_at path t ≡ done u
+  remove-done [] h = cc
+  remove-done (k ∷ []) h =
+      ap (mapped (with_slots t)) h ∙ ap done (slots-change (drop_slot k (slot_list t.slots) (present (slot_of k (slot_list t.slots)))) h)
+  remove-done (k ∷ l ∷ path) h =
+      ap (mapped (with_slots t)) h
+      ∙ ap done (slots-change (change_slot false k (remove_below (l ∷ path)) (slot_list t.slots) (slot_of k (slot_list t.slots))) h)
+
+-- ---- the root that a document lends
+
+view-table : (t : Table) → item_view (items.Table t) ≡ table (fields_view t) (table_slots t)
+view-table t = search (rules, the_lemmas)
+
+trailing-at : (n : Node) (r : Raw) → (tree_at n r).trailing ≡ r
+trailing-at nothing r = refl
+trailing-at (leaf s r d) x = refl
+trailing-at (list f xs) r = refl
+trailing-at (inline f ss) r = refl
+trailing-at (table f ss) r = refl
+trailing-at (tables e xs) r = refl
+
+abbrev node_of : Table → Node
+node_of t = table (fields_view t) (table_slots t)
+
+-- a document whose root is this table first, and then that one
+module _ (d : DocumentMut) (t w : Table) (fields : fields_view t ≡ (tree_owned d).root) (slots : table_slots t ≡ (tree_owned d).slots) where
+  was : node_of t ≡ root_item (tree_owned d)
+  was = ap (λ f. table f (table_slots t)) fields ∙ ap (table (tree_owned d).root) slots
+
+  is : tree_view w d.trailing ≡ tree_under (items.Table w) d.trailing
+  is = ap (λ n. tree_at n d.trailing) (sym (view-table w))
+
+  stays : node_of w ≡ node_of t → tree_under (items.Table w) d.trailing ≡ tree_owned d
+  stays h =
+      sym is ∙ ap (λ n. tree (fields-of (fields_view w) n) (slots_in n) d.trailing) (h ∙ was)
+      ∙ ap (tree (tree_owned d).root (tree_owned d).slots) (sym (trailing-at (item_view d.root) d.trailing))
+
+  -- what is done to the root's node is done to the tree
+  changed : (r : Result (Unit {0}) ChangeFault) (meant : Answer Node) (seen : Answer Tree)
+      → (meant ≡ done (node_of w) → seen ≡ done (tree_under (items.Table w) d.trailing)) → ((q : Refusal) → meant ≡ refused q → seen ≡ refused q)
+      → Changes meant (node_of t) (node_of w) r → Changes seen (tree_owned d) (tree_under (items.Table w) d.trailing) r
+  changed (Ok u) meant seen is_done is_refused h = is_done h
+  changed (Err NoSuchPath) meant seen is_done is_refused h = (is_refused no_such_path h.0, stays h.1)
+  changed (Err WrongKind) meant seen is_done is_refused h = (is_refused wrong_kind h.0, stays h.1)
+  changed (Err Memory) meant seen is_done is_refused h = stays h
+
+  pub set-root : (path : List Text) (v : Node) (r : Result (Unit {0}) ChangeFault) → Changes (set_below v path (node_of t)) (node_of t) (node_of w) r
+      → Changes (set_at path v (tree_owned d)) (tree_owned d) (tree_under (items.Table w) d.trailing) r
+  set-root path v r =
+      changed r (set_below v path (node_of t)) (set_at path v (tree_owned d))
+      (λ h. set-done (tree_owned d) (tree_view w d.trailing) (sym (trailing-at (item_view d.root) d.trailing)) path v (ap (set_below v path) (sym was) ∙ h)
+      ∙ ap done is)
+      (λ q h. ap (mapped (with_slots (tree_owned d))) (ap (set_below v path) (sym was) ∙ h))
+
+  pub remove-root : (path : List Text) (r : Result (Unit {0}) ChangeFault) → Changes (remove_below path (node_of t)) (node_of t) (node_of w) r
+      → Changes (remove_at path (tree_owned d)) (tree_owned d) (tree_under (items.Table w) d.trailing) r
+  remove-root path r =
+      changed r (remove_below path (node_of t)) (remove_at path (tree_owned d))
+      (λ h. remove-done (tree_owned d) (tree_view w d.trailing) (sym (trailing-at (item_view d.root) d.trailing)) path (ap (remove_below path) (sym was) ∙ h)
+      ∙ ap done is)
+      (λ q h. ap (mapped (with_slots (tree_owned d))) (ap (remove_below path) (sym was) ∙ h))

@@ -1,0 +1,10 @@
+-- The document's tree is what `set` makes of it.
+use Rattle.toml_edit_tree.specs.View.{value_view}
+use Rattle.toml_edit_change.specs.Changes.{names}
+use Rattle.toml_edit_command.proofs.Trees.{set-root}
+use Rattle.toml_edit_command.proofs.edit.set_value.Goals as goal
+
+pub returns : goal.returns
+returns c =
+    set-root c.args.document.now c.as_table_mut.result.now c.set.new.root c.as_table_mut.ensures.fields c.as_table_mut.ensures.slots (names c.args.path.now)
+    (value_view c.args.value) c.set.result c.set.ensures

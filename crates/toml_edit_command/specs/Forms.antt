@@ -1,0 +1,23 @@
+-- The words of a command, by its name, and how PATH and VALUE stop it.
+use Rattle.std.specs.Prelude.{◌≡◌, ◌⊎◌, List, Option, Some, None}
+use Rattle.toml_edit_model.specs.Text.{Text}
+use Rattle.toml_edit_command.specs.Words.{IsPrint, IsGet, IsSet, IsRemove, IsCommand, IsNoPath, IsNoValue}
+use Rattle.toml_edit_command.specs.declared.words.Form.{Form}
+use Rattle.toml_edit_command.specs.declared.words.Form.TheVariants.{Print, Get, Set, Remove}
+use Rattle.toml_edit_command.specs.declared.stop.Mistake.TheVariants as mistakes
+use Rattle.toml_edit_command.specs.declared.stop.Stop.{Stop}
+use Rattle.toml_edit_command.specs.declared.stop.Stop.TheVariants.{Mistaken, Memory}
+
+abbrev pub IsForm : List Text → Option Form → Type 0
+IsForm ws None = ¬ (IsCommand ws)
+IsForm ws (Some Print) = IsPrint ws
+IsForm ws (Some (Get path)) = IsGet ws path.now
+IsForm ws (Some (Set path value)) = IsSet ws path.now value.now
+IsForm ws (Some (Remove path)) = IsRemove ws path.now
+
+-- PATH, or VALUE, is none; or memory is wanting
+abbrev pub MayStopPath : Text → Stop → Type 0
+MayStopPath t stop = (stop ≡ Memory) ⊎ ((stop ≡ Mistaken mistakes.Path) × IsNoPath t)
+
+abbrev pub MayStopValue : Text → Stop → Type 0
+MayStopValue t stop = (stop ≡ Memory) ⊎ ((stop ≡ Mistaken mistakes.Value) × IsNoValue t)

@@ -1,0 +1,62 @@
+-- What is wrong with a command, and the lines that are told of a run's end.
+use Rattle.std.specs.Prelude.{◌⊎◌, List, ◌++◌, codes, Option, IfSome}
+use Rattle.toml_edit_model.specs.Text.{Text, newline}
+use Rattle.toml_edit_model.specs.Fits.{Fits}
+use Rattle.toml_edit_model.specs.Tree.{Tree}
+use Rattle.toml_edit_laws.specs.Commands.{no_such_path, wrong_kind}
+use Rattle.toml_edit_command.specs.Words.{Action, TakesPath, IsCommand, IsSet, IsNoPath, IsNoValue, Says, SpellsPath}
+use Rattle.toml_edit_command.specs.Written.{IsReadOf, Changes, Refuses}
+use Rattle.toml_edit_command.specs.declared.stop.Mistake.{Mistake}
+use Rattle.toml_edit_command.specs.declared.stop.Mistake.TheVariants.{Words, Path, Value, NoSuchPath, WrongKind, Unfit}
+
+-- ---- lines
+
+abbrev pub usage_line : Text
+usage_line = codes "tomled: usage: tomled print | get PATH | set PATH VALUE | remove PATH" ++ newline
+
+abbrev pub encoding_line : Text
+encoding_line = codes "tomled: input is not UTF-8" ++ newline
+
+abbrev pub memory_line : Text
+memory_line = codes "tomled: out of memory" ++ newline
+
+abbrev pub read_line : Text
+read_line = codes "tomled: read failed" ++ newline
+
+abbrev pub write_line : Text
+write_line = codes "tomled: write failed" ++ newline
+
+abbrev pub mistake_line : Mistake → Text
+mistake_line Words = usage_line
+mistake_line Path = codes "tomled: bad path" ++ newline
+mistake_line Value = codes "tomled: bad value" ++ newline
+mistake_line NoSuchPath = codes "tomled: no such path" ++ newline
+mistake_line WrongKind = codes "tomled: wrong kind" ++ newline
+mistake_line Unfit = codes "tomled: does not fit" ++ newline
+
+-- ---- mistakes
+
+-- It stands in the words: they are no command, or PATH is no lone path, or PATH is one and VALUE is no lone value.
+abbrev pub InWords : List Text → Mistake → Type 0
+InWords ws Words = ¬ (IsCommand ws)
+InWords ws Path = (path : Text) × TakesPath ws path × IsNoPath path
+InWords ws Value = (path : Text) × (value : Text) × (names : List Text) × IsSet ws path value × SpellsPath path names × IsNoValue value
+InWords ws NoSuchPath = ⊥
+InWords ws WrongKind = ⊥
+InWords ws Unfit = ⊥
+
+-- It stands in what they say of the tree: nothing is at the path, or the wrong kind, or the changed tree does not fit.
+abbrev pub InTree : Action → Tree → Mistake → Type 0
+InTree a t Words = ⊥
+InTree a t Path = ⊥
+InTree a t Value = ⊥
+InTree a t NoSuchPath = Refuses a t no_such_path
+InTree a t WrongKind = Refuses a t wrong_kind
+InTree a t Unfit = (u : Tree) × Changes a t u × (¬ (Fits u))
+
+-- so it is in that of what was left to read
+abbrev pub InRead : Action → Option Text → Mistake → Type 0
+InRead a known m = (t : Tree) × InTree a t m × IfSome known (λ bytes. IsReadOf bytes t)
+
+abbrev pub IsMistaken : List Text → Option Text → Mistake → Type 0
+IsMistaken ws known m = InWords ws m ⊎ ((a : Action) × Says ws a × InRead a known m)

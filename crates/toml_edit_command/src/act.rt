@@ -1,0 +1,86 @@
+// What is done with a document.
+ghost use Rattle.std.specs.Prelude.{◌≡◌, false, IfErr, OnOk};
+ghost use Rattle.toml_edit.specs.DocumentView.{tree_owned};
+ghost use Rattle.toml_edit_command.specs.Steps.{StopsActing, StopsDoing, Wrote, WroteRead, action_of};
+ghost use Rattle.toml_edit_command.specs.Words.{printing};
+
+use super::edit::{remove, set};
+use super::get::get;
+use super::read::read_document;
+use super::stop::Stop;
+use super::words::Command;
+use std::alloc::Global;
+use toml_edit::{DocumentMut, PrintFault};
+use toml_edit_stream::{Input, Output};
+
+// Reads the document that the input holds, and does what the command says.
+pub fn perform<I: Input, O: Output>(
+    alloc: Global,
+    command: Command,
+    input: &mut I,
+    output: &mut O,
+) -> Result<(), Stop>
+    requires input { I.has_failed input.old ≡ false }
+    requires output { O.has_failed output.old ≡ false }
+    ensures wrote { OnOk result (WroteRead (action_of command) (I.remaining input.old) (O.contents output.old) (O.contents output.new)) }
+    ensures ok { OnOk result ((I.has_failed input.new ≡ false) × (O.has_failed output.new ≡ false)) }
+    ensures err { IfErr result (StopsDoing (action_of command) (I.remaining input.old) (I.has_failed input.new) (record {
+      old = O.contents output.old;
+      new = O.contents output.new;
+      failed = O.has_failed output.new;
+    })) }
+{
+    match read_document(alloc, input) {
+        Ok(mut document) => {
+            let done = act(alloc, command, &mut document, output);
+            drop(document);
+            done
+        }
+        Err(stop) => {
+            drop(command);
+            Err(stop)
+        }
+    }
+}
+
+// Does what the command says with the document.
+fn act<O: Output>(
+    alloc: Global,
+    command: Command,
+    document: &mut DocumentMut,
+    output: &mut O,
+) -> Result<(), Stop>
+    requires { O.has_failed output.old ≡ false }
+    ensures wrote { OnOk result (Wrote (action_of command) (tree_owned document.old) (O.contents output.old) (O.contents output.new)) }
+    ensures ok { OnOk result (O.has_failed output.new ≡ false) }
+    ensures err { IfErr result (StopsActing (action_of command) (tree_owned document.old) (record {
+      old = O.contents output.old;
+      new = O.contents output.new;
+      failed = O.has_failed output.new;
+    })) }
+{
+    match command {
+        Command::Print => print(alloc, document, output),
+        Command::Get(path) => get(alloc, document, path.as_slice(), output),
+        Command::Set(path, value) => set(alloc, document, path.as_slice(), value, output),
+        Command::Remove(path) => remove(alloc, document, path.as_slice(), output),
+    }
+}
+
+// Prints the document.
+pub fn print<O: Output>(alloc: Global, document: &DocumentMut, output: &mut O) -> Result<(), Stop>
+    requires { O.has_failed output.old ≡ false }
+    ensures wrote { OnOk result (Wrote printing (tree_owned document.now) (O.contents output.old) (O.contents output.new)) }
+    ensures ok { OnOk result (O.has_failed output.new ≡ false) }
+    ensures err { IfErr result (StopsActing printing (tree_owned document.now) (record {
+      old = O.contents output.old;
+      new = O.contents output.new;
+      failed = O.has_failed output.new;
+    })) }
+{
+    match document.print_to(alloc, output) {
+        Ok(()) => Ok(()),
+        Err(PrintFault::Memory) => Err(Stop::Memory),
+        Err(PrintFault::Device) => Err(Stop::WriteFailed),
+    }
+}
