@@ -1,3 +1,4 @@
+-- Lemmas of this crate.
 pub mod NumberLaws
 pub mod ElementLaws
 pub mod SlotLaws
