@@ -6,4 +6,4 @@ use Rattle.toml_edit_command.proofs.edit.remove_item.Goals as goal
 pub returns : goal.returns
 returns c =
     remove-root c.args.document.now c.as_table_mut.result.now c.remove.new.root c.as_table_mut.ensures.fields c.as_table_mut.ensures.slots
-    (names c.args.path.now) c.remove.result c.remove.ensures
+    (names c.args.path.now) c.remove.result c.remove.ensures.changes
