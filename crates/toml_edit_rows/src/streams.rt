@@ -76,7 +76,8 @@ const NO_LIMITS: Limits = Limits {
     errors: usize::MAX,
 };
 
-fn ended(alloc: Global, words: &[String], input: &[u8], limits: Limits) -> Ended {
+/// Runs the program on the input within the limits of its streams.
+fn run_within(alloc: Global, words: &[String], input: &[u8], limits: Limits) -> Ended {
     let (mut output, mut errors) = (Vec::new(alloc), Vec::new(alloc));
     let status = run(
         alloc,
@@ -108,8 +109,8 @@ pub fn hold(alloc: Global, words: &[String], input: &[u8], status: u8, output: &
         errors: 0,
         ..NO_LIMITS
     };
-    ended(alloc, words, input, NO_LIMITS).status == status
-        && ended(alloc, words, input, untold).is(status, output, b"")
+    run_within(alloc, words, input, NO_LIMITS).status == status
+        && run_within(alloc, words, input, untold).is(status, output, b"")
         && reads_hold(alloc, words, input)
         && writes_hold(alloc, words, input, output)
 }
@@ -117,7 +118,7 @@ pub fn hold(alloc: Global, words: &[String], input: &[u8], status: u8, output: &
 fn reads_hold(alloc: Global, words: &[String], input: &[u8]) -> bool {
     for reads in 0..input.len() {
         let limits = Limits { reads, ..NO_LIMITS };
-        if !ended(alloc, words, input, limits).is(4, b"", b"tomled: read failed\n") {
+        if !run_within(alloc, words, input, limits).is(4, b"", b"tomled: read failed\n") {
             return false;
         }
     }
@@ -131,7 +132,7 @@ fn writes_hold(alloc: Global, words: &[String], input: &[u8], output: &[u8]) -> 
             ..NO_LIMITS
         };
         let held = output.get(..room).unwrap_or(&[]);
-        if !ended(alloc, words, input, limits).is(4, held, b"tomled: write failed\n") {
+        if !run_within(alloc, words, input, limits).is(4, held, b"tomled: write failed\n") {
             return false;
         }
     }
