@@ -47,7 +47,7 @@ impl SourceText for String {
 }
 
 /// A document as it was read: its keys and scalars are spans of its text.
-#[derive(Debug, Drop)]
+#[derive(Debug)]
 pub struct Document<S: SourceText> {
     raw: S,
     root: Item,
@@ -55,6 +55,19 @@ pub struct Document<S: SourceText> {
     ghost rooted: { is_table root ≡ true },
     // Each span cuts a text from the source, and each spelling so cut is true.
     ghost over: { ∥ IsOver (S.content raw) (tree_under root trailing) ∥₁ },
+}
+
+impl<S: SourceText> Drop for Document<S> {
+    fn drop(self) {
+        let Document {
+            raw,
+            root,
+            trailing,
+        } = self;
+        drop(raw);
+        drop(root);
+        drop(trailing);
+    }
 }
 
 impl<S: SourceText> Document<S> {
@@ -135,7 +148,14 @@ impl<S: SourceText> Document<S> {
         ensures print { (d : Cut) → AcceptedAs (source self) d → IsTreeOf spanned_form d (tree_read self)
             → PrintsMeaningOf d (record (tree_read self) { trailing = owned [] }) }
     {
-        self.root
+        let Document {
+            raw,
+            root,
+            trailing,
+        } = self;
+        drop(raw);
+        drop(trailing);
+        root
     }
 
     /// The root table alone. Its texts stay spans, for which a print has the default spellings and decors.
@@ -146,7 +166,14 @@ impl<S: SourceText> Document<S> {
         ensures print { (d : Cut) → AcceptedAs (source self) d → IsTreeOf spanned_form d (tree_read self)
             → PrintsMeaningOf d (tree_view result (owned [])) }
     {
-        table_of(self.root)
+        let Document {
+            raw,
+            root,
+            trailing,
+        } = self;
+        drop(raw);
+        drop(trailing);
+        table_of(root)
     }
 
     /// The document with its spans turned into the texts that they cut. The only error is want of memory, which gives the document
@@ -216,11 +243,19 @@ impl Document<String> {
 }
 
 /// A document that holds its own texts.
-#[derive(Debug, Drop)]
+#[derive(Debug)]
 pub struct DocumentMut {
     root: Item,
     pub(crate) trailing: RawString,
     ghost rooted: { is_table root ≡ true },
+}
+
+impl Drop for DocumentMut {
+    fn drop(self) {
+        let DocumentMut { root, trailing } = self;
+        drop(root);
+        drop(trailing);
+    }
 }
 
 impl DocumentMut {
@@ -294,7 +329,9 @@ impl DocumentMut {
     pub fn into_item(self) -> Item
         ensures { item_view result ≡ root_node (tree_owned self) }
     {
-        self.root
+        let DocumentMut { root, trailing } = self;
+        drop(trailing);
+        root
     }
 
     /// The root table alone.
@@ -302,7 +339,9 @@ impl DocumentMut {
         ensures fields { fields_view result ≡ (tree_owned self).root }
         ensures slots { table_slots result ≡ (tree_owned self).slots }
     {
-        table_of(self.root)
+        let DocumentMut { root, trailing } = self;
+        drop(trailing);
+        table_of(root)
     }
 
     /// The keys' texts and the items of the root in order, without placeholders.

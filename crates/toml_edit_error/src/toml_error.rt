@@ -12,10 +12,18 @@ use std::marker::Model;
 use std::ops::Range;
 
 /// Why a text is refused: a message, mostly with the span that it is about. It owns its input text.
-#[derive(Debug, Drop)]
+#[derive(Debug)]
 pub struct TomlError {
     // In a box, so that the answer of a call that mostly succeeds isn't larger for what it says where it doesn't.
     parts: Box<Parts>,
+}
+
+// By hand, so that who lets go of an error, in whichever crate, has one call to prove.
+impl Drop for TomlError {
+    fn drop(self) {
+        let TomlError { parts } = self;
+        drop(parts);
+    }
 }
 
 #[derive(Debug, Drop)]

@@ -17,12 +17,27 @@ pub use key_mut::KeyMut;
 
 /// A key: its name, its spelling, and its decors where it ends a path and where dots stand beside it. A spelling that is a text
 /// spells the name.
-#[derive(Debug, Drop)]
+#[derive(Debug)]
 pub struct Key {
     text: String,
     repr: Option<Repr>,
     leaf: Decor,
     dotted: Decor,
+}
+
+impl Drop for Key {
+    fn drop(self) {
+        let Key {
+            text,
+            repr,
+            leaf,
+            dotted,
+        } = self;
+        drop(text);
+        drop(repr);
+        drop(leaf);
+        drop(dotted);
+    }
 }
 
 impl Model for Key {
@@ -45,6 +60,22 @@ impl Key {
     ghost use Rattle.toml_edit_key.specs.LendingParts.{LendsLeaf, LendsDotted};
     ghost use Rattle.toml_edit_repr.specs.Views.{range_of};
     ghost use Rattle.toml_edit_model.specs.OwnedForm.{KeyFits, owned_raw, owned_key};
+
+    // The name alone.
+    pub(crate) fn into_text(self) -> String
+        ensures { string_bytes result ≡ self.name }
+    {
+        let Key {
+            text,
+            repr,
+            leaf,
+            dotted,
+        } = self;
+        drop(repr);
+        drop(leaf);
+        drop(dotted);
+        text
+    }
 
     /// A key of this name, with the default spelling and no decor.
     pub fn new(text: String) -> Key

@@ -24,9 +24,18 @@ enum Inner {
 }
 
 /// A piece of a document: a text of its own, or a span of the source, in bytes.
-#[derive(Debug, Drop)]
+#[derive(Debug)]
 pub struct RawString {
     inner: Inner,
+}
+
+// By hand, as with all that trees are made of: who lets go of one then has one call to prove, in whichever crate, and not what it
+// is made of.
+impl Drop for RawString {
+    fn drop(self) {
+        let RawString { inner } = self;
+        drop(inner);
+    }
 }
 
 impl Model for RawString {

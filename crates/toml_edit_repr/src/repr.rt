@@ -103,13 +103,25 @@ impl Hash for Repr {
 }
 
 /// What stands before and after a key or a value. A side that is unset is printed as its place wants it.
-#[derive(Drop)]
 pub struct Decor {
     // Each side beside whether it is set: two sides that are options would take a word more. One that is unset is empty.
     prefix: RawString,
     suffix: RawString,
     has_prefix: bool,
     has_suffix: bool,
+}
+
+impl Drop for Decor {
+    fn drop(self) {
+        let Decor {
+            prefix,
+            suffix,
+            has_prefix: _,
+            has_suffix: _,
+        } = self;
+        drop(prefix);
+        drop(suffix);
+    }
 }
 
 impl Model for Decor {
@@ -439,11 +451,20 @@ impl ValueRepr for bool {
 }
 
 /// A scalar with its spelling and its decor. A spelling that is a text spells the value.
-#[derive(Debug, Drop)]
+#[derive(Debug)]
 pub struct Formatted<T: ValueRepr> {
     value: T,
     repr: Option<Repr>,
     decor: Decor,
+}
+
+impl<T: ValueRepr + Drop> Drop for Formatted<T> {
+    fn drop(self) {
+        let Formatted { value, repr, decor } = self;
+        drop(value);
+        drop(repr);
+        drop(decor);
+    }
 }
 
 impl<T: ValueRepr> Model for Formatted<T> {

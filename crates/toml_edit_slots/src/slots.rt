@@ -74,11 +74,19 @@ impl<T> Slot<T> {
 }
 
 /// The slots of a table, in order. No two keys have one name.
-#[derive(Debug, Drop)]
+#[derive(Debug)]
 pub struct Slots<T> {
     entries: Vec<Slot<T>>,
     // From the name of each key to the place of its slot. Few slots have none.
     index: Option<Box<Places>>,
+}
+
+impl<T: Drop> Drop for Slots<T> {
+    fn drop(self) {
+        let Slots { entries, index } = self;
+        drop(entries);
+        drop(index);
+    }
 }
 
 impl<T> Model for Slots<T> {

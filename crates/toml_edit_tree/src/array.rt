@@ -29,7 +29,7 @@ mod whole;
 
 /// An array: its values in order, with what stands around them (TOML, "Array"). A slot may be a placeholder, which isn't printed.
 #[cycle(tree)]
-#[derive(Debug, Drop)]
+#[derive(Debug)]
 pub struct Array {
     #[doc(hidden)]
     pub values: Vec<Item>,
@@ -39,7 +39,39 @@ pub struct Array {
     pub(crate) span: Option<(usize, usize)>,
 }
 
+impl Drop for Array {
+    #[cycle(tree_drop)]
+    fn drop(self) {
+        let Array {
+            values,
+            decor,
+            trailing,
+            trailing_comma: _,
+            span: _,
+        } = self;
+        drop(values);
+        drop(decor);
+        drop(trailing);
+    }
+}
+
 impl Array {
+    /// The slots, and nothing else of the array.
+    pub(crate) fn into_values(self) -> Vec<Item>
+        ensures { result ≡ self.values }
+    {
+        let Array {
+            values,
+            decor,
+            trailing,
+            trailing_comma: _,
+            span: _,
+        } = self;
+        drop(decor);
+        drop(trailing);
+        values
+    }
+
     /// No values, which take no memory yet.
     pub fn new(alloc: Global) -> Array
         ensures { array_view result ≡ record { fields = new_array; items = no_items } }

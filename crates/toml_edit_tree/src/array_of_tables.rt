@@ -26,14 +26,33 @@ mod whole;
 /// An array of tables: its elements in order, each with a header in double brackets (TOML, "Array of Tables"). A slot may hold no table,
 /// and then isn't printed.
 #[cycle(tree)]
-#[derive(Debug, Drop)]
+#[derive(Debug)]
 pub struct ArrayOfTables {
     #[doc(hidden)]
     pub values: Vec<Item>,
     pub(crate) span: Option<(usize, usize)>,
 }
 
+impl Drop for ArrayOfTables {
+    #[cycle(tree_drop)]
+    fn drop(self) {
+        let ArrayOfTables {
+            values,
+            span: _,
+        } = self;
+        drop(values);
+    }
+}
+
 impl ArrayOfTables {
+    /// The slots, and nothing else of the array of tables.
+    pub(crate) fn into_values(self) -> Vec<Item>
+        ensures { result ≡ self.values }
+    {
+        let ArrayOfTables { values, span: _ } = self;
+        values
+    }
+
     /// No tables, which take no memory yet.
     pub fn new(alloc: Global) -> ArrayOfTables
         ensures { tables_view result ≡ record { extent = None; items = no_items } }

@@ -94,7 +94,7 @@ impl ArrayOfTables {
     pub fn into_array(self) -> Array
         ensures { array_node (array_view result) ≡ made_value (tables_node (tables_view self)) }
     {
-        let mut items = self.values;
+        let mut items = self.into_values();
         make_items(&mut items);
         array_of(items)
     }
@@ -106,7 +106,7 @@ impl InlineTable {
     pub fn into_table(self) -> Table
         ensures { table_node (table_view result) ≡ made_table (inline_node (inline_view self)) }
     {
-        let mut slots = self.items;
+        let mut slots = self.into_slots();
         format_slots(&mut slots);
         table_of(slots)
     }
@@ -176,7 +176,7 @@ fn renewed(item: Item) -> Item
 {
     match item {
         Item::Table(table) => Item::Value(Value::InlineTable(inline_of(table.into_slots()))),
-        Item::ArrayOfTables(tables) => Item::Value(Value::Array(array_of(tables.values))),
+        Item::ArrayOfTables(tables) => Item::Value(Value::Array(array_of(tables.into_values()))),
         other => other,
     }
 }
@@ -242,7 +242,7 @@ fn array_as_tables(array: Array) -> Result<ArrayOfTables, Array>
     ensures err { IfErr result (λ back. (into_tables (array_node (array_view array)) ≡ None) × (back ≡ array)) }
 {
     if can_be_tables(array.values.as_slice()) {
-        Ok(tables_of_items(array.values))
+        Ok(tables_of_items(array.into_values()))
     } else {
         Err(array)
     }

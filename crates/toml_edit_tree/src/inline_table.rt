@@ -37,7 +37,7 @@ mod whole;
 /// An inline table: its slots in order, with what stands around them (TOML, "Inline Table"). A slot may be a placeholder, which
 /// isn't printed.
 #[cycle(tree)]
-#[derive(Debug, Drop)]
+#[derive(Debug)]
 pub struct InlineTable {
     #[doc(hidden)]
     pub items: Slots<Item>,
@@ -51,7 +51,43 @@ pub struct InlineTable {
     pub(crate) span: (usize, usize),
 }
 
+impl Drop for InlineTable {
+    #[cycle(tree_drop)]
+    fn drop(self) {
+        let InlineTable {
+            items,
+            decor,
+            trailing,
+            dotted: _,
+            trailing_comma: _,
+            is_read: _,
+            span: _,
+        } = self;
+        drop(items);
+        drop(decor);
+        drop(trailing);
+    }
+}
+
 impl InlineTable {
+    /// The slots, and nothing else of the inline table.
+    pub(crate) fn into_slots(self) -> Slots<Item>
+        ensures { result ≡ self.items }
+    {
+        let InlineTable {
+            items,
+            decor,
+            trailing,
+            dotted: _,
+            trailing_comma: _,
+            is_read: _,
+            span: _,
+        } = self;
+        drop(decor);
+        drop(trailing);
+        items
+    }
+
     /// No slots, which take no memory yet.
     pub fn new(alloc: Global) -> InlineTable
         ensures { inline_view result ≡ record { fields = new_inline; slots = no_slots } }

@@ -38,7 +38,7 @@ pub use iterate::is_filled;
 
 /// A table: its slots in order, and what is kept of its header (TOML, "Table"). A slot may be a placeholder, which isn't printed.
 #[cycle(tree)]
-#[derive(Debug, Drop)]
+#[derive(Debug)]
 pub struct Table {
     #[doc(hidden)]
     pub slots: Slots<Item>,
@@ -47,6 +47,22 @@ pub struct Table {
     pub(crate) dotted: bool,
     pub(crate) position: Option<isize>,
     pub(crate) span: Option<(usize, usize)>,
+}
+
+impl Drop for Table {
+    #[cycle(tree_drop)]
+    fn drop(self) {
+        let Table {
+            slots,
+            decor,
+            implicit: _,
+            dotted: _,
+            position: _,
+            span: _,
+        } = self;
+        drop(slots);
+        drop(decor);
+    }
 }
 
 impl Table {
@@ -142,7 +158,16 @@ impl Table {
     pub fn into_slots(self) -> Slots<Item>
         ensures { slots_view result ≡ table_slots self }
     {
-        self.slots
+        let Table {
+            slots,
+            decor,
+            implicit: _,
+            dotted: _,
+            position: _,
+            span: _,
+        } = self;
+        drop(decor);
+        slots
     }
 
     /// Turns spans of `source` into the texts that stand there. The only error is want of memory, and then spans may be left: the

@@ -76,15 +76,6 @@ impl From<Key> for String {
     ghost from_gives = { λ key text. string_bytes text ≡ key.name };
 
     fn from(key: Key) -> String {
-        let Key {
-            text,
-            repr,
-            leaf,
-            dotted,
-        } = key;
-        drop(repr);
-        drop(leaf);
-        drop(dotted);
-        text
+        key.into_text()
     }
 }

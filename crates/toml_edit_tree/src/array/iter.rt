@@ -66,7 +66,7 @@ impl IntoIterator for Array {
 
     fn into_iter(self) -> ArrayIntoIter {
         ArrayIntoIter {
-            items: self.values.into_iter(),
+            items: self.into_values().into_iter(),
         }
     }
 }

@@ -66,7 +66,7 @@ impl IntoIterator for ArrayOfTables {
 
     fn into_iter(self) -> ArrayOfTablesIntoIter {
         ArrayOfTablesIntoIter {
-            items: self.values.into_iter(),
+            items: self.into_values().into_iter(),
         }
     }
 }

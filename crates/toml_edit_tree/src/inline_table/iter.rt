@@ -88,7 +88,7 @@ impl IntoIterator for InlineTable {
 
     fn into_iter(self) -> InlineTableIntoIter {
         InlineTableIntoIter {
-            slots: self.items.into_vec().into_iter(),
+            slots: self.into_slots().into_vec().into_iter(),
         }
     }
 }
