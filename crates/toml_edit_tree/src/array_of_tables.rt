@@ -36,10 +36,7 @@ pub struct ArrayOfTables {
 impl Drop for ArrayOfTables {
     #[cycle(tree_drop)]
     fn drop(self) {
-        let ArrayOfTables {
-            values,
-            span: _,
-        } = self;
+        let ArrayOfTables { values, span: _ } = self;
         drop(values);
     }
 }
