@@ -1,0 +1,4 @@
+-- What the contracts of this crate cite.
+pub mod LateSpellings
+pub mod LateTrivia
+pub mod LateEvents
