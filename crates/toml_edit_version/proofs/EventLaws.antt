@@ -1,22 +1,20 @@
 -- The first late part of a value's events is the first of its late places.
-use Rattle.std.proofs.Common.{◌≡◌, refl, sym, ap, ◌∙◌, subst, ℕ, suc, ◌+◌, ◌-◌, Bool, true, false, List, [], ◌∷◌, ◌++◌, append_assoc, length, codes, arith, Option, Some, None}
+use Rattle.std.proofs.Common.{◌≡◌, refl, sym, ap, ◌∙◌, ℕ, ◌+◌, ◌-◌, Bool, true, false, List, [], ◌∷◌, ◌++◌, append_assoc, length, codes, arith, Option, Some}
 use Rattle.std.specs.List.{AllByRecursion}
 use Rattle.std.specs.Option.{option_or}
 use Rattle.std.proofs.lemmas.List.{length-append}
 use Rattle.toml_edit_model.specs.Text.{Text}
 use Rattle.toml_edit_model.specs.Trivia.{IsWholeTrivia}
 use Rattle.toml_edit_model.specs.OwnedForm.{cut_out}
-use Rattle.toml_edit_model.specs.Spelling.{Spells, SpellsKey}
-use Rattle.toml_edit_model.specs.Paths.{next_start}
-use Rattle.toml_edit_model.specs.Syntax.{Segment, Around, Frame, Value, scalar, array, inline_table, Elements, no_elements, element, Pairs, no_pairs, pair, segment_text, path_text, frame_text, comma_text, value_text, elements_text, pairs_text, IsSpelledSegment, IsFrame, IsClose, has_elements, has_pairs, IsValue, AreElements, ArePairs}
-use Rattle.toml_edit_model.specs.Version.{Place, late_spelling, late_path, late_trivia, nothing_yet, late_comma, late_scalar, late_value, late_elements, late_pairs}
+use Rattle.toml_edit_model.specs.Syntax.{Segment, Around, Frame, Value, scalar, array, inline_table, Elements, no_elements, element, Pairs, no_pairs, pair, segment_text, path_text, frame_text, comma_text, value_text, elements_text, pairs_text, IsSpelledSegment, IsClose, has_pairs, IsValue, AreElements, ArePairs}
+use Rattle.toml_edit_model.specs.Version.{Place, late_spelling, late_path, late_trivia, nothing_yet, late_comma, late_value, late_elements, late_pairs}
 use Rattle.toml_edit_laws.specs.Standing.{Stands}
 use Rattle.toml_edit_laws.proofs.common.StandingLaws.{stands-left, stands-right, cut_out-is}
 use Rattle.toml_edit_laws.proofs.common.Tests.{append-nil}
-use Rattle.toml_edit_syntax.specs.declared.event.EventKind.TheVariants.{Leading, Key, Equals, ArrayClose, InlineTableClose, Before, After, Inner}
+use Rattle.toml_edit_syntax.specs.declared.event.EventKind.TheVariants.{Leading, Equals, ArrayClose, InlineTableClose, After, Inner}
 use Rattle.toml_edit_syntax.specs.declared.event.Event.{Event}
 use Rattle.toml_edit_syntax.specs.declared.event.Span.{Span}
-use Rattle.toml_edit_syntax.specs.ValueEvents.{event, path_events, frame_events, value_at_byte, close_events, value_events, elements_events, pairs_events}
+use Rattle.toml_edit_syntax.specs.ValueEvents.{event, path_events, value_at_byte, close_events, value_events, elements_events, pairs_events}
 use Rattle.toml_edit_version.specs.LateSpellings.{span_from, late_escape, late_in_scalar}
 use Rattle.toml_edit_version.specs.LateTrivia.{late_in_trivia}
 use Rattle.toml_edit_version.specs.LateEvents.{is_in_inline_table, late_in_events}

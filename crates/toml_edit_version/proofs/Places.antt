@@ -1,5 +1,5 @@
 -- The first of some places, as a span.
-use Rattle.std.proofs.Common.{◌≡◌, refl, sym, ap, ◌∙◌, subst, ℕ, ◌+◌, ◌-◌, List, [], ◌∷◌, ◌++◌, arith, Option, Some, None}
+use Rattle.std.proofs.Common.{◌≡◌, refl, ap, subst, ℕ, ◌+◌, ◌-◌, List, [], ◌∷◌, ◌++◌, arith, Option, Some, None}
 use Rattle.std.specs.Option.{option_or}
 use Rattle.toml_edit_model.specs.Version.{Place}
 use Rattle.toml_edit_syntax.specs.declared.event.Span.{Span}

@@ -1,12 +1,12 @@
 -- The late part of a scalar is the first of its late places.
-use Rattle.std.proofs.Common.{◌≡◌, refl, sym, ap, ◌∙◌, subst, ℕ, ◌+◌, ◌/◌, ◌%◌, ◌<◌, Bool, true, false, ◌==◌, List, [], ◌∷◌, ◌++◌, append_assoc, length, arith, Option, Some, None, inl, inr}
+use Rattle.std.proofs.Common.{◌≡◌, refl, sym, ap, ◌∙◌, ℕ, ◌+◌, ◌/◌, ◌%◌, ◌<◌, Bool, true, false, ◌==◌, [], ◌∷◌, ◌++◌, append_assoc, length, arith, Option, Some, None, inl, inr}
 use Rattle.std.specs.Prelude.{is_some, not, nat_lt, slice_index, option_map, if◌then◌else◌}
 use Rattle.std.proofs.lemmas.Bool.{cases_Bool}
 use Rattle.std.proofs.lemmas.Bool.Decides.{nat_tests}
 use Rattle.toml_edit_model.specs.Text.{Text, quote}
 use Rattle.toml_edit_model.specs.Scalars.{Time, Date, Offset, zulu, shift, Datetime, Scalar, string, integer, float, boolean, datetime}
-use Rattle.toml_edit_model.specs.Spelling.{Spells, SpellsDatetime, SpellsParts, SpellsSeconds, SpellsOffsetPart, SpellsOffset, Sign, plus, minus, unsigned, sign_text, truth_text, two_digits, digit, date_text, clock_text}
-use Rattle.toml_edit_model.specs.Version.{is_late_time, late_scalar, late_spelling}
+use Rattle.toml_edit_model.specs.Spelling.{Spells, SpellsParts, SpellsSeconds, SpellsOffsetPart, plus, minus, unsigned, date_text, clock_text}
+use Rattle.toml_edit_model.specs.Version.{is_late_time, late_scalar}
 use Rattle.toml_edit_laws.specs.reading.DatetimeReading.{datetime_of}
 use Rattle.toml_edit_laws.specs.reading.ScalarReading.{scalar_at}
 use Rattle.toml_edit_laws.proofs.common.Tests.{append-nil}

@@ -1,15 +1,15 @@
 -- The first late escape of what is spelled is the first of its late places.
-use Rattle.std.proofs.Common.{◌≡◌, refl, sym, ap, ◌∙◌, subst, ℕ, ◌+◌, ◌<◌, Bool, true, false, ◌==◌, ◌&&◌, List, [], ◌∷◌, ◌++◌, ◌⊎◌, append_assoc, length, arith, Option, Some, None, inl, inr}
+use Rattle.std.proofs.Common.{◌≡◌, refl, sym, subst, ℕ, ◌+◌, ◌<◌, Bool, true, false, ◌==◌, ◌&&◌, List, [], ◌∷◌, ◌++◌, append_assoc, length, arith, Option, Some, None, inl, inr}
 use Rattle.std.specs.Prelude.{nat_lt, is_some, flat_map}
 use Rattle.std.specs.Char.{is_digit}
 use Rattle.std.specs.List.{list_all, AllByRecursion}
 use Rattle.std.proofs.lemmas.Bool.{cases_Bool, and_parts}
 use Rattle.std.proofs.lemmas.Bool.Decides.{nat_tests}
-use Rattle.toml_edit_model.specs.Text.{Text, line_feed, carriage_return, quote, backslash, has_byte, is_empty}
+use Rattle.toml_edit_model.specs.Text.{Text, line_feed, quote, backslash, has_byte}
 use Rattle.toml_edit_model.specs.Trivia.{Each, is_blank, Newline, lf, crlf, newline_text}
 use Rattle.toml_edit_model.specs.Spelling.{Part, plain, letter, numbered, part_text, IsPart, is_plain, short_escape, hex_digits, SpellsBasic, SpellsLiteral, SpellsMultilineBasic, SpellsMultilineLiteral, SpellsString, SpellsKey, is_bare_byte, Quotes, one_quote, two_quotes, quotes_text, BlockPart, in_line, next_line, quotes, joint, block_text, JointPiece, white, line_break, joint_piece_text, IsJointPiece, IsJoint, IsBlockPart, first_newline, three}
-use Rattle.toml_edit_model.specs.Version.{is_late_escape, escape_size, late_escapes, late_spelling}
-use Rattle.toml_edit_version.specs.LateSpellings.{span_from, ends_digits, escape_at, first_escape, late_escape}
+use Rattle.toml_edit_model.specs.Version.{late_escapes, late_spelling}
+use Rattle.toml_edit_version.specs.LateSpellings.{ends_digits, first_escape, late_escape}
 use Rattle.toml_edit_version.proofs.Places.{first_of}
 
 abbrev Same : ℕ → Text → Type 0

@@ -1,12 +1,12 @@
 -- What is found in the events of a statement or a value is the first of its late places.
-use Rattle.std.proofs.Common.{◌≡◌, refl, sym, ap, ◌∙◌, ℕ, ◌+◌, ◌-◌, ◌≤◌, Bool, true, false, List, [], ◌∷◌, ◌++◌, append_assoc, length, take, drop, codes, arith, Option, Some, None}
+use Rattle.std.proofs.Common.{◌≡◌, refl, sym, ap, ◌∙◌, ℕ, ◌+◌, ◌-◌, Bool, true, false, List, [], ◌∷◌, ◌++◌, append_assoc, length, take, drop, codes, arith, Option, Some, None}
 use Rattle.std.specs.Prelude.{IfSome, IsNone}
 use Rattle.std.specs.Option.{option_or}
 use Rattle.std.proofs.Math.Seq.{take-length}
 use Rattle.toml_edit_model.specs.Text.{Text}
 use Rattle.toml_edit_model.specs.Paths.{path_start}
-use Rattle.toml_edit_model.specs.Syntax.{Frame, Header, Value, Statement, key_line, header, path_text, frame_text, value_text, opening_brackets, closing_brackets, brackets_text, statement_text, IsValue, IsStatement}
-use Rattle.toml_edit_model.specs.Version.{Place, late_path, late_value, late_places}
+use Rattle.toml_edit_model.specs.Syntax.{Header, Value, Statement, key_line, header, path_text, frame_text, value_text, opening_brackets, closing_brackets, brackets_text, statement_text, IsValue, IsStatement}
+use Rattle.toml_edit_model.specs.Version.{late_path, late_value, late_places}
 use Rattle.toml_edit_laws.specs.Standing.{Stands}
 use Rattle.toml_edit_laws.proofs.common.StandingLaws.{stands-left, stands-right}
 use Rattle.toml_edit_laws.proofs.common.Tests.{append-nil}
