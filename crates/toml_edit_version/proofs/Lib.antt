@@ -6,4 +6,5 @@ pub mod TriviaLaws
 pub mod ScalarLaws
 pub mod EventLaws
 pub mod ShortenedLaws
+pub mod DepthLaws
 pub mod StatementLaws

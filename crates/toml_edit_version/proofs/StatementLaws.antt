@@ -13,11 +13,12 @@ use Rattle.toml_edit_laws.proofs.common.Tests.{append-nil}
 use Rattle.toml_edit_syntax.specs.declared.event.EventKind.TheVariants.{Leading, Equals, BeforeKey, AfterKey, HeaderClose, LineEnd}
 use Rattle.toml_edit_syntax.specs.declared.event.Event.{Event}
 use Rattle.toml_edit_syntax.specs.declared.event.Span.{Span}
-use Rattle.toml_edit_syntax.specs.Events.{header_open, statement_events}
+use Rattle.toml_edit_syntax.specs.Events.{header_open, statement_events, has_deep_value}
 use Rattle.toml_edit_syntax.specs.ValueEvents.{event, path_events, value_at_byte, value_events, shortened, are_deep}
 use Rattle.toml_edit_version.specs.LateEvents.{NamesLate, late_in_events}
 use Rattle.toml_edit_version.proofs.Places.{first_of, first_named, first_none}
 use Rattle.toml_edit_version.proofs.EventLaws.{chain, path_first, value_first, path_stands, line_value_stands, regrouped}
+use Rattle.toml_edit_version.proofs.DepthLaws.{statement_passes}
 use Rattle.toml_edit_version.proofs.ShortenedLaws.{found_whole, shallow_stays}
 
 or_none : (o : Option Span) → option_or o None ≡ o
@@ -119,6 +120,17 @@ statement_none source start s events more None h e is shallow none =
     let stays = shallow_stays 0 h.rest more shallow_rest in
     first_none (late_places start s)
     (sym (h.found (shortened stays.behind more)) ∙ ap (late_in_events source) (sym stays.same ∙ sym (tail_cut source start s events more h e)) ∙ sym is)
+
+-- the same where the value is not too deep
+pub shallow_none : (source : Text) (start : ℕ) (s : Statement) (events more : List Event) (o : Option Span) → IsFound source start s
+    → events ≡ shortened 0 (statement_events start s ++ more) → o ≡ late_in_events source (behind events)
+    → has_deep_value s ≡ false → IsNone o → late_places start s ≡ []
+shallow_none source start s events more (Some x) h e is shallow none = absurd (let clash : true ≡ false = none in cc)
+shallow_none source start s events more None h e is shallow none =
+    let whole : events ≡ event Leading start h.leading ∷ (h.rest ++ shortened 0 more) =
+    e ∙ statement_passes s start shallow more ∙ ap (λ (es : List Event). es ++ shortened 0 more) h.parts in
+    first_none (late_places start s)
+    (sym (h.found (shortened 0 more)) ∙ ap (late_in_events source) (sym (tail_is events (event Leading start h.leading) (h.rest ++ shortened 0 more) whole)) ∙ sym is)
 
 value_found : (source : Text) (start : ℕ) (v : Value) → IsValue v → Stands source start (value_text v)
     → late_in_events source (value_events start v) ≡ first_of (late_value v start)

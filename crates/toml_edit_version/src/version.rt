@@ -3,7 +3,7 @@ ghost use Rattle.std.specs.Prelude.{◌≡◌, ◌++◌, List, ℕ, [], false, C
 ghost use Rattle.toml_edit_model.specs.Syntax.{Statement, Value, IsStatement, IsValue, statement_text, value_text};
 ghost use Rattle.toml_edit_model.specs.Version.{late_places, late_value};
 ghost use Rattle.toml_edit_laws.specs.Standing.{Stands};
-ghost use Rattle.toml_edit_syntax.specs.Events.{IsSpanOf, statement_events};
+ghost use Rattle.toml_edit_syntax.specs.Events.{IsSpanOf, has_deep_value, statement_events};
 ghost use Rattle.toml_edit_syntax.specs.ValueEvents.{are_deep, shortened, value_events};
 ghost use Rattle.toml_edit_version.specs.LateEvents as spec;
 ghost use Rattle.toml_edit_version.specs.LateEvents.{AreIn, NamesLate};
@@ -38,6 +38,10 @@ pub fn late_part_of_statement(source: &str, events: &[Event]) -> Option<Span>
         → Stands source.now start (statement_text s) → events.now ≡ shortened 0 (statement_events start s ++ more)
         → IfSome result (NamesLate (late_places start s)) }
     ensures none { (s : Statement) (start : ℕ) (more : List Event) → IsStatement (λ end. Unit {0}) s
+        → Stands source.now start (statement_text s) → events.now ≡ shortened 0 (statement_events start s ++ more)
+        → has_deep_value s ≡ false → IsNone result → late_places start s ≡ [] }
+    // The same where it is known of the events that none of the statement's is cut off.
+    ensures none_whole { (s : Statement) (start : ℕ) (more : List Event) → IsStatement (λ end. Unit {0}) s
         → Stands source.now start (statement_text s) → events.now ≡ shortened 0 (statement_events start s ++ more)
         → are_deep (shortened 0 (statement_events start s)) ≡ false → IsNone result → late_places start s ≡ [] }
     ensures span { IfSome result (λ span. IsSpanOf source.now span) }
