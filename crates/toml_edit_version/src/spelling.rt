@@ -5,7 +5,8 @@ ghost use Rattle.toml_edit_version.specs.LateSpellings as spec;
 use toml_edit_datetime::is_datetime;
 use toml_edit_syntax::Span;
 
-/// The late escape whose backslash is at this byte, before these bytes, if it is one.
+/// The late escape whose backslash is at this byte, before these bytes, if it is one: `\e`, or `\x` and two digits. Where the second is a
+/// byte of ASCII, as each digit is, the escape ends where a character does.
 fn escape_at(at: usize, behind: &[u8]) -> Option<Span>
     requires { at + length behind.now + 1 < 2 ^ 64 }
     ensures { result ≡ spec.escape_at at behind.now }

@@ -30,8 +30,9 @@ fn late_in_events(source: &str, events: &[Event]) -> Option<Span>
     None
 }
 
-/// The first part of a statement that TOML 1.0 lacks, in bytes, by its events, which come first. These may be cut short at a bracket
-/// that is one too many, and the part is looked for before it then.
+/// The place in bytes of the first part of a statement that TOML 1.0 lacks, by its events, which come first: an escape `\e` or `\xHH`
+/// (TOML 1.1.0, "String"), a time without seconds ("Local Time"), and in an inline table a newline, a comment or a comma after the last
+/// pair ("Inline Table"). The events may be cut short at a bracket that is one too many, and the part is looked for before it then.
 pub fn late_part_of_statement(source: &str, events: &[Event]) -> Option<Span>
     requires { AreIn source.now events.now }
     ensures found { (s : Statement) (start : ℕ) (more : List Event) → IsStatement (λ end. Unit {0}) s
@@ -52,8 +53,8 @@ pub fn late_part_of_statement(source: &str, events: &[Event]) -> Option<Span>
     }
 }
 
-/// The first part of a value that TOML 1.0 lacks, in bytes, by its events, which come first. These may be cut short at a bracket that
-/// is one too many, and the part is looked for before it then.
+/// The place in bytes of the first part of a value that TOML 1.0 lacks, by its events, which are all that there are; as
+/// `late_part_of_statement` tells it of a statement. They too may be cut short at a bracket that is one too many.
 pub fn late_part_of_value(source: &str, events: &[Event]) -> Option<Span>
     requires { AreIn source.now events.now }
     ensures found { (v : Value) (start : ℕ) → IsValue v → Stands source.now start (value_text v)
