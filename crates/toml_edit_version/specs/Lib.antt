@@ -2,3 +2,4 @@
 pub mod LateSpellings
 pub mod LateTrivia
 pub mod LateEvents
+pub mod Grammar
