@@ -1,5 +1,5 @@
 -- A lone value in a version of TOML.
-use Rattle.std.proofs.Common.{◌≡◌, ◌⊎◌, inl, inr, refl, sym, ap, ◌∙◌, subst, ◌-◌, ◌≤◌, arith, lit<, true, false, Bool, List, [], ◌∷◌, length, Some}
+use Rattle.std.proofs.Common.{◌≡◌, inl, inr, refl, sym, ap, ◌∙◌, subst, ◌-◌, ◌≤◌, arith, lit<, true, false, Bool, List, [], ◌∷◌, length, Some}
 use Rattle.std.specs.Prelude.{◌&&◌, nat_le, Contains, Result, Ok, Err, IfErr, IfOk}
 use Rattle.std.proofs.lemmas.Bool.Decides.{nat_tests}
 use Rattle.std.proofs.lemmas.List.Elements.{Contains-append_left, Contains-append_right}
