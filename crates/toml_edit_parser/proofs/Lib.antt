@@ -16,4 +16,5 @@ pub mod PairsLaws
 pub mod StatementLaws
 pub mod InlineLaws
 pub mod LoneValueLaws
+pub mod VersionLaws
 pub mod ViewLaws

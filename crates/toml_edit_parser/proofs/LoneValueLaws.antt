@@ -116,7 +116,7 @@ module _ (t : Text) (es : List Event) (h : AreLoneEvents t es) where
 
 -- ---- where it is refused
 
-either : (b : Bool) → (b ≡ true) ⊎ (b ≡ false)
+pub either : (b : Bool) → (b ≡ true) ⊎ (b ≡ false)
 either true = inl refl
 either false = inr refl
 

@@ -1,6 +1,7 @@
 pub mod ScalarRead
 pub mod ValueRead
 pub mod PairRead
+pub mod Options
 pub mod LoneValue
 pub mod PathRead
 pub mod StatementParts

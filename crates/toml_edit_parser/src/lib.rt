@@ -3,16 +3,19 @@
 
 pub mod from_str;
 mod key_path;
+mod options;
 mod pairs;
 mod reader;
 mod statement;
 
-pub use from_str::FromStr;
+pub use from_str::{FromStr, FromStrWith};
 #[doc(hidden)]
 pub use key_path::{PathKey, next_key};
+pub use options::ParseOptions;
 #[doc(hidden)]
 pub use pairs::{KeyPath, add_last, push_item};
 #[doc(hidden)]
 pub use reader::{are_cut_short, raw, refusal, refusal_of_all, split_first};
 #[doc(hidden)]
 pub use statement::{HeaderSpans, put, read_header, read_key_line};
+pub use toml_edit_version::Version;

@@ -122,7 +122,7 @@ comma-told true i = refl
 comma-told false i = refl
 
 mutual
-  value-told : (v : Value) (i : ℕ) → is_empty (late_value v i) ≡ not (is_late_value v)
+  pub value-told : (v : Value) (i : ℕ) → is_empty (late_value v i) ≡ not (is_late_value v)
   value-told (scalar s t) i = scalar-told s t i
   value-told (array es comma t) i = elements-told es (i + 1)
   value-told (inline_table ps comma t) i =

@@ -1,0 +1,8 @@
+-- What a read is asked for.
+use Rattle.toml_edit_model.specs.Version.{Version}
+use Rattle.toml_edit_parser.specs.declared.options.ParseOptions.{ParseOptions}
+use Rattle.toml_edit_version.specs.Grammar.{grammar}
+
+-- the version of the grammar that is read
+abbrev pub version_of : ParseOptions → Version
+version_of options = grammar options.version
