@@ -1,0 +1,10 @@
+pub mod EscapeSteps
+pub mod Edges
+pub mod Places
+pub mod SpellingLaws
+pub mod TriviaLaws
+pub mod ScalarLaws
+pub mod EventLaws
+pub mod ShortenedLaws
+pub mod DepthLaws
+pub mod StatementLaws

@@ -1,0 +1,67 @@
+//! The late part of a statement or a value.
+ghost use Rattle.std.specs.Prelude.{◌≡◌, ◌++◌, List, ℕ, [], false, Contains, IfSome, IsNone, ◌-◌};
+ghost use Rattle.toml_edit_model.specs.Syntax.{Statement, Value, IsStatement, IsValue, statement_text, value_text};
+ghost use Rattle.toml_edit_model.specs.Version.{late_places, late_value};
+ghost use Rattle.toml_edit_laws.specs.Standing.{Stands};
+ghost use Rattle.toml_edit_syntax.specs.Events.{IsSpanOf, has_deep_value, statement_events};
+ghost use Rattle.toml_edit_syntax.specs.ValueEvents.{are_deep, shortened, value_events};
+ghost use Rattle.toml_edit_version.specs.LateEvents as spec;
+ghost use Rattle.toml_edit_version.specs.LateEvents.{AreIn, NamesLate};
+
+use crate::part::late_in_event;
+use toml_edit_syntax::{Event, EventKind, Span};
+
+/// The first late part of these events, up to the end of a statement.
+fn late_in_events(source: &str, events: &[Event]) -> Option<Span>
+    requires { AreIn source.now events.now }
+    ensures part { result ≡ spec.late_in_events source.now events.now }
+    ensures span { IfSome result (λ span. IsSpanOf source.now span) }
+{
+    let mut rest = events;
+    'events: while let [event, behind @ ..] = rest {
+        if matches!(event.kind, EventKind::LineEnd) {
+            return None;
+        }
+        if let Some(span) = late_in_event(source, *event, behind) {
+            return Some(span);
+        }
+        rest = behind;
+    }
+    None
+}
+
+/// The place in bytes of the first part of a statement that TOML 1.0 lacks, by its events, which come first: an escape `\e` or `\xHH`
+/// (TOML 1.1.0, "String"), a time without seconds ("Local Time"), and in an inline table a newline, a comment or a comma after the last
+/// pair ("Inline Table"). The events may be cut short at a bracket that is one too many, and the part is looked for before it then.
+pub fn late_part_of_statement(source: &str, events: &[Event]) -> Option<Span>
+    requires { AreIn source.now events.now }
+    ensures found { (s : Statement) (start : ℕ) (more : List Event) → IsStatement (λ end. Unit {0}) s
+        → Stands source.now start (statement_text s) → events.now ≡ shortened 0 (statement_events start s ++ more)
+        → IfSome result (NamesLate (late_places start s)) }
+    ensures none { (s : Statement) (start : ℕ) (more : List Event) → IsStatement (λ end. Unit {0}) s
+        → Stands source.now start (statement_text s) → events.now ≡ shortened 0 (statement_events start s ++ more)
+        → has_deep_value s ≡ false → IsNone result → late_places start s ≡ [] }
+    // The same where it is known of the events that none of the statement's is cut off.
+    ensures none_whole { (s : Statement) (start : ℕ) (more : List Event) → IsStatement (λ end. Unit {0}) s
+        → Stands source.now start (statement_text s) → events.now ≡ shortened 0 (statement_events start s ++ more)
+        → are_deep (shortened 0 (statement_events start s)) ≡ false → IsNone result → late_places start s ≡ [] }
+    ensures span { IfSome result (λ span. IsSpanOf source.now span) }
+{
+    match events {
+        [_, behind @ ..] => late_in_events(source, behind),
+        [] => None,
+    }
+}
+
+/// The place in bytes of the first part of a value that TOML 1.0 lacks, by its events, which are all that there are; as
+/// `late_part_of_statement` tells it of a statement. They too may be cut short at a bracket that is one too many.
+pub fn late_part_of_value(source: &str, events: &[Event]) -> Option<Span>
+    requires { AreIn source.now events.now }
+    ensures found { (v : Value) (start : ℕ) → IsValue v → Stands source.now start (value_text v)
+        → events.now ≡ shortened 0 (value_events start v) → IfSome result (NamesLate (late_value v start)) }
+    ensures none { (v : Value) (start : ℕ) → IsValue v → Stands source.now start (value_text v)
+        → events.now ≡ shortened 0 (value_events start v) → are_deep events.now ≡ false → IsNone result → late_value v start ≡ [] }
+    ensures span { IfSome result (λ span. IsSpanOf source.now span) }
+{
+    late_in_events(source, events)
+}
