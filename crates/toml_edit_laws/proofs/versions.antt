@@ -4,3 +4,4 @@ pub mod Accepting
 pub mod Faulty
 pub mod EarlyNormal
 pub mod EarlyPrints
+pub mod VersionFaults
