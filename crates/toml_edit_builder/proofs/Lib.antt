@@ -7,3 +7,4 @@ pub mod StatementLaws
 pub mod WholeLaws
 pub mod NamesLaws
 pub mod OpeningLaws
+pub mod VersionLaws

@@ -3,14 +3,18 @@ use Rattle.std.proofs.Common.{◌≡◌, ℕ, ◌+◌, Bool, true, false, List, 
 use Rattle.toml_edit_model.specs.Mode.{plain}
 use Rattle.toml_edit_model.specs.Text.{Text, joined}
 use Rattle.toml_edit_model.specs.Syntax.{Statement, key_line, header, Document, AreStatements, IsStatement, IsCut, IsDocument, statement_text, mark_text}
-use Rattle.toml_edit_model.specs.Accepted.{is_accepted}
+use Rattle.toml_edit_model.specs.Version.{Version, is_of_version}
+use Rattle.toml_edit_model.specs.Accepted.{is_accepted_in}
+use Rattle.toml_edit_model.specs.Faults.{late_faults}
 use Rattle.toml_edit_model.specs.Tree.{Raw, Slots, no_slots}
 use Rattle.toml_edit_model.specs.TreeOf.{spanned_form, IsTreeOf}
-use Rattle.toml_edit_laws.specs.Building.{Builder, first_builder, faults_at, behind, StandsBefore, IsRefusedBy}
+use Rattle.toml_edit_laws.specs.Building.{Builder, first_builder, faults_at, behind}
 use Rattle.toml_edit_laws.specs.PlaceOrder.{slots_by_place, ArePlaced}
 use Rattle.toml_edit_laws.specs.Standing.{Stands}
+use Rattle.toml_edit_laws.specs.Versions.{IsRefusedIn}
 use Rattle.toml_edit_laws.proofs.common.StandingLaws.{stands-left, stands-right, stands-whole}
-use Rattle.toml_edit_laws.proofs.building.Run.{stands_first, stands_next, stands_last, stands_block, stands_refused}
+use Rattle.toml_edit_laws.proofs.building.Run.{stands_block}
+use Rattle.toml_edit_laws.proofs.versions.VersionFaults.{StandsBeforeIn, stands_first_in, stands_next_in, stands_last_in, stands_refused_in}
 use Rattle.toml_edit_error.specs.Report.{fault_of}
 use Rattle.toml_edit_error.specs.Fault.{IfToml}
 use Rattle.toml_edit_error.specs.declared.toml_error.ParseFault.{ParseFault}
@@ -39,19 +43,20 @@ held_first m h root current block headers =
       placed = subst (ArePlaced (first_builder m).start) (sym current) tt;
     }
 
--- The builder stands before the statements that are left, which stand behind it in the text, and is what is held.
-pub record Progress (t : Text) (d : Document) (rest : List Event) (h : Building) : Type 0 where
+-- The builder stands before the statements that are left, which stand behind it in the text, and is what is held; the statements before
+-- are of the version.
+pub record Progress (version : Version) (t : Text) (d : Document) (rest : List Event) (h : Building) : Type 0 where
   pub left : List Statement
   pub builder : Builder
   pub grammar : AreStatements d.final left
   pub there : Stands t builder.start (joined (map statement_text left) ++ d.final)
-  pub before : StandsBefore plain d left builder
+  pub before : StandsBeforeIn version plain d left builder
   pub held : IsHeld builder h
   pub rest_is : rest ≡ shortened 0 (events_from builder.start left ++ final_event d ∷ [])
 
-pub at_start : (t : Text) (d : Document) (es : List Event) (h : Building) → IsCut d t → es ≡ shortened 0 (events_of d) → IsHeld (first_builder d.has_mark) h
-    → Progress t d es h
-at_start t d es h cut e held =
+pub at_start : (version : Version) (t : Text) (d : Document) (es : List Event) (h : Building) → IsCut d t → es ≡ shortened 0 (events_of d)
+    → IsHeld (first_builder d.has_mark) h → Progress version t d es h
+at_start version t d es h cut e held =
     let body = joined (map statement_text d.statements) ++ d.final in
     let from_start : 0 + length (mark_text d.has_mark) ≡ length (mark_text d.has_mark) = omega arith in
     record {
@@ -59,7 +64,7 @@ at_start t d es h cut e held =
       builder = first_builder d.has_mark;
       grammar = cut.0.0;
       there = subst (λ n. Stands t n body) from_start (stands-right t 0 (mark_text d.has_mark) body (subst (Stands t 0) (sym cut.1) (stands-whole t)));
-      before = stands_first plain d cut.0;
+      before = stands_first_in version plain d cut.0;
       held = held;
       rest_is = e;
     }
@@ -82,23 +87,23 @@ others-are final s (r ∷ rest) h = h.1
 abbrev pub events_behind : Document → Builder → Statement → List Statement → List Event
 events_behind d b s others = events_from (b.start + length (statement_text s)) others ++ final_event d ∷ []
 
-pub record Next (t : Text) (d : Document) (rest : List Event) (h : Building) : Type 0 where
+pub record Next (version : Version) (t : Text) (d : Document) (rest : List Event) (h : Building) : Type 0 where
   pub statement : Statement
   pub others : List Statement
   pub builder : Builder
   pub grammar : AreStatements d.final (statement ∷ others)
   pub there : Stands t builder.start (statement_text statement ++ (joined (map statement_text others) ++ d.final))
-  pub before : StandsBefore plain d (statement ∷ others) builder
+  pub before : StandsBeforeIn version plain d (statement ∷ others) builder
   pub held : IsHeld builder h
   pub rest_is : rest ≡ shortened 0 (statement_events builder.start statement ++ events_behind d builder statement others)
 
-pub next-of : (t : Text) (d : Document) (rest : List Event) (h : Building) (left : List Statement) (b : Builder) → AreStatements d.final left
-    → Stands t b.start (joined (map statement_text left) ++ d.final) → StandsBefore plain d left b → IsHeld b h
-    → rest ≡ shortened 0 (events_from b.start left ++ final_event d ∷ []) → is_some (split_leading rest) ≡ true → Next t d rest h
-next-of t d rest h [] b grammar there before held is some =
+pub next-of : (version : Version) (t : Text) (d : Document) (rest : List Event) (h : Building) (left : List Statement) (b : Builder) → AreStatements d.final left
+    → Stands t b.start (joined (map statement_text left) ++ d.final) → StandsBeforeIn version plain d left b → IsHeld b h
+    → rest ≡ shortened 0 (events_from b.start left ++ final_event d ∷ []) → is_some (split_leading rest) ≡ true → Next version t d rest h
+next-of version t d rest h [] b grammar there before held is some =
     let none : is_some (split_leading rest) ≡ false = ap (λ es. is_some (split_leading es)) is in
     absurd (let e = sym some ∙ none in cc)
-next-of t d rest h (s ∷ others) b grammar there before held is some =
+next-of version t d rest h (s ∷ others) b grammar there before held is some =
     record {
       statement = s;
       others = others;
@@ -110,10 +115,11 @@ next-of t d rest h (s ∷ others) b grammar there before held is some =
       rest_is = is ∙ ap (shortened 0) (append_assoc (statement_events b.start s) (events_from (b.start + length (statement_text s)) others) (final_event d ∷ []));
     }
 
-pub next : (t : Text) (d : Document) (rest : List Event) (h : Building) → Progress t d rest h → is_some (split_leading rest) ≡ true → Next t d rest h
-next t d rest h p some = next-of t d rest h p.left p.builder p.grammar p.there p.before p.held p.rest_is some
+pub next : (version : Version) (t : Text) (d : Document) (rest : List Event) (h : Building) → Progress version t d rest h → is_some (split_leading rest) ≡ true
+    → Next version t d rest h
+next version t d rest h p some = next-of version t d rest h p.left p.builder p.grammar p.there p.before p.held p.rest_is some
 
-module _ (t : Text) (d : Document) (rest : List Event) (old : Building) (n : Next t d rest old) where
+module _ (version : Version) (t : Text) (d : Document) (rest : List Event) (old : Building) (n : Next version t d rest old) where
   -- it is of the grammar, and stands in the text
   pub is-whole : IsWhole n.statement
   is-whole = first-whole d.final n.statement n.others n.grammar
@@ -125,11 +131,12 @@ module _ (t : Text) (d : Document) (rest : List Event) (old : Building) (n : Nex
   more = events_behind d n.builder n.statement n.others
 
   -- once it is added
-  pub goes_on : (new : Building) (left : List Event) → IsDocument d → IsAdded n.builder n.statement more new left → Progress t d left new
-  goes_on new left is adds =
+  pub goes_on : (new : Building) (left : List Event) → IsDocument d → (is_of_version version n.statement ≡ true) × IsAdded n.builder n.statement more new left
+      → Progress version t d left new
+  goes_on new left is (early, adds) =
       let b = behind n.builder n.statement adds.slots in
-      let before = stands_next plain d n.statement n.others n.builder adds.node adds.slots is n.before adds.faultless adds.is_node adds.added_is in
-      let block = stands_block plain d n.others b is before in
+      let before = stands_next_in version plain d n.statement n.others n.builder adds.node adds.slots is n.before early adds.faultless adds.is_node adds.added_is in
+      let block = stands_block plain d n.others b is before.before in
       record {
         left = n.others;
         builder = b;
@@ -141,16 +148,17 @@ module _ (t : Text) (d : Document) (rest : List Event) (old : Building) (n : Nex
       }
 
   -- where it is refused
-  pub refused : (e : ParseFault) → IsDocument d → IfToml e (NamesOne t (faults_at n.builder n.statement)) → IfToml e (λ r. (r.input ≡ t) × IsRefusedBy d (fault_of r))
-  refused (Toml r) is h = (h.0, stands_refused plain d n.statement n.others n.builder (fault_of r) is n.before h.1)
+  pub refused : (e : ParseFault) → IsDocument d → IfToml e (NamesOne t (late_faults version n.builder.start n.statement ++ faults_at n.builder n.statement))
+      → IfToml e (λ r. (r.input ≡ t) × IsRefusedIn version d (fault_of r))
+  refused (Toml r) is h = (h.0, stands_refused_in version plain d n.statement n.others n.builder (fault_of r) is n.before h.1)
   refused Memory is h = tt
 
 -- ---- the end
 
 -- no statement is left
-pub record Ended (d : Document) (rest : List Event) (h : Building) : Type 0 where
+pub record Ended (version : Version) (d : Document) (rest : List Event) (h : Building) : Type 0 where
   pub builder : Builder
-  pub before : StandsBefore plain d [] builder
+  pub before : StandsBeforeIn version plain d [] builder
   pub held : IsHeld builder h
   pub rest_is : rest ≡ final_event d ∷ []
 
@@ -158,21 +166,23 @@ first-leading : (start : ℕ) (s : Statement) (es : List Event) → is_some (spl
 first-leading start (key_line f v end) es = refl
 first-leading start (header h end) es = refl
 
-ended-of : (t : Text) (d : Document) (rest : List Event) (h : Building) (left : List Statement) (b : Builder) → StandsBefore plain d left b → IsHeld b h
-    → rest ≡ shortened 0 (events_from b.start left ++ final_event d ∷ []) → is_some (split_leading rest) ≡ false → Ended d rest h
-ended-of t d rest h [] b before held is none = record { builder = b; before = before; held = held; rest_is = is }
-ended-of t d rest h (s ∷ others) b before held is none =
+ended-of : (version : Version) (t : Text) (d : Document) (rest : List Event) (h : Building) (left : List Statement) (b : Builder) → StandsBeforeIn version plain d left b
+    → IsHeld b h → rest ≡ shortened 0 (events_from b.start left ++ final_event d ∷ []) → is_some (split_leading rest) ≡ false → Ended version d rest h
+ended-of version t d rest h [] b before held is none = record { builder = b; before = before; held = held; rest_is = is }
+ended-of version t d rest h (s ∷ others) b before held is none =
     let same = append_assoc (statement_events b.start s) (events_from (b.start + length (statement_text s)) others) (final_event d ∷ []) in
     let some = ap (λ es. is_some (split_leading es)) (is ∙ ap (shortened 0) same) ∙ first-leading b.start s (events_behind d b s others) in
     absurd (let e = sym some ∙ none in cc)
 
-pub ended : (t : Text) (d : Document) (rest : List Event) (h : Building) → Progress t d rest h → is_some (split_leading rest) ≡ false → Ended d rest h
-ended t d rest h p none = ended-of t d rest h p.left p.builder p.before p.held p.rest_is none
+pub ended : (version : Version) (t : Text) (d : Document) (rest : List Event) (h : Building) → Progress version t d rest h → is_some (split_leading rest) ≡ false
+    → Ended version d rest h
+ended version t d rest h p none = ended-of version t d rest h p.left p.builder p.before p.held p.rest_is none
 
--- the document is accepted, and this is its tree
-pub built : (d : Document) (rest : List Event) (h : Building) (ss : Slots) (trailing : Raw) → IsDocument d → (e : Ended d rest h) → ss ≡ e.builder.slots
+-- the document is accepted in the version, and this is its tree
+pub built : (version : Version) (d : Document) (rest : List Event) (h : Building) (ss : Slots) (trailing : Raw) → IsDocument d → (e : Ended version d rest h)
+    → ss ≡ e.builder.slots
     → trailing ≡ spanned_form.raw (final_event d).span.start d.final
-    → (is_accepted d ≡ true) × IsTreeOf spanned_form d (tree_of ss trailing)
-built d rest h ss trailing is e same last =
-    let (accepted, tree) = stands_last plain d e.builder is e.before in
+    → (is_accepted_in version d ≡ true) × IsTreeOf spanned_form d (tree_of ss trailing)
+built version d rest h ss trailing is e same last =
+    let (accepted, tree) = stands_last_in version plain d e.builder is e.before in
     (accepted, subst (λ us. IsTreeOf spanned_form d (tree_of us trailing)) (sym same) (subst (λ r. IsTreeOf spanned_form d (tree_of e.builder.slots r)) (sym last) tree))

@@ -6,15 +6,17 @@ use Rattle.std.specs.Prelude.{◌&&◌, nat_le}
 use Rattle.std.specs.List.{list_any}
 use Rattle.toml_edit_model.specs.Text.{Text, one}
 use Rattle.toml_edit_model.specs.Syntax.{Value, Statement, key_line, header, Document, IsCut, depth, nesting_limit, is_short, has_short_keys, keeps_limits, is_ranged}
+use Rattle.toml_edit_model.specs.Version.{Version, v1_1}
 use Rattle.toml_edit_model.specs.Paths.{Placed, Context, source_of, mentions_of, context_after, placed_from, start_context}
-use Rattle.toml_edit_model.specs.Accepted.{has_agreeing_tables, is_sound, is_accepted, AcceptedAs}
+use Rattle.toml_edit_model.specs.Accepted.{has_agreeing_tables, is_sound, is_accepted, is_accepted_in, AcceptedIn, AcceptedAs}
 use Rattle.toml_edit_model.specs.Tree.{Raw, Slots}
 use Rattle.toml_edit_model.specs.TreeOf.{spanned_form, IsTreeOf}
-use Rattle.toml_edit_laws.specs.Building.{IsRefusedBy}
 use Rattle.toml_edit_laws.specs.OneByOne.{is_right_after, all_right_after}
+use Rattle.toml_edit_laws.specs.Versions.{IsRefusedIn}
 use Rattle.toml_edit_laws.proofs.common.Tests.{and_left, and_right}
 use Rattle.toml_edit_laws.proofs.mentions.Placed.{source-statement}
 use Rattle.toml_edit_laws.proofs.one_by_one.Together.{accepted-right}
+use Rattle.toml_edit_laws.proofs.versions.Accepting.{later-accepts}
 use Rattle.toml_edit_error.specs.Fault.{IfToml}
 use Rattle.toml_edit_error.specs.Report.{Report, fault_of}
 use Rattle.toml_edit_error.specs.declared.toml_error.ParseFault.{ParseFault}
@@ -28,14 +30,15 @@ use Rattle.toml_edit_syntax.specs.Faults.{syntax_message}
 use Rattle.toml_edit_syntax.specs.Events.{IsSpanOf, AreEventsOf, events_of, exceeds_depth, has_deep_value, OpensTooMany}
 use Rattle.toml_edit_syntax.specs.ValueEvents.{are_deep, shortened}
 use Rattle.toml_edit_builder.specs.StatementRead.{tree_of}
-use Rattle.toml_edit_builder.specs.DocumentRead.{IsParsed, IsRefusal}
+use Rattle.toml_edit_builder.specs.DocumentRead.{IsParsed, IsParsedIn, IsRefusal, IsRefusalIn}
 
 -- ---- no value of an accepted document is too deep
 
 within-depth : (v : Value) → depth v ≤ nesting_limit → exceeds_depth v ≡ false
 within-depth v h = grind (arith, nat_tests)
 
-sound-shallow : (s : Statement) → is_sound s ≡ true → has_deep_value s ≡ false
+-- nor of a sound statement
+pub sound-shallow : (s : Statement) → is_sound s ≡ true → has_deep_value s ≡ false
 sound-shallow (key_line f v end) h =
     let s = key_line f v end in
     let limits = and_left (keeps_limits s) (is_ranged s) (and_left (keeps_limits s && is_ranged s) (has_agreeing_tables s) h) in
@@ -58,17 +61,17 @@ accepted-shallow d h = right-shallow (start_context d) [] d.statements (accepted
 
 -- ---- a text with these events
 
-module _ (t : Text) (es : List Event) (h : AreEventsOf t es) where
+module _ (version : Version) (t : Text) (es : List Event) (h : AreEventsOf t es) where
   -- what building the tree says where there is one, and where there is none
   abbrev pub IsBuiltSo : Slots → Raw → Type 0
   IsBuiltSo slots trailing =
-      (d : Document) → IsCut d t → es ≡ shortened 0 (events_of d) → (is_accepted d ≡ true) × IsTreeOf spanned_form d (tree_of slots trailing)
+      (d : Document) → IsCut d t → es ≡ shortened 0 (events_of d) → (is_accepted_in version d ≡ true) × IsTreeOf spanned_form d (tree_of slots trailing)
 
   abbrev pub IsRefusedSo : ParseFault → Type 0
-  IsRefusedSo e = (d : Document) → IsCut d t → es ≡ shortened 0 (events_of d) → IfToml e (λ r. (r.input ≡ t) × IsRefusedBy d (fault_of r))
+  IsRefusedSo e = (d : Document) → IsCut d t → es ≡ shortened 0 (events_of d) → IfToml e (λ r. (r.input ≡ t) × IsRefusedIn version d (fault_of r))
 
   -- events that are not cut short are those of the text's one cut
-  pub parsed : (slots : Slots) (trailing : Raw) → IsBuiltSo slots trailing → are_deep es ≡ false → IsParsed t slots trailing
+  pub parsed : (slots : Slots) (trailing : Raw) → IsBuiltSo slots trailing → are_deep es ≡ false → IsParsedIn version t slots trailing
   parsed slots trailing built whole =
       let (d, cut) = h.has_cut whole in
       let (accepted, tree) = built d cut (h.every d cut) in
@@ -77,10 +80,11 @@ module _ (t : Text) (es : List Event) (h : AreEventsOf t es) where
   -- others are of no text that is accepted
   pub no_cut : (slots : Slots) (trailing : Raw) → IsBuiltSo slots trailing → are_deep es ≡ true → (d : Document) → IsCut d t → ⊥
   no_cut slots trailing built short d cut =
-      false≢true (sym (h.deep d cut ∙ accepted-shallow d (built d cut (h.every d cut)).0) ∙ short)
+      let accepted = (later-accepts version t d (cut, (built d cut (h.every d cut)).0)).1 in
+      false≢true (sym (h.deep d cut ∙ accepted-shallow d accepted) ∙ short)
 
   -- an accepted text is not refused
-  pub not_refused : (e : ParseFault) → IsRefusedSo e → (d : Document) → AcceptedAs t d → e ≡ Memory
+  pub not_refused : (e : ParseFault) → IsRefusedSo e → (d : Document) → AcceptedIn version t d → e ≡ Memory
   not_refused (Toml r) told d (cut, accepted) = absurd (false≢true (sym (told d cut (h.every d cut)).1.refused ∙ accepted))
   not_refused Memory told d accepted = refl
 
@@ -93,12 +97,12 @@ module _ (t : Text) (es : List Event) (h : AreEventsOf t es) where
       ]
 
   -- what is told of a refused text
-  pub refusal_is : (e : ParseFault) → IsRefusedSo e → IfToml e (λ r. r.input ≡ t) → IfToml e (IsRefusal t)
+  pub refusal_is : (e : ParseFault) → IsRefusedSo e → IfToml e (λ r. r.input ≡ t) → IfToml e (IsRefusalIn version t)
   refusal_is (Toml r) told input = record { input = input; names = λ d cut. (told d cut (h.every d cut)).1; syntax = λ none. inr (opens none) }
   refusal_is Memory told input = tt
 
   -- and of one that has no cut, and whose events are cut short
-  pub short_refusal : (m : Text) (r : Report) → are_deep es ≡ true → ((d : Document) → IsCut d t → ⊥) → r ≡ record { message = m; span = None; input = t } → IsRefusal t r
+  pub short_refusal : (m : Text) (r : Report) → are_deep es ≡ true → ((d : Document) → IsCut d t → ⊥) → r ≡ record { message = m; span = None; input = t } → IsRefusalIn version t r
   short_refusal m r short none same =
       record { input = ap (λ x. x.input) same; names = λ d cut. absurd (none d cut); syntax = λ _. inr (h.brackets short) }
 
@@ -111,9 +115,9 @@ not_text (Err fault) f mistake span e g (inl h) = absurd cc
 not_text (Err fault) f mistake span e g (inr h) = absurd cc
 
 -- a text outside the grammar
-pub wrong_syntax : (t m : Text) (mistake : Mistake) (s : Span) (r : Report) → ((d : Document) → IsCut d t → ⊥) → m ≡ syntax_message mistake → IsSpanOf t s
-    → r ≡ record { message = m; span = Some (s.start, s.end); input = t } → IsRefusal t r
-wrong_syntax t m mistake s r none is within same =
+pub wrong_syntax : (version : Version) (t m : Text) (mistake : Mistake) (s : Span) (r : Report) → ((d : Document) → IsCut d t → ⊥) → m ≡ syntax_message mistake → IsSpanOf t s
+    → r ≡ record { message = m; span = Some (s.start, s.end); input = t } → IsRefusalIn version t r
+wrong_syntax version t m mistake s r none is within same =
     record {
       input = ap (λ x. x.input) same;
       names = λ d cut. absurd (none d cut);
@@ -124,3 +128,17 @@ wrong_syntax t m mistake s r none is within same =
 pub of_report : (e : ParseFault) (P Q : Report → Type 0) → ((r : Report) → P r → Q r) → IfToml e P → IfToml e Q
 of_report (Toml r) P Q more h = more r h
 of_report Memory P Q more h = tt
+
+-- ---- in TOML 1.1
+
+pub parsed_later : (t : Text) (slots : Slots) (trailing : Raw) → IsParsedIn v1_1 t slots trailing → IsParsed t slots trailing
+parsed_later t slots trailing h = record { document = h.document; accepted = later-accepts v1_1 t h.document h.accepted; only = h.only; tree = h.tree }
+
+pub accepted_later : (t : Text) (d : Document) → AcceptedAs t d → AcceptedIn v1_1 t d
+unfolding is_accepted
+accepted_later t d h = h
+
+pub refusal_later : (t : Text) (r : Report) → IsRefusalIn v1_1 t r → IsRefusal t r
+unfolding is_accepted
+refusal_later t r h =
+    record { input = h.input; names = λ d cut. let told = h.names d cut in record { names = told.names; refused = told.refused }; syntax = h.syntax }

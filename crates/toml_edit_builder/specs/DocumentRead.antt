@@ -1,11 +1,13 @@
 -- What parsing a text gives: the tree of its one cut, or why it is refused.
 use Rattle.std.specs.Prelude.{◌≡◌, ◌⊎◌, Some}
 use Rattle.toml_edit_model.specs.Text.{Text}
-use Rattle.toml_edit_model.specs.Accepted.{AcceptedAs}
+use Rattle.toml_edit_model.specs.Version.{Version}
+use Rattle.toml_edit_model.specs.Accepted.{AcceptedIn, AcceptedAs}
 use Rattle.toml_edit_model.specs.Syntax.{Document, IsCut}
 use Rattle.toml_edit_model.specs.Tree.{Raw, Slots}
 use Rattle.toml_edit_model.specs.TreeOf.{spanned_form, IsTreeOf}
 use Rattle.toml_edit_laws.specs.Building.{IsRefusedBy}
+use Rattle.toml_edit_laws.specs.Versions.{IsRefusedIn}
 use Rattle.toml_edit_error.specs.Report.{Report, fault_of}
 use Rattle.toml_edit_syntax.specs.declared.event.Span.{Span}
 use Rattle.toml_edit_syntax.specs.declared.mistake.Mistake.{Mistake}
@@ -34,3 +36,20 @@ pub record IsRefusal (t : Text) (r : Report) : Type 0 where
   pub input : r.input ≡ t
   pub names : (d : Document) → IsCut d t → IsRefusedBy d (fault_of r)
   pub syntax : ((d : Document) → IsCut d t → ⊥) → MarksMistake t r ⊎ OpensTooMany t
+
+-- ---- in a version of the grammar
+
+module _ (version : Version) where
+  -- The text has one cut, by which the version accepts it, and these slots and this trailing text are the tree of it.
+  pub record IsParsedIn (t : Text) (slots : Slots) (trailing : Raw) : Type 0 where
+    pub document : Document
+    pub accepted : AcceptedIn version t document
+    pub only : (other : Document) → IsCut other t → other ≡ document
+    pub tree : IsTreeOf spanned_form document (tree_of slots trailing)
+
+  -- The report is of the text, as `IsRefusal` says it; of a text of the grammar it may name what the first faulty statement has that the
+  -- version hasn't.
+  pub record IsRefusalIn (t : Text) (r : Report) : Type 0 where
+    pub input : r.input ≡ t
+    pub names : (d : Document) → IsCut d t → IsRefusedIn version d (fault_of r)
+    pub syntax : ((d : Document) → IsCut d t → ⊥) → MarksMistake t r ⊎ OpensTooMany t

@@ -1,16 +1,18 @@
 -- What reading the statements of a text, one after another, does to what is held of its tree (TOML 1.1.0, "Key/Value Pair", "Table" and
 -- "Array of Tables").
-use Rattle.std.specs.Prelude.{◌≡◌, ℕ, ◌+◌, ◌-◌, Bool, true, if◌then◌else◌, List, [], length, map, Some, String, Vec, Result, Ok, Err}
+use Rattle.std.specs.Prelude.{◌≡◌, ℕ, ◌+◌, ◌-◌, Bool, true, if◌then◌else◌, List, [], ◌++◌, length, map, Some, String, Vec, Result, Ok, Err}
 use Rattle.std.specs.declared.alloc.Global.{Global}
 use Rattle.std.specs.Borrow.{Bor}
 use Rattle.toml_edit_model.specs.Mode.{plain}
 use Rattle.toml_edit_model.specs.Text.{Text}
 use Rattle.toml_edit_model.specs.Syntax.{Segment, Header, Statement, IsStatement, Document, opening_brackets, brackets_text, document_text}
-use Rattle.toml_edit_model.specs.Accepted.{is_accepted}
-use Rattle.toml_edit_model.specs.Faults.{own_faults}
+use Rattle.toml_edit_model.specs.Version.{Version, is_of_version}
+use Rattle.toml_edit_model.specs.Accepted.{is_accepted_in}
+use Rattle.toml_edit_model.specs.Faults.{own_faults, late_faults}
 use Rattle.toml_edit_model.specs.Tree.{Raw, Node, nothing, Slots, Tree}
 use Rattle.toml_edit_model.specs.TreeOf.{spanned_form, header_leaf, root_fields, IsTreeOf}
-use Rattle.toml_edit_laws.specs.Building.{slots_along, Builder, added, clash_at, faults_at, behind, IsStatementNode, IsRefusedBy}
+use Rattle.toml_edit_laws.specs.Building.{slots_along, Builder, added, clash_at, faults_at, behind, IsStatementNode}
+use Rattle.toml_edit_laws.specs.Versions.{IsRefusedIn}
 use Rattle.toml_edit_laws.specs.TableClash.{table_way_faults}
 use Rattle.toml_edit_laws.specs.AddPath.{put_along}
 use Rattle.toml_edit_laws.specs.PlaceOrder.{slots_by_place, ArePlaced}
@@ -60,6 +62,11 @@ abbrev pub ReadsStatement : Text → Builder → Statement → List Event → Bu
 ReadsStatement t b s more new (Ok r) = IsAdded b s more new r.now
 ReadsStatement t b s more new (Err e) = IfToml e (NamesOne t (faults_at b s))
 
+-- The same in a version of the grammar: the statement is one of the version too, or the report may name what it has that the version hasn't.
+abbrev pub ReadsInVersion : Version → Text → Builder → Statement → List Event → Building → Result (Bor (List Event)) ParseFault → Type 0
+ReadsInVersion version t b s more new (Ok r) = (is_of_version version s ≡ true) × IsAdded b s more new r.now
+ReadsInVersion version t b s more new (Err e) = IfToml e (NamesOne t (late_faults version b.start s ++ faults_at b s))
+
 -- ---- a header
 
 -- what a header adds, by whether its brackets are two, and where they stand
@@ -100,8 +107,8 @@ final_event d = event Final (length (document_text d) - length d.final) d.final
 abbrev pub tree_of : Slots → Raw → Tree
 tree_of slots trailing = record { root = root_fields spanned_form; slots = slots; trailing = trailing }
 
--- what building the tree of a document answers: the document is accepted, and this is its tree, or the report names a fault of its first
--- faulty statement
-abbrev pub Builds : {S : Type 0} → (S → Slots) → Text → Document → Result (S × Raw) ParseFault → Type 0
-Builds view t d (Ok r) = (is_accepted d ≡ true) × IsTreeOf spanned_form d (tree_of (view r.0) r.1)
-Builds view t d (Err e) = IfToml e (λ r. (r.input ≡ t) × IsRefusedBy d (fault_of r))
+-- what building the tree of a document answers, in a version of the grammar: the document is accepted, and this is its tree, or the report
+-- names a fault of its first faulty statement
+abbrev pub Builds : {S : Type 0} → Version → (S → Slots) → Text → Document → Result (S × Raw) ParseFault → Type 0
+Builds version view t d (Ok r) = (is_accepted_in version d ≡ true) × IsTreeOf spanned_form d (tree_of (view r.0) r.1)
+Builds version view t d (Err e) = IfToml e (λ r. (r.input ≡ t) × IsRefusedIn version d (fault_of r))

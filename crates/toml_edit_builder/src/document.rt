@@ -1,13 +1,14 @@
 //! From a text to its tree.
 ghost use Rattle.std.specs.Prelude.{◌≡◌, ◌⊎◌, true, false, IfOk, IfErr, IsOk, IsErrOf};
-ghost use Rattle.toml_edit_model.specs.Accepted.{AcceptedAs};
+ghost use Rattle.toml_edit_model.specs.Accepted.{AcceptedAs, AcceptedIn};
 ghost use Rattle.toml_edit_model.specs.Syntax.{Document};
 ghost use Rattle.toml_edit_error.specs.Fault.{IfToml};
 ghost use Rattle.toml_edit_syntax.specs.Events.{AreEventsOf};
 ghost use Rattle.toml_edit_syntax.specs.ValueEvents.{are_deep};
+ghost use Rattle.toml_edit_version.specs.Grammar.{grammar};
 ghost use Rattle.toml_edit_tree.specs.View.{slots_view};
 ghost use Rattle.toml_edit_parser.specs.ValueRead.{AreIn};
-ghost use Rattle.toml_edit_builder.specs.DocumentRead.{IsParsed, IsRefusal};
+ghost use Rattle.toml_edit_builder.specs.DocumentRead.{IsParsed, IsParsedIn, IsRefusal, IsRefusalIn};
 
 use crate::parser::build;
 use std::alloc::Global;
@@ -17,16 +18,17 @@ use toml_edit_repr::RawString;
 use toml_edit_slots::Slots;
 use toml_edit_syntax::{Event, SyntaxFault, events};
 use toml_edit_tree::Item;
+use toml_edit_version::Version;
 
 /// What is wrong with a text whose events are cut short.
-fn cut_short(alloc: Global, source: &str, events: &[Event]) -> ParseFault
+fn cut_short(alloc: Global, source: &str, events: &[Event], version: Version) -> ParseFault
     requires cut { AreEventsOf source.now events.now }
     requires spans { AreIn source.now events.now }
     requires short { are_deep events.now ≡ true }
-    ensures every { (d : Document) → AcceptedAs source.now d → result ≡ ParseFault.Memory }
-    ensures refused { IfToml result (IsRefusal source.now) }
+    ensures every { (d : Document) → AcceptedIn (grammar version) source.now d → result ≡ ParseFault.Memory }
+    ensures refused { IfToml result (IsRefusalIn (grammar version) source.now) }
 {
-    match build(alloc, source, events) {
+    match build(alloc, source, events, version) {
         Ok(_) => refusal_of_all(alloc, source, "recursion limit"),
         Err(fault) => fault,
     }
@@ -37,15 +39,16 @@ fn read_all(
     alloc: Global,
     source: &str,
     events: &[Event],
+    version: Version,
 ) -> Result<(Slots<Item>, RawString), ParseFault>
     requires cut { AreEventsOf source.now events.now }
     requires spans { AreIn source.now events.now }
     requires whole { are_deep events.now ≡ false }
-    ensures parsed { IfOk result (λ r. IsParsed source.now (slots_view r.0) r.1) }
-    ensures every { (d : Document) → AcceptedAs source.now d → IsOk result ⊎ IsErrOf result ParseFault.Memory }
-    ensures refused { IfErr result (λ e. IfToml e (IsRefusal source.now)) }
+    ensures parsed { IfOk result (λ r. IsParsedIn (grammar version) source.now (slots_view r.0) r.1) }
+    ensures every { (d : Document) → AcceptedIn (grammar version) source.now d → IsOk result ⊎ IsErrOf result ParseFault.Memory }
+    ensures refused { IfErr result (λ e. IfToml e (IsRefusalIn (grammar version) source.now)) }
 {
-    let built = build(alloc, source, events)?;
+    let built = build(alloc, source, events, version)?;
     Ok(built)
 }
 
@@ -54,22 +57,49 @@ fn parse_events(
     alloc: Global,
     source: &str,
     events: &[Event],
+    version: Version,
 ) -> Result<(Slots<Item>, RawString), ParseFault>
     requires cut { AreEventsOf source.now events.now }
     requires spans { AreIn source.now events.now }
-    ensures parsed { IfOk result (λ r. IsParsed source.now (slots_view r.0) r.1) }
-    ensures every { (d : Document) → AcceptedAs source.now d → IsOk result ⊎ IsErrOf result ParseFault.Memory }
-    ensures refused { IfErr result (λ e. IfToml e (IsRefusal source.now)) }
+    ensures parsed { IfOk result (λ r. IsParsedIn (grammar version) source.now (slots_view r.0) r.1) }
+    ensures every { (d : Document) → AcceptedIn (grammar version) source.now d → IsOk result ⊎ IsErrOf result ParseFault.Memory }
+    ensures refused { IfErr result (λ e. IfToml e (IsRefusalIn (grammar version) source.now)) }
 {
     if are_cut_short(events) {
-        Err(cut_short(alloc, source, events))
+        Err(cut_short(alloc, source, events, version))
     } else {
-        read_all(alloc, source, events)
+        read_all(alloc, source, events, version)
     }
 }
 
-/// The slots of the root of a text's tree, whose keys and values are spans of the text, and the text after the last statement. The
-/// errors are a `TomlError` for a text that is refused, and want of memory.
+/// The slots of the root of a text's tree, whose keys and values are spans of the text, and the text after the last statement, where this
+/// version of the grammar accepts the text. The errors are a `TomlError` for a text that is refused, and want of memory.
+#[doc(hidden)]
+pub fn parse_in(
+    alloc: Global,
+    source: &str,
+    version: Version,
+) -> Result<(Slots<Item>, RawString), ParseFault>
+    ensures parsed { IfOk result (λ r. IsParsedIn (grammar version) source.now (slots_view r.0) r.1) }
+    // A text that the version accepts is never refused.
+    ensures every { (d : Document) → AcceptedIn (grammar version) source.now d → IsOk result ⊎ IsErrOf result ParseFault.Memory }
+    ensures refused { IfErr result (λ e. IfToml e (IsRefusalIn (grammar version) source.now)) }
+{
+    match events(alloc, source) {
+        Ok(mut events) => {
+            // The tree is made beside them, so they take no more room than they need.
+            events.shrink_to_fit();
+            parse_events(alloc, source, events.as_slice(), version)
+        }
+        Err(SyntaxFault::Memory) => Err(ParseFault::Memory),
+        Err(SyntaxFault::Text(mistake, span)) => {
+            Err(refusal(alloc, source, mistake.message(), span))
+        }
+    }
+}
+
+/// The same in TOML 1.1: the slots of the root of a text's tree, whose keys and values are spans of the text, and the text after the last
+/// statement. The errors are a `TomlError` for a text that is refused, and want of memory.
 #[doc(hidden)]
 pub fn parse(alloc: Global, source: &str) -> Result<(Slots<Item>, RawString), ParseFault>
     ensures parsed { IfOk result (λ r. IsParsed source.now (slots_view r.0) r.1) }
@@ -77,15 +107,5 @@ pub fn parse(alloc: Global, source: &str) -> Result<(Slots<Item>, RawString), Pa
     ensures every { (d : Document) → AcceptedAs source.now d → IsOk result ⊎ IsErrOf result ParseFault.Memory }
     ensures refused { IfErr result (λ e. IfToml e (IsRefusal source.now)) }
 {
-    match events(alloc, source) {
-        Ok(mut events) => {
-            // The tree is made beside them, so they take no more room than they need.
-            events.shrink_to_fit();
-            parse_events(alloc, source, events.as_slice())
-        }
-        Err(SyntaxFault::Memory) => Err(ParseFault::Memory),
-        Err(SyntaxFault::Text(mistake, span)) => {
-            Err(refusal(alloc, source, mistake.message(), span))
-        }
-    }
+    parse_in(alloc, source, Version::V1_1)
 }

@@ -11,7 +11,8 @@ mod statement;
 #[doc(hidden)]
 pub use block::swap_block;
 #[doc(hidden)]
-pub use document::parse;
+pub use document::{parse, parse_in};
 #[doc(hidden)]
 pub use path::{Kind, add_path};
 pub use toml_edit_parser::FromStr;
+pub use toml_edit_version::Version;

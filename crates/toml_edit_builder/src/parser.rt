@@ -10,18 +10,20 @@ ghost use Rattle.toml_edit_error.specs.Fault.{IfToml};
 ghost use Rattle.toml_edit_syntax.specs.Events.{events_of, statement_events};
 ghost use Rattle.toml_edit_syntax.specs.ValueEvents.{event, shortened};
 ghost use Rattle.toml_edit_syntax.specs.declared.event.EventKind.TheVariants.{Final};
+ghost use Rattle.toml_edit_version.specs.Grammar.{grammar};
 ghost use Rattle.toml_edit_tree.specs.View.{slots_view};
 ghost use Rattle.toml_edit_parser.specs.ValueRead.{AreIn, split_leading};
 ghost use Rattle.toml_edit_builder.specs.StatementRead.{Builds, IsHeld, IsWhole, ReadsStatement};
 
 use crate::block::swap_block;
-use crate::statement::read_statement;
+use crate::statement::read_in_version;
 use std::alloc::Global;
 use toml_edit_error::ParseFault;
 use toml_edit_repr::RawString;
 use toml_edit_slots::Slots;
 use toml_edit_syntax::{Event, EventKind, Span};
 use toml_edit_tree::{Item, put_in_order};
+use toml_edit_version::Version;
 
 /// What is held of a tree between statements: the slots of the root, without those of the table that key lines are added to, which are held
 /// by themselves; the keys of that table, and how many headers there were. So a key line costs nothing for the path of its table. The
@@ -97,14 +99,16 @@ pub(crate) fn slot_count(events: &[Event]) -> usize {
     count
 }
 
-/// The slots of the statements, and the text after the last.
+/// The slots of the statements, each of them one of this version of the grammar, and the text after the last.
 pub(crate) fn build(
     alloc: Global,
     source: &str,
     events: &[Event],
+    version: Version,
 ) -> Result<(Slots<Item>, RawString), ParseFault>
     requires { AreIn source.now events.now }
-    ensures built { (d : Document) → IsCut d source.now → events.now ≡ shortened 0 (events_of d) → Builds slots_view source.now d result }
+    ensures built { (d : Document) → IsCut d source.now → events.now ≡ shortened 0 (events_of d)
+        → Builds (grammar version) slots_view source.now d result }
     ensures input { IfErr result (λ e. IfToml e (λ r. r.input ≡ source.now)) }
 {
     let mut building = Building {
@@ -116,7 +120,7 @@ pub(crate) fn build(
     };
     let mut rest = events;
     'statements: while starts_statement(rest) {
-        match read_statement(alloc, source, &mut building, rest) {
+        match read_in_version(alloc, source, version, &mut building, rest) {
             Ok(behind) => rest = behind,
             Err(fault) => {
                 drop(building);

@@ -1,20 +1,23 @@
 //! One statement after another, from its events into the tables of a document.
-ghost use Rattle.std.specs.Prelude.{◌≡◌, ◌+◌, ◌<◌, ◌≤◌, ◌^◌, ◌++◌, ◌∷◌, Bool, List, ℕ, suc, pos, length, IfErr, IfOk, OnOk, option_map};
+ghost use Rattle.std.specs.Prelude.{◌≡◌, ◌+◌, ◌-◌, ◌<◌, ◌≤◌, ◌^◌, ◌++◌, ◌∷◌, Bool, true, false, List, ℕ, suc, pos, length, Contains, IfErr, IfOk, IfSome, IsNone, OnOk, option_map};
 ghost use Rattle.toml_edit_model.specs.Syntax as syntax;
 ghost use Rattle.toml_edit_model.specs.Syntax.{Frame, Header, Segment, Statement, brackets_text, key_line, opening_brackets, path_text, statement_text};
 ghost use Rattle.toml_edit_model.specs.Text.{Text};
+ghost use Rattle.toml_edit_model.specs.Version.{is_of_version};
+ghost use Rattle.toml_edit_model.specs.Faults.{fault, late_faults, needs_message};
 ghost use Rattle.toml_edit_model.specs.Tree.{Decor};
 ghost use Rattle.toml_edit_laws.specs.Building.{Builder, source_at};
 ghost use Rattle.toml_edit_laws.specs.Standing.{Stands};
 ghost use Rattle.toml_edit_error.specs.Fault.{IfToml};
-ghost use Rattle.toml_edit_syntax.specs.Events.{IsSpanOf, statement_events};
+ghost use Rattle.toml_edit_syntax.specs.Events.{IsSpanOf, has_deep_value, statement_events};
 ghost use Rattle.toml_edit_syntax.specs.ValueEvents.{shortened};
+ghost use Rattle.toml_edit_version.specs.Grammar.{grammar};
 ghost use Rattle.toml_edit_tree.specs.View.{item_view};
 ghost use Rattle.toml_edit_parser.specs.PairRead.{IsEndOfPath};
 ghost use Rattle.toml_edit_parser.specs.PathRead.{IsPathFrom};
 ghost use Rattle.toml_edit_parser.specs.StatementParts.{header_behind, line_behind};
 ghost use Rattle.toml_edit_parser.specs.ValueRead.{AreIn, span_at};
-ghost use Rattle.toml_edit_builder.specs.StatementRead.{AreHeaderParts, IsHeld, IsWhole, OpensBlock, ReadsNames, ReadsStatement, kind_of};
+ghost use Rattle.toml_edit_builder.specs.StatementRead.{AreHeaderParts, IsHeld, IsWhole, OpensBlock, ReadsInVersion, ReadsNames, ReadsStatement, kind_of};
 ghost use Rattle.toml_edit_builder.specs.TableRead.{IsHeaded};
 
 use crate::block::swap_block;
@@ -23,12 +26,14 @@ use crate::path::{Kind, add_path, add_value};
 use std::alloc::Global;
 use toml_edit_error::ParseFault;
 use toml_edit_parser::{
-    KeyPath, PathKey, next_key, put, raw, read_header, read_key_line, refusal_of_all, split_first,
+    KeyPath, PathKey, next_key, put, raw, read_header, read_key_line, refusal, refusal_of_all,
+    split_first,
 };
 use toml_edit_repr::Decor;
 use toml_edit_slots::Slots;
 use toml_edit_syntax::{Event, EventKind, Span};
 use toml_edit_tree::{Item, Table};
+use toml_edit_version::{Version, late_part_of_statement};
 
 /// Where the parts of a header stand: the text before it, its brackets, the key inside them, and the text behind them.
 #[derive(Clone, Copy)]
@@ -40,8 +45,50 @@ pub(crate) struct HeaderParts<'a> {
     pub(crate) trailing: Span,
 }
 
+/// The first part of the statement that comes first which the version lacks; where its value is too deep, before the bracket that is one
+/// too many.
+fn late_part(source: &str, version: Version, events: &[Event]) -> Option<Span>
+    requires { AreIn source.now events.now }
+    ensures found { (s : Statement) (start : ℕ) (more : List Event) → IsWhole s → Stands source.now start (statement_text s)
+        → events.now ≡ shortened 0 (statement_events start s ++ more)
+        → IfSome result (λ span. Contains (late_faults (grammar version) start s) (fault needs_message span.start (span.end - span.start))) }
+    ensures none { (s : Statement) (start : ℕ) (more : List Event) → IsWhole s → Stands source.now start (statement_text s)
+        → events.now ≡ shortened 0 (statement_events start s ++ more) → has_deep_value s ≡ false → IsNone result
+        → is_of_version (grammar version) s ≡ true }
+    ensures span { IfSome result (λ span. IsSpanOf source.now span) }
+{
+    match version {
+        Version::V1_0 => late_part_of_statement(source, events),
+        Version::V1_1 => None,
+    }
+}
+
+/// Adds the statement that comes first, where it is one of this version of the grammar, and gives the events behind it. After an error what
+/// is held is to be given up.
+pub(crate) fn read_in_version<'a>(
+    alloc: Global,
+    source: &str,
+    version: Version,
+    building: &mut Building,
+    events: &'a [Event],
+) -> Result<&'a [Event], ParseFault>
+    requires spans { AreIn source.now events.now }
+    requires count { building.old.headers + length events.now < 2 ^ 63 }
+    ensures statement { (b : Builder) (s : Statement) (more : List Event) → IsWhole s → Stands source.now b.start (statement_text s)
+        → IsHeld b building.old → events.now ≡ shortened 0 (statement_events b.start s ++ more)
+        → ReadsInVersion (grammar version) source.now b s more building.new result }
+    ensures input { IfErr result (λ e. IfToml e (λ r. r.input ≡ source.now)) }
+    ensures rest { IfOk result (λ r. AreIn source.now r.now × (length r.now < length events.now)) }
+    ensures count { IfOk result (λ r. building.new.headers + length r.now ≤ building.old.headers + length events.now) }
+{
+    match late_part(source, version, events) {
+        Some(span) => Err(refusal(alloc, source, "needs TOML 1.1", span)),
+        None => read_statement(alloc, source, building, events),
+    }
+}
+
 /// Adds the statement that comes first, and gives the events behind it. After an error what is held is to be given up.
-pub(crate) fn read_statement<'a>(
+fn read_statement<'a>(
     alloc: Global,
     source: &str,
     building: &mut Building,

@@ -5,3 +5,4 @@ pub mod Accepting
 pub mod Faulty
 pub mod EarlyNormal
 pub mod EarlyPrints
+pub mod VersionFaults

@@ -1,12 +1,12 @@
 -- The laws of the versions of the grammar.
-use Rattle.std.specs.Prelude.{◌≡◌, ℕ, not, List, Contains}
+use Rattle.std.specs.Prelude.{◌≡◌, ℕ, false, not, List, Contains}
 use Rattle.toml_edit_model.specs.Text.{Text, is_empty}
 use Rattle.toml_edit_model.specs.Mode.{Mode}
 use Rattle.toml_edit_model.specs.Syntax.{Statement, Document}
 use Rattle.toml_edit_model.specs.Version.{Version, is_late_statement, late_places}
 use Rattle.toml_edit_model.specs.Paths.{Placed}
-use Rattle.toml_edit_model.specs.Accepted.{AcceptedIn, AcceptedAs, IsFirstFaultyIn}
-use Rattle.toml_edit_model.specs.Faults.{Fault, faults_of}
+use Rattle.toml_edit_model.specs.Accepted.{is_accepted_in, AcceptedIn, AcceptedAs, IsFirstFaultyIn}
+use Rattle.toml_edit_model.specs.Faults.{Fault, faults_of, IsFirstFaultIn}
 use Rattle.toml_edit_model.specs.Normal.{has_open_end, normal_in, normal_text_in}
 use Rattle.toml_edit_model.specs.Tree.{Tree}
 use Rattle.toml_edit_model.specs.TreeOf.{owned_in, IsTreeOf}
@@ -25,6 +25,11 @@ abbrev pub FaultsInVersions : Type 0
 FaultsInVersions =
     (version : Version) (d : Document) (earlier : List Placed) (s : Placed) → IsFirstFaultyIn version d earlier s
     → (f : Fault) × Contains (faults_of version earlier s) f
+
+-- The version refuses the document, and this is one of the faults of its first faulty statement.
+pub record IsRefusedIn (version : Version) (d : Document) (f : Fault) : Type 0 where
+  pub names : IsFirstFaultIn version d f
+  pub refused : is_accepted_in version d ≡ false
 
 module _ (mode : Mode) where
   -- The normal text of a text that a version accepts is accepted by it.

@@ -1,12 +1,16 @@
--- A text with no events has no cut.
-use Rattle.std.proofs.Common.{refl, subst}
-use Rattle.toml_edit_syntax.specs.Faults.{FaultIsIn}
-use Rattle.toml_edit_builder.proofs.WholeLaws.{not_text, wrong_syntax, of_report}
+-- What is said of a version, at TOML 1.1.
+use Rattle.std.proofs.lemmas.Result.{IfOk-weaker, IfErr-weaker}
+use Rattle.toml_edit_tree.specs.View.{slots_view}
+use Rattle.toml_edit_builder.proofs.WholeLaws.{of_report, parsed_later, accepted_later, refusal_later}
 use Rattle.toml_edit_builder.proofs.document.parse.Goals as goal
 
-pub returns-in-Err-Text-clause-refused : goal.returns-in-Err-Text-clause-refused
-returns-in-Err-Text-clause-refused c =
-    of_report c.refusal.result _ _
-    (λ r same. wrong_syntax c.args.source.now c.message.result.now c.in-Err-Text.mistake c.in-Err-Text.span r
-    (λ d is. not_text _ c.in-Err-Text.field-0 c.in-Err-Text.mistake c.in-Err-Text.span refl c.in-Err-Text.field-0-is (c.in-Err-Text.ensures.every d is))
-    c.message.ensures.message (subst (FaultIsIn c.args.source.now) c.in-Err-Text.field-0-is c.in-Err-Text.ensures.fault) same) c.refusal.ensures
+pub returns-clause-parsed : goal.returns-clause-parsed
+returns-clause-parsed c =
+    IfOk-weaker c.parse_in.result _ _ (λ r h. parsed_later c.args.source.now (slots_view r.0) r.1 h) c.parse_in.ensures.parsed
+
+pub returns-clause-every : goal.returns-clause-every
+returns-clause-every c = λ d accepted. c.parse_in.ensures.every d (accepted_later c.args.source.now d accepted)
+
+pub returns-clause-refused : goal.returns-clause-refused
+returns-clause-refused c =
+    IfErr-weaker c.parse_in.result _ _ (λ e h. of_report e _ _ (λ r told. refusal_later c.args.source.now r told) h) c.parse_in.ensures.refused
