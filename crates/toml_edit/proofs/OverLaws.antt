@@ -13,8 +13,12 @@ use Rattle.toml_edit_tree.specs.declared.table.Table.{Table}
 use Rattle.toml_edit.specs.Roots.{tree_under}
 use Rattle.toml_edit.proofs.RootLaws.{tree-under}
 use Rattle.toml_edit_tree.specs.View.{table_slots, fields_view, tree_view}
-use Rattle.toml_edit_builder.specs.DocumentRead.{IsParsed}
+use Rattle.toml_edit_builder.specs.DocumentRead.{IsParsed, IsParsedIn}
 use Rattle.toml_edit_builder.specs.StatementRead.{tree_of}
+use Rattle.toml_edit_model.specs.Version.{Version}
+use Rattle.toml_edit_model.specs.Syntax.{Document, IsCut}
+use Rattle.toml_edit_model.specs.Accepted.{AcceptedIn, is_accepted_in}
+use Rattle.toml_edit_laws.proofs.versions.Accepting.{later-accepts}
 use Rattle.toml_edit.specs.Documents.{IsReading}
 
 -- ---- the tree of what was parsed
@@ -59,3 +63,16 @@ module _ (t u : Text) (root : Table) (slots : Slots) (trailing : Raw) (same : u 
   root-reading =
       subst (IsReading t) (root-tree root slots trailing fields held)
       (subst (λ v. IsReading v (tree_of slots trailing)) same (reading u slots trailing utf8 h))
+
+-- ---- in a version of the grammar
+
+-- what a version accepts is parsed as in TOML 1.1
+pub parsed-later : (version : Version) (t : Text) (slots : Slots) (trailing : Raw) → IsParsedIn version t slots trailing → IsParsed t slots trailing
+parsed-later version t slots trailing h =
+    record { document = h.document; accepted = later-accepts version t h.document h.accepted; only = h.only; tree = h.tree }
+
+-- the version accepts a text that is this one, by each cut that it has
+pub accepted-in : (version : Version) (t u : Text) (slots : Slots) (trailing : Raw) → u ≡ t → IsParsedIn version u slots trailing
+    → (d : Document) → IsCut d t → AcceptedIn version t d
+accepted-in version t u slots trailing same h d cut =
+    (cut, ap (is_accepted_in version) (h.only d (subst (IsCut d) (sym same) cut)) ∙ h.accepted.1)

@@ -1,7 +1,8 @@
 -- What a text is read as.
 use Rattle.std.specs.Prelude.{◌≡◌, true, [], Some, pos}
 use Rattle.toml_edit_model.specs.Text.{Text}
-use Rattle.toml_edit_model.specs.Accepted.{AcceptedAs}
+use Rattle.toml_edit_model.specs.Version.{Version}
+use Rattle.toml_edit_model.specs.Accepted.{AcceptedAs, AcceptedIn}
 use Rattle.toml_edit_model.specs.Syntax.{Document, IsCut}
 use Rattle.toml_edit_model.specs.Fits.{Fits, is_steady}
 use Rattle.toml_edit_model.specs.Meaning.{SameFacts, meaning}
@@ -37,6 +38,20 @@ pub record IsReading (t : Text) (x : Tree) : Type 0 where
   pub spellings : HaveCutSpellings t x.slots
   pub meaning : SameFacts (shown_meaning x) (meaning document)
 
+-- ---- in a version of the grammar
+
+module _ (version : Version) where
+  -- the report says why the version refuses the text
+  abbrev pub IsRefusalIn : Text → Report → Type 0
+  IsRefusalIn t r = builder.IsRefusalIn version t r
+
+  -- The version accepts the text, which is read as it is in TOML 1.1.
+  pub record IsReadingIn (t : Text) (x : Tree) : Type 0 where
+    pub reading : IsReading t x
+    pub accepted : (d : Document) → IsCut d t → AcceptedIn version t d
+
+-- ---- texts of its own
+
 -- The text is accepted by this cut, and its normal text is accepted, means the same and is settled. A settled text is its own normal text.
 abbrev pub HasNormalText : Text → Document → Type 0
 HasNormalText t d = AcceptedAs t d × IsNormalForm plain t d
@@ -67,3 +82,8 @@ pub record PrintsMeaningOf (d : Document) (x : Tree) : Type 0 where
   pub fits : Fits x
   pub accepted : AcceptedAs (print x) (printed_document x)
   pub meaning : SameFacts (meaning (printed_document x)) (meaning d)
+
+-- The version accepts the text, which is read as it is in TOML 1.1.
+pub record IsOwnedReadingIn (version : Version) (t : Text) (x : Tree) : Type 0 where
+  pub reading : IsOwnedReading t x
+  pub accepted : (d : Document) → IsCut d t → AcceptedIn version t d

@@ -8,6 +8,7 @@ use std::alloc::Global;
 use toml_edit_builder as builder;
 use toml_edit_error::ParseFault;
 use toml_edit_fits::tree_fits;
+use toml_edit_parser::ParseOptions;
 use toml_edit_repr::{Mem, RawString};
 use toml_edit_tree::{Item, Iter, Table};
 
@@ -73,13 +74,14 @@ impl<S: SourceText> Drop for Document<S> {
 impl<S: SourceText> Document<S> {
     ghost use Rattle.std.specs.Prelude.{◌≡◌, ◌⊎◌, [], IfOk, IfErr, IsOk, IsErrOf};
     ghost use Rattle.toml_edit_model.specs.Syntax.{Document as Cut};
-    ghost use Rattle.toml_edit_model.specs.Accepted.{AcceptedAs};
+    ghost use Rattle.toml_edit_model.specs.Accepted.{AcceptedAs, AcceptedIn};
     ghost use Rattle.toml_edit_model.specs.Tree.{owned};
     ghost use Rattle.toml_edit_model.specs.TreeOf.{spanned_form, IsTreeOf};
     ghost use Rattle.toml_edit_model.specs.OwnedForm.{owned_tree};
     ghost use Rattle.toml_edit_error.specs.Fault.{IfToml};
     ghost use Rattle.toml_edit.specs.DocumentView.{source, tree_read, tree_owned};
-    ghost use Rattle.toml_edit.specs.Documents.{IsOwnedTreeOf, IsReading, PrintsMeaningOf};
+    ghost use Rattle.toml_edit.specs.Documents.{IsOwnedTreeOf, IsReading, IsReadingIn, IsRefusalIn, PrintsMeaningOf};
+    ghost use Rattle.toml_edit_parser.specs.Options.{version_of};
     ghost use Rattle.toml_edit.specs.Roots.{root_node};
     ghost use Rattle.toml_edit_tree.specs.Held.{held, held_left};
     ghost use Rattle.toml_edit_builder.specs.DocumentRead.{IsRefusal};
@@ -95,6 +97,27 @@ impl<S: SourceText> Document<S> {
         ensures refused { IfErr result (λ e. IfToml e (IsRefusal (S.content raw))) }
     {
         let (slots, trailing) = builder::parse(alloc, raw.text())?;
+        Ok(Document {
+            raw,
+            root: Item::Table(Table::root(slots)),
+            trailing,
+        })
+    }
+
+    /// Reads a text as these options say, as `parse` does otherwise. What the version of TOML lacks is a fault of its statement
+    /// (`needs TOML 1.1`), and marked.
+    pub fn parse_with(
+        alloc: Global,
+        raw: S,
+        options: ParseOptions,
+    ) -> Result<Document<S>, ParseFault>
+        ensures accepted { IfOk result (λ x. IsReadingIn (version_of options) (S.content raw) (tree_read x)) }
+        ensures source { IfOk result (λ x. source x ≡ S.content raw) }
+        // A text that the version accepts is never refused.
+        ensures every { (d : Cut) → AcceptedIn (version_of options) (S.content raw) d → IsOk result ⊎ IsErrOf result ParseFault.Memory }
+        ensures refused { IfErr result (λ e. IfToml e (IsRefusalIn (version_of options) (S.content raw))) }
+    {
+        let (slots, trailing) = builder::parse_in(alloc, raw.text(), options.get_version())?;
         Ok(Document {
             raw,
             root: Item::Table(Table::root(slots)),
@@ -262,13 +285,14 @@ impl DocumentMut {
     ghost use Rattle.std.specs.Prelude.{◌≡◌, ◌↔◌, ◌⊎◌, IfOk, IfErr, IsOk, IsErrOf, IsTrue, string_bytes};
     ghost use Rattle.toml_edit_model.specs.Fits.{Fits};
     ghost use Rattle.toml_edit_model.specs.Syntax.{Document as Cut};
-    ghost use Rattle.toml_edit_model.specs.Accepted.{AcceptedAs};
+    ghost use Rattle.toml_edit_model.specs.Accepted.{AcceptedAs, AcceptedIn};
     ghost use Rattle.toml_edit_model.specs.Print.{print as printed};
     ghost use Rattle.std.specs.Borrow.{sem};
     ghost use Rattle.toml_edit_error.specs.Fault.{IfToml};
     ghost use Rattle.toml_edit.specs.DocumentLending.{LendsRoot};
     ghost use Rattle.toml_edit.specs.DocumentView.{tree_owned};
-    ghost use Rattle.toml_edit.specs.Documents.{IsOwnedReading, MeansWhatIsShown, new_tree};
+    ghost use Rattle.toml_edit.specs.Documents.{IsOwnedReading, IsOwnedReadingIn, IsRefusalIn, MeansWhatIsShown, new_tree};
+    ghost use Rattle.toml_edit_parser.specs.Options.{version_of};
     ghost use Rattle.toml_edit.specs.Roots.{root_node};
     ghost use Rattle.toml_edit_builder.specs.DocumentRead.{IsRefusal};
     ghost use Rattle.toml_edit_tree.specs.Held.{held, held_left};
@@ -291,6 +315,22 @@ impl DocumentMut {
         ensures refused { IfErr result (λ e. IfToml e (IsRefusal text.now)) }
     {
         let document = Document::parse(alloc, text)?;
+        let owned = document.into_mut(alloc)?;
+        Ok(owned)
+    }
+
+    /// Reads a text as these options say, and makes the document own its texts. The errors are those of `Document::parse_with`.
+    pub fn from_str_with(
+        alloc: Global,
+        text: &str,
+        options: ParseOptions,
+    ) -> Result<DocumentMut, ParseFault>
+        ensures accepted { IfOk result (λ m. IsOwnedReadingIn (version_of options) text.now (tree_owned m)) }
+        // A text that the version accepts is never refused.
+        ensures every { (d : Cut) → AcceptedIn (version_of options) text.now d → IsOk result ⊎ IsErrOf result ParseFault.Memory }
+        ensures refused { IfErr result (λ e. IfToml e (IsRefusalIn (version_of options) text.now)) }
+    {
+        let document = Document::parse_with(alloc, text, options)?;
         let owned = document.into_mut(alloc)?;
         Ok(owned)
     }

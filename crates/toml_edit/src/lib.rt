@@ -8,10 +8,10 @@ pub mod laws;
 mod root;
 
 pub use document::{Document, DocumentMut, PrintFault, SourceText};
-pub use toml_edit_builder::FromStr;
 pub use toml_edit_datetime::{Date, Datetime, DatetimeFault, FloatText, Offset, Time};
 pub use toml_edit_error::{ParseFault, TomlError};
 pub use toml_edit_key::{Key, KeyMut};
+pub use toml_edit_parser::{FromStr, FromStrWith, ParseOptions, Version};
 pub use toml_edit_repr::{Decor, Formatted, Mem, RawString, Repr, ScalarValue, ValueRepr};
 pub use toml_edit_slots::NoMemory;
 pub use toml_edit_stream::{Broken, Input, Output, Watched};

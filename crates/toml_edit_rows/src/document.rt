@@ -4,7 +4,10 @@ use crate::said::Answer;
 use crate::steps::{Asked, Subject, behind, copied, word};
 use crate::{events, indexing, prints, refusal, run, steps, table};
 use serde_json::Value as Json;
-use toml_edit::{Document, DocumentMut, Item, Mem, ParseFault, RawString, SourceText, Table};
+use toml_edit::{
+    Document, DocumentMut, Item, Mem, ParseFault, ParseOptions, RawString, SourceText, Table,
+    Version,
+};
 
 pub fn answer(row: Row<'_>, out: &mut Answer) {
     match row.question {
@@ -16,6 +19,25 @@ pub fn answer(row: Row<'_>, out: &mut Answer) {
         }
         "document_from_str_prints" => owned(Document::from_str(out.alloc, row.text()), row, out),
         _ => read(Document::parse(out.alloc, row.text()), row, out),
+    }
+}
+
+/// Rows on the text of a document that is read as TOML 1.0.
+pub fn strict(row: Row<'_>, out: &mut Answer) {
+    let options = ParseOptions::new().version(Version::V1_0);
+    match row.question {
+        "from_str_prints" | "from_str_at" | "from_str_error" => {
+            steps::read(
+                DocumentMut::from_str_with(out.alloc, row.text(), options),
+                row,
+                out,
+            );
+        }
+        _ => read(
+            Document::parse_with(out.alloc, row.text(), options),
+            row,
+            out,
+        ),
     }
 }
 

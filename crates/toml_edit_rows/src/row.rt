@@ -4,8 +4,10 @@ use crate::{date_time, document, key, run, scalar, table, tokens, value};
 use serde_json::Value as Json;
 
 /// The kinds of rows. A row is of a kind if it has a member of this name, which says what is asked.
-const KINDS: [&str; 20] = [
+const KINDS: [&str; 22] = [
     "text",
+    "strict_text",
+    "strict_value",
     "document",
     "value",
     "string",
@@ -156,6 +158,8 @@ fn is_wanted(came: &str, wanted: &Json) -> bool {
 fn answer(row: Row<'_>, out: &mut Answer) {
     match row.kind {
         "text" => document::answer(row, out),
+        "strict_text" => document::strict(row, out),
+        "strict_value" => value::strict(row, out),
         "document" => document::empty(row, out),
         "value" => value::answer(row, out),
         "key" | "name" | "path" => key::answer(row, out),

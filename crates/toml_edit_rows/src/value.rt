@@ -4,7 +4,7 @@ use crate::said::Answer;
 use crate::steps::{Asked, Subject, behind, copied, word};
 use crate::{array, date_time, events, inline, list, refusal, scalar, steps};
 use serde_json::Value as Json;
-use toml_edit::{Decor, FromStr, Item, RawString, Value};
+use toml_edit::{Decor, FromStr, FromStrWith, Item, ParseOptions, RawString, Value, Version};
 
 pub fn answer(row: Row<'_>, out: &mut Answer) {
     match row.question {
@@ -13,6 +13,16 @@ pub fn answer(row: Row<'_>, out: &mut Answer) {
         "as_item" => steps::read(Item::from_str(out.alloc, row.text()), row, out),
         _ => steps::read(Value::from_str(out.alloc, row.text()), row, out),
     }
+}
+
+/// Rows on a lone value that is read as TOML 1.0.
+pub fn strict(row: Row<'_>, out: &mut Answer) {
+    let options = ParseOptions::new().version(Version::V1_0);
+    steps::read(
+        Value::from_str_with(out.alloc, row.text(), options),
+        row,
+        out,
+    );
 }
 
 impl Subject for Value {
