@@ -6,12 +6,12 @@ use Rattle.std.proofs.lemmas.List.Elements.{Contains-append_left, Contains-appen
 use Rattle.toml_edit_model.specs.Text.{Text}
 use Rattle.toml_edit_model.specs.Syntax.{Statement}
 use Rattle.toml_edit_model.specs.Version.{Version, v1_0, is_of_version, late_places}
-use Rattle.toml_edit_model.specs.Faults.{Fault, fault, needs_message, own_faults, late_faults}
+use Rattle.toml_edit_model.specs.Faults.{Fault, fault, needs_message, late_faults}
 use Rattle.toml_edit_laws.specs.Building.{Builder, faults_at}
 use Rattle.toml_edit_laws.proofs.building.Places.{sound-of-none}
 use Rattle.toml_edit_laws.proofs.versions.VersionFaults.{late-named, early-of-none}
 use Rattle.toml_edit_error.specs.Fault.{IfToml}
-use Rattle.toml_edit_error.specs.Report.{Report, fault_of}
+use Rattle.toml_edit_error.specs.Report.{fault_of}
 use Rattle.toml_edit_error.specs.declared.toml_error.ParseFault.{ParseFault}
 use Rattle.toml_edit_syntax.specs.declared.event.Event.{Event}
 use Rattle.toml_edit_syntax.specs.declared.event.Span.{Span}

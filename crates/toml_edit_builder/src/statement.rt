@@ -45,7 +45,7 @@ pub(crate) struct HeaderParts<'a> {
     pub(crate) trailing: Span,
 }
 
-/// The first part of the statement that comes first which the version lacks; where its value is too deep, before the bracket that is one
+/// The first part that the version lacks of the statement that comes first; where its value is too deep, one before the bracket that is one
 /// too many.
 fn late_part(source: &str, version: Version, events: &[Event]) -> Option<Span>
     requires { AreIn source.now events.now }
