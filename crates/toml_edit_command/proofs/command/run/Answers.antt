@@ -12,15 +12,15 @@ pub returns-in-Err-clause-wrong_words : goal.returns-in-Err-clause-wrong_words
 returns-in-Err-clause-wrong_words g c =
     λ wrong.
     let x = wrong-words (asked (map string_bytes c.args.words.now)) c.in-Err.stop (g.E.Output.contents c.args.errors.now)
-        (g.E.Output.contents c.end.new.errors) (g.E.Output.has_failed c.end.new.errors) c.in-Err.ensures.stops wrong c.end.ensures.told in
+    (g.E.Output.contents c.end.new.errors) (g.E.Output.has_failed c.end.new.errors) c.in-Err.ensures.stops wrong c.end.ensures.told in
     (c.end.ensures.status ∙ x.0, x.1)
 
 pub returns-in-Ok-perform-clause-done : goal.returns-in-Ok-perform-clause-done
 returns-in-Ok-perform-clause-done g c =
     λ _.
     does-command (asked (map string_bytes c.args.words.now)) (action_of c.in-Ok.read.0) c.in-Ok.ensures.said (version_of c.in-Ok.read.1)
-    c.in-Ok.ensures.version (g.I.Input.remaining c.args.input.now)
-    (g.O.Output.contents c.args.output.now) (g.O.Output.contents c.perform.new.output) c.in-Ok-perform.ensures.wrote
+    c.in-Ok.ensures.version (g.I.Input.remaining c.args.input.now) (g.O.Output.contents c.args.output.now)
+    (g.O.Output.contents c.perform.new.output) c.in-Ok-perform.ensures.wrote
 
 pub returns-in-Ok-perform-clause-wrong_words : goal.returns-in-Ok-perform-clause-wrong_words
 returns-in-Ok-perform-clause-wrong_words g c =
@@ -54,8 +54,7 @@ pub returns-in-Err-perform-clause-mistaken : goal.returns-in-Err-perform-clause-
 returns-in-Err-perform-clause-mistaken g c =
     λ two.
     tells-mistake (asked (map string_bytes c.args.words.now)) (action_of c.in-Ok.read.0) c.in-Ok.ensures.said (version_of c.in-Ok.read.1)
-    c.in-Ok.ensures.version (g.I.Input.remaining c.args.input.now)
-    (g.I.Input.has_failed c.perform.new.input) _ c.in-Err-perform.stop (g.E.Output.contents c.args.errors.now)
+    c.in-Ok.ensures.version (g.I.Input.remaining c.args.input.now) (g.I.Input.has_failed c.perform.new.input) _ c.in-Err-perform.stop (g.E.Output.contents c.args.errors.now)
     (g.E.Output.contents c.end-in-Err-perform.new.errors) (g.E.Output.has_failed c.end-in-Err-perform.new.errors) c.in-Err-perform.ensures.err
     (sym c.end-in-Err-perform.ensures.status ∙ two) c.end-in-Err-perform.ensures.told
 
@@ -71,5 +70,4 @@ pub returns-in-Err-perform-clause-beginning : goal.returns-in-Err-perform-clause
 returns-in-Err-perform-clause-beginning g c =
     λ broken.
     begins-command (asked (map string_bytes c.args.words.now)) (action_of c.in-Ok.read.0) c.in-Ok.ensures.said (version_of c.in-Ok.read.1)
-    c.in-Ok.ensures.version (g.I.Input.remaining c.args.input.now)
-    (g.I.Input.has_failed c.perform.new.input) _ c.in-Err-perform.stop c.in-Err-perform.ensures.err broken
+    c.in-Ok.ensures.version (g.I.Input.remaining c.args.input.now) (g.I.Input.has_failed c.perform.new.input) _ c.in-Err-perform.stop c.in-Err-perform.ensures.err broken
