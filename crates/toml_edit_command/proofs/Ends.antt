@@ -1,14 +1,15 @@
 -- How a run ends.
-use Rattle.std.proofs.Common.{◌≡◌, sym, ap, subst, ◌∙◌, Bool, true, List, [], ◌∷◌, length, Option, None, Some, inl, inr, arith, IsUtf8, string_bytes}
+use Rattle.std.proofs.Common.{◌≡◌, refl, sym, ap, subst, ◌∙◌, Bool, true, List, [], ◌∷◌, length, Option, None, Some, inl, inr, arith, IsUtf8, string_bytes}
 use Rattle.std.proofs.lemmas.Bool.{false≢true}
 use Rattle.std.specs.Prelude.{IfSome}
 use Rattle.toml_edit_model.specs.Syntax.{Document}
 use Rattle.toml_edit_model.specs.Text.{Text}
+use Rattle.toml_edit_model.specs.Version.{Version}
 use Rattle.toml_edit_model.specs.Tree.{Node, Tree}
-use Rattle.toml_edit_command.specs.Mistakes.{InWords}
-use Rattle.toml_edit_command.specs.Run.{Begins, BeginsCommand, Does, DoesCommand, TellsMistake, TellsRefusal}
-use Rattle.toml_edit_command.specs.Steps.{BeganToWrite, Outcome, StopsDoing, TellsStop, WroteRead, status_of}
-use Rattle.toml_edit_command.specs.Words.{Action, printing, getting, setting, removing, IsCommand, IsSet, Says, SpellsPath, SpellsValue, TakesPath}
+use Rattle.toml_edit_command.specs.Mistakes.{InRead, InWords, usage_line}
+use Rattle.toml_edit_command.specs.Run.{Begins, BeginsCommand, Does, DoesCommand, IsNotAccepted, Tells, TellsMistake, TellsRefusal}
+use Rattle.toml_edit_command.specs.Steps.{BeganToWrite, Outcome, StopsDoing, StopsInWords, TellsStop, WroteRead, status_of}
+use Rattle.toml_edit_command.specs.Words.{Action, printing, getting, setting, removing, Asked, IsCommand, IsSet, Says, SpellsPath, SpellsValue, TakesPath}
 use Rattle.toml_edit_command.specs.Written.{IsReadAs}
 use Rattle.toml_edit_command.specs.declared.stop.Mistake.{Mistake}
 use Rattle.toml_edit_command.specs.declared.stop.Mistake.TheVariants as mistakes
@@ -19,11 +20,11 @@ use Rattle.toml_edit_command.proofs.Local.{made-written}
 -- ---- words
 
 -- words that say what is to be done are a command
-pub says-command : (ws : List Text) (a : Action) → Says ws a → IsCommand ws
-says-command ws printing said = inl said
-says-command ws (getting names) said = inr (said.0, inl said.1)
-says-command ws (setting names n) said = inr (said.0, inr (inl (said.1, said.2)))
-says-command ws (removing names) said = inr (said.0, inr (inr said.1))
+pub says-command : (q : Asked) (a : Action) → Says q a → IsCommand q.command
+says-command q printing said = inl said
+says-command q (getting names) said = inr (said.0, inl said.1)
+says-command q (setting names n) said = inr (said.0, inr (inl (said.1, said.2)))
+says-command q (removing names) said = inr (said.0, inr (inr said.1))
 
 first : List Text → Text
 first [] = []
@@ -38,27 +39,27 @@ third [] = []
 third (w ∷ ws) = second ws
 
 -- the PATH of words that say what is to be done is a path
-path-spelled : (ws : List Text) (a : Action) → Says ws a → (path : Text) → TakesPath ws path → (names : List Text) × SpellsPath path names
+path-spelled : (q : Asked) (a : Action) → Says q a → (path : Text) → TakesPath q.command path → (names : List Text) × SpellsPath path names
 unfolding first second
-path-spelled ws printing said path takes =
+path-spelled q printing said path takes =
     elim takes [
       | inl get ↦ absurd (omega (arith, ap length (sym said ∙ get)))
       | inr (inl set) ↦ absurd (omega (arith, ap length (sym said ∙ set.1)))
       | inr (inr remove) ↦ absurd (omega (arith, ap length (sym said ∙ remove)))
     ]
-path-spelled ws (getting names) said path takes =
+path-spelled q (getting names) said path takes =
     elim takes [
       | inl get ↦ (names, subst (λ p. SpellsPath p names) (ap second (sym said.1 ∙ get)) said.2)
       | inr (inl set) ↦ absurd (omega (arith, ap length (sym said.1 ∙ set.1)))
       | inr (inr remove) ↦ absurd (omega (arith, ap (λ xs. length (first xs)) (sym said.1 ∙ remove)))
     ]
-path-spelled ws (setting names n) said path takes =
+path-spelled q (setting names n) said path takes =
     elim takes [
       | inl get ↦ absurd (omega (arith, ap length (sym said.2 ∙ get)))
       | inr (inl set) ↦ (names, subst (λ p. SpellsPath p names) (ap second (sym said.2 ∙ set.1)) said.3)
       | inr (inr remove) ↦ absurd (omega (arith, ap length (sym said.2 ∙ remove)))
     ]
-path-spelled ws (removing names) said path takes =
+path-spelled q (removing names) said path takes =
     elim takes [
       | inl get ↦ absurd (omega (arith, ap (λ xs. length (first xs)) (sym said.1 ∙ get)))
       | inr (inl set) ↦ absurd (omega (arith, ap length (sym said.1 ∙ set.1)))
@@ -66,64 +67,88 @@ path-spelled ws (removing names) said path takes =
     ]
 
 -- and their VALUE a value
-value-spelled : (ws : List Text) (a : Action) → Says ws a → (path value : Text) → IsSet ws path value → (n : Node) × SpellsValue value n
+value-spelled : (q : Asked) (a : Action) → Says q a → (path value : Text) → IsSet q.command path value → (n : Node) × SpellsValue q.version value n
 unfolding first second third
-value-spelled ws printing said path value set = absurd (omega (arith, ap length (sym said ∙ set)))
-value-spelled ws (getting names) said path value set = absurd (omega (arith, ap length (sym said.1 ∙ set)))
-value-spelled ws (setting names n) said path value set = (n, subst (λ x. SpellsValue x n) (ap third (sym said.2 ∙ set)) said.4)
-value-spelled ws (removing names) said path value set = absurd (omega (arith, ap length (sym said.1 ∙ set)))
+value-spelled q printing said path value set = absurd (omega (arith, ap length (sym said ∙ set)))
+value-spelled q (getting names) said path value set = absurd (omega (arith, ap length (sym said.1 ∙ set)))
+value-spelled q (setting names n) said path value set = (n, subst (λ x. SpellsValue q.version x n) (ap third (sym said.2 ∙ set)) said.4)
+value-spelled q (removing names) said path value set = absurd (omega (arith, ap length (sym said.1 ∙ set)))
 
 -- so no mistake stands in them
-pub says-right : (ws : List Text) (a : Action) → Says ws a → (m : Mistake) → InWords ws m → ⊥
-says-right ws a said mistakes.Words wrong = wrong (says-command ws a said)
-says-right ws a said mistakes.Path (path, takes, none) = let x = path-spelled ws a said path takes in none x.0 x.1
-says-right ws a said mistakes.Value (path, value, names, set, spelled, none) = let x = value-spelled ws a said path value set in none x.0 x.1
-says-right ws a said mistakes.NoSuchPath wrong = wrong
-says-right ws a said mistakes.WrongKind wrong = wrong
-says-right ws a said mistakes.Unfit wrong = wrong
+pub says-right : (q : Asked) (a : Action) → Says q a → (m : Mistake) → InWords q m → ⊥
+says-right q a said mistakes.Words wrong = wrong (says-command q a said)
+says-right q a said mistakes.Path (path, takes, none) = let x = path-spelled q a said path takes in none x.0 x.1
+says-right q a said mistakes.Value (path, value, names, set, spelled, none) = let x = value-spelled q a said path value set in none x.0 x.1
+says-right q a said mistakes.NoSuchPath wrong = wrong
+says-right q a said mistakes.WrongKind wrong = wrong
+says-right q a said mistakes.Unfit wrong = wrong
+
+-- what is told where they are no command
+pub wrong-words : (q : Asked) (stop : Stop) (old new : Option Text) (failed : Bool) → StopsInWords q stop → ¬ (IsCommand q.command)
+    → TellsStop stop old new failed → (status_of stop ≡ 2) × Tells old new failed usage_line
+wrong-words q (Mistaken mistakes.Words) old new failed stops wrong told = (refl, told)
+wrong-words q (Mistaken mistakes.Path) old new failed stops wrong told = absurd (wrong (inr (stops.0, stops.1)))
+wrong-words q (Mistaken mistakes.Value) old new failed stops wrong told = absurd (wrong (inr (stops.0, inr (inl (stops.1, stops.3)))))
+wrong-words q (Mistaken mistakes.NoSuchPath) old new failed stops wrong told = absurd stops
+wrong-words q (Mistaken mistakes.WrongKind) old new failed stops wrong told = absurd stops
+wrong-words q (Mistaken mistakes.Unfit) old new failed stops wrong told = absurd stops
+wrong-words q NotUtf8 old new failed stops wrong told = absurd stops
+wrong-words q (Refused e) old new failed stops wrong told = absurd stops
+wrong-words q Memory old new failed stops wrong told = absurd (wrong stops)
+wrong-words q ReadFailed old new failed stops wrong told = absurd stops
+wrong-words q WriteFailed old new failed stops wrong told = absurd stops
 
 -- ---- what was done, and what stopped it
 
-module _ (ws : List Text) (a : Action) (said : Says ws a) (known : Option Text) where
-  does : (known old new : Option Text) → WroteRead a known old new → Does a known old new
+module _ (q : Asked) (a : Action) (said : Says q a) (version : Version) (same : version ≡ q.version) (known : Option Text) where
+  does : (known old new : Option Text) → WroteRead version a known old new → Does version a known old new
   does None old new wrote = tt
-  does (Some bytes) old new (d, t, is, (x, made, grew)) = (d, t, is, (x, made-written ws a said bytes d t is x made, grew))
+  does (Some bytes) old new (d, t, is, (x, made, grew)) = (d, t, is, (x, made-written q a said version bytes d t is x made, grew))
 
-  pub does-command : (old new : Option Text) → WroteRead a known old new → DoesCommand ws known old new
-  does-command old new wrote = (a, said, does known old new wrote)
+  pub does-command : (old new : Option Text) → WroteRead version a known old new → DoesCommand q known old new
+  does-command old new wrote = (a, said, subst (λ v. Does v a known old new) same (does known old new wrote))
 
   begins : (known old new : Option Text)
-      → IfSome known (λ bytes. (d : Document) × (t : Tree) × IsReadAs bytes d t × BeganToWrite a t old new) → Begins a known old new
+      → IfSome known (λ bytes. (d : Document) × (t : Tree) × IsReadAs version bytes d t × BeganToWrite a t old new) → Begins version a known old new
   begins None old new began = tt
-  begins (Some bytes) old new (d, t, is, (x, made, grew)) = (d, t, is, (x, made-written ws a said bytes d t is x made, grew))
+  begins (Some bytes) old new (d, t, is, (x, made, grew)) = (d, t, is, (x, made-written q a said version bytes d t is x made, grew))
 
   module _ (failed : Bool) (s : Outcome) where
-    pub begins-command : (stop : Stop) → StopsDoing a known failed s stop → s.failed ≡ true → BeginsCommand ws known s.old s.new
+    pub begins-command : (stop : Stop) → StopsDoing version a known failed s stop → s.failed ≡ true → BeginsCommand q known s.old s.new
     begins-command (Mistaken m) stops h = absurd (false≢true (sym stops.2.1 ∙ h))
     begins-command NotUtf8 stops h = absurd (false≢true (sym stops.1.1 ∙ h))
     begins-command (Refused e) stops h = absurd (false≢true (sym stops.1.1 ∙ h))
     begins-command Memory stops h = absurd (false≢true (sym stops.1.1 ∙ h))
     begins-command ReadFailed stops h = absurd (false≢true (sym stops.1.1 ∙ h))
-    begins-command WriteFailed stops h = (a, said, begins known s.old s.new stops.1)
+    begins-command WriteFailed stops h = (a, said, subst (λ v. Begins v a known s.old s.new) same (begins known s.old s.new stops.1))
 
-    pub tells-mistake : (stop : Stop) (old new : Option Text) (broken : Bool) → StopsDoing a known failed s stop → status_of stop ≡ 2
-        → TellsStop stop old new broken → TellsMistake ws known old new broken
-    tells-mistake (Mistaken m) old new broken stops two told = (m, inr (a, said, stops.0), told)
+    pub tells-mistake : (stop : Stop) (old new : Option Text) (broken : Bool) → StopsDoing version a known failed s stop → status_of stop ≡ 2
+        → TellsStop stop old new broken → TellsMistake q known old new broken
+    tells-mistake (Mistaken m) old new broken stops two told = (m, inr (a, said, subst (λ v. InRead v a known m) same stops.0), told)
     tells-mistake NotUtf8 old new broken stops two told = absurd (omega (arith, two))
     tells-mistake (Refused e) old new broken stops two told = absurd (omega (arith, two))
     tells-mistake Memory old new broken stops two told = absurd (omega (arith, two))
     tells-mistake ReadFailed old new broken stops two told = absurd (omega (arith, two))
     tells-mistake WriteFailed old new broken stops two told = absurd (omega (arith, two))
 
--- a run that ends with status 1 on a text tells why it is refused
-pub tells-refusal : (a : Action) (known : Option Text) (failed : Bool) (s : Outcome) (stop : Stop) (old new : Option Text) (broken : Bool)
-    → StopsDoing a known failed s stop → status_of stop ≡ 1 → TellsStop stop old new broken
-    → IfSome known (λ bytes. IsUtf8 bytes → TellsRefusal bytes old new broken)
-tells-refusal a None failed s NotUtf8 old new broken stops one told = tt
-tells-refusal a (Some bytes) failed s NotUtf8 old new broken stops one told = λ u. absurd (stops.0.0 u)
-tells-refusal a None failed s (Refused e) old new broken stops one told = tt
-tells-refusal a (Some bytes) failed s (Refused e) old new broken stops one told = λ _. (string_bytes e, stops.0.0.2, told)
-tells-refusal a known failed s (Mistaken m) old new broken stops one told = absurd (omega (arith, one))
-tells-refusal a known failed s Memory old new broken stops one told = absurd (omega (arith, one))
-tells-refusal a known failed s ReadFailed old new broken stops one told = absurd (omega (arith, one))
-tells-refusal a known failed s WriteFailed old new broken stops one told = absurd (omega (arith, one))
+-- what a run with status 1 has read is not accepted, and it tells why
+module _ (version : Version) (a : Action) (failed : Bool) (s : Outcome) where
+  pub not-accepted : (known : Option Text) (stop : Stop) → StopsDoing version a known failed s stop → status_of stop ≡ 1
+      → IfSome known (IsNotAccepted version)
+  not-accepted None stop stops one = tt
+  not-accepted (Some bytes) NotUtf8 stops one = λ d utf8 accepted. stops.0.0 utf8
+  not-accepted (Some bytes) (Refused e) stops one = λ d utf8 accepted. stops.0.0.1 d accepted
+  not-accepted (Some bytes) (Mistaken m) stops one = absurd (omega (arith, one))
+  not-accepted (Some bytes) Memory stops one = absurd (omega (arith, one))
+  not-accepted (Some bytes) ReadFailed stops one = absurd (omega (arith, one))
+  not-accepted (Some bytes) WriteFailed stops one = absurd (omega (arith, one))
+
+  pub tells-refusal : (known : Option Text) (stop : Stop) (old new : Option Text) (broken : Bool) → StopsDoing version a known failed s stop
+      → status_of stop ≡ 1 → TellsStop stop old new broken → IfSome known (λ bytes. IsUtf8 bytes → TellsRefusal version bytes old new broken)
+  tells-refusal None stop old new broken stops one told = tt
+  tells-refusal (Some bytes) NotUtf8 old new broken stops one told = λ u. absurd (stops.0.0 u)
+  tells-refusal (Some bytes) (Refused e) old new broken stops one told = λ _. (string_bytes e, stops.0.0.2, told)
+  tells-refusal (Some bytes) (Mistaken m) old new broken stops one told = absurd (omega (arith, one))
+  tells-refusal (Some bytes) Memory old new broken stops one told = absurd (omega (arith, one))
+  tells-refusal (Some bytes) ReadFailed old new broken stops one told = absurd (omega (arith, one))
+  tells-refusal (Some bytes) WriteFailed old new broken stops one told = absurd (omega (arith, one))

@@ -2,6 +2,7 @@
 use Rattle.std.proofs.Common.{◌≡◌, sym, ap, subst, ◌∙◌, true, List, [], ◌∷◌, ◌++◌}
 use Rattle.toml_edit_model.specs.Mode.{plain}
 use Rattle.toml_edit_model.specs.Text.{Text}
+use Rattle.toml_edit_model.specs.Version.{Version}
 use Rattle.toml_edit_model.specs.Syntax.{Document}
 use Rattle.toml_edit_model.specs.Paths.{to_key}
 use Rattle.toml_edit_model.specs.Keys.{new_key}
@@ -15,7 +16,7 @@ use Rattle.toml_edit_laws.proofs.commands.Removing.{remove_drops, remove_element
 use Rattle.toml_edit_laws.proofs.commands.Filled.{read_has_no_placeholders}
 use Rattle.toml_edit_laws.proofs.print_of_read.PrintOfRead.{plain_print_normal}
 use Rattle.toml_edit_command.specs.Edits.{Sets, Removes, DropsInside}
-use Rattle.toml_edit_command.specs.Words.{Action, printing, getting, setting, removing, Says}
+use Rattle.toml_edit_command.specs.Words.{Action, printing, getting, setting, removing, Asked, Says}
 use Rattle.toml_edit_command.specs.Written.{IsReadAs, Makes, Writes}
 use Rattle.toml_edit_command.proofs.Spelled.{spelled-plain}
 
@@ -61,10 +62,10 @@ module _ (d : Document) (t u : Tree) (names : List Text) (read : IsRead plain d 
       }
 
 -- What is made of the tree of what was read is what the command writes of it.
-pub made-written : (ws : List Text) (a : Action) → Says ws a → (bytes : Text) (d : Document) (t : Tree) → IsReadAs bytes d t → (x : Text)
-    → Makes a t x → Writes a d t x
-made-written ws printing said bytes d t is x made = made ∙ plain_print_normal d is.read.is_document is.read.accepted t is.read.tree
-made-written ws (getting names) said bytes d t is x made = made
-made-written ws (setting names n) (path, value, words, spelled, value_spelled) bytes d t is x (u, at, print) =
-    (u, sets d t u names is.read n (spelled-plain value n value_spelled) at, print)
-made-written ws (removing names) said bytes d t is x (u, at, print) = (u, removes d t u names is.read at, print)
+pub made-written : (q : Asked) (a : Action) → Says q a → (version : Version) (bytes : Text) (d : Document) (t : Tree) → IsReadAs version bytes d t
+    → (x : Text) → Makes a t x → Writes a d t x
+made-written q printing said version bytes d t is x made = made ∙ plain_print_normal d is.read.is_document is.read.accepted t is.read.tree
+made-written q (getting names) said version bytes d t is x made = made
+made-written q (setting names n) (path, value, words, spelled, value_spelled) version bytes d t is x (u, at, print) =
+    (u, sets d t u names is.read n (spelled-plain q.version value n value_spelled) at, print)
+made-written q (removing names) said version bytes d t is x (u, at, print) = (u, removes d t u names is.read at, print)

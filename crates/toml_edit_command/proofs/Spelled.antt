@@ -2,6 +2,7 @@
 use Rattle.std.proofs.Common.{◌≡◌, refl, ap, ◌∙◌, true, List, [], ◌∷◌, map}
 use Rattle.std.specs.Prelude.{not, ℕ}
 use Rattle.toml_edit_model.specs.Text.{Text}
+use Rattle.toml_edit_model.specs.Version.{Version}
 use Rattle.toml_edit_model.specs.Syntax.{Segment, Value, scalar, array, inline_table}
 use Rattle.toml_edit_model.specs.Tree.{Node, nothing, leaf, list, inline, table, tables, unset}
 use Rattle.toml_edit_model.specs.TreeOf.{owned_form, IsValueNode}
@@ -37,5 +38,5 @@ plain-item (inline_table ps comma t) i before after (list f xs) h = absurd h
 plain-item (inline_table ps comma t) i before after (table f ss) h = absurd h
 plain-item (inline_table ps comma t) i before after (tables e xs) h = absurd h
 
-pub spelled-plain : (t : Text) (n : Node) → SpellsValue t n → is_plain_value n ≡ true
-spelled-plain t n (v, lone, accepted, (m, is, same)) = ap is_plain_value same ∙ plain-item v 0 [] [] m is
+pub spelled-plain : (version : Version) (t : Text) (n : Node) → SpellsValue version t n → is_plain_value n ≡ true
+spelled-plain version t n (v, lone, accepted, (m, is, same)) = ap is_plain_value same ∙ plain-item v 0 [] [] m is

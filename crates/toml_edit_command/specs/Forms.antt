@@ -1,12 +1,19 @@
--- The words of a command, by its name, and how PATH and VALUE stop it.
+-- What is asked for by options and words, a command's words by its name, and how PATH and VALUE stop it.
 use Rattle.std.specs.Prelude.{◌≡◌, ◌⊎◌, List, Option, Some, None}
 use Rattle.toml_edit_model.specs.Text.{Text}
-use Rattle.toml_edit_command.specs.Words.{IsPrint, IsGet, IsSet, IsRemove, IsCommand, IsNoPath, IsNoValue}
+use Rattle.toml_edit_model.specs.Version.{Version}
+use Rattle.toml_edit_command.specs.Words.{Asked, IsPrint, IsGet, IsSet, IsRemove, IsCommand, IsNoPath, IsNoValue}
+use Rattle.toml_edit_parser.specs.Options.{version_of}
+use Rattle.toml_edit_parser.specs.declared.options.ParseOptions.{ParseOptions}
 use Rattle.toml_edit_command.specs.declared.words.Form.{Form}
 use Rattle.toml_edit_command.specs.declared.words.Form.TheVariants.{Print, Get, Set, Remove}
 use Rattle.toml_edit_command.specs.declared.stop.Mistake.TheVariants as mistakes
 use Rattle.toml_edit_command.specs.declared.stop.Stop.{Stop}
 use Rattle.toml_edit_command.specs.declared.stop.Stop.TheVariants.{Mistaken, Memory}
+
+-- a command, in the version of the options
+abbrev pub asked_by : ParseOptions → List Text → Asked
+asked_by options ws = record { version = version_of options; command = ws }
 
 abbrev pub IsForm : List Text → Option Form → Type 0
 IsForm ws None = ¬ (IsCommand ws)
@@ -19,5 +26,5 @@ IsForm ws (Some (Remove path)) = IsRemove ws path.now
 abbrev pub MayStopPath : Text → Stop → Type 0
 MayStopPath t stop = (stop ≡ Memory) ⊎ ((stop ≡ Mistaken mistakes.Path) × IsNoPath t)
 
-abbrev pub MayStopValue : Text → Stop → Type 0
-MayStopValue t stop = (stop ≡ Memory) ⊎ ((stop ≡ Mistaken mistakes.Value) × IsNoValue t)
+abbrev pub MayStopValue : Version → Text → Stop → Type 0
+MayStopValue version t stop = (stop ≡ Memory) ⊎ ((stop ≡ Mistaken mistakes.Value) × IsNoValue version t)

@@ -1,10 +1,11 @@
 -- What is wrong with a command, and the lines that are told of a run's end.
 use Rattle.std.specs.Prelude.{◌⊎◌, List, ◌++◌, codes, Option, IfSome}
 use Rattle.toml_edit_model.specs.Text.{Text, newline}
+use Rattle.toml_edit_model.specs.Version.{Version}
 use Rattle.toml_edit_model.specs.Fits.{Fits}
 use Rattle.toml_edit_model.specs.Tree.{Tree}
 use Rattle.toml_edit_laws.specs.Commands.{no_such_path, wrong_kind}
-use Rattle.toml_edit_command.specs.Words.{Action, TakesPath, IsCommand, IsSet, IsNoPath, IsNoValue, Says, SpellsPath}
+use Rattle.toml_edit_command.specs.Words.{Action, Asked, TakesPath, IsCommand, IsSet, IsNoPath, IsNoValue, Says, SpellsPath}
 use Rattle.toml_edit_command.specs.Written.{IsReadOf, Changes, Refuses}
 use Rattle.toml_edit_command.specs.declared.stop.Mistake.{Mistake}
 use Rattle.toml_edit_command.specs.declared.stop.Mistake.TheVariants.{Words, Path, Value, NoSuchPath, WrongKind, Unfit}
@@ -12,7 +13,7 @@ use Rattle.toml_edit_command.specs.declared.stop.Mistake.TheVariants.{Words, Pat
 -- ---- lines
 
 abbrev pub usage_line : Text
-usage_line = codes "tomled: usage: tomled print | get PATH | set PATH VALUE | remove PATH" ++ newline
+usage_line = codes "tomled: usage: tomled [strict] print | get PATH | set PATH VALUE | remove PATH" ++ newline
 
 abbrev pub encoding_line : Text
 encoding_line = codes "tomled: input is not UTF-8" ++ newline
@@ -37,13 +38,14 @@ mistake_line Unfit = codes "tomled: does not fit" ++ newline
 -- ---- mistakes
 
 -- It stands in the words: they are no command, or PATH is no lone path, or PATH is one and VALUE is no lone value.
-abbrev pub InWords : List Text → Mistake → Type 0
-InWords ws Words = ¬ (IsCommand ws)
-InWords ws Path = (path : Text) × TakesPath ws path × IsNoPath path
-InWords ws Value = (path : Text) × (value : Text) × (names : List Text) × IsSet ws path value × SpellsPath path names × IsNoValue value
-InWords ws NoSuchPath = ⊥
-InWords ws WrongKind = ⊥
-InWords ws Unfit = ⊥
+abbrev pub InWords : Asked → Mistake → Type 0
+InWords q Words = ¬ (IsCommand q.command)
+InWords q Path = (path : Text) × TakesPath q.command path × IsNoPath path
+InWords q Value =
+    (path : Text) × (value : Text) × (names : List Text) × IsSet q.command path value × SpellsPath path names × IsNoValue q.version value
+InWords q NoSuchPath = ⊥
+InWords q WrongKind = ⊥
+InWords q Unfit = ⊥
 
 -- It stands in what they say of the tree: nothing is at the path, or the wrong kind, or the changed tree does not fit.
 abbrev pub InTree : Action → Tree → Mistake → Type 0
@@ -55,8 +57,8 @@ InTree a t WrongKind = Refuses a t wrong_kind
 InTree a t Unfit = (u : Tree) × Changes a t u × (¬ (Fits u))
 
 -- so it is in that of what was left to read
-abbrev pub InRead : Action → Option Text → Mistake → Type 0
-InRead a known m = (t : Tree) × InTree a t m × IfSome known (λ bytes. IsReadOf bytes t)
+abbrev pub InRead : Version → Action → Option Text → Mistake → Type 0
+InRead version a known m = (t : Tree) × InTree a t m × IfSome known (λ bytes. IsReadOf version bytes t)
 
-abbrev pub IsMistaken : List Text → Option Text → Mistake → Type 0
-IsMistaken ws known m = InWords ws m ⊎ ((a : Action) × Says ws a × InRead a known m)
+abbrev pub IsMistaken : Asked → Option Text → Mistake → Type 0
+IsMistaken q known m = InWords q m ⊎ ((a : Action) × Says q a × InRead q.version a known m)

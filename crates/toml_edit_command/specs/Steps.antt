@@ -1,13 +1,14 @@
 -- Why a run stops, and what it leaves then.
-use Rattle.std.specs.Prelude.{◌≡◌, ℕ, nat_lt, Bool, true, false, if◌then◌else◌, List, Option, None, Some, IfSome, IsUtf8, string_bytes}
+use Rattle.std.specs.Prelude.{◌≡◌, ℕ, nat_lt, Bool, true, false, if◌then◌else◌, Option, None, Some, IfSome, IsUtf8, string_bytes}
 use Rattle.std.specs.Io.KnownBytes.{Appends}
 use Rattle.toml_edit_model.specs.Text.{Text}
+use Rattle.toml_edit_model.specs.Version.{Version}
 use Rattle.toml_edit_model.specs.Syntax.{Document}
 use Rattle.toml_edit_model.specs.Fits.{Fits}
 use Rattle.toml_edit_model.specs.Tree.{Tree}
 use Rattle.toml_edit_stream.specs.Whole.{AppendsBeginning}
 use Rattle.toml_edit_tree.specs.View.{value_view}
-use Rattle.toml_edit_command.specs.Words.{Action, printing, getting, setting, removing, IsCommand}
+use Rattle.toml_edit_command.specs.Words.{Action, printing, getting, setting, removing, Asked, IsCommand}
 use Rattle.toml_edit_command.specs.Written.{IsPrintOf, IsReadAs, Makes}
 use Rattle.toml_edit_command.specs.Mistakes.{InWords, InTree, InRead, mistake_line, encoding_line, memory_line, read_line, write_line}
 use Rattle.toml_edit_command.specs.Run.{IsExcerptOf, IsRefused, Tells}
@@ -47,22 +48,23 @@ TellsStop ReadFailed old new failed = Tells old new failed read_line
 TellsStop WriteFailed old new failed = Tells old new failed write_line
 
 -- the words stop it so
-abbrev pub StopsInWords : List Text → Stop → Type 0
-StopsInWords ws (Mistaken m) = InWords ws m
-StopsInWords ws NotUtf8 = ⊥
-StopsInWords ws (Refused e) = ⊥
-StopsInWords ws Memory = IsCommand ws
-StopsInWords ws ReadFailed = ⊥
-StopsInWords ws WriteFailed = ⊥
+abbrev pub StopsInWords : Asked → Stop → Type 0
+StopsInWords q (Mistaken m) = InWords q m
+StopsInWords q NotUtf8 = ⊥
+StopsInWords q (Refused e) = ⊥
+StopsInWords q Memory = IsCommand q.command
+StopsInWords q ReadFailed = ⊥
+StopsInWords q WriteFailed = ⊥
 
--- a step that reads stops so: what was left to read, and whether the input has failed then
-abbrev pub StopsReading : Option Text → Bool → Stop → Type 0
-StopsReading known failed (Mistaken m) = ⊥
-StopsReading known failed NotUtf8 = IfSome known (λ bytes. ¬ (IsUtf8 bytes)) × (failed ≡ false)
-StopsReading known failed (Refused e) = IfSome known (λ bytes. IsUtf8 bytes × IsRefused bytes × IsExcerptOf bytes (string_bytes e)) × (failed ≡ false)
-StopsReading known failed Memory = failed ≡ false
-StopsReading known failed ReadFailed = failed ≡ true
-StopsReading known failed WriteFailed = ⊥
+-- a step that reads in this version stops so: what was left to read, and whether the input has failed then
+abbrev pub StopsReading : Version → Option Text → Bool → Stop → Type 0
+StopsReading version known failed (Mistaken m) = ⊥
+StopsReading version known failed NotUtf8 = IfSome known (λ bytes. ¬ (IsUtf8 bytes)) × (failed ≡ false)
+StopsReading version known failed (Refused e) =
+    IfSome known (λ bytes. IsUtf8 bytes × IsRefused version bytes × IsExcerptOf version bytes (string_bytes e)) × (failed ≡ false)
+StopsReading version known failed Memory = failed ≡ false
+StopsReading version known failed ReadFailed = failed ≡ true
+StopsReading version known failed WriteFailed = ⊥
 
 -- what a step that writes has seen: what the output held before and after, and whether it has failed then
 pub record Outcome : Type 0 where
@@ -90,21 +92,22 @@ StopsActing a t s Memory = IsUnwritten s
 StopsActing a t s ReadFailed = ⊥
 StopsActing a t s WriteFailed = BeganToWrite a t s.old s.new × (s.failed ≡ true)
 
--- the action on what was left to read stops so, and whether the input has failed then
-abbrev pub StopsDoing : Action → Option Text → Bool → Outcome → Stop → Type 0
-StopsDoing a known failed s (Mistaken m) = InRead a known m × (failed ≡ false) × IsUnwritten s
-StopsDoing a known failed s NotUtf8 = StopsReading known failed NotUtf8 × IsUnwritten s
-StopsDoing a known failed s (Refused e) = StopsReading known failed (Refused e) × IsUnwritten s
-StopsDoing a known failed s Memory = StopsReading known failed Memory × IsUnwritten s
-StopsDoing a known failed s ReadFailed = StopsReading known failed ReadFailed × IsUnwritten s
-StopsDoing a known failed s WriteFailed =
-    (failed ≡ false) × IfSome known (λ bytes. (d : Document) × (t : Tree) × IsReadAs bytes d t × BeganToWrite a t s.old s.new) × (s.failed ≡ true)
+-- the action on what was left to read, in this version, stops so, and whether the input has failed then
+abbrev pub StopsDoing : Version → Action → Option Text → Bool → Outcome → Stop → Type 0
+StopsDoing version a known failed s (Mistaken m) = InRead version a known m × (failed ≡ false) × IsUnwritten s
+StopsDoing version a known failed s NotUtf8 = StopsReading version known failed NotUtf8 × IsUnwritten s
+StopsDoing version a known failed s (Refused e) = StopsReading version known failed (Refused e) × IsUnwritten s
+StopsDoing version a known failed s Memory = StopsReading version known failed Memory × IsUnwritten s
+StopsDoing version a known failed s ReadFailed = StopsReading version known failed ReadFailed × IsUnwritten s
+StopsDoing version a known failed s WriteFailed =
+    (failed ≡ false)
+    × IfSome known (λ bytes. (d : Document) × (t : Tree) × IsReadAs version bytes d t × BeganToWrite a t s.old s.new) × (s.failed ≡ true)
 
 -- ---- on the way
 
 -- what the action makes of the tree of what was left to read was written
-abbrev pub WroteRead : Action → Option Text → Option Text → Option Text → Type 0
-WroteRead a known old new = IfSome known (λ bytes. (d : Document) × (t : Tree) × IsReadAs bytes d t × Wrote a t old new)
+abbrev pub WroteRead : Version → Action → Option Text → Option Text → Option Text → Type 0
+WroteRead version a known old new = IfSome known (λ bytes. (d : Document) × (t : Tree) × IsReadAs version bytes d t × Wrote a t old new)
 
 -- a fault of a change stops the run so
 abbrev pub stop_for : ChangeFault → Stop

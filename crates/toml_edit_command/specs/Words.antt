@@ -1,9 +1,10 @@
 -- What the words of a command say.
-use Rattle.std.specs.Prelude.{◌≡◌, ◌⊎◌, true, List, [], ◌∷◌, map, codes}
-use Rattle.toml_edit_model.specs.Text.{Text}
+use Rattle.std.specs.Prelude.{◌≡◌, ◌⊎◌, true, if◌then◌else◌, List, [], ◌∷◌, map, codes}
+use Rattle.toml_edit_model.specs.Text.{Text, same_text}
 use Rattle.toml_edit_model.specs.Syntax.{Segment, Value}
+use Rattle.toml_edit_model.specs.Version.{Version, v1_0, v1_1}
 use Rattle.toml_edit_model.specs.Tree.{Node}
-use Rattle.toml_edit_model.specs.Lone.{IsLonePath, IsLoneValue, IsLoneItem, is_accepted_value}
+use Rattle.toml_edit_model.specs.Lone.{IsLonePath, IsLoneValue, IsLoneItem, is_accepted_value_in}
 
 -- what is done to a document that is read; a path is a list of the texts of its keys
 pub data Action : Type 0 where
@@ -11,6 +12,19 @@ pub data Action : Type 0 where
   getting : List Text → Action
   setting : List Text → Node → Action
   removing : List Text → Action
+
+-- ---- the version
+
+-- what words ask for: the version of TOML that texts are read as, and what is left of the words, the command
+pub record Asked : Type 0 where
+  pub version : Version
+  pub command : List Text
+
+-- TOML 1.0 by the word `strict` in front, and TOML 1.1 without it
+abbrev pub asked : List Text → Asked
+asked [] = record { version = v1_1; command = [] }
+asked (w ∷ ws) =
+    if same_text w (codes "strict") then record { version = v1_0; command = ws } else record { version = v1_1; command = w ∷ ws }
 
 -- ---- the commands
 
@@ -43,15 +57,16 @@ SpellsPath t names = (before : Text) × (p : List Segment) × (after : Text) × 
 abbrev pub IsNoPath : Text → Type 0
 IsNoPath t = (names : List Text) → SpellsPath t names → ⊥
 
--- the text is a lone value, within limits and ranges, and this is its item
-abbrev pub SpellsValue : Text → Node → Type 0
-SpellsValue t n = (v : Value) × IsLoneValue t v × (is_accepted_value v ≡ true) × IsLoneItem v n
+-- the text is a lone value of the version, within limits and ranges, and this is its item
+abbrev pub SpellsValue : Version → Text → Node → Type 0
+SpellsValue version t n = (v : Value) × IsLoneValue t v × (is_accepted_value_in version v ≡ true) × IsLoneItem v n
 
-abbrev pub IsNoValue : Text → Type 0
-IsNoValue t = (n : Node) → SpellsValue t n → ⊥
+abbrev pub IsNoValue : Version → Text → Type 0
+IsNoValue version t = (n : Node) → SpellsValue version t n → ⊥
 
-abbrev pub Says : List Text → Action → Type 0
-Says ws printing = IsPrint ws
-Says ws (getting names) = (path : Text) × IsGet ws path × SpellsPath path names
-Says ws (setting names n) = (path : Text) × (value : Text) × IsSet ws path value × SpellsPath path names × SpellsValue value n
-Says ws (removing names) = (path : Text) × IsRemove ws path × SpellsPath path names
+abbrev pub Says : Asked → Action → Type 0
+Says q printing = IsPrint q.command
+Says q (getting names) = (path : Text) × IsGet q.command path × SpellsPath path names
+Says q (setting names n) =
+    (path : Text) × (value : Text) × IsSet q.command path value × SpellsPath path names × SpellsValue q.version value n
+Says q (removing names) = (path : Text) × IsRemove q.command path × SpellsPath path names

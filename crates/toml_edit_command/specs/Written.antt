@@ -2,8 +2,10 @@
 use Rattle.std.specs.Prelude.{◌≡◌}
 use Rattle.toml_edit_model.specs.Text.{Text}
 use Rattle.toml_edit_model.specs.Mode.{plain}
+use Rattle.toml_edit_model.specs.Version.{Version}
+use Rattle.toml_edit_model.specs.Accepted.{AcceptedIn}
 use Rattle.toml_edit_model.specs.Syntax.{Document}
-use Rattle.toml_edit_model.specs.Normal.{normal_text}
+use Rattle.toml_edit_model.specs.Normal.{normal, normal_text}
 use Rattle.toml_edit_model.specs.Fits.{Fits}
 use Rattle.toml_edit_model.specs.Print.{print}
 use Rattle.toml_edit_model.specs.Tree.{Tree}
@@ -13,14 +15,16 @@ use Rattle.toml_edit.specs.Documents.{HasNormalText, MeansWhatIsShown}
 use Rattle.toml_edit_command.specs.Words.{Action, printing, getting, setting, removing}
 use Rattle.toml_edit_command.specs.Edits.{Sets, Removes}
 
--- The bytes are an accepted text with this cut, and this is its tree, which owns its texts.
-pub record IsReadAs (bytes : Text) (d : Document) (t : Tree) : Type 0 where
+-- The version accepts the bytes with this cut, and their normal text too, and this is the tree of the cut, which owns its texts.
+pub record IsReadAs (version : Version) (bytes : Text) (d : Document) (t : Tree) : Type 0 where
+  pub accepted : AcceptedIn version bytes d
+  pub stays : AcceptedIn version (normal_text d) (normal d)
   pub normal : HasNormalText bytes d
   pub read : IsRead plain d t
 
 -- so it is by some cut
-abbrev pub IsReadOf : Text → Tree → Type 0
-IsReadOf bytes t = (d : Document) × IsReadAs bytes d t
+abbrev pub IsReadOf : Version → Text → Tree → Type 0
+IsReadOf version bytes t = (d : Document) × IsReadAs version bytes d t
 
 -- The tree fits, and this is its print, which is accepted and means what the tree shows.
 pub record IsPrintOf (u : Tree) (x : Text) : Type 0 where

@@ -3,6 +3,7 @@ ghost use Rattle.std.specs.Prelude.{◌≡◌, false, IfErr, OnOk};
 ghost use Rattle.toml_edit.specs.DocumentView.{tree_owned};
 ghost use Rattle.toml_edit_command.specs.Steps.{StopsActing, StopsDoing, Wrote, WroteRead, action_of};
 ghost use Rattle.toml_edit_command.specs.Words.{printing};
+ghost use Rattle.toml_edit_parser.specs.Options.{version_of};
 
 use super::edit::{remove, set};
 use super::get::get;
@@ -10,27 +11,28 @@ use super::read::read_document;
 use super::stop::Stop;
 use super::words::Command;
 use std::alloc::Global;
-use toml_edit::{DocumentMut, PrintFault};
+use toml_edit::{DocumentMut, ParseOptions, PrintFault};
 use toml_edit_stream::{Input, Output};
 
-// Reads the document that the input holds, and does what the command says.
+// Reads the document that the input holds, by these options, and does what the command says.
 pub fn perform<I: Input, O: Output>(
     alloc: Global,
     command: Command,
+    options: ParseOptions,
     input: &mut I,
     output: &mut O,
 ) -> Result<(), Stop>
     requires input { I.has_failed input.old ≡ false }
     requires output { O.has_failed output.old ≡ false }
-    ensures wrote { OnOk result (WroteRead (action_of command) (I.remaining input.old) (O.contents output.old) (O.contents output.new)) }
+    ensures wrote { OnOk result (WroteRead (version_of options) (action_of command) (I.remaining input.old) (O.contents output.old) (O.contents output.new)) }
     ensures ok { OnOk result ((I.has_failed input.new ≡ false) × (O.has_failed output.new ≡ false)) }
-    ensures err { IfErr result (StopsDoing (action_of command) (I.remaining input.old) (I.has_failed input.new) (record {
+    ensures err { IfErr result (StopsDoing (version_of options) (action_of command) (I.remaining input.old) (I.has_failed input.new) (record {
       old = O.contents output.old;
       new = O.contents output.new;
       failed = O.has_failed output.new;
     })) }
 {
-    match read_document(alloc, input) {
+    match read_document(alloc, input, options) {
         Ok(mut document) => {
             let done = act(alloc, command, &mut document, output);
             drop(document);

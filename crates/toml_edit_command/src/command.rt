@@ -2,7 +2,7 @@ ghost use Rattle.std.specs.Prelude.{◌≡◌, ◌≤◌, ◌↔◌, ◌⊎◌, 
 ghost use Rattle.toml_edit_command.specs.declared.stop.Mistake.{Mistake};
 ghost use Rattle.toml_edit_command.specs.Mistakes.{InWords, encoding_line, memory_line, read_line, usage_line, write_line};
 ghost use Rattle.toml_edit_command.specs.Run.{BeginsCommand, DoesCommand, IsNotAccepted, Tells, TellsMistake, TellsRefusal};
-ghost use Rattle.toml_edit_command.specs.Words.{Action, IsCommand, IsPrint, Says};
+ghost use Rattle.toml_edit_command.specs.Words.{Action, IsCommand, IsPrint, Says, asked};
 
 use super::act::perform;
 use super::stop::Stop;
@@ -26,6 +26,9 @@ const DONE: u8 = 0;
 ///
 /// In an array, or an array of tables, a segment of a path is the decimal number of an element.
 ///
+/// The word `strict` in front of a command asks for TOML 1.0: the input and VALUE are read as that,
+/// and as TOML 1.1 without it.
+///
 /// | Status | When | What is told to `errors` |
 /// |---|---|---|
 /// | 0 | done | nothing |
@@ -46,23 +49,23 @@ pub fn run<I: Input, O: Output, E: Output>(
     requires input { I.has_failed input.old ≡ false }
     requires output { O.has_failed output.old ≡ false }
     ensures status { result ≤ 4 }
-    ensures done { result ≡ 0 → DoesCommand (map string_bytes words.now) (I.remaining input.old) (O.contents output.old) (O.contents output.new) }
+    ensures done { result ≡ 0 → DoesCommand (asked (map string_bytes words.now)) (I.remaining input.old) (O.contents output.old) (O.contents output.new) }
     ensures quiet { result ≡ 0 → errors.new ≡ errors.old }
     // What ends otherwise than for its words, or for want of memory, is a command.
-    ensures said { (result ≡ 0) ⊎ (result ≡ 1) ⊎ (result ≡ 4) → (a : Action) × Says (map string_bytes words.now) a }
-    ensures refused { result ≡ 1 → IfSome (I.remaining input.old) IsNotAccepted }
+    ensures said { (result ≡ 0) ⊎ (result ≡ 1) ⊎ (result ≡ 4) → (a : Action) × Says (asked (map string_bytes words.now)) a }
+    ensures refused { result ≡ 1 → IfSome (I.remaining input.old) (IsNotAccepted (asked (map string_bytes words.now)).version) }
     ensures encoding { result ≡ 1 → IfSome (I.remaining input.old) (λ bytes. ¬ (IsUtf8 bytes) →
         Tells (E.contents errors.old) (E.contents errors.new) (E.has_failed errors.new) encoding_line) }
     ensures excerpt { result ≡ 1 → IfSome (I.remaining input.old) (λ bytes. IsUtf8 bytes →
-        TellsRefusal bytes (E.contents errors.old) (E.contents errors.new) (E.has_failed errors.new)) }
+        TellsRefusal (asked (map string_bytes words.now)).version bytes (E.contents errors.old) (E.contents errors.new) (E.has_failed errors.new)) }
     // The words are mistaken, or what they say of what was read.
-    ensures mistaken { result ≡ 2 → TellsMistake (map string_bytes words.now) (I.remaining input.old)
+    ensures mistaken { result ≡ 2 → TellsMistake (asked (map string_bytes words.now)) (I.remaining input.old)
         (E.contents errors.old) (E.contents errors.new) (E.has_failed errors.new) }
-    ensures wrong_words { ¬ (IsCommand (map string_bytes words.now)) → (result ≡ 2)
+    ensures wrong_words { ¬ (IsCommand (asked (map string_bytes words.now)).command) → (result ≡ 2)
         × Tells (E.contents errors.old) (E.contents errors.new) (E.has_failed errors.new) usage_line }
-    ensures print { IsPrint (map string_bytes words.now) → ¬ (result ≡ 2) }
+    ensures print { IsPrint (asked (map string_bytes words.now)).command → ¬ (result ≡ 2) }
     // Where the words are, nothing is read.
-    ensures untouched { (m : Mistake) → InWords (map string_bytes words.now) m
+    ensures untouched { (m : Mistake) → InWords (asked (map string_bytes words.now)) m
         → ((result ≡ 2) ⊎ (result ≡ 3)) × (input.new ≡ input.old) × (output.new ≡ output.old) }
     ensures memory { result ≡ 3 → Tells (E.contents errors.old) (E.contents errors.new) (E.has_failed errors.new) memory_line }
     ensures failed { (result ≡ 4) ↔ ((I.has_failed input.new ≡ true) ⊎ (O.has_failed output.new ≡ true)) }
@@ -72,14 +75,14 @@ pub fn run<I: Input, O: Output, E: Output>(
     // The output that failed is told of, and holds a beginning of what was to be written at most.
     ensures write_fault { O.has_failed output.new ≡ true → Tells (E.contents errors.old) (E.contents errors.new) (E.has_failed errors.new) write_line }
     ensures beginning { O.has_failed output.new ≡ true
-        → BeginsCommand (map string_bytes words.now) (I.remaining input.old) (O.contents output.old) (O.contents output.new) }
+        → BeginsCommand (asked (map string_bytes words.now)) (I.remaining input.old) (O.contents output.old) (O.contents output.new) }
     ensures unwritten { (result ≡ 1) ⊎ (result ≡ 2) ⊎ (result ≡ 3) → O.contents output.new ≡ O.contents output.old }
 {
-    let command = match Command::of_words(alloc, words) {
-        Ok(command) => command,
+    let (command, options) = match Command::of_words(alloc, words) {
+        Ok(read) => read,
         Err(stop) => return end(&stop, errors),
     };
-    match perform(alloc, command, input, output) {
+    match perform(alloc, command, options, input, output) {
         Ok(()) => DONE,
         Err(stop) => end(&stop, errors),
     }

@@ -1,26 +1,32 @@
 // What the input holds.
 ghost use Rattle.std.specs.Prelude.{◌≡◌, false, IfSome, IfOk, IfErr, OnOk, string_bytes};
 ghost use Rattle.toml_edit_error.specs.Fault.{IfToml};
+ghost use Rattle.toml_edit_model.specs.Version.{Version};
 ghost use Rattle.toml_edit.specs.DocumentView.{tree_owned};
-ghost use Rattle.toml_edit.specs.Documents.{IsRefusal};
+ghost use Rattle.toml_edit.specs.Documents.{IsRefusalIn};
 ghost use Rattle.toml_edit_command.specs.Run.{IsRefused};
 ghost use Rattle.toml_edit_command.specs.Steps.{StopsReading};
 ghost use Rattle.toml_edit_command.specs.Written.{IsReadOf};
+ghost use Rattle.toml_edit_parser.specs.Options.{version_of};
 
 use super::stop::Stop;
 use std::alloc::Global;
-use toml_edit::{Document, DocumentMut, ParseFault};
+use toml_edit::{Document, DocumentMut, ParseFault, ParseOptions};
 use toml_edit_stream::{Input, ReadFault, read_to_end};
 
-// Reads the input to its end, and the document that it holds.
-pub fn read_document<I: Input>(alloc: Global, input: &mut I) -> Result<DocumentMut, Stop>
+// Reads the input to its end, and by these options the document that it holds.
+pub fn read_document<I: Input>(
+    alloc: Global,
+    input: &mut I,
+    options: ParseOptions,
+) -> Result<DocumentMut, Stop>
     requires { I.has_failed input.old ≡ false }
-    ensures read { IfOk result (λ m. IfSome (I.remaining input.old) (λ bytes. IsReadOf bytes (tree_owned m))) }
+    ensures read { IfOk result (λ m. IfSome (I.remaining input.old) (λ bytes. IsReadOf (version_of options) bytes (tree_owned m))) }
     ensures ok { OnOk result (I.has_failed input.new ≡ false) }
-    ensures err { IfErr result (StopsReading (I.remaining input.old) (I.has_failed input.new)) }
+    ensures err { IfErr result (StopsReading (version_of options) (I.remaining input.old) (I.has_failed input.new)) }
 {
     let text = text_of(alloc, input)?;
-    match document_of(alloc, text.as_str()) {
+    match document_of(alloc, text.as_str(), options) {
         Ok(document) => Ok(document),
         Err(ParseFault::Toml(error)) => match error.to_string(alloc) {
             Ok(excerpt) => Err(Stop::Refused(excerpt)),
@@ -35,7 +41,8 @@ fn text_of<I: Input>(alloc: Global, input: &mut I) -> Result<String, Stop>
     requires { I.has_failed input.old ≡ false }
     ensures text { IfOk result (λ s. IfSome (I.remaining input.old) (λ bytes. string_bytes s ≡ bytes)) }
     ensures ok { OnOk result (I.has_failed input.new ≡ false) }
-    ensures err { IfErr result (StopsReading (I.remaining input.old) (I.has_failed input.new)) }
+    // It stops so in any version.
+    ensures err { (version : Version) → IfErr result (StopsReading version (I.remaining input.old) (I.has_failed input.new)) }
 {
     match read_to_end(alloc, input) {
         Ok(bytes) => match String::from_utf8(bytes) {
@@ -47,11 +54,11 @@ fn text_of<I: Input>(alloc: Global, input: &mut I) -> Result<String, Stop>
     }
 }
 
-// The document that the text is.
-fn document_of(alloc: Global, text: &str) -> Result<DocumentMut, ParseFault>
-    ensures ok { IfOk result (λ m. IsReadOf text.now (tree_owned m)) }
-    ensures refused { IfErr result (λ e. IfToml e (λ r. IsRefused text.now × IsRefusal text.now r)) }
+// The document that the text is by these options.
+fn document_of(alloc: Global, text: &str, options: ParseOptions) -> Result<DocumentMut, ParseFault>
+    ensures ok { IfOk result (λ m. IsReadOf (version_of options) text.now (tree_owned m)) }
+    ensures refused { IfErr result (λ e. IfToml e (λ r. IsRefused (version_of options) text.now × IsRefusalIn (version_of options) text.now r)) }
 {
-    let document = Document::parse(alloc, text)?;
+    let document = Document::parse_with(alloc, text, options)?;
     Ok(document.into_mut(alloc)?)
 }

@@ -1,14 +1,15 @@
 // What the words of a command say.
-ghost use Rattle.std.specs.Prelude.{[], ◌∷◌, IfErr, IfOk, map, string_bytes};
+ghost use Rattle.std.specs.Prelude.{◌≡◌, [], ◌∷◌, IfErr, IfOk, map, string_bytes};
 ghost use Rattle.toml_edit_change.specs.Changes.{names};
 ghost use Rattle.toml_edit_command.specs.Steps.{StopsInWords, action_of};
-ghost use Rattle.toml_edit_command.specs.Words.{Says, SpellsPath, SpellsValue};
-ghost use Rattle.toml_edit_command.specs.Forms.{IsForm, MayStopPath, MayStopValue};
+ghost use Rattle.toml_edit_command.specs.Words.{Says, SpellsPath, SpellsValue, asked};
+ghost use Rattle.toml_edit_command.specs.Forms.{IsForm, MayStopPath, MayStopValue, asked_by};
+ghost use Rattle.toml_edit_parser.specs.Options.{version_of};
 ghost use Rattle.toml_edit_tree.specs.View.{value_view};
 
 use super::stop::{Mistake, Stop};
 use std::alloc::Global;
-use toml_edit::{FromStr, Key, ParseFault, Value};
+use toml_edit::{FromStrWith, Key, ParseFault, ParseOptions, Value, Version};
 
 // What is done to the document that is read.
 #[derive(Drop)]
@@ -29,21 +30,46 @@ enum Form<'a> {
 }
 
 impl Command {
-    // The command that the words are.
-    pub fn of_words(alloc: Global, words: &[String]) -> Result<Command, Stop>
-        ensures said { IfOk result (λ command. Says (map string_bytes words.now) (action_of command)) }
-        ensures stops { IfErr result (StopsInWords (map string_bytes words.now)) }
+    // The command that the words are, and how it reads its input.
+    pub fn of_words(alloc: Global, words: &[String]) -> Result<(Command, ParseOptions), Stop>
+        ensures said { IfOk result (λ r. Says (asked (map string_bytes words.now)) (action_of r.0)) }
+        ensures version { IfOk result (λ r. version_of r.1 ≡ (asked (map string_bytes words.now)).version) }
+        ensures stops { IfErr result (StopsInWords (asked (map string_bytes words.now))) }
+    {
+        let (options, words) = options_of(words);
+        match Command::read_by(alloc, words, options) {
+            Ok(command) => Ok((command, options)),
+            Err(stop) => Err(stop),
+        }
+    }
+
+    // The command that the words are, with VALUE read by these options.
+    fn read_by(alloc: Global, words: &[String], options: ParseOptions) -> Result<Command, Stop>
+        ensures said { IfOk result (λ command. Says (asked_by options (map string_bytes words.now)) (action_of command)) }
+        ensures stops { IfErr result (StopsInWords (asked_by options (map string_bytes words.now))) }
     {
         match form_of(words) {
             Some(Form::Print) => Ok(Command::Print),
             Some(Form::Get(path)) => Ok(Command::Get(path_of(alloc, path)?)),
             Some(Form::Set(path, value)) => {
                 let path = path_of(alloc, path)?;
-                Ok(Command::Set(path, value_of(alloc, value)?))
+                Ok(Command::Set(path, value_of(alloc, value, options)?))
             }
             Some(Form::Remove(path)) => Ok(Command::Remove(path_of(alloc, path)?)),
             None => Err(Stop::Mistaken(Mistake::Words)),
         }
+    }
+}
+
+// How texts are read by the words, and the words without the one that says so.
+fn options_of(words: &[String]) -> (ParseOptions, &[String])
+    ensures { asked_by result.0 (map string_bytes result.1.now) ≡ asked (map string_bytes words.now) }
+{
+    match words {
+        [first, rest @ ..] if first.as_str() == "strict" => {
+            (ParseOptions::new().version(Version::V1_0), rest)
+        }
+        _ => (ParseOptions::new(), words),
     }
 }
 
@@ -103,11 +129,11 @@ fn path_of(alloc: Global, text: &str) -> Result<Vec<Key>, Stop>
 }
 
 // The value that VALUE is.
-fn value_of(alloc: Global, text: &str) -> Result<Value, Stop>
-    ensures spelled { IfOk result (λ value. SpellsValue text.now (value_view value)) }
-    ensures stops { IfErr result (MayStopValue text.now) }
+fn value_of(alloc: Global, text: &str, options: ParseOptions) -> Result<Value, Stop>
+    ensures spelled { IfOk result (λ value. SpellsValue (version_of options) text.now (value_view value)) }
+    ensures stops { IfErr result (MayStopValue (version_of options) text.now) }
 {
-    match <Value as FromStr>::from_str(alloc, text) {
+    match <Value as FromStrWith>::from_str_with(alloc, text, options) {
         Ok(value) => Ok(value),
         Err(ParseFault::Toml(_)) => Err(Stop::Mistaken(Mistake::Value)),
         Err(ParseFault::Memory) => Err(Stop::Memory),

@@ -1,48 +1,73 @@
 -- What a run has done, and what it tells of its end.
-use Rattle.std.proofs.Common.{sym, ◌∙◌, map, string_bytes}
+use Rattle.std.proofs.Common.{sym, subst, ◌∙◌, map, IsUtf8, string_bytes}
+use Rattle.std.specs.Prelude.{IfSome}
+use Rattle.toml_edit_command.specs.Run.{IsNotAccepted, TellsRefusal}
 use Rattle.toml_edit_command.specs.Steps.{action_of}
-use Rattle.toml_edit_command.proofs.Ends.{begins-command, does-command, says-command, says-right, tells-mistake, tells-refusal}
+use Rattle.toml_edit_command.specs.Words.{asked}
+use Rattle.toml_edit_parser.specs.Options.{version_of}
+use Rattle.toml_edit_command.proofs.Ends.{begins-command, does-command, not-accepted, says-command, says-right, tells-mistake, tells-refusal, wrong-words}
 use Rattle.toml_edit_command.proofs.command.run.Goals as goal
+
+pub returns-in-Err-clause-wrong_words : goal.returns-in-Err-clause-wrong_words
+returns-in-Err-clause-wrong_words g c =
+    λ wrong.
+    let x = wrong-words (asked (map string_bytes c.args.words.now)) c.in-Err.stop (g.E.Output.contents c.args.errors.now)
+    (g.E.Output.contents c.end.new.errors) (g.E.Output.has_failed c.end.new.errors) c.in-Err.ensures.stops wrong c.end.ensures.told in
+    (c.end.ensures.status ∙ x.0, x.1)
 
 pub returns-in-Ok-perform-clause-done : goal.returns-in-Ok-perform-clause-done
 returns-in-Ok-perform-clause-done g c =
     λ _.
-    does-command (map string_bytes c.args.words.now) (action_of c.in-Ok.command) c.in-Ok.ensures.said (g.I.Input.remaining c.args.input.now)
-    (g.O.Output.contents c.args.output.now) (g.O.Output.contents c.perform.new.output) c.in-Ok-perform.ensures.wrote
+    does-command (asked (map string_bytes c.args.words.now)) (action_of c.in-Ok.read.0) c.in-Ok.ensures.said (version_of c.in-Ok.read.1)
+    c.in-Ok.ensures.version (g.I.Input.remaining c.args.input.now) (g.O.Output.contents c.args.output.now)
+    (g.O.Output.contents c.perform.new.output) c.in-Ok-perform.ensures.wrote
 
 pub returns-in-Ok-perform-clause-wrong_words : goal.returns-in-Ok-perform-clause-wrong_words
 returns-in-Ok-perform-clause-wrong_words g c =
-    λ wrong. absurd (wrong (says-command (map string_bytes c.args.words.now) (action_of c.in-Ok.command) c.in-Ok.ensures.said))
+    λ wrong. absurd (wrong (says-command (asked (map string_bytes c.args.words.now)) (action_of c.in-Ok.read.0) c.in-Ok.ensures.said))
 
 pub returns-in-Ok-perform-clause-untouched : goal.returns-in-Ok-perform-clause-untouched
 returns-in-Ok-perform-clause-untouched g c =
-    λ m wrong. absurd (says-right (map string_bytes c.args.words.now) (action_of c.in-Ok.command) c.in-Ok.ensures.said m wrong)
+    λ m wrong. absurd (says-right (asked (map string_bytes c.args.words.now)) (action_of c.in-Ok.read.0) c.in-Ok.ensures.said m wrong)
+
+pub returns-in-Err-perform-clause-refused : goal.returns-in-Err-perform-clause-refused
+returns-in-Err-perform-clause-refused g c =
+    λ one.
+    subst (λ v. IfSome (g.I.Input.remaining c.args.input.now) (IsNotAccepted v)) c.in-Ok.ensures.version
+    (not-accepted (version_of c.in-Ok.read.1) (action_of c.in-Ok.read.0) (g.I.Input.has_failed c.perform.new.input) _
+    (g.I.Input.remaining c.args.input.now) c.in-Err-perform.stop c.in-Err-perform.ensures.err (sym c.end-in-Err-perform.ensures.status ∙ one))
 
 pub returns-in-Err-perform-clause-excerpt : goal.returns-in-Err-perform-clause-excerpt
 returns-in-Err-perform-clause-excerpt g c =
     λ one.
-    tells-refusal (action_of c.in-Ok.command) (g.I.Input.remaining c.args.input.now) (g.I.Input.has_failed c.perform.new.input) _ c.in-Err-perform.stop
-    (g.E.Output.contents c.args.errors.now) (g.E.Output.contents c.end-in-Err-perform.new.errors) (g.E.Output.has_failed c.end-in-Err-perform.new.errors)
-    c.in-Err-perform.ensures.err (sym c.end-in-Err-perform.ensures.status ∙ one) c.end-in-Err-perform.ensures.told
+    subst
+    (λ v. IfSome (g.I.Input.remaining c.args.input.now) (λ bytes. IsUtf8 bytes →
+    TellsRefusal v bytes (g.E.Output.contents c.args.errors.now) (g.E.Output.contents c.end-in-Err-perform.new.errors)
+    (g.E.Output.has_failed c.end-in-Err-perform.new.errors)))
+    c.in-Ok.ensures.version
+    (tells-refusal (version_of c.in-Ok.read.1) (action_of c.in-Ok.read.0) (g.I.Input.has_failed c.perform.new.input) _
+    (g.I.Input.remaining c.args.input.now) c.in-Err-perform.stop (g.E.Output.contents c.args.errors.now)
+    (g.E.Output.contents c.end-in-Err-perform.new.errors) (g.E.Output.has_failed c.end-in-Err-perform.new.errors) c.in-Err-perform.ensures.err
+    (sym c.end-in-Err-perform.ensures.status ∙ one) c.end-in-Err-perform.ensures.told)
 
 pub returns-in-Err-perform-clause-mistaken : goal.returns-in-Err-perform-clause-mistaken
 returns-in-Err-perform-clause-mistaken g c =
     λ two.
-    tells-mistake (map string_bytes c.args.words.now) (action_of c.in-Ok.command) c.in-Ok.ensures.said (g.I.Input.remaining c.args.input.now)
-    (g.I.Input.has_failed c.perform.new.input) _ c.in-Err-perform.stop (g.E.Output.contents c.args.errors.now)
+    tells-mistake (asked (map string_bytes c.args.words.now)) (action_of c.in-Ok.read.0) c.in-Ok.ensures.said (version_of c.in-Ok.read.1)
+    c.in-Ok.ensures.version (g.I.Input.remaining c.args.input.now) (g.I.Input.has_failed c.perform.new.input) _ c.in-Err-perform.stop (g.E.Output.contents c.args.errors.now)
     (g.E.Output.contents c.end-in-Err-perform.new.errors) (g.E.Output.has_failed c.end-in-Err-perform.new.errors) c.in-Err-perform.ensures.err
     (sym c.end-in-Err-perform.ensures.status ∙ two) c.end-in-Err-perform.ensures.told
 
 pub returns-in-Err-perform-clause-wrong_words : goal.returns-in-Err-perform-clause-wrong_words
 returns-in-Err-perform-clause-wrong_words g c =
-    λ wrong. absurd (wrong (says-command (map string_bytes c.args.words.now) (action_of c.in-Ok.command) c.in-Ok.ensures.said))
+    λ wrong. absurd (wrong (says-command (asked (map string_bytes c.args.words.now)) (action_of c.in-Ok.read.0) c.in-Ok.ensures.said))
 
 pub returns-in-Err-perform-clause-untouched : goal.returns-in-Err-perform-clause-untouched
 returns-in-Err-perform-clause-untouched g c =
-    λ m wrong. absurd (says-right (map string_bytes c.args.words.now) (action_of c.in-Ok.command) c.in-Ok.ensures.said m wrong)
+    λ m wrong. absurd (says-right (asked (map string_bytes c.args.words.now)) (action_of c.in-Ok.read.0) c.in-Ok.ensures.said m wrong)
 
 pub returns-in-Err-perform-clause-beginning : goal.returns-in-Err-perform-clause-beginning
 returns-in-Err-perform-clause-beginning g c =
     λ broken.
-    begins-command (map string_bytes c.args.words.now) (action_of c.in-Ok.command) c.in-Ok.ensures.said (g.I.Input.remaining c.args.input.now)
-    (g.I.Input.has_failed c.perform.new.input) _ c.in-Err-perform.stop c.in-Err-perform.ensures.err broken
+    begins-command (asked (map string_bytes c.args.words.now)) (action_of c.in-Ok.read.0) c.in-Ok.ensures.said (version_of c.in-Ok.read.1)
+    c.in-Ok.ensures.version (g.I.Input.remaining c.args.input.now) (g.I.Input.has_failed c.perform.new.input) _ c.in-Err-perform.stop c.in-Err-perform.ensures.err broken
