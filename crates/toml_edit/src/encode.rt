@@ -18,7 +18,7 @@ use bumpalo::Bump;
 use std::fmt;
 use std::fmt::{Formatter, Write};
 use toml_edit_key::Key;
-use toml_edit_repr::{RawString, write_raw, write_side};
+use toml_edit_repr::{Mode, RawString, write_raw, write_side};
 use toml_edit_tree::{Path, Table, table_has_lines, write_path, write_table_lines};
 
 /// The text of the document. The order of its headers takes memory, of the allocator that the root's slots were made with: where that is
@@ -43,11 +43,11 @@ fn write_document<W: Write>(f: &mut Formatter<W>, root: &Table, trailing: &RawSt
     let Ok(headers) = headers_in_order(&arena, root, &top) else {
         return Err(fmt::Error);
     };
-    write_side(f, root.decor().prefix(), "")?;
+    write_side(f, Mode::Plain, root.decor().prefix(), "")?;
     write_root_lines(f, root)?;
     write_headers(f, headers.as_slice(), headers_begin(root))?;
-    write_side(f, root.decor().suffix(), "")?;
-    write_raw(f, trailing)
+    write_side(f, Mode::Plain, root.decor().suffix(), "")?;
+    write_raw(f, Mode::Plain, trailing)
 }
 
 /// The lines of the root. A dotted root has none.
@@ -57,7 +57,7 @@ fn write_root_lines<W: Write>(f: &mut Formatter<W>, root: &Table) -> fmt::Result
     if root.is_dotted() {
         Ok(())
     } else {
-        write_table_lines(f, root)
+        write_table_lines(f, Mode::Plain, root)
     }
 }
 
@@ -79,7 +79,7 @@ fn write_headers<W: Write>(
     let mut is_first = begins;
     'headers: for header in headers {
         write_header(f, header, is_first)?;
-        write_table_lines(f, header.table)?;
+        write_table_lines(f, Mode::Plain, header.table)?;
         is_first = false;
     }
     Ok(())
@@ -97,9 +97,9 @@ fn write_header<W: Write>(
     let decor = header.table.decor();
     let lifted = has_newline(leaf.prefix());
     write_side_if(f, lifted, leaf.prefix())?;
-    write_side(f, decor.prefix(), before_header(is_first))?;
+    write_side(f, Mode::Plain, decor.prefix(), before_header(is_first))?;
     write_brackets(f, header, lifted)?;
-    write_side(f, decor.suffix(), "")?;
+    write_side(f, Mode::Plain, decor.suffix(), "")?;
     f.write_str("\n")
 }
 
@@ -140,7 +140,7 @@ fn write_inside_brackets<W: Write>(
 {
     let leaf = key.leaf_decor();
     write_side_if(f, !lifted, leaf.prefix())?;
-    write_path(f, path, key)?;
+    write_path(f, Mode::Plain, path, key)?;
     write_side_if(f, !lifted, leaf.suffix())
 }
 
@@ -153,7 +153,7 @@ fn write_side_if<W: Write>(
     ensures { WritesOnOk W.write_str_gives f.old result (if stands then shown_side plain [] (option_copied side.entry) else []) f.new }
 {
     if stands {
-        write_side(f, side, "")
+        write_side(f, Mode::Plain, side, "")
     } else {
         Ok(())
     }

@@ -1,15 +1,15 @@
 -- What a statement does to the whole, by what it does to what is held.
-use Rattle.std.proofs.Common.{◌≡◌, ℕ, ◌+◌, ◌-◌, ◌≤◌, Bool, true, false, refl, sym, ap, subst, ◌∙◌, List, [], ◌∷◌, ◌++◌, length, append_assoc, arith, Option, Some, None, String, Vec}
+use Rattle.std.proofs.Common.{◌≡◌, ℕ, ◌+◌, ◌-◌, ◌≤◌, Bool, true, false, refl, sym, ap, subst, ◌∙◌, List, [], ◌∷◌, ◌++◌, length, arith, Option, Some, None, String, Vec}
 use Rattle.std.specs.declared.alloc.Global.{Global}
 use Rattle.std.specs.Prelude.{map, option_map, option_and_then, Contains}
 use Rattle.std.proofs.lemmas.List.Elements.{Contains-append_left, Contains-append_right, Contains-push}
 use Rattle.toml_edit_model.specs.Faults.{Fault, own_faults}
-use Rattle.toml_edit_model.specs.Mode.{plain}
+use Rattle.toml_edit_model.specs.Mode.{Mode}
 use Rattle.toml_edit_model.specs.Text.{Text}
 use Rattle.toml_edit_model.specs.Syntax.{Segment, Frame, Value, Header, Statement, key_line, header, IsPath, brackets_text, frame_text, opening_brackets, path_text, statement_text, value_text}
 use Rattle.toml_edit_model.specs.Paths.{Mention, Source, path_start}
 use Rattle.toml_edit_model.specs.Tree.{Node, nothing, Slots}
-use Rattle.toml_edit_model.specs.TreeOf.{spanned_form, frame_leaf, header_leaf, brackets_from, brackets_to}
+use Rattle.toml_edit_model.specs.TreeOf.{spanned_in, frame_leaf, header_leaf, brackets_from, brackets_to}
 use Rattle.toml_edit_laws.specs.TableTree.{add_line, add_header}
 use Rattle.toml_edit_laws.specs.TableClash.{line_clash, header_clash, table_way_fault, table_way_faults}
 use Rattle.toml_edit_laws.specs.Building.{slots_along, Builder, source_at, mentions_at, added, clash_at, faults_at, behind, IsStatementNode}
@@ -51,7 +51,7 @@ use Rattle.toml_edit_builder.proofs.SwapLaws.{whole-again, taken-out}
 abbrev pub whole_of : Builder → Building → Slots
 whole_of b h = put_along b.block (slots_view h.current) (slots_view h.root)
 
-module _ (b : Builder) (old : Building) (held : IsHeld b old) where
+module _ (mode : Mode) (b : Builder) (old : Building) (held : IsHeld b old) where
   -- ---- the slots of the block's table, in the whole and in order
 
   here : slots_along b.block (whole_of b old) ≡ Some (slots_view old.current)
@@ -86,27 +86,27 @@ module _ (b : Builder) (old : Building) (held : IsHeld b old) where
         ap (λ o. option_map table_way_fault (option_and_then (line_clash ms) o)) ordered-here
         ∙ clashes_in_order (a_value nothing) ms b.start (slots_view old.current) current-placed
 
-    module _ (is : IsWhole (key_line f v end)) (n : Node) (node : IsStatementNode plain b.start (key_line f v end) n) where
-      within : StandWithin plain b.start behind_line ms
-      within = statement_within plain (λ x. Unit {0}) b (key_line f v end) is
+    module _ (is : IsWhole (key_line f v end)) (n : Node) (node : IsStatementNode mode b.start (key_line f v end) n) where
+      within : StandWithin mode b.start behind_line ms
+      within = statement_within mode (λ x. Unit {0}) b (key_line f v end) is
 
-      pub line-added : (new : Slots) → add_line plain ms n (slots_view old.current) ≡ Some new
-          → added plain b (key_line f v end) n ≡ Some (slots_by_place (put_along b.block new (slots_view old.root)))
+      pub line-added : (new : Slots) → add_line mode ms n (slots_view old.current) ≡ Some new
+          → added mode b (key_line f v end) n ≡ Some (slots_by_place (put_along b.block new (slots_view old.root)))
       line-added new e =
-          along_lens b.block (add_line plain ms n) b.slots (slots_by_place (slots_view old.current)) ordered-here
+          along_lens b.block (add_line mode ms n) b.slots (slots_by_place (slots_view old.current)) ordered-here
           ∙ ap (option_map (λ us. put_along b.block us b.slots))
-          (adds_in_order plain (a_value n) ms b.start behind_line (slots_view old.current) (addition_real plain b.start (key_line f v end) n node) within current-placed
+          (adds_in_order mode (a_value n) ms b.start behind_line (slots_view old.current) (addition_real mode b.start (key_line f v end) n node) within current-placed
           ∙ ap (option_map slots_by_place) e)
           ∙ ap (λ (us : Slots). Some us) (put-there new)
 
-      pub line-held : (new : Building) → add_line plain ms n (slots_view old.current) ≡ Some (slots_view new.current) → new.block ≡ old.block → new.headers ≡ old.headers
+      pub line-held : (new : Building) → add_line mode ms n (slots_view old.current) ≡ Some (slots_view new.current) → new.block ≡ old.block → new.headers ≡ old.headers
           → slots_view new.root ≡ slots_view old.root
           → IsHeld (behind b (key_line f v end) (slots_by_place (put_along b.block (slots_view new.current) (slots_view old.root)))) new
       line-held new e block headers root =
           let on : b.start ≤ b.start + length (statement_text (key_line f v end)) = omega arith in
           let kept =
-          stays_placed plain (a_value n) ms b.start behind_line (slots_view old.current) (slots_view new.current) on
-          (addition_real plain b.start (key_line f v end) n node) within current-placed e in
+          stays_placed mode (a_value n) ms b.start behind_line (slots_view old.current) (slots_view new.current) on
+          (addition_real mode b.start (key_line f v end) n node) within current-placed e in
           record {
             block = held.block ∙ sym (ap (λ (v : Vec (String Global) Global). names v.items) block);
             headers = held.headers ∙ sym headers;
@@ -170,12 +170,12 @@ path-ends : (p : List Segment) → IsPath p → IsEndOfPath p
 path-ends [] is = absurd (let e = is.begins in cc)
 path-ends (s ∷ p) is = record { some = refl; ends = is.ends; spelled = is.spelled }
 
-module _ (t : Text) (b : Builder) (f : Frame) (v : Value) (end : Text) (is : IsWhole (key_line f v end)) (stands : Stands t b.start (statement_text (key_line f v end))) where
-  pub frame-stands : Stands t b.start (frame_text f (value_text v))
+module _ (mode : Mode) (t : Text) (b : Builder) (f : Frame) (v : Value) (end : Text) (is : IsWhole (key_line f v end)) (stands : Stands t b.start (statement_text (key_line f v end))) where
+  frame-stands : Stands t b.start (frame_text f (value_text v))
   frame-stands = stands-left t b.start (frame_text f (value_text v)) end stands
 
-  pub line-path : (path : KeyPath) → IsPathFrom (frame_leaf spanned_form b.start f) (b.start + length f.leading) f.path path
-      → IsPathOf t (source_at b (key_line f v end)) (mentions_at b (key_line f v end)) path
+  pub line-path : (path : KeyPath) → IsPathFrom (frame_leaf (spanned_in mode) b.start f) (b.start + length f.leading) f.path path
+      → IsPathOf mode t (source_at b (key_line f v end)) (mentions_at b (key_line f v end)) path
   line-path path read =
       let key = b.start + length f.leading in
       record {
@@ -187,17 +187,7 @@ module _ (t : Text) (b : Builder) (f : Frame) (v : Value) (end : Text) (is : IsW
         read = read;
       }
 
-module _ (t : Text) (b : Builder) (h : Header) (end : Text) (is : IsWhole (header h end)) (stands : Stands t b.start (statement_text (header h end))) where
-  -- without its newline
-  without_end : statement_text (header h end) ≡ statement_text (header h []) ++ end
-  without_end =
-      sym (append_assoc h.leading (brackets_text h ++ (h.trailing ++ [])) end
-      ∙ ap (λ (x : Text). h.leading ++ x) (append_assoc (brackets_text h) (h.trailing ++ []) end)
-      ∙ ap (λ (x : Text). h.leading ++ (brackets_text h ++ x)) (append_assoc h.trailing [] end))
-
-  pub header-stands : Stands t b.start (statement_text (header h []))
-  header-stands = stands-left t b.start (statement_text (header h [])) end (subst (Stands t b.start) without_end stands)
-
+module _ (mode : Mode) (t : Text) (b : Builder) (h : Header) (end : Text) (is : IsWhole (header h end)) (stands : Stands t b.start (statement_text (header h end))) where
   -- its key
   pub key-ends : IsEndOfPath h.path
   key-ends = path-ends h.path is.0.1
@@ -210,7 +200,7 @@ module _ (t : Text) (b : Builder) (h : Header) (end : Text) (is : IsWhole (heade
       let key = start + length (opening_brackets h.is_array) in
       stands-left t (key + length h.opening) (path_text h.path) _ (stands-right t key h.opening _ inside)
 
-  pub header-path : (parts : HeaderParts) → AreHeaderParts h b.start parts → IsPathOf t (source_at b (header h end)) (mentions_at b (header h end)) parts.path
+  pub header-path : (parts : HeaderParts) → AreHeaderParts mode h end b.start parts → IsPathOf mode t (source_at b (header h end)) (mentions_at b (header h end)) parts.path
   header-path parts at =
       let s = source_at b (header h end) in
       let behind = b.start + length h.leading + length (opening_brackets h.is_array) in
@@ -224,27 +214,27 @@ module _ (t : Text) (b : Builder) (h : Header) (end : Text) (is : IsWhole (heade
         stands = subst (λ (i : ℕ). Stands t i (path_text h.path)) same key-stands;
         mentions = header-mentions s h key [] h.path;
         read =
-            subst (λ (i : ℕ). IsPathFrom (header_leaf spanned_form (key - length h.opening) h) i h.path parts.path) same
-            (subst (λ (i : ℕ). IsPathFrom (header_leaf spanned_form i h) (behind + length h.opening) h.path parts.path) back at.path);
+            subst (λ (i : ℕ). IsPathFrom (header_leaf (spanned_in mode) (key - length h.opening) h) i h.path parts.path) same
+            (subst (λ (i : ℕ). IsPathFrom (header_leaf (spanned_in mode) i h) (behind + length h.opening) h.path parts.path) back at.path);
       }
 
 -- ---- what is added
 
-module _ (b : Builder) (f : Frame) (v : Value) (end : Text) (old : Building) (held : IsHeld b old) where
+module _ (mode : Mode) (b : Builder) (f : Frame) (v : Value) (end : Text) (old : Building) (held : IsHeld b old) where
   abbrev line : Statement
   line = key_line f v end
 
-  pub line-is-added : (more : List Event) (n : Node) (path : KeyPath) (rest : List Event) (new : Building) → IsWhole line → IsLineRead f v b.start more n path rest
-      → add_line plain (mentions_at b line) n (slots_view old.current) ≡ Some (slots_view new.current) → new.block ≡ old.block → new.headers ≡ old.headers
-      → slots_view new.root ≡ slots_view old.root → IsAdded b line more new rest
+  pub line-is-added : (more : List Event) (n : Node) (path : KeyPath) (rest : List Event) (new : Building) → IsWhole line → IsLineRead mode f v end b.start more n path rest
+      → add_line mode (mentions_at b line) n (slots_view old.current) ≡ Some (slots_view new.current) → new.block ≡ old.block → new.headers ≡ old.headers
+      → slots_view new.root ≡ slots_view old.root → IsAdded mode b line more new rest
   line-is-added more n path rest new is read adds block headers root =
       record {
         node = n;
         is_node = read.node;
         slots = slots_by_place (put_along b.block (slots_view new.current) (slots_view old.root));
-        faultless = read.faultless end;
-        added_is = line-added b old held f v end is n read.node (slots_view new.current) adds;
-        held = λ inner there. line-held b old held f v end is n read.node new adds block headers root;
+        faultless = read.faultless;
+        added_is = line-added mode b old held f v end is n read.node (slots_view new.current) adds;
+        held = λ inner there. line-held mode b old held f v end is n read.node new adds block headers root;
         rest_is = read.rest_is;
       }
 
@@ -254,26 +244,26 @@ module _ (b : Builder) (f : Frame) (v : Value) (end : Text) (old : Building) (he
       → IfToml e (NamesOne t (faults_at b line))
   line-stopped t e h =
       way-named t (own_faults b.start line) (clash_at b line) e
-      (subst (λ (o : Option Fault). IfToml e (λ r. (r.input ≡ t) × (o ≡ Some (fault_of r)))) (sym (line-clashes b old held f v end)) h)
+      (subst (λ (o : Option Fault). IfToml e (λ r. (r.input ≡ t) × (o ≡ Some (fault_of r)))) (sym (line-clashes mode b old held f v end)) h)
 
 -- the item of a header
-pub header-item : (s : Source) (h : Header) (end : Text) (n : Node) (is_array : Bool) (brackets : Span) → s.statement ≡ header h end
-    → brackets ≡ span_at (s.start + length h.leading) (brackets_text h) → IsHeaded s n → IsItemFor (kind_of is_array brackets) s n
-header-item s h end n true brackets is at head =
-    (head, at ∙ ap (λ (x : Statement). record { start = brackets_from spanned_form s x; end = brackets_to spanned_form s x }) (sym is))
-header-item s h end n false brackets is at head = head
+pub header-item : (mode : Mode) (s : Source) (h : Header) (end : Text) (n : Node) (is_array : Bool) (brackets : Span) → s.statement ≡ header h end
+    → brackets ≡ span_at (s.start + length h.leading) (brackets_text h) → IsHeaded mode s n → IsItemFor mode (kind_of is_array brackets) s n
+header-item mode s h end n true brackets is at head =
+    (head, at ∙ ap (λ (x : Statement). record { start = brackets_from (spanned_in mode) s x; end = brackets_to (spanned_in mode) s x }) (sym is))
+header-item mode s h end n false brackets is at head = head
 
-header_added : (is_array : Bool) (brackets : Span) (n : Node) (ms : List (Mention Source)) (ss : Slots)
-    → (add_path plain (addition_for (kind_of is_array brackets) n) ms ss ≡ add_header plain is_array ms ss)
+header_added : (mode : Mode) (is_array : Bool) (brackets : Span) (n : Node) (ms : List (Mention Source)) (ss : Slots)
+    → (add_path mode (addition_for (kind_of is_array brackets) n) ms ss ≡ add_header mode is_array ms ss)
     × (path_clash (addition_for (kind_of is_array brackets) n) ms ss ≡ header_clash is_array ms ss)
-header_added true brackets n _ ss = (refl, refl)
-header_added false brackets n _ ss = (refl, refl)
+header_added mode true brackets n _ ss = (refl, refl)
+header_added mode false brackets n _ ss = (refl, refl)
 
 header_real : (is_array : Bool) (brackets : Span) (n : Node) → IsRealAddition (addition_for (kind_of is_array brackets) n)
 header_real true brackets n = tt
 header_real false brackets n = tt
 
-module _ (b : Builder) (h : Header) (end : Text) (kind : Kind) (parts : HeaderParts) (n : Node) (ss : Slots) (at : AreHeaderParts h b.start parts)
+module _ (mode : Mode) (b : Builder) (h : Header) (end : Text) (kind : Kind) (parts : HeaderParts) (n : Node) (ss : Slots) (at : AreHeaderParts mode h end b.start parts)
     (kind_is : kind ≡ kind_of parts.is_array parts.brackets) (old : Building) (held : IsHeld b old) (whole : ss ≡ whole_of b old) where
   abbrev head : Statement
   head = header h end
@@ -293,52 +283,52 @@ module _ (b : Builder) (h : Header) (end : Text) (kind : Kind) (parts : HeaderPa
       ∙ sym (clashes_in_order adding (mentions_at b head) b.start (whole_of b old) held.placed)
       ∙ ap fault_at (sym held.slots)
       ∙ ap (option_map table_way_fault)
-      ((header_added parts.is_array parts.brackets n (mentions_at b head) b.slots).1 ∙ ap (λ (x : Bool). header_clash x (mentions_at b head) b.slots) at.is_array) in
+      ((header_added mode parts.is_array parts.brackets n (mentions_at b head) b.slots).1 ∙ ap (λ (x : Bool). header_clash x (mentions_at b head) b.slots) at.is_array) in
       way-named t [] (clash_at b head) e (subst (λ (o : Option Fault). IfToml e (λ r. (r.input ≡ t) × (o ≡ Some (fault_of r)))) way h')
 
-  pub header-is-opened : (new : Building) (empty out : Slots) → IsWhole head → add_in_place plain (addition_for kind n) (mentions_at b head) ss ≡ Some out
+  pub header-is-opened : (new : Building) (empty out : Slots) → IsWhole head → add_in_place mode (addition_for kind n) (mentions_at b head) ss ≡ Some out
       → names new.block.items ≡ map (λ g. g.key) h.path → new.headers ≡ old.headers + 1
       → Swaps (slots_along (names new.block.items) out) empty out (put_along (names new.block.items) empty out) (slots_view new.current) (slots_view new.root)
-      → IsOpened b head new
+      → IsOpened mode b head new
   header-is-opened new empty out is adds block headers swaps =
       let ms = mentions_at b head in
       let after = b.start + length (statement_text head) in
       let on : b.start ≤ b.start + length (statement_text (header h end)) = omega arith in
       let real = header_real parts.is_array parts.brackets n in
-      let within = statement_within plain (λ x. Unit {0}) b head is in
-      let in_place : add_in_place plain adding ms (whole_of b old) ≡ Some out =
-      sym (ap (λ (k : Kind). add_in_place plain (addition_for k n) ms ss) kind_is ∙ ap (add_in_place plain adding ms) whole) ∙ adds in
+      let within = statement_within mode (λ x. Unit {0}) b head is in
+      let in_place : add_in_place mode adding ms (whole_of b old) ≡ Some out =
+      sym (ap (λ (k : Kind). add_in_place mode (addition_for k n) ms ss) kind_is ∙ ap (add_in_place mode adding ms) whole) ∙ adds in
       record {
         slots = slots_by_place out;
         added_is =
-            sym ((header_added parts.is_array parts.brackets n ms b.slots).0 ∙ ap (λ (x : Bool). add_header plain x ms b.slots) at.is_array)
-            ∙ ap (add_path plain adding ms) held.slots
-            ∙ adds_in_order plain adding ms b.start after (whole_of b old) real within held.placed
+            sym ((header_added mode parts.is_array parts.brackets n ms b.slots).0 ∙ ap (λ (x : Bool). add_header mode x ms b.slots) at.is_array)
+            ∙ ap (add_path mode adding ms) held.slots
+            ∙ adds_in_order mode adding ms b.start after (whole_of b old) real within held.placed
             ∙ ap (option_map slots_by_place) in_place;
-        held = header-held b h end out empty new (stays_placed plain adding ms b.start after (whole_of b old) out on real within held.placed in_place)
+        held = header-held b h end out empty new (stays_placed mode adding ms b.start after (whole_of b old) out on real within held.placed in_place)
             (sym block) (let one = held.headers in omega (arith, one, headers))
             (subst (λ (ks : List Text). Swaps (slots_along ks out) empty out (put_along ks empty out) (slots_view new.current) (slots_view new.root)) block swaps);
       }
 
 -- the parts of a header that was read
-pub parts-are : (b : Builder) (h : Header) (more : List Event) (leading opening : Span) (is_array : Bool) (read : HeaderSpans) (rest : List Event) → leading ≡ span_at b.start h.leading
-    → is_array ≡ h.is_array → opening ≡ span_at (b.start + length h.leading) (opening_brackets h.is_array) → IsHeaderRead h b.start more read rest
-    → AreHeaderParts h b.start
+pub parts-are : (mode : Mode) (b : Builder) (h : Header) (end : Text) (more : List Event) (leading opening : Span) (is_array : Bool) (read : HeaderSpans) (rest : List Event) → leading ≡ span_at b.start h.leading
+    → is_array ≡ h.is_array → opening ≡ span_at (b.start + length h.leading) (opening_brackets h.is_array) → IsHeaderRead mode h end b.start more read rest
+    → AreHeaderParts mode h end b.start
     (record { leading = leading; is_array = is_array; brackets = record { start = opening.start; end = read.end }; path = read.path; trailing = read.trailing })
-parts-are b h more leading opening is_array read rest front array opens is =
+parts-are mode b h end more leading opening is_array read rest front array opens is =
     record {
       leading = front;
       is_array = array;
       brackets =
           ap (λ (x : Span). record { start = x.start; end = read.end }) opens
-          ∙ ap (λ (i : ℕ). record { start = b.start + length h.leading; end = i }) is.end;
+          ∙ ap (λ (i : ℕ). record { start = b.start + length h.leading; end = i }) is.end_is;
       path = is.path_is;
       trailing = is.trailing;
     }
 
-pub header-is-added : (b : Builder) (h : Header) (end : Text) (more : List Event) (read : HeaderSpans) (rest : List Event) (new : Building)
-    → IsHeaderRead h b.start more read rest → IsOpened b (header h end) new → IsAdded b (header h end) more new rest
-header-is-added b h end more read rest new is opened =
+pub header-is-added : (mode : Mode) (b : Builder) (h : Header) (end : Text) (more : List Event) (read : HeaderSpans) (rest : List Event) (new : Building)
+    → IsHeaderRead mode h end b.start more read rest → IsOpened mode b (header h end) new → IsAdded mode b (header h end) more new rest
+header-is-added mode b h end more read rest new is opened =
     record {
       node = nothing;
       is_node = tt;

@@ -3,6 +3,7 @@ use Rattle.std.proofs.Common.{◌≡◌, ℕ, ◌+◌, ◌-◌, Option, None, So
 use Rattle.std.specs.Prelude.{Contains, IfSome}
 use Rattle.std.specs.Borrow.{Bor}
 use Rattle.std.proofs.lemmas.List.Elements.{Contains-append_left, Contains-append_right}
+use Rattle.toml_edit_model.specs.Mode.{Mode}
 use Rattle.toml_edit_model.specs.Text.{Text}
 use Rattle.toml_edit_model.specs.Syntax.{Statement}
 use Rattle.toml_edit_model.specs.Version.{Version, v1_0, is_of_version, late_places}
@@ -54,8 +55,8 @@ names_late version t b s span e has within told =
     told
 
 -- where it is one of the version once it is known to be right, what reading it answers
-pub reads_in_version : (version : Version) (t : Text) (b : Builder) (s : Statement) (more : List Event) (new : Building) (r : Result (Bor (List Event)) ParseFault)
-    → (has_deep_value s ≡ false → is_of_version version s ≡ true) → ReadsStatement t b s more new r → ReadsInVersion version t b s more new r
-reads_in_version version t b s more new (Ok rest) early h = (early (sound-shallow s (sound-of-none b.start s h.faultless)), h)
-reads_in_version version t b s more new (Err e) early h =
+pub reads_in_version : (mode : Mode) (version : Version) (t : Text) (b : Builder) (s : Statement) (more : List Event) (new : Building) (r : Result (Bor (List Event)) ParseFault)
+    → (has_deep_value s ≡ false → is_of_version version s ≡ true) → ReadsStatement mode t b s more new r → ReadsInVersion mode version t b s more new r
+reads_in_version mode version t b s more new (Ok rest) early h = (early (sound-shallow s (sound-of-none b.start s h.faultless)), h)
+reads_in_version mode version t b s more new (Err e) early h =
     of_report e _ _ (λ r is. (is.0, Contains-append_right (late_faults version b.start s) (faults_at b s) (fault_of r) is.1)) h

@@ -4,13 +4,14 @@ use Rattle.std.proofs.lemmas.Bool.Decides.{nat_tests}
 use Rattle.std.proofs.lemmas.Bool.{false≢true, leb-true, cases_Bool}
 use Rattle.std.specs.Prelude.{◌&&◌, nat_le}
 use Rattle.std.specs.List.{list_any}
+use Rattle.toml_edit_model.specs.Mode.{Mode, plain}
 use Rattle.toml_edit_model.specs.Text.{Text, one}
 use Rattle.toml_edit_model.specs.Syntax.{Value, Statement, key_line, header, Document, IsCut, depth, nesting_limit, is_short, has_short_keys, keeps_limits, is_ranged}
 use Rattle.toml_edit_model.specs.Version.{Version, v1_1}
 use Rattle.toml_edit_model.specs.Paths.{Placed, Context, source_of, mentions_of, context_after, placed_from, start_context}
 use Rattle.toml_edit_model.specs.Accepted.{has_agreeing_tables, is_sound, is_accepted, is_accepted_in, AcceptedIn, AcceptedAs}
 use Rattle.toml_edit_model.specs.Tree.{Raw, Slots}
-use Rattle.toml_edit_model.specs.TreeOf.{spanned_form, IsTreeOf}
+use Rattle.toml_edit_model.specs.TreeOf.{spanned_in, IsTreeOf}
 use Rattle.toml_edit_laws.specs.OneByOne.{is_right_after, all_right_after}
 use Rattle.toml_edit_laws.specs.Versions.{IsRefusedIn}
 use Rattle.toml_edit_laws.proofs.common.Tests.{and_left, and_right}
@@ -30,7 +31,7 @@ use Rattle.toml_edit_syntax.specs.Faults.{syntax_message}
 use Rattle.toml_edit_syntax.specs.Events.{IsSpanOf, AreEventsOf, events_of, exceeds_depth, has_deep_value, OpensTooMany}
 use Rattle.toml_edit_syntax.specs.ValueEvents.{are_deep, shortened}
 use Rattle.toml_edit_builder.specs.StatementRead.{tree_of}
-use Rattle.toml_edit_builder.specs.DocumentRead.{IsParsed, IsParsedIn, IsRefusal, IsRefusalIn}
+use Rattle.toml_edit_builder.specs.DocumentRead.{IsParsed, IsParsedIn, IsParsedWith, IsRefusal, IsRefusalIn}
 
 -- ---- no value of an accepted document is too deep
 
@@ -61,17 +62,17 @@ accepted-shallow d h = right-shallow (start_context d) [] d.statements (accepted
 
 -- ---- a text with these events
 
-module _ (version : Version) (t : Text) (es : List Event) (h : AreEventsOf t es) where
+module _ (mode : Mode) (version : Version) (t : Text) (es : List Event) (h : AreEventsOf t es) where
   -- what building the tree says where there is one, and where there is none
   abbrev pub IsBuiltSo : Slots → Raw → Type 0
   IsBuiltSo slots trailing =
-      (d : Document) → IsCut d t → es ≡ shortened 0 (events_of d) → (is_accepted_in version d ≡ true) × IsTreeOf spanned_form d (tree_of slots trailing)
+      (d : Document) → IsCut d t → es ≡ shortened 0 (events_of d) → (is_accepted_in version d ≡ true) × IsTreeOf (spanned_in mode) d (tree_of slots trailing)
 
   abbrev pub IsRefusedSo : ParseFault → Type 0
   IsRefusedSo e = (d : Document) → IsCut d t → es ≡ shortened 0 (events_of d) → IfToml e (λ r. (r.input ≡ t) × IsRefusedIn version d (fault_of r))
 
   -- events that are not cut short are those of the text's one cut
-  pub parsed : (slots : Slots) (trailing : Raw) → IsBuiltSo slots trailing → are_deep es ≡ false → IsParsedIn version t slots trailing
+  pub parsed : (slots : Slots) (trailing : Raw) → IsBuiltSo slots trailing → are_deep es ≡ false → IsParsedWith mode version t slots trailing
   parsed slots trailing built whole =
       let (d, cut) = h.has_cut whole in
       let (accepted, tree) = built d cut (h.every d cut) in
@@ -128,6 +129,11 @@ wrong_syntax version t m mistake s r none is within same =
 pub of_report : (e : ParseFault) (P Q : Report → Type 0) → ((r : Report) → P r → Q r) → IfToml e P → IfToml e Q
 of_report (Toml r) P Q more h = more r h
 of_report Memory P Q more h = tt
+
+-- ---- in the plain mode
+
+pub parsed_plain : (version : Version) (t : Text) (slots : Slots) (trailing : Raw) → IsParsedWith plain version t slots trailing → IsParsedIn version t slots trailing
+parsed_plain version t slots trailing h = record { document = h.document; accepted = h.accepted; only = h.only; tree = h.tree }
 
 -- ---- in TOML 1.1
 

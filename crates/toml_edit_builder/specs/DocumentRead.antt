@@ -1,11 +1,12 @@
 -- What parsing a text gives: the tree of its one cut, or why it is refused.
 use Rattle.std.specs.Prelude.{◌≡◌, ◌⊎◌, Some}
+use Rattle.toml_edit_model.specs.Mode.{Mode}
 use Rattle.toml_edit_model.specs.Text.{Text}
 use Rattle.toml_edit_model.specs.Version.{Version}
 use Rattle.toml_edit_model.specs.Accepted.{AcceptedIn, AcceptedAs}
 use Rattle.toml_edit_model.specs.Syntax.{Document, IsCut}
 use Rattle.toml_edit_model.specs.Tree.{Raw, Slots}
-use Rattle.toml_edit_model.specs.TreeOf.{spanned_form, IsTreeOf}
+use Rattle.toml_edit_model.specs.TreeOf.{spanned_form, spanned_in, IsTreeOf}
 use Rattle.toml_edit_laws.specs.Building.{IsRefusedBy}
 use Rattle.toml_edit_laws.specs.Versions.{IsRefusedIn}
 use Rattle.toml_edit_error.specs.Report.{Report, fault_of}
@@ -53,3 +54,12 @@ module _ (version : Version) where
     pub input : r.input ≡ t
     pub names : (d : Document) → IsCut d t → IsRefusedIn version d (fault_of r)
     pub syntax : ((d : Document) → IsCut d t → ⊥) → MarksMistake t r ⊎ OpensTooMany t
+
+-- ---- in a mode
+
+-- The text has one cut, by which the version accepts it, and these slots and this trailing text are the tree of it, read in this mode.
+pub record IsParsedWith (mode : Mode) (version : Version) (t : Text) (slots : Slots) (trailing : Raw) : Type 0 where
+  pub document : Document
+  pub accepted : AcceptedIn version t document
+  pub only : (other : Document) → IsCut other t → other ≡ document
+  pub tree : IsTreeOf (spanned_in mode) document (tree_of slots trailing)

@@ -3,14 +3,14 @@
 use Rattle.std.specs.Prelude.{◌≡◌, ℕ, ◌+◌, ◌-◌, Bool, true, if◌then◌else◌, List, [], ◌++◌, length, map, Some, String, Vec, Result, Ok, Err}
 use Rattle.std.specs.declared.alloc.Global.{Global}
 use Rattle.std.specs.Borrow.{Bor}
-use Rattle.toml_edit_model.specs.Mode.{plain}
+use Rattle.toml_edit_model.specs.Mode.{Mode, with_return}
 use Rattle.toml_edit_model.specs.Text.{Text}
 use Rattle.toml_edit_model.specs.Syntax.{Segment, Header, Statement, IsStatement, Document, opening_brackets, brackets_text, document_text}
 use Rattle.toml_edit_model.specs.Version.{Version, is_of_version}
 use Rattle.toml_edit_model.specs.Accepted.{is_accepted_in}
 use Rattle.toml_edit_model.specs.Faults.{own_faults, late_faults}
 use Rattle.toml_edit_model.specs.Tree.{Raw, Node, nothing, Slots, Tree}
-use Rattle.toml_edit_model.specs.TreeOf.{spanned_form, header_leaf, root_fields, IsTreeOf}
+use Rattle.toml_edit_model.specs.TreeOf.{spanned_form, spanned_in, header_leaf, root_fields, IsTreeOf}
 use Rattle.toml_edit_laws.specs.Building.{slots_along, Builder, added, clash_at, faults_at, behind, IsStatementNode}
 use Rattle.toml_edit_laws.specs.Versions.{IsRefusedIn}
 use Rattle.toml_edit_laws.specs.TableClash.{table_way_faults}
@@ -48,24 +48,24 @@ pub record IsHeld (b : Builder) (h : Building) : Type 0 where
   pub placed : ArePlaced b.start (put_along b.block (slots_view h.current) (slots_view h.root))
 
 -- The statement is right and is added: the builder behind it is what is held. These events follow.
-pub record IsAdded (b : Builder) (s : Statement) (more : List Event) (new : Building) (rest : List Event) : Type 0 where
+pub record IsAdded (mode : Mode) (b : Builder) (s : Statement) (more : List Event) (new : Building) (rest : List Event) : Type 0 where
   pub node : Node
-  pub is_node : IsStatementNode plain b.start s node
+  pub is_node : IsStatementNode mode b.start s node
   pub slots : Slots
   pub faultless : own_faults b.start s ≡ []
-  pub added_is : added plain b s node ≡ Some slots
+  pub added_is : added mode b s node ≡ Some slots
   pub held : (inner : Slots) → slots_along (behind b s slots).block slots ≡ Some inner → IsHeld (behind b s slots) new
   pub rest_is : rest ≡ shortened 0 more
 
 -- what reading a statement answers, where these events follow it: it is added, or the report names what stands in it
-abbrev pub ReadsStatement : Text → Builder → Statement → List Event → Building → Result (Bor (List Event)) ParseFault → Type 0
-ReadsStatement t b s more new (Ok r) = IsAdded b s more new r.now
-ReadsStatement t b s more new (Err e) = IfToml e (NamesOne t (faults_at b s))
+abbrev pub ReadsStatement : Mode → Text → Builder → Statement → List Event → Building → Result (Bor (List Event)) ParseFault → Type 0
+ReadsStatement mode t b s more new (Ok r) = IsAdded mode b s more new r.now
+ReadsStatement mode t b s more new (Err e) = IfToml e (NamesOne t (faults_at b s))
 
 -- The same in a version of the grammar: the statement is one of the version too, or the report may name what it has that the version hasn't.
-abbrev pub ReadsInVersion : Version → Text → Builder → Statement → List Event → Building → Result (Bor (List Event)) ParseFault → Type 0
-ReadsInVersion version t b s more new (Ok r) = (is_of_version version s ≡ true) × IsAdded b s more new r.now
-ReadsInVersion version t b s more new (Err e) = IfToml e (NamesOne t (late_faults version b.start s ++ faults_at b s))
+abbrev pub ReadsInVersion : Mode → Version → Text → Builder → Statement → List Event → Building → Result (Bor (List Event)) ParseFault → Type 0
+ReadsInVersion mode version t b s more new (Ok r) = (is_of_version version s ≡ true) × IsAdded mode b s more new r.now
+ReadsInVersion mode version t b s more new (Err e) = IfToml e (NamesOne t (late_faults version b.start s ++ faults_at b s))
 
 -- ---- a header
 
@@ -74,13 +74,13 @@ abbrev pub kind_of : Bool → Span → Kind
 kind_of is_array brackets = if is_array then kinds.Element brackets else kinds.Table
 
 -- the parts of a header that begins at this byte
-pub record AreHeaderParts (h : Header) (start : ℕ) (parts : HeaderParts) : Type 0 where
+pub record AreHeaderParts (mode : Mode) (h : Header) (end : Text) (start : ℕ) (parts : HeaderParts) : Type 0 where
   pub leading : parts.leading ≡ span_at start h.leading
   pub is_array : parts.is_array ≡ h.is_array
   pub brackets : parts.brackets ≡ span_at (start + length h.leading) (brackets_text h)
-  pub path : IsPathFrom (header_leaf spanned_form (start + length h.leading + length (opening_brackets h.is_array)) h)
+  pub path : IsPathFrom (header_leaf (spanned_in mode) (start + length h.leading + length (opening_brackets h.is_array)) h)
       (start + length h.leading + length (opening_brackets h.is_array) + length h.opening) h.path parts.path
-  pub trailing : parts.trailing ≡ span_at (start + length h.leading + length (brackets_text h)) h.trailing
+  pub trailing : parts.trailing ≡ span_at (start + length h.leading + length (brackets_text h)) (with_return mode h.trailing end)
 
 -- the names of a path's keys; nothing but want of memory stands in the way
 abbrev pub ReadsNames : List Segment → Result (Vec (String Global) Global) ParseFault → Type 0
@@ -88,14 +88,14 @@ ReadsNames p (Ok v) = names v.items ≡ map (λ s. s.key) p
 ReadsNames p (Err e) = IfToml e (λ r. ⊥)
 
 -- The header's table is added: the builder behind it is what is held.
-pub record IsOpened (b : Builder) (s : Statement) (new : Building) : Type 0 where
+pub record IsOpened (mode : Mode) (b : Builder) (s : Statement) (new : Building) : Type 0 where
   pub slots : Slots
-  pub added_is : added plain b s nothing ≡ Some slots
+  pub added_is : added mode b s nothing ≡ Some slots
   pub held : (inner : Slots) → slots_along (behind b s slots).block slots ≡ Some inner → IsHeld (behind b s slots) new
 
-abbrev pub OpensBlock : {A : Type 0} → Text → Builder → Statement → Building → Result A ParseFault → Type 0
-OpensBlock t b s new (Ok a) = IsOpened b s new
-OpensBlock t b s new (Err e) = IfToml e (NamesOne t (table_way_faults (clash_at b s)))
+abbrev pub OpensBlock : (mode : Mode) {A : Type 0} → Text → Builder → Statement → Building → Result A ParseFault → Type 0
+OpensBlock mode t b s new (Ok a) = IsOpened mode b s new
+OpensBlock mode t b s new (Err e) = IfToml e (NamesOne t (table_way_faults (clash_at b s)))
 
 -- ---- all statements
 
@@ -109,6 +109,6 @@ tree_of slots trailing = record { root = root_fields spanned_form; slots = slots
 
 -- what building the tree of a document answers, in a version of the grammar: the document is accepted, and this is its tree, or the report
 -- names a fault of its first faulty statement
-abbrev pub Builds : {S : Type 0} → Version → (S → Slots) → Text → Document → Result (S × Raw) ParseFault → Type 0
-Builds version view t d (Ok r) = (is_accepted_in version d ≡ true) × IsTreeOf spanned_form d (tree_of (view r.0) r.1)
-Builds version view t d (Err e) = IfToml e (λ r. (r.input ≡ t) × IsRefusedIn version d (fault_of r))
+abbrev pub Builds : (mode : Mode) {S : Type 0} → Version → (S → Slots) → Text → Document → Result (S × Raw) ParseFault → Type 0
+Builds mode version view t d (Ok r) = (is_accepted_in version d ≡ true) × IsTreeOf (spanned_in mode) d (tree_of (view r.0) r.1)
+Builds mode version view t d (Err e) = IfToml e (λ r. (r.input ≡ t) × IsRefusedIn version d (fault_of r))

@@ -1,13 +1,13 @@
 -- What a statement adds at the end of its path, and what adding it does to the tables of a document (TOML 1.1.0, "Keys", "Table" and
 -- "Array of Tables").
 use Rattle.std.specs.Prelude.{◌≡◌, ◌&&◌, not, Bool, true, false, ℕ, List, Option, Some, None, option_map, if◌then◌else◌, Result, Ok, Err}
-use Rattle.toml_edit_model.specs.Mode.{plain}
+use Rattle.toml_edit_model.specs.Mode.{Mode}
 use Rattle.toml_edit_model.specs.Roles.{extends}
 use Rattle.toml_edit_model.specs.Text.{Text}
 use Rattle.toml_edit_model.specs.Syntax.{Segment, path_text}
 use Rattle.toml_edit_model.specs.Paths.{Mention, Source}
 use Rattle.toml_edit_model.specs.Tree.{Key, TableFields, Node, table, tables, Slots, no_slots}
-use Rattle.toml_edit_model.specs.TreeOf.{spanned_form, header_fields, statement_leaf, key_at, brackets_from, brackets_to}
+use Rattle.toml_edit_model.specs.TreeOf.{spanned_in, header_fields, statement_leaf, key_at, brackets_from, brackets_to}
 use Rattle.toml_edit_laws.specs.Standing.{Stands}
 use Rattle.toml_edit_laws.specs.InlineTree.{node_at}
 use Rattle.toml_edit_laws.specs.TableTree.{reaching, with_item}
@@ -38,30 +38,30 @@ is_line kinds.Line = true
 is_line _ = false
 
 -- the table of a header, as yet without slots
-abbrev pub IsHeaded : Source → Node → Type 0
-IsHeaded s n = n ≡ table (header_fields spanned_form s s.statement) no_slots
+abbrev pub IsHeaded : Mode → Source → Node → Type 0
+IsHeaded mode s n = n ≡ table (header_fields (spanned_in mode) s s.statement) no_slots
 
 -- The item is that of the statement, if this is a header: its table, where an element has the place of the header's brackets.
-abbrev pub IsItemFor : Kind → Source → Node → Type 0
-IsItemFor kinds.Line s n = Unit {0}
-IsItemFor kinds.Table s n = IsHeaded s n
-IsItemFor (kinds.Element brackets) s n =
-    IsHeaded s n × (brackets ≡ record { start = brackets_from spanned_form s s.statement; end = brackets_to spanned_form s s.statement })
+abbrev pub IsItemFor : Mode → Kind → Source → Node → Type 0
+IsItemFor mode kinds.Line s n = Unit {0}
+IsItemFor mode kinds.Table s n = IsHeaded mode s n
+IsItemFor mode (kinds.Element brackets) s n =
+    IsHeaded mode s n × (brackets ≡ record { start = brackets_from (spanned_in mode) s s.statement; end = brackets_to (spanned_in mode) s s.statement })
 
 -- ---- a path
 
 -- The path is the end of that of a statement of the text, from one of its keys on, and these are its mentions.
-pub record IsPathOf (t : Text) (s : Source) (ms : List (Mention Source)) (path : KeyPath) : Type 0 where
+pub record IsPathOf (mode : Mode) (t : Text) (s : Source) (ms : List (Mention Source)) (path : KeyPath) : Type 0 where
   pub start : ℕ
   pub segments : List Segment
   pub ends : IsEndOfPath segments
   pub stands : Stands t start (path_text segments)
   pub mentions : AreMentionsOf s start segments ms
-  pub read : IsPathFrom (statement_leaf spanned_form s s.statement) start segments path
+  pub read : IsPathFrom (statement_leaf (spanned_in mode) s s.statement) start segments path
 
 -- the key of a mention, and where it is spelled; its path goes on behind it, or ends there
-pub record IsKeyOf (s : Source) (passes : Bool) (m : Mention Source) (k : Key) (at : Span) : Type 0 where
-  pub key : k ≡ key_at spanned_form m
+pub record IsKeyOf (mode : Mode) (s : Source) (passes : Bool) (m : Mention Source) (k : Key) (at : Span) : Type 0 where
+  pub key : k ≡ key_at (spanned_in mode) m
   pub source : m.source ≡ s
   pub role : extends m.role ≡ passes
   pub spelled : at ≡ span_at m.start m.segment.spelled
@@ -74,16 +74,16 @@ Goes t want way new (Ok x) = want ≡ Some new
 Goes t want way new (Err e) = IfToml e (λ r. (r.input ≡ t) × (option_map table_way_fault way ≡ Some (fault_of r)))
 
 -- adding something at the end of a path below these slots
-abbrev pub AddsPath : {A : Type 0} → Text → Addition → List (Mention Source) → Slots → Slots → Result A ParseFault → Type 0
-AddsPath t a ms old new result = Goes t (add_in_place plain a ms old) (path_clash a ms old) new result
+abbrev pub AddsPath : (mode : Mode) {A : Type 0} → Text → Addition → List (Mention Source) → Slots → Slots → Result A ParseFault → Type 0
+AddsPath mode t a ms old new result = Goes t (add_in_place mode a ms old) (path_clash a ms old) new result
 
 -- adding it below a key with this item, where these mentions are the path behind the key
-abbrev pub AddsInside : {A : Type 0} → Text → Addition → Mention Source → List (Mention Source) → Node → Node → Result A ParseFault → Type 0
-AddsInside t a m ms old new result = Goes t (inside a (add_in_place plain a ms) old) (clash_inside a m (path_clash a ms) old) new result
+abbrev pub AddsInside : (mode : Mode) {A : Type 0} → Text → Addition → Mention Source → List (Mention Source) → Node → Node → Result A ParseFault → Type 0
+AddsInside mode t a m ms old new result = Goes t (inside a (add_in_place mode a ms) old) (clash_inside a m (path_clash a ms) old) new result
 
 -- adding it at the last key of a path
-abbrev pub PutsLast : {A : Type 0} → Text → Addition → Mention Source → Slots → Slots → Result A ParseFault → Type 0
-PutsLast t a m old new result = Goes t (put_in_place plain a m old (node_at m.segment.key old)) (last_key_clash a m (node_at m.segment.key old)) new result
+abbrev pub PutsLast : (mode : Mode) {A : Type 0} → Text → Addition → Mention Source → Slots → Slots → Result A ParseFault → Type 0
+PutsLast mode t a m old new result = Goes t (put_in_place mode a m old (node_at m.segment.key old)) (last_key_clash a m (node_at m.segment.key old)) new result
 
 -- the table of a header with these fields, with the slots of the table that is there, if that was only passed through so far
 abbrev pub opened : TableFields → Node → Option Node

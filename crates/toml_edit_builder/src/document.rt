@@ -7,28 +7,35 @@ ghost use Rattle.toml_edit_syntax.specs.Events.{AreEventsOf};
 ghost use Rattle.toml_edit_syntax.specs.ValueEvents.{are_deep};
 ghost use Rattle.toml_edit_version.specs.Grammar.{grammar};
 ghost use Rattle.toml_edit_tree.specs.View.{slots_view};
+ghost use Rattle.toml_edit_repr.specs.Modes.{mode_of};
 ghost use Rattle.toml_edit_parser.specs.ValueRead.{AreIn};
-ghost use Rattle.toml_edit_builder.specs.DocumentRead.{IsParsed, IsParsedIn, IsRefusal, IsRefusalIn};
+ghost use Rattle.toml_edit_builder.specs.DocumentRead.{IsParsed, IsParsedIn, IsParsedWith, IsRefusal, IsRefusalIn};
 
 use crate::parser::build;
 use std::alloc::Global;
 use toml_edit_error::ParseFault;
 use toml_edit_parser::{are_cut_short, refusal, refusal_of_all};
-use toml_edit_repr::RawString;
+use toml_edit_repr::{Mode, RawString};
 use toml_edit_slots::Slots;
 use toml_edit_syntax::{Event, SyntaxFault, events};
 use toml_edit_tree::Item;
 use toml_edit_version::Version;
 
 /// What is wrong with a text whose events are cut short.
-fn cut_short(alloc: Global, source: &str, events: &[Event], version: Version) -> ParseFault
+fn cut_short(
+    alloc: Global,
+    source: &str,
+    events: &[Event],
+    version: Version,
+    mode: Mode,
+) -> ParseFault
     requires cut { AreEventsOf source.now events.now }
     requires spans { AreIn source.now events.now }
     requires short { are_deep events.now ≡ true }
     ensures every { (d : Document) → AcceptedIn (grammar version) source.now d → result ≡ ParseFault.Memory }
     ensures refused { IfToml result (IsRefusalIn (grammar version) source.now) }
 {
-    match build(alloc, source, events, version) {
+    match build(alloc, source, events, version, mode) {
         Ok(_) => refusal_of_all(alloc, source, "recursion limit"),
         Err(fault) => fault,
     }
@@ -40,15 +47,16 @@ fn read_all(
     source: &str,
     events: &[Event],
     version: Version,
+    mode: Mode,
 ) -> Result<(Slots<Item>, RawString), ParseFault>
     requires cut { AreEventsOf source.now events.now }
     requires spans { AreIn source.now events.now }
     requires whole { are_deep events.now ≡ false }
-    ensures parsed { IfOk result (λ r. IsParsedIn (grammar version) source.now (slots_view r.0) r.1) }
+    ensures parsed { IfOk result (λ r. IsParsedWith (mode_of mode) (grammar version) source.now (slots_view r.0) r.1) }
     ensures every { (d : Document) → AcceptedIn (grammar version) source.now d → IsOk result ⊎ IsErrOf result ParseFault.Memory }
     ensures refused { IfErr result (λ e. IfToml e (IsRefusalIn (grammar version) source.now)) }
 {
-    let built = build(alloc, source, events, version)?;
+    let built = build(alloc, source, events, version, mode)?;
     Ok(built)
 }
 
@@ -58,22 +66,52 @@ fn parse_events(
     source: &str,
     events: &[Event],
     version: Version,
+    mode: Mode,
 ) -> Result<(Slots<Item>, RawString), ParseFault>
     requires cut { AreEventsOf source.now events.now }
     requires spans { AreIn source.now events.now }
-    ensures parsed { IfOk result (λ r. IsParsedIn (grammar version) source.now (slots_view r.0) r.1) }
+    ensures parsed { IfOk result (λ r. IsParsedWith (mode_of mode) (grammar version) source.now (slots_view r.0) r.1) }
     ensures every { (d : Document) → AcceptedIn (grammar version) source.now d → IsOk result ⊎ IsErrOf result ParseFault.Memory }
     ensures refused { IfErr result (λ e. IfToml e (IsRefusalIn (grammar version) source.now)) }
 {
     if are_cut_short(events) {
-        Err(cut_short(alloc, source, events, version))
+        Err(cut_short(alloc, source, events, version, mode))
     } else {
-        read_all(alloc, source, events, version)
+        read_all(alloc, source, events, version, mode)
     }
 }
 
 /// The slots of the root of a text's tree, whose keys and values are spans of the text, and the text after the last statement, where this
-/// version of the grammar accepts the text. The errors are a `TomlError` for a text that is refused, and want of memory.
+/// version of the grammar accepts the text, with its line endings in this mode. The errors are a `TomlError` for a text that is refused, and
+/// want of memory.
+#[doc(hidden)]
+pub fn parse_with(
+    alloc: Global,
+    source: &str,
+    version: Version,
+    mode: Mode,
+) -> Result<(Slots<Item>, RawString), ParseFault>
+    ensures parsed { IfOk result (λ r. IsParsedWith (mode_of mode) (grammar version) source.now (slots_view r.0) r.1) }
+    // A text that the version accepts is never refused.
+    ensures every { (d : Document) → AcceptedIn (grammar version) source.now d → IsOk result ⊎ IsErrOf result ParseFault.Memory }
+    ensures refused { IfErr result (λ e. IfToml e (IsRefusalIn (grammar version) source.now)) }
+{
+    match events(alloc, source) {
+        Ok(mut events) => {
+            // The tree is made beside them, so they take no more room than they need.
+            events.shrink_to_fit();
+            parse_events(alloc, source, events.as_slice(), version, mode)
+        }
+        Err(SyntaxFault::Memory) => Err(ParseFault::Memory),
+        Err(SyntaxFault::Text(mistake, span)) => {
+            Err(refusal(alloc, source, mistake.message(), span))
+        }
+    }
+}
+
+/// The same where line endings are not kept: the slots of the root of a text's tree, whose keys and values are spans of the text, and the
+/// text after the last statement, where this version of the grammar accepts the text. The errors are a `TomlError` for a text that is
+/// refused, and want of memory.
 #[doc(hidden)]
 pub fn parse_in(
     alloc: Global,
@@ -85,17 +123,7 @@ pub fn parse_in(
     ensures every { (d : Document) → AcceptedIn (grammar version) source.now d → IsOk result ⊎ IsErrOf result ParseFault.Memory }
     ensures refused { IfErr result (λ e. IfToml e (IsRefusalIn (grammar version) source.now)) }
 {
-    match events(alloc, source) {
-        Ok(mut events) => {
-            // The tree is made beside them, so they take no more room than they need.
-            events.shrink_to_fit();
-            parse_events(alloc, source, events.as_slice(), version)
-        }
-        Err(SyntaxFault::Memory) => Err(ParseFault::Memory),
-        Err(SyntaxFault::Text(mistake, span)) => {
-            Err(refusal(alloc, source, mistake.message(), span))
-        }
-    }
+    parse_with(alloc, source, version, Mode::Plain)
 }
 
 /// The same in TOML 1.1: the slots of the root of a text's tree, whose keys and values are spans of the text, and the text after the last

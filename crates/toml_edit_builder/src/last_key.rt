@@ -1,5 +1,6 @@
 //! The last key of a path: what is put there, and what stands in its way.
 ghost use Rattle.std.specs.Prelude.{◌≡◌, ◌<◌, false, None, Some, OnOk, IfErr, length};
+ghost use Rattle.toml_edit_model.specs.Mode.{Mode};
 ghost use Rattle.toml_edit_model.specs.Paths.{Mention, Source};
 ghost use Rattle.toml_edit_model.specs.Tree.{TableFields, item as item_of, no_items, no_slots, table as table_of, tables as tables_of};
 ghost use Rattle.toml_edit_laws.specs.AddPath.{a_table, a_value, an_element};
@@ -38,8 +39,8 @@ pub(crate) fn put_last(
     slots: &mut Slots<Item>,
 ) -> Result<(), ParseFault>
     requires { IsSpanOf source.now at }
-    ensures put { (s : Source) (m : Mention Source) → IsItemFor kind s (item_view item.old) → IsKeyOf s false m key at
-        → PutsLast source.now (addition_for kind (item_view item.old)) m (slots_view slots.old) (slots_view slots.new) result }
+    ensures put { (mode : Mode) (s : Source) (m : Mention Source) → IsItemFor mode kind s (item_view item.old) → IsKeyOf mode s false m key at
+        → PutsLast mode source.now (addition_for kind (item_view item.old)) m (slots_view slots.old) (slots_view slots.new) result }
     ensures input { IfErr result (λ e. IfToml e (λ r. r.input ≡ source.now)) }
 {
     match kind {
@@ -61,8 +62,8 @@ fn put_table(
     slots: &mut Slots<Item>,
 ) -> Result<(), ParseFault>
     requires { IsSpanOf source.now at }
-    ensures put { (s : Source) (m : Mention Source) → IsHeaded s (item_view item.old) → IsKeyOf s false m key at
-        → PutsLast source.now a_table m (slots_view slots.old) (slots_view slots.new) result }
+    ensures put { (mode : Mode) (s : Source) (m : Mention Source) → IsHeaded mode s (item_view item.old) → IsKeyOf mode s false m key at
+        → PutsLast mode source.now a_table m (slots_view slots.old) (slots_view slots.new) result }
     ensures input { IfErr result (λ e. IfToml e (λ r. r.input ≡ source.now)) }
 {
     match slots.find(key.get()) {
@@ -88,8 +89,8 @@ fn put_opened(
     requires at { IsSpanOf source.now at }
     requires there { place key.name slots.old ≡ Some there }
     requires within { there < length slots.old }
-    ensures put { (s : Source) (m : Mention Source) → IsHeaded s (item_view item.old) → IsKeyOf s false m key at
-        → PutsLast source.now a_table m (slots_view slots.old) (slots_view slots.new) result }
+    ensures put { (mode : Mode) (s : Source) (m : Mention Source) → IsHeaded mode s (item_view item.old) → IsKeyOf mode s false m key at
+        → PutsLast mode source.now a_table m (slots_view slots.old) (slots_view slots.new) result }
     ensures input { IfErr result (λ e. IfToml e (λ r. r.input ≡ source.now)) }
 {
     open_item(alloc, source, at, slots.item_mut(there), item)?;
@@ -115,7 +116,7 @@ fn open_item(
     item: &mut Item,
 ) -> Result<(), ParseFault>
     requires { IsSpanOf source.now at }
-    ensures opened { (g : TableFields) (s : Source) (m : Mention Source) (k : Key) → item_view item.old ≡ table_of g no_slots → IsKeyOf s false m k at
+    ensures opened { (mode : Mode) (g : TableFields) (s : Source) (m : Mention Source) (k : Key) → item_view item.old ≡ table_of g no_slots → IsKeyOf mode s false m k at
         → Goes source.now (opened g (item_view there.old)) (table_clash m (Some (item_view there.old))) (item_view item.new) result }
     ensures input { IfErr result (λ e. IfToml e (λ r. r.input ≡ source.now)) }
 {
@@ -134,7 +135,7 @@ fn open_table(
     item: &mut Item,
 ) -> Result<(), ParseFault>
     requires { IsSpanOf source.now at }
-    ensures opened { (g : TableFields) (s : Source) (m : Mention Source) (k : Key) → item_view item.old ≡ table_of g no_slots → IsKeyOf s false m k at
+    ensures opened { (mode : Mode) (g : TableFields) (s : Source) (m : Mention Source) (k : Key) → item_view item.old ≡ table_of g no_slots → IsKeyOf mode s false m k at
         → Goes source.now (opened g (table_node (table_view there.old))) (table_clash m (Some (table_node (table_view there.old)))) (item_view item.new) result }
     ensures input { IfErr result (λ e. IfToml e (λ r. r.input ≡ source.now)) }
 {
@@ -182,8 +183,8 @@ fn put_element(
     slots: &mut Slots<Item>,
 ) -> Result<(), ParseFault>
     requires { IsSpanOf source.now at }
-    ensures put { (s : Source) (m : Mention Source) → IsItemFor (kinds.Element brackets) s (item_view item.old) → IsKeyOf s false m key at
-        → PutsLast source.now an_element m (slots_view slots.old) (slots_view slots.new) result }
+    ensures put { (mode : Mode) (s : Source) (m : Mention Source) → IsItemFor mode (kinds.Element brackets) s (item_view item.old) → IsKeyOf mode s false m key at
+        → PutsLast mode source.now an_element m (slots_view slots.old) (slots_view slots.new) result }
     ensures input { IfErr result (λ e. IfToml e (λ r. r.input ≡ source.now)) }
 {
     match slots.find(key.get()) {
@@ -222,7 +223,7 @@ fn add_element(
     holder: &mut Item,
 ) -> Result<(), ParseFault>
     requires { IsSpanOf source.now at }
-    ensures added { (s : Source) (m : Mention Source) (k : Key) → IsKeyOf s false m k at
+    ensures added { (mode : Mode) (s : Source) (m : Mention Source) (k : Key) → IsKeyOf mode s false m k at
         → Goes source.now (with_element brackets.end (item_view item.old) (item_view holder.old)) (element_clash m (Some (item_view holder.old)))
         (item_view holder.new) result }
     ensures input { IfErr result (λ e. IfToml e (λ r. r.input ≡ source.now)) }

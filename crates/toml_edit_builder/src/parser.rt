@@ -12,6 +12,7 @@ ghost use Rattle.toml_edit_syntax.specs.ValueEvents.{event, shortened};
 ghost use Rattle.toml_edit_syntax.specs.declared.event.EventKind.TheVariants.{Final};
 ghost use Rattle.toml_edit_version.specs.Grammar.{grammar};
 ghost use Rattle.toml_edit_tree.specs.View.{slots_view};
+ghost use Rattle.toml_edit_repr.specs.Modes.{mode_of};
 ghost use Rattle.toml_edit_parser.specs.ValueRead.{AreIn, split_leading};
 ghost use Rattle.toml_edit_builder.specs.StatementRead.{Builds, IsHeld, IsWhole, ReadsStatement};
 
@@ -19,7 +20,7 @@ use crate::block::swap_block;
 use crate::statement::read_in_version;
 use std::alloc::Global;
 use toml_edit_error::ParseFault;
-use toml_edit_repr::RawString;
+use toml_edit_repr::{Mode, RawString};
 use toml_edit_slots::Slots;
 use toml_edit_syntax::{Event, EventKind, Span};
 use toml_edit_tree::{Item, put_in_order};
@@ -105,10 +106,11 @@ pub(crate) fn build(
     source: &str,
     events: &[Event],
     version: Version,
+    mode: Mode,
 ) -> Result<(Slots<Item>, RawString), ParseFault>
     requires { AreIn source.now events.now }
     ensures built { (d : Document) → IsCut d source.now → events.now ≡ shortened 0 (events_of d)
-        → Builds (grammar version) slots_view source.now d result }
+        → Builds (mode_of mode) (grammar version) slots_view source.now d result }
     ensures input { IfErr result (λ e. IfToml e (λ r. r.input ≡ source.now)) }
 {
     let mut building = Building {
@@ -120,7 +122,7 @@ pub(crate) fn build(
     };
     let mut rest = events;
     'statements: while starts_statement(rest) {
-        match read_in_version(alloc, source, version, &mut building, rest) {
+        match read_in_version(alloc, source, version, mode, &mut building, rest) {
             Ok(behind) => rest = behind,
             Err(fault) => {
                 drop(building);

@@ -1,6 +1,6 @@
 //! What a statement adds at the end of its path: down the path, key by key.
 ghost use Rattle.std.specs.Prelude.{◌≡◌, true, List, None, Some, IfErr, option_map};
-ghost use Rattle.toml_edit_model.specs.Mode.{plain};
+ghost use Rattle.toml_edit_model.specs.Mode.{Mode};
 ghost use Rattle.toml_edit_model.specs.Paths.{Mention, Source};
 ghost use Rattle.toml_edit_model.specs.Roles.{Role, extends};
 ghost use Rattle.toml_edit_model.specs.Tree.{Node, item as item_of, no_items, no_slots, table as table_of, tables as tables_of};
@@ -58,8 +58,8 @@ pub fn add_path(
     slots: &mut Slots<Item>,
 ) -> Result<(), ParseFault>
     requires { AreIn source.now path.events.now }
-    ensures added { (s : Source) (ms : List (Mention Source)) → IsItemFor kind s (item_view item.old) → IsPathOf source.now s ms path.entry
-        → AddsPath source.now (addition_for kind (item_view item.old)) ms (slots_view slots.old) (slots_view slots.new) result }
+    ensures added { (mode : Mode) (s : Source) (ms : List (Mention Source)) → IsItemFor mode kind s (item_view item.old) → IsPathOf mode source.now s ms path.entry
+        → AddsPath mode source.now (addition_for kind (item_view item.old)) ms (slots_view slots.old) (slots_view slots.new) result }
     ensures input { IfErr result (λ e. IfToml e (λ r. r.input ≡ source.now)) }
 {
     let PathKey { key, span, rest } = next_key(alloc, source, path)?;
@@ -83,8 +83,8 @@ pub(crate) fn add_value(
     slots: &mut Slots<Item>,
 ) -> Result<(), ParseFault>
     requires { AreIn source.now path.events.now }
-    ensures added { (s : Source) (ms : List (Mention Source)) → IsPathOf source.now s ms path.entry
-        → AddsPath source.now (a_value (item_view item.old)) ms (slots_view slots.old) (slots_view slots.new) result }
+    ensures added { (mode : Mode) (s : Source) (ms : List (Mention Source)) → IsPathOf mode source.now s ms path.entry
+        → AddsPath mode source.now (a_value (item_view item.old)) ms (slots_view slots.old) (slots_view slots.new) result }
     ensures input { IfErr result (λ e. IfToml e (λ r. r.input ≡ source.now)) }
 {
     if path.events.len() != 1 {
@@ -113,10 +113,10 @@ fn add_below(
 ) -> Result<(), ParseFault>
     requires new { place key.name slots.old ≡ None }
     requires path { AreIn source.now path.events.now }
-    ensures added { (s : Source) (ms : List (Mention Source)) → IsItemFor kind s (item_view item.old) → IsPathOf source.now s ms path.entry
+    ensures added { (mode : Mode) (s : Source) (ms : List (Mention Source)) → IsItemFor mode kind s (item_view item.old) → IsPathOf mode source.now s ms path.entry
         → Goes source.now (option_map (λ inner. with_slot (slots_view slots.old) key
         (table_of (made_by_path spanned_form (makes_dotted (addition_for kind (item_view item.old))) (Some (span.start, span.end))) inner))
-        (model.add_in_place plain (addition_for kind (item_view item.old)) ms no_slots)) None (slots_view slots.new) result }
+        (model.add_in_place mode (addition_for kind (item_view item.old)) ms no_slots)) None (slots_view slots.new) result }
     ensures input { IfErr result (λ e. IfToml e (λ r. r.input ≡ source.now)) }
 {
     let mut inner = Slots::new(alloc);
@@ -147,9 +147,9 @@ fn add_in_item(
 ) -> Result<(), ParseFault>
     requires span { IsSpanOf source.now span }
     requires path { AreIn source.now path.events.now }
-    ensures added { (s : Source) (m : Mention Source) (ms : List (Mention Source)) (k : Key) → IsItemFor kind s (item_view item.old) → IsKeyOf s true m k span
-        → IsPathOf source.now s ms path.entry
-        → AddsInside source.now (addition_for kind (item_view item.old)) m ms (item_view holder.old) (item_view holder.new) result }
+    ensures added { (mode : Mode) (s : Source) (m : Mention Source) (ms : List (Mention Source)) (k : Key) → IsItemFor mode kind s (item_view item.old) → IsKeyOf mode s true m k span
+        → IsPathOf mode source.now s ms path.entry
+        → AddsInside mode source.now (addition_for kind (item_view item.old)) m ms (item_view holder.old) (item_view holder.new) result }
     ensures input { IfErr result (λ e. IfToml e (λ r. r.input ≡ source.now)) }
 {
     match holder {
@@ -190,9 +190,9 @@ fn add_in_table(
 ) -> Result<(), ParseFault>
     requires span { IsSpanOf source.now span }
     requires path { AreIn source.now path.events.now }
-    ensures added { (s : Source) (m : Mention Source) (ms : List (Mention Source)) (k : Key) → IsItemFor kind s (item_view item.old) → IsKeyOf s true m k span
-        → IsPathOf source.now s ms path.entry
-        → AddsInside source.now (addition_for kind (item_view item.old)) m ms (table_node (table_view table.old)) (table_node (table_view table.new)) result }
+    ensures added { (mode : Mode) (s : Source) (m : Mention Source) (ms : List (Mention Source)) (k : Key) → IsItemFor mode kind s (item_view item.old) → IsKeyOf mode s true m k span
+        → IsPathOf mode source.now s ms path.entry
+        → AddsInside mode source.now (addition_for kind (item_view item.old)) m ms (table_node (table_view table.old)) (table_node (table_view table.new)) result }
     ensures input { IfErr result (λ e. IfToml e (λ r. r.input ≡ source.now)) }
 {
     if is_line(kind) {
@@ -217,9 +217,9 @@ fn add_in_tables(
 ) -> Result<(), ParseFault>
     requires span { IsSpanOf source.now span }
     requires path { AreIn source.now path.events.now }
-    ensures added { (s : Source) (m : Mention Source) (ms : List (Mention Source)) (k : Key) → IsItemFor kind s (item_view item.old) → IsKeyOf s true m k span
-        → IsPathOf source.now s ms path.entry
-        → AddsInside source.now (addition_for kind (item_view item.old)) m ms (tables_node (tables_view tables.old)) (tables_node (tables_view tables.new)) result }
+    ensures added { (mode : Mode) (s : Source) (m : Mention Source) (ms : List (Mention Source)) (k : Key) → IsItemFor mode kind s (item_view item.old) → IsKeyOf mode s true m k span
+        → IsPathOf mode source.now s ms path.entry
+        → AddsInside mode source.now (addition_for kind (item_view item.old)) m ms (tables_node (tables_view tables.old)) (tables_node (tables_view tables.new)) result }
     ensures input { IfErr result (λ e. IfToml e (λ r. r.input ≡ source.now)) }
 {
     if is_line(kind) {
@@ -244,9 +244,9 @@ fn add_in_element(
 ) -> Result<(), ParseFault>
     requires span { IsSpanOf source.now span }
     requires path { AreIn source.now path.events.now }
-    ensures added { (s : Source) (m : Mention Source) (ms : List (Mention Source)) (k : Key) (way : Node) → IsItemFor kind s (item_view item.old)
-        → IsKeyOf s true m k span → IsPathOf source.now s ms path.entry → spec.AreTables way
-        → Goes source.now (change_table (model.add_in_place plain (addition_for kind (item_view item.old)) ms) (item_view holder.old))
+    ensures added { (mode : Mode) (s : Source) (m : Mention Source) (ms : List (Mention Source)) (k : Key) (way : Node) → IsItemFor mode kind s (item_view item.old)
+        → IsKeyOf mode s true m k span → IsPathOf mode source.now s ms path.entry → spec.AreTables way
+        → Goes source.now (change_table (model.add_in_place mode (addition_for kind (item_view item.old)) ms) (item_view holder.old))
         (clash_in_last (m, way) (path_clash (addition_for kind (item_view item.old)) ms) (item_of (item_view holder.old) no_items)) (item_view holder.new) result }
     ensures input { IfErr result (λ e. IfToml e (λ r. r.input ≡ source.now)) }
 {
@@ -267,8 +267,8 @@ fn add_in_slots(
     table: &mut Table,
 ) -> Result<(), ParseFault>
     requires { AreIn source.now path.events.now }
-    ensures added { (s : Source) (ms : List (Mention Source)) → IsItemFor kind s (item_view item.old) → IsPathOf source.now s ms path.entry
-        → Goes source.now (change_table (model.add_in_place plain (addition_for kind (item_view item.old)) ms) (table_node (table_view table.old)))
+    ensures added { (mode : Mode) (s : Source) (ms : List (Mention Source)) → IsItemFor mode kind s (item_view item.old) → IsPathOf mode source.now s ms path.entry
+        → Goes source.now (change_table (model.add_in_place mode (addition_for kind (item_view item.old)) ms) (table_node (table_view table.old)))
         (path_clash (addition_for kind (item_view item.old)) ms (table_view table.old).slots) (table_node (table_view table.new)) result }
     ensures input { IfErr result (λ e. IfToml e (λ r. r.input ≡ source.now)) }
 {

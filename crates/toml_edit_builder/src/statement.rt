@@ -2,6 +2,7 @@
 ghost use Rattle.std.specs.Prelude.{◌≡◌, ◌+◌, ◌-◌, ◌<◌, ◌≤◌, ◌^◌, ◌++◌, ◌∷◌, Bool, true, false, List, ℕ, suc, pos, length, Contains, IfErr, IfOk, IfSome, IsNone, OnOk, option_map};
 ghost use Rattle.toml_edit_model.specs.Syntax as syntax;
 ghost use Rattle.toml_edit_model.specs.Syntax.{Frame, Header, Segment, Statement, brackets_text, key_line, opening_brackets, path_text, statement_text};
+ghost use Rattle.toml_edit_model.specs.Mode as modes;
 ghost use Rattle.toml_edit_model.specs.Text.{Text};
 ghost use Rattle.toml_edit_model.specs.Version.{is_of_version};
 ghost use Rattle.toml_edit_model.specs.Faults.{fault, late_faults, needs_message};
@@ -13,9 +14,10 @@ ghost use Rattle.toml_edit_syntax.specs.Events.{IsSpanOf, has_deep_value, statem
 ghost use Rattle.toml_edit_syntax.specs.ValueEvents.{shortened};
 ghost use Rattle.toml_edit_version.specs.Grammar.{grammar};
 ghost use Rattle.toml_edit_tree.specs.View.{item_view};
+ghost use Rattle.toml_edit_repr.specs.Modes.{mode_of};
 ghost use Rattle.toml_edit_parser.specs.PairRead.{IsEndOfPath};
 ghost use Rattle.toml_edit_parser.specs.PathRead.{IsPathFrom};
-ghost use Rattle.toml_edit_parser.specs.StatementParts.{header_behind, line_behind};
+ghost use Rattle.toml_edit_parser.specs.StatementParts.{IsEnded, header_behind, line_behind};
 ghost use Rattle.toml_edit_parser.specs.ValueRead.{AreIn, span_at};
 ghost use Rattle.toml_edit_builder.specs.StatementRead.{AreHeaderParts, IsHeld, IsWhole, OpensBlock, ReadsInVersion, ReadsNames, ReadsStatement, kind_of};
 ghost use Rattle.toml_edit_builder.specs.TableRead.{IsHeaded};
@@ -26,10 +28,10 @@ use crate::path::{Kind, add_path, add_value};
 use std::alloc::Global;
 use toml_edit_error::ParseFault;
 use toml_edit_parser::{
-    KeyPath, PathKey, next_key, put, raw, read_header, read_key_line, refusal, refusal_of_all,
-    split_first,
+    KeyPath, PathKey, next_key, put, raw, read_header, read_key_line, refusal,
+    refusal_of_all, split_first,
 };
-use toml_edit_repr::Decor;
+use toml_edit_repr::{Decor, Mode};
 use toml_edit_slots::Slots;
 use toml_edit_syntax::{Event, EventKind, Span};
 use toml_edit_tree::{Item, Table};
@@ -69,21 +71,22 @@ pub(crate) fn read_in_version<'a>(
     alloc: Global,
     source: &str,
     version: Version,
+    mode: Mode,
     building: &mut Building,
     events: &'a [Event],
 ) -> Result<&'a [Event], ParseFault>
     requires spans { AreIn source.now events.now }
     requires count { building.old.headers + length events.now < 2 ^ 63 }
     ensures statement { (b : Builder) (s : Statement) (more : List Event) → IsWhole s → Stands source.now b.start (statement_text s)
-        → IsHeld b building.old → events.now ≡ shortened 0 (statement_events b.start s ++ more)
-        → ReadsInVersion (grammar version) source.now b s more building.new result }
+        → IsEnded source.now b.start s → IsHeld b building.old → events.now ≡ shortened 0 (statement_events b.start s ++ more)
+        → ReadsInVersion (mode_of mode) (grammar version) source.now b s more building.new result }
     ensures input { IfErr result (λ e. IfToml e (λ r. r.input ≡ source.now)) }
     ensures rest { IfOk result (λ r. AreIn source.now r.now × (length r.now < length events.now)) }
     ensures count { IfOk result (λ r. building.new.headers + length r.now ≤ building.old.headers + length events.now) }
 {
     match late_part(source, version, events) {
         Some(span) => Err(refusal(alloc, source, "needs TOML 1.1", span)),
-        None => read_statement(alloc, source, building, events),
+        None => read_statement(alloc, source, mode, building, events),
     }
 }
 
@@ -91,14 +94,15 @@ pub(crate) fn read_in_version<'a>(
 fn read_statement<'a>(
     alloc: Global,
     source: &str,
+    mode: Mode,
     building: &mut Building,
     events: &'a [Event],
 ) -> Result<&'a [Event], ParseFault>
     requires spans { AreIn source.now events.now }
     requires count { building.old.headers + length events.now < 2 ^ 63 }
     ensures statement { (b : Builder) (s : Statement) (more : List Event) → IsWhole s → Stands source.now b.start (statement_text s)
-        → IsHeld b building.old → events.now ≡ shortened 0 (statement_events b.start s ++ more)
-        → ReadsStatement source.now b s more building.new result }
+        → IsEnded source.now b.start s → IsHeld b building.old → events.now ≡ shortened 0 (statement_events b.start s ++ more)
+        → ReadsStatement (mode_of mode) source.now b s more building.new result }
     ensures input { IfErr result (λ e. IfToml e (λ r. r.input ≡ source.now)) }
     ensures rest { IfOk result (λ r. AreIn source.now r.now × (length r.now < length events.now)) }
     ensures count { IfOk result (λ r. building.new.headers + length r.now ≤ building.old.headers + length events.now) }
@@ -113,6 +117,7 @@ fn read_statement<'a>(
         EventKind::HeaderOpen => add_header(
             alloc,
             source,
+            mode,
             leading.span,
             false,
             opening.span,
@@ -122,13 +127,14 @@ fn read_statement<'a>(
         EventKind::ArrayHeaderOpen => add_header(
             alloc,
             source,
+            mode,
             leading.span,
             true,
             opening.span,
             building,
             inside,
         ),
-        _ => add_line(alloc, source, leading.span, building, behind),
+        _ => add_line(alloc, source, mode, leading.span, building, behind),
     }
 }
 
@@ -136,6 +142,7 @@ fn read_statement<'a>(
 fn add_line<'a>(
     alloc: Global,
     source: &str,
+    mode: Mode,
     leading: Span,
     building: &mut Building,
     events: &'a [Event],
@@ -143,14 +150,15 @@ fn add_line<'a>(
     requires leading { IsSpanOf source.now leading }
     requires spans { AreIn source.now events.now }
     ensures line { (b : Builder) (f : Frame) (v : syntax.Value) (end : Text) (more : List Event) → IsWhole (key_line f v end)
-        → Stands source.now b.start (statement_text (key_line f v end)) → IsHeld b building.old → leading ≡ span_at b.start f.leading
-        → events.now ≡ shortened 0 (line_behind b.start f v more) → ReadsStatement source.now b (key_line f v end) more building.new result }
+        → Stands source.now b.start (statement_text (key_line f v end)) → IsEnded source.now b.start (key_line f v end) → IsHeld b building.old
+        → leading ≡ span_at b.start f.leading → events.now ≡ shortened 0 (line_behind b.start f v more)
+        → ReadsStatement (mode_of mode) source.now b (key_line f v end) more building.new result }
     ensures input { IfErr result (λ e. IfToml e (λ r. r.input ≡ source.now)) }
     ensures rest { IfOk result (λ r. AreIn source.now r.now × (length r.now < length events.now)) }
     ensures count { OnOk result (building.new.headers ≡ building.old.headers) }
 {
     let Building { item, current, .. } = building;
-    let (path, rest) = read_key_line(alloc, source, leading, events, item)?;
+    let (path, rest) = read_key_line(alloc, source, mode, leading, events, item)?;
     add_value(alloc, source, path, item, current)?;
     Ok(rest)
 }
@@ -161,6 +169,7 @@ fn add_line<'a>(
 fn add_header<'a>(
     alloc: Global,
     source: &str,
+    mode: Mode,
     leading: Span,
     is_array: bool,
     opening: Span,
@@ -170,14 +179,15 @@ fn add_header<'a>(
     requires spans { AreIn source.now events.now }
     requires count { building.old.headers + length events.now < 2 ^ 63 }
     ensures header { (b : Builder) (h : Header) (end : Text) (more : List Event) → IsWhole (syntax.header h end)
-        → Stands source.now b.start (statement_text (syntax.header h end)) → IsHeld b building.old → leading ≡ span_at b.start h.leading
-        → is_array ≡ h.is_array → opening ≡ span_at (b.start + length h.leading) (opening_brackets h.is_array)
-        → events.now ≡ shortened 0 (header_behind b.start h more) → ReadsStatement source.now b (syntax.header h end) more building.new result }
+        → Stands source.now b.start (statement_text (syntax.header h end)) → IsEnded source.now b.start (syntax.header h end)
+        → IsHeld b building.old → leading ≡ span_at b.start h.leading → is_array ≡ h.is_array
+        → opening ≡ span_at (b.start + length h.leading) (opening_brackets h.is_array) → events.now ≡ shortened 0 (header_behind b.start h more)
+        → ReadsStatement (mode_of mode) source.now b (syntax.header h end) more building.new result }
     ensures input { IfErr result (λ e. IfToml e (λ r. r.input ≡ source.now)) }
     ensures rest { IfOk result (λ r. AreIn source.now r.now × (length r.now < length events.now)) }
     ensures count { OnOk result (building.new.headers ≡ building.old.headers + 1) }
 {
-    let (header, rest) = read_header(alloc, source, events)?;
+    let (header, rest) = read_header(alloc, source, mode, events)?;
     let brackets = Span {
         start: opening.start,
         end: header.end,
@@ -204,9 +214,9 @@ fn open_block(
 ) -> Result<(), ParseFault>
     requires path { AreIn source.now header.path.events.now }
     requires count { building.old.headers + 1 < 2 ^ 63 }
-    ensures opens { (b : Builder) (h : Header) (end : Text) → IsWhole (syntax.header h end)
-        → Stands source.now b.start (statement_text (syntax.header h end)) → IsHeld b building.old → AreHeaderParts h b.start header.entry
-        → OpensBlock source.now b (syntax.header h end) building.new result }
+    ensures opens { (mode : modes.Mode) (b : Builder) (h : Header) (end : Text) → IsWhole (syntax.header h end)
+        → Stands source.now b.start (statement_text (syntax.header h end)) → IsHeld b building.old → AreHeaderParts mode h end b.start header.entry
+        → OpensBlock mode source.now b (syntax.header h end) building.new result }
     ensures input { IfErr result (λ e. IfToml e (λ r. r.input ≡ source.now)) }
     ensures count { OnOk result (building.new.headers ≡ building.old.headers + 1) }
 {
@@ -253,16 +263,16 @@ fn header_kind(header: HeaderParts<'_>) -> Kind
 
 /// Puts the table of a header, the one of this number, in the item's place, as yet without slots, but with room for so many.
 fn head_item(alloc: Global, header: HeaderParts<'_>, position: isize, room: usize, item: &mut Item)
-    ensures { (b : Builder) (h : Header) (end : Text) → AreHeaderParts h b.start header.entry → position ≡ pos (suc b.headers)
-        → IsHeaded (source_at b (syntax.header h end)) (item_view item.new) }
+    ensures { (mode : modes.Mode) (b : Builder) (h : Header) (end : Text) → AreHeaderParts mode h end b.start header.entry → position ≡ pos (suc b.headers)
+        → IsHeaded mode (source_at b (syntax.header h end)) (item_view item.new) }
 {
     put(item, headed_item(alloc, header, position, room));
 }
 
 /// The table of a header, the one of this number, as yet without slots, but with room for so many.
 fn headed_item(alloc: Global, header: HeaderParts<'_>, position: isize, room: usize) -> Item
-    ensures { (b : Builder) (h : Header) (end : Text) → AreHeaderParts h b.start header.entry → position ≡ pos (suc b.headers)
-        → IsHeaded (source_at b (syntax.header h end)) (item_view result) }
+    ensures { (mode : modes.Mode) (b : Builder) (h : Header) (end : Text) → AreHeaderParts mode h end b.start header.entry → position ≡ pos (suc b.headers)
+        → IsHeaded mode (source_at b (syntax.header h end)) (item_view result) }
 {
     let decor = Decor::new(raw(header.leading), raw(header.trailing));
     let Span { start, end } = header.brackets;

@@ -17,4 +17,5 @@ pub mod StatementLaws
 pub mod InlineLaws
 pub mod LoneValueLaws
 pub mod VersionLaws
+pub mod ModeLaws
 pub mod ViewLaws

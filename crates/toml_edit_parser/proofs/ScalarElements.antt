@@ -2,13 +2,14 @@
 use Rattle.std.proofs.Common.{◌≡◌, ℕ, ◌+◌, true, false, List, ◌∷◌, [], ◌++◌, length, Some, refl, sym, ap, ◌∙◌, subst, inl, inr}
 use Rattle.std.specs.Prelude.{Contains}
 use Rattle.std.proofs.lemmas.Bool.Decides.{eqb_tells}
+use Rattle.toml_edit_model.specs.Mode.{Mode}
 use Rattle.toml_edit_model.specs.Text.{Text}
 use Rattle.toml_edit_model.specs.Scalars as scalars
 use Rattle.toml_edit_model.specs.Spelling.{Spells, is_in_range}
 use Rattle.toml_edit_model.specs.Syntax.{Around, Value, scalar, array, inline_table, IsValue, value_text, nesting_limit}
 use Rattle.toml_edit_model.specs.Faults.{Fault, fault, range_message, out_of_range}
 use Rattle.toml_edit_model.specs.Tree.{Raw, Decor, Node, span, unset, leaf}
-use Rattle.toml_edit_model.specs.TreeOf.{spanned_form, IsValueNode}
+use Rattle.toml_edit_model.specs.TreeOf.{spanned_form, spanned_in, IsValueNode}
 use Rattle.toml_edit_laws.specs.Standing.{Stands}
 use Rattle.toml_edit_laws.proofs.common.StandingLaws.{cut_out-is}
 use Rattle.toml_edit_error.specs.Report.{Report, fault_of}
@@ -22,7 +23,7 @@ use Rattle.toml_edit_tree.specs.declared.item.Item.{Item}
 use Rattle.toml_edit_tree.specs.declared.item.Item.TheVariants as items
 use Rattle.toml_edit_tree.specs.declared.value.Value as code
 use Rattle.toml_edit_tree.specs.View.{item_view, items_view, value_view}
-use Rattle.toml_edit_parser.specs.StatementParts.{IsLineValue}
+use Rattle.toml_edit_parser.specs.StatementParts.{IsLineValue, suffix_span}
 use Rattle.toml_edit_parser.specs.ValueRead.{span_at, spanned_raw, split_first, split_scalar, NamesOne, AddsElement}
 use Rattle.toml_edit_parser.proofs.ArrayLaws.{spanned_raw-is}
 use Rattle.toml_edit_parser.proofs.HeadLaws.{no_fault, one_fault, scalar_node}
@@ -115,28 +116,29 @@ scalar_added a s t start level more old new before place first events rest w d s
           (scalar_node s t at at (leaf s (Some (span at end)) unset) (scalar-some s t spells) refl refl start a.before a.after refl);
     }
 
--- the value of a key line
-pub scalar_put : (s : scalars.Scalar) (t : Text) (start : ℕ) (before : Span) (after : Text) (more : List Event) (place : Span) (first : Event) (events rest : List Event)
-    (w : code.Value) (d : Decor)
+-- the value of a key line, and the text that is counted to its suffix
+pub scalar_put : (mode : Mode) (source : Text) (s : scalars.Scalar) (t : Text) (start : ℕ) (before : Span) (after suffix : Text) (more : List Event) (place : Span) (first : Event)
+    (events rest : List Event) (w : code.Value) (d : Decor)
     → Spells s t → place ≡ span_at start t → events ≡ shortened 0 (event LineEnd (start + length t) after ∷ more) → Some (first, rest) ≡ split_first events
-    → is_in_range s t ≡ true → value_view w ≡ leaf s (Some (span place.start place.end)) d → d ≡ put_decor before first.span
-    → IsLineValue (scalar s t) start before after more (item_view (items.Value w)) rest
-scalar_put s t start before after more place first events rest w d spells place_is events_are split fits view decor =
+    → suffix_span mode source (span_at (start + length t) after) ≡ span_at (start + length t) suffix
+    → is_in_range s t ≡ true → value_view w ≡ leaf s (Some (span place.start place.end)) d → d ≡ put_decor before (suffix_span mode source first.span)
+    → IsLineValue mode (scalar s t) start before suffix more (item_view (items.Value w)) rest
+scalar_put mode source s t start before after suffix more place first events rest w d spells place_is events_are split counted fits view decor =
     let end = start + length t in
     let p = same_parts first (event LineEnd end after) rest (shortened 0 more) (split ∙ ap split_first events_are) in
-    let after_is : first.span ≡ span_at end after = ap (λ (x : Event). x.span) p.0 in
+    let after_is : suffix_span mode source first.span ≡ span_at end suffix = ap (λ (x : Event). suffix_span mode source x.span) p.0 ∙ counted in
     let spelling = λ (x : Span). leaf s (Some (span x.start x.end)) d in
     record {
       faultless = no_fault s t start fits;
       node = λ i b here same.
           let known =
           view-Value w ∙ view ∙ ap spelling place_is ∙ ap (leaf s (Some (span start end))) (
-          decor ∙ ap (λ (x : Span). put_decor x first.span) same ∙ ap (put_decor (span_at i b)) after_is
-          ∙ ap (λ r. record { prefix = Some r; suffix = Some (spanned_raw (span_at end after)) }) (spanned_raw-is i b)
-          ∙ ap (λ r. record { prefix = Some (spanned_form.raw i b); suffix = Some r }) (spanned_raw-is end after)
+          decor ∙ ap (λ (x : Span). put_decor x (suffix_span mode source first.span)) same ∙ ap (put_decor (span_at i b)) after_is
+          ∙ ap (λ r. record { prefix = Some r; suffix = Some (spanned_raw (span_at end suffix)) }) (spanned_raw-is i b)
+          ∙ ap (λ r. record { prefix = Some (spanned_form.raw i b); suffix = Some r }) (spanned_raw-is end suffix)
           ) in
-          subst (λ n. IsValueNode spanned_form (scalar s t) i b after n) (sym known)
-          (scalar_node s t start start (leaf s (Some (span start end)) unset) (scalar-some s t spells) refl refl i b after here);
+          subst (λ n. IsValueNode (spanned_in mode) (scalar s t) i b suffix n) (sym known)
+          (scalar_node s t start start (leaf s (Some (span start end)) unset) (scalar-some s t spells) refl refl i b suffix here);
       rest_is = p.1;
     }
 

@@ -5,27 +5,31 @@ use Rattle.std.specs.Prelude.{IfOk, Result, Ok, Err}
 use Rattle.std.proofs.Math.Seq.{drop-append_seam, take-append_seam}
 use Rattle.std.proofs.lemmas.List.{length-append, take_rest}
 use Rattle.std.proofs.lemmas.List.Elements.{Contains-append_left, Contains-append_right}
+use Rattle.toml_edit_model.specs.Mode.{Mode, with_return}
 use Rattle.toml_edit_model.specs.Text.{Text}
-use Rattle.toml_edit_model.specs.Syntax.{Segment, Frame, Value, Header, key_line, IsPath, path_text, value_text, opening_brackets, closing_brackets, brackets_text}
+use Rattle.toml_edit_model.specs.Syntax.{Segment, Frame, Value, Header, key_line, header, IsPath, path_text, value_text, opening_brackets, closing_brackets, brackets_text, statement_text}
 use Rattle.toml_edit_model.specs.Faults.{recursion_limit, long_path, value_faults, own_faults}
 use Rattle.toml_edit_model.specs.Tree.{Decor, Node, Raw}
 use Rattle.toml_edit_model.specs.TreeOf.{spanned_form, span_of, frame_leaf, header_leaf, value_start, IsValueNode}
 use Rattle.toml_edit_model.specs.Conversions.{with_decor}
+use Rattle.toml_edit_laws.specs.Standing.{Stands}
 use Rattle.toml_edit_error.specs.Fault.{IfToml}
 use Rattle.toml_edit_error.specs.declared.toml_error.ParseFault.{ParseFault}
 use Rattle.toml_edit_syntax.specs.declared.event.Event.{Event}
 use Rattle.toml_edit_syntax.specs.declared.event.EventKind.TheVariants.{BeforeKey, AfterKey, HeaderClose, LineEnd}
 use Rattle.toml_edit_syntax.specs.declared.event.Span.{Span}
+use Rattle.toml_edit_syntax.specs.Events.{IsSpanOf}
 use Rattle.toml_edit_syntax.specs.ValueEvents.{event, path_events, shortened, value_at_byte}
 use Rattle.toml_edit_tree.specs.Casts.{both_sides}
 use Rattle.toml_edit_parser.specs.declared.pairs.KeyPath.{KeyPath}
 use Rattle.toml_edit_parser.specs.declared.statement.HeaderSpans.{HeaderSpans}
 use Rattle.toml_edit_parser.specs.PairRead.{PathView, frame_parts, path_end, path_of}
 use Rattle.toml_edit_parser.specs.PathRead.{IsPathFrom}
-use Rattle.toml_edit_parser.specs.StatementParts.{IsHeaderRead, IsLineRead, IsLineValue, header_behind}
+use Rattle.toml_edit_parser.specs.StatementParts.{IsEnded, IsHeaderRead, IsLineRead, IsLineValue, header_behind, suffix_span}
 use Rattle.toml_edit_parser.specs.ValueRead.{AreIn, IsRead, NamesOne, span_at, spanned_raw, split_first}
 use Rattle.toml_edit_parser.proofs.ArrayLaws.{spanned_raw-is}
 use Rattle.toml_edit_parser.proofs.PairLaws.{path-begins, path-some, path-too-long, path-whole, path_end-is, short-path, value_place}
+use Rattle.toml_edit_parser.proofs.ModeLaws.{header-suffix, value-in-mode}
 use Rattle.toml_edit_parser.proofs.ReadLaws.{named, same_parts}
 
 -- ---- a path between two texts
@@ -44,47 +48,49 @@ path-from own start t p prefix suffix events path is e decor at from =
 -- ---- a key line
 
 -- a key that is too long is named
-pub line-too-long : (source : Text) (f : Frame) (v : Value) (start : ℕ) (e : ParseFault) → IsPath f.path
+pub line-too-long : (source : Text) (f : Frame) (v : Value) (end : Text) (start : ℕ) (e : ParseFault) → IsPath f.path
     → 238 < length (path_events (start + length f.leading) f.path) → IfToml e (λ r. r ≡ record { message = recursion_limit; span = None; input = source })
-    → IfToml e (NamesOne source (own_faults start (key_line f v [])))
-line-too-long source f v start e is many h =
-    named source (long_path f.path) (own_faults start (key_line f v [])) e (Contains-append_left (long_path f.path) (value_faults v (value_at_byte start f) 0))
+    → IfToml e (NamesOne source (own_faults start (key_line f v end)))
+line-too-long source f v end start e is many h =
+    named source (long_path f.path) (own_faults start (key_line f v end)) e (Contains-append_left (long_path f.path) (value_faults v (value_at_byte start f) 0))
     (path-too-long source f.path (start + length f.leading) e is many h)
 
 -- a value that is refused is named
-pub line-refused : (source : Text) (f : Frame) (v : Value) (start : ℕ) (e : ParseFault) → IfToml e (NamesOne source (value_faults v (value_at_byte start f) 0))
-    → IfToml e (NamesOne source (own_faults start (key_line f v [])))
-line-refused source f v start e h =
-    named source (value_faults v (value_at_byte start f) 0) (own_faults start (key_line f v [])) e (Contains-append_right (long_path f.path) (value_faults v (value_at_byte start f) 0)) h
+pub line-refused : (source : Text) (f : Frame) (v : Value) (end : Text) (start : ℕ) (e : ParseFault) → IfToml e (NamesOne source (value_faults v (value_at_byte start f) 0))
+    → IfToml e (NamesOne source (own_faults start (key_line f v end)))
+line-refused source f v end start e h =
+    named source (value_faults v (value_at_byte start f) 0) (own_faults start (key_line f v end)) e (Contains-append_right (long_path f.path) (value_faults v (value_at_byte start f) 0)) h
 
 after-equals-place : (start : ℕ) (f : Frame) → start + length f.leading + length (path_text f.path) + length f.before_equals + 1 ≡ start + value_start spanned_form f
 after-equals-place start f = omega arith
 
 -- a line is read where its value is
-pub line-read : (f : Frame) (v : Value) (start : ℕ) (more : List Event) (n : Node) (before : Span) (path : KeyPath) (rest : List Event) → long_path f.path ≡ []
-    → before ≡ (frame_parts start f).after_equals → IsLineValue v (value_at_byte start f) before f.trailing more n rest
-    → IsPathFrom (frame_leaf spanned_form start f) (start + length f.leading) f.path path → IsLineRead f v start more n path rest
-line-read f v start more n before path rest short at h from =
+pub line-read : (mode : Mode) (f : Frame) (v : Value) (end : Text) (start : ℕ) (more : List Event) (n : Node) (before : Span) (path : KeyPath) (rest : List Event) → long_path f.path ≡ []
+    → before ≡ (frame_parts start f).after_equals → IsLineValue mode v (value_at_byte start f) before (with_return mode f.trailing end) more n rest
+    → IsPathFrom (frame_leaf spanned_form start f) (start + length f.leading) f.path path → IsLineRead mode f v end start more n path rest
+line-read mode f v end start more n before path rest short at h from =
     let place = value_place start f in
     record {
-      faultless = λ end. ap (λ fs. fs ++ value_faults v (value_at_byte start f) 0) short ∙ h.faultless;
+      faultless = ap (λ fs. fs ++ value_faults v (value_at_byte start f) 0) short ∙ h.faultless;
       node = h.node (start + value_start spanned_form f) f.after_equals place (at ∙ ap (λ i. span_at i f.after_equals) (after-equals-place start f));
       path_is = from;
       rest_is = h.rest_is;
     }
 
 -- an item that is put between two texts
-pub line-value : (v : Value) (start : ℕ) (before : Span) (after : Text) (more : List Event) (n m : Node) (prefix suffix : Raw) (last : Span) (inner rest : List Event)
+pub line-value : (mode : Mode) (v : Value) (start : ℕ) (before : Span) (after suffix_text : Text) (more : List Event) (n m : Node) (prefix suffix : Raw) (last : Span) (inner rest : List Event)
     → IsRead v start 0 (event LineEnd (start + length (value_text v)) after ∷ more) n inner → prefix ≡ spanned_raw before → suffix ≡ spanned_raw last
-    → last ≡ span_at (start + length (value_text v)) after → m ≡ with_decor (both_sides prefix suffix) n → rest ≡ shortened 0 more → IsLineValue v start before after more m rest
-line-value v start before after more n m prefix suffix last inner rest h left right last_is is behind =
+    → last ≡ span_at (start + length (value_text v)) suffix_text → m ≡ with_decor (both_sides prefix suffix) n → rest ≡ shortened 0 more
+    → IsLineValue mode v start before suffix_text more m rest
+line-value mode v start before after suffix_text more n m prefix suffix last inner rest h left right last_is is behind =
     let end = start + length (value_text v) in
     record {
       faultless = h.faultless;
       node = λ i b here same.
           let sides = ap (λ r. both_sides r suffix) (left ∙ ap spanned_raw same ∙ spanned_raw-is i b)
-          ∙ ap (both_sides (span_of i b)) (right ∙ ap spanned_raw last_is ∙ spanned_raw-is end after) in
-          subst (λ x. IsValueNode spanned_form v i b after x) (sym (is ∙ ap (λ d. with_decor d n) sides)) (h.node i b after here);
+          ∙ ap (both_sides (span_of i b)) (right ∙ ap spanned_raw last_is ∙ spanned_raw-is end suffix_text) in
+          value-in-mode mode v i b suffix_text m
+          (subst (λ x. IsValueNode spanned_form v i b suffix_text x) (sym (is ∙ ap (λ d. with_decor d n) sides)) (h.node i b suffix_text here));
       rest_is = behind;
     }
 
@@ -164,21 +170,33 @@ brackets_end start h =
     let four = length-append h.closing closing in
     omega (arith, one, two, three, four)
 
+-- the third event of some that lie in the text lies there
+pub third-in : (t : Text) (es : List Event) (d : Event) → 3 ≤ length es → AreIn t es → IsSpanOf t (get_or es 2 d).span
+third-in t [] d some all = let n : 3 ≤ 0 = some in absurd (omega (arith, n))
+third-in t (a ∷ []) d some all = let n : 3 ≤ 1 = some in absurd (omega (arith, n))
+third-in t (a ∷ b ∷ []) d some all = let n : 3 ≤ 2 = some in absurd (omega (arith, n))
+third-in t (a ∷ b ∷ e ∷ es) d some all = all.1.1.0
+
 -- a header is read where its path is short
-pub header-read : (h : Header) (start : ℕ) (more : List Event) (opening d : Event) (path behind : List Event) (parts : HeaderSpans) (rest : List Event) → IsPath h.path
+pub header-read : (mode : Mode) (source : Text) (h : Header) (end : Text) (start : ℕ) (more : List Event) (opening d : Event) (path behind : List Event) (parts : HeaderSpans) (rest : List Event) → IsPath h.path
+    → Stands source start (statement_text (header h end)) → IsEnded source start (header h end)
     → opening ≡ event BeforeKey (inside_at start h) h.opening → path ≡ path_events (key_at start h) h.path → behind ≡ header_end start h (shortened 0 more)
     → length path ≤ 238
     → path_of parts.path ≡ record { prefix = opening.span; suffix = (get_or behind 0 d).span; before = record { start = opening.span.end; end = opening.span.end }; events = path }
-    → parts.end ≡ (get_or behind 1 d).span.end → parts.trailing ≡ (get_or behind 2 d).span → rest ≡ take (length behind - 3) (drop 3 behind)
-    → IsHeaderRead h start more parts rest
-header-read h start more opening d path behind parts rest is first from ends few path_is end_is trailing_is rest_is =
+    → parts.end ≡ (get_or behind 1 d).span.end → parts.trailing ≡ suffix_span mode source (get_or behind 2 d).span → rest ≡ take (length behind - 3) (drop 3 behind)
+    → IsHeaderRead mode h end start more parts rest
+header-read mode source h end start more opening d path behind parts rest is stands ended first from ends few path_is end_is trailing_is rest_is =
     let left : opening.span ≡ span_at (inside_at start h) h.opening = ap (λ (e : Event). e.span) first in
     let right : (get_or behind 0 d).span ≡ span_at (behind_key start h) h.closing = ap (λ (es : List Event). (get_or es 0 d).span) ends in
     record {
       short = short-path h.path (key_at start h) (path-some h.path is) (subst (λ (es : List Event). length es ≤ 238) from few);
       path_is = path-from (header_leaf spanned_form (inside_at start h) h) (inside_at start h) h.opening h.path opening.span (get_or behind 0 d).span path parts.path is path_is
           (header-decor start h opening.span (get_or behind 0 d).span left right) left from;
-      end = end_is ∙ ap (λ (es : List Event). (get_or es 1 d).span.end) ends ∙ brackets_end start h;
-      trailing = trailing_is ∙ ap (λ (es : List Event). (get_or es 2 d).span) ends ∙ ap (λ i. span_at i h.trailing) (brackets_end start h);
+      end_is = end_is ∙ ap (λ (es : List Event). (get_or es 1 d).span.end) ends ∙ brackets_end start h;
+      trailing =
+          trailing_is
+          ∙ ap (λ (es : List Event). suffix_span mode source (get_or es 2 d).span) ends
+          ∙ ap (λ i. suffix_span mode source (span_at i h.trailing)) (brackets_end start h)
+          ∙ header-suffix mode source start h end stands ended;
       rest_is = rest_is ∙ take_rest behind 3 ∙ ap (λ (es : List Event). drop 3 es) ends;
     }

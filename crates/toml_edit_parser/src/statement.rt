@@ -1,9 +1,10 @@
 //! The parts of key lines and headers, from their events.
-ghost use Rattle.std.specs.Prelude.{◌≡◌, ◌+◌, ◌<◌, ◌++◌, ◌∷◌, List, [], ℕ, length, IfErr, IfOk};
+ghost use Rattle.std.specs.Prelude.{◌≡◌, ◌+◌, ◌<◌, ◌++◌, ◌∷◌, List, ℕ, length, IfErr, IfOk};
+ghost use Rattle.toml_edit_model.specs.Mode.{exact};
 ghost use Rattle.toml_edit_model.specs.Scalars.{Scalar};
 ghost use Rattle.toml_edit_model.specs.Spelling.{Spells};
 ghost use Rattle.toml_edit_model.specs.Syntax as syntax;
-ghost use Rattle.toml_edit_model.specs.Syntax.{Frame, Header, IsHeader, IsValue, IsFrame, frame_text, statement_text, value_text};
+ghost use Rattle.toml_edit_model.specs.Syntax.{Frame, Header, IsHeader, IsValue, IsFrame, key_line, statement_text, value_text};
 ghost use Rattle.toml_edit_model.specs.Text.{Text};
 ghost use Rattle.toml_edit_model.specs.Trivia.{IsLineEnd};
 ghost use Rattle.toml_edit_laws.specs.Standing.{Stands};
@@ -11,8 +12,9 @@ ghost use Rattle.toml_edit_error.specs.Fault.{IfToml};
 ghost use Rattle.toml_edit_syntax.specs.Events.{IsSpanOf};
 ghost use Rattle.toml_edit_syntax.specs.ValueEvents.{event, shortened, value_events};
 ghost use Rattle.toml_edit_syntax.specs.declared.event.EventKind.TheVariants.{LineEnd};
+ghost use Rattle.toml_edit_repr.specs.Modes.{mode_of};
 ghost use Rattle.toml_edit_parser.specs.PairRead.{path_of};
-ghost use Rattle.toml_edit_parser.specs.StatementParts.{ReadsHeader, ReadsLineParts, ReadsLineValue, header_behind, line_behind};
+ghost use Rattle.toml_edit_parser.specs.StatementParts.{IsEnded, ReadsHeader, ReadsLineParts, ReadsLineValue, header_behind, line_behind, suffix_span};
 ghost use Rattle.toml_edit_parser.specs.ValueRead.{span_at, AreIn};
 ghost use Rattle.toml_edit_tree.specs.View.{item_view};
 
@@ -20,8 +22,9 @@ use crate::pairs::{KeyPath, MOST_PATH_EVENTS, path_end, split_frame};
 use crate::reader::{cut, raw, read_value, refusal, refusal_of_all, split_first, split_scalar};
 use std::alloc::Global;
 use toml_edit_error::ParseFault;
-use toml_edit_repr::Decor;
+use toml_edit_repr::{Decor, Mode};
 use toml_edit_syntax::{Event, Span};
+use toml_edit_token::run::byte_at;
 use toml_edit_token::{decode_scalar, range_message};
 use toml_edit_tree::{Item, Value};
 
@@ -53,16 +56,17 @@ fn path_behind<'a>(prefix: Span, events: &'a [Event], suffix: Span) -> KeyPath<'
 pub fn read_key_line<'a>(
     alloc: Global,
     source: &str,
+    mode: Mode,
     leading: Span,
     events: &'a [Event],
     item: &mut Item,
 ) -> Result<(KeyPath<'a>, &'a [Event]), ParseFault>
     requires leading { IsSpanOf source.now leading }
     requires spans { AreIn source.now events.now }
-    ensures line { (f : Frame) (v : syntax.Value) (start : ℕ) (more : List Event) → IsFrame IsLineEnd f → IsValue v
-        → Stands source.now start (frame_text f (value_text v)) → leading ≡ span_at start f.leading
-        → events.now ≡ shortened 0 (line_behind start f v more)
-        → ReadsLineParts source.now f v start more (item_view item.new) result }
+    ensures line { (f : Frame) (v : syntax.Value) (end : Text) (start : ℕ) (more : List Event) → IsFrame IsLineEnd f → IsValue v
+        → Stands source.now start (statement_text (key_line f v end)) → IsEnded source.now start (key_line f v end)
+        → leading ≡ span_at start f.leading → events.now ≡ shortened 0 (line_behind start f v more)
+        → ReadsLineParts (mode_of mode) source.now f v end start more (item_view item.new) result }
     ensures input { IfErr result (λ e. IfToml e (λ r. r.input ≡ source.now)) }
     ensures path { IfOk result (λ r. AreIn source.now r.0.events.now) }
     ensures rest { IfOk result (λ r. AreIn source.now r.1.now × (length r.1.now < length events.now)) }
@@ -73,9 +77,37 @@ pub fn read_key_line<'a>(
     if MOST_PATH_EVENTS < frame.path.len() {
         return Err(refusal_of_all(alloc, source, "recursion limit"));
     }
-    let rest = read_line_value(alloc, source, frame.after_equals, rest, item)?;
+    let rest = read_line_value(alloc, source, mode, frame.after_equals, rest, item)?;
     let path = path_behind(frame.leading, frame.path, frame.before_equals);
     Ok((path, rest))
+}
+
+/// The suffix of a statement, behind whose last token the text at this span stands: where line endings are kept, the carriage return of its
+/// newline is the suffix's too.
+fn suffix(source: &str, mode: Mode, span: Span) -> Span
+    requires { IsSpanOf source.now span }
+    ensures { result ≡ suffix_span (mode_of mode) source.now span }
+{
+    match mode {
+        Mode::Plain => span,
+        Mode::Exact => with_return(source, span),
+    }
+}
+
+/// The span, with a carriage return behind it.
+fn with_return(source: &str, span: Span) -> Span
+    requires { IsSpanOf source.now span }
+    ensures { result ≡ suffix_span exact source.now span }
+{
+    let Span { start, end } = span;
+    if byte_at(source, end) == b'\r' {
+        Span {
+            start,
+            end: end + 1,
+        }
+    } else {
+        span
+    }
 }
 
 /// Puts the value of a key line, behind the text at this span, in the item's place, and gives the events behind the line. Most values are
@@ -83,20 +115,22 @@ pub fn read_key_line<'a>(
 fn read_line_value<'a>(
     alloc: Global,
     source: &str,
+    mode: Mode,
     before: Span,
     events: &'a [Event],
     item: &mut Item,
 ) -> Result<&'a [Event], ParseFault>
     requires { AreIn source.now events.now }
-    ensures value { (v : syntax.Value) (start : ℕ) (after : Text) (more : List Event) → IsValue v → Stands source.now start (value_text v)
+    ensures value { (v : syntax.Value) (start : ℕ) (after suffix : Text) (more : List Event) → IsValue v → Stands source.now start (value_text v)
         → events.now ≡ shortened 0 (value_events start v ++ (event LineEnd (start + length (value_text v)) after ∷ more))
-        → ReadsLineValue source.now v start before after more (item_view item.new) result }
+        → suffix_span (mode_of mode) source.now (span_at (start + length (value_text v)) after) ≡ span_at (start + length (value_text v)) suffix
+        → ReadsLineValue (mode_of mode) source.now v start before suffix more (item_view item.new) result }
     ensures input { IfErr result (λ e. IfToml e (λ r. r.input ≡ source.now)) }
     ensures rest { IfOk result (λ r. AreIn source.now r.now × (length r.now < length events.now)) }
 {
     match split_scalar(events) {
-        Some((span, behind)) => read_line_scalar(alloc, source, before, span, behind, item),
-        None => read_line_list(alloc, source, before, events, item),
+        Some((span, behind)) => read_line_scalar(alloc, source, mode, before, span, behind, item),
+        None => read_line_list(alloc, source, mode, before, events, item),
     }
 }
 
@@ -104,6 +138,7 @@ fn read_line_value<'a>(
 fn read_line_scalar<'a>(
     alloc: Global,
     source: &str,
+    mode: Mode,
     before: Span,
     span: Span,
     events: &'a [Event],
@@ -111,9 +146,10 @@ fn read_line_scalar<'a>(
 ) -> Result<&'a [Event], ParseFault>
     requires span { IsSpanOf source.now span }
     requires spans { AreIn source.now events.now }
-    ensures value { (s : Scalar) (t : Text) (start : ℕ) (after : Text) (more : List Event) → Spells s t → Stands source.now start t
+    ensures value { (s : Scalar) (t : Text) (start : ℕ) (after suffix : Text) (more : List Event) → Spells s t → Stands source.now start t
         → span ≡ span_at start t → events.now ≡ shortened 0 (event LineEnd (start + length t) after ∷ more)
-        → ReadsLineValue source.now (syntax.scalar s t) start before after more (item_view item.new) result }
+        → suffix_span (mode_of mode) source.now (span_at (start + length t) after) ≡ span_at (start + length t) suffix
+        → ReadsLineValue (mode_of mode) source.now (syntax.scalar s t) start before suffix more (item_view item.new) result }
     ensures input { IfErr result (λ e. IfToml e (λ r. r.input ≡ source.now)) }
     ensures rest { IfOk result (λ r. AreIn source.now r.now × (length r.now < length events.now)) }
 {
@@ -123,7 +159,7 @@ fn read_line_scalar<'a>(
     let text = cut(source, span);
     match decode_scalar(alloc, text)? {
         Some(scalar) => {
-            let decor = Decor::new(raw(before), raw(end.span));
+            let decor = Decor::new(raw(before), raw(suffix(source, mode, end.span)));
             let value = Value::spanned(scalar, span.start, span.end, decor);
             put(item, Item::Value(value));
             Ok(rest)
@@ -138,14 +174,16 @@ fn read_line_scalar<'a>(
 fn read_line_list<'a>(
     alloc: Global,
     source: &str,
+    mode: Mode,
     before: Span,
     events: &'a [Event],
     item: &mut Item,
 ) -> Result<&'a [Event], ParseFault>
     requires { AreIn source.now events.now }
-    ensures value { (v : syntax.Value) (start : ℕ) (after : Text) (more : List Event) → IsValue v → Stands source.now start (value_text v)
+    ensures value { (v : syntax.Value) (start : ℕ) (after suffix : Text) (more : List Event) → IsValue v → Stands source.now start (value_text v)
         → events.now ≡ shortened 0 (value_events start v ++ (event LineEnd (start + length (value_text v)) after ∷ more))
-        → ReadsLineValue source.now v start before after more (item_view item.new) result }
+        → suffix_span (mode_of mode) source.now (span_at (start + length (value_text v)) after) ≡ span_at (start + length (value_text v)) suffix
+        → ReadsLineValue (mode_of mode) source.now v start before suffix more (item_view item.new) result }
     ensures input { IfErr result (λ e. IfToml e (λ r. r.input ≡ source.now)) }
     ensures rest { IfOk result (λ r. AreIn source.now r.now × (length r.now < length events.now)) }
 {
@@ -154,7 +192,7 @@ fn read_line_list<'a>(
     let Some((end, rest)) = split_first(rest) else {
         return Err(refusal_of_all(alloc, source, "expected a newline"));
     };
-    item.decorate(raw(before), raw(end.span));
+    item.decorate(raw(before), raw(suffix(source, mode, end.span)));
     Ok(rest)
 }
 
@@ -172,11 +210,13 @@ pub fn put<T: Drop>(place: &mut T, value: T)
 pub fn read_header<'a>(
     alloc: Global,
     source: &str,
+    mode: Mode,
     events: &'a [Event],
 ) -> Result<(HeaderSpans<'a>, &'a [Event]), ParseFault>
     requires spans { AreIn source.now events.now }
-    ensures header { (h : Header) (start : ℕ) (more : List Event) → IsHeader h → Stands source.now start (statement_text (syntax.header h []))
-        → events.now ≡ shortened 0 (header_behind start h more) → ReadsHeader source.now h start more result }
+    ensures header { (h : Header) (end : Text) (start : ℕ) (more : List Event) → IsHeader h
+        → Stands source.now start (statement_text (syntax.header h end)) → IsEnded source.now start (syntax.header h end)
+        → events.now ≡ shortened 0 (header_behind start h more) → ReadsHeader (mode_of mode) source.now h end start more result }
     ensures input { IfErr result (λ e. IfToml e (λ r. r.input ≡ source.now)) }
     ensures path { IfOk result (λ r. AreIn source.now r.0.path.events.now) }
     ensures rest { IfOk result (λ r. AreIn source.now r.1.now × (length r.1.now < length events.now)) }
@@ -197,7 +237,7 @@ pub fn read_header<'a>(
     let header = HeaderSpans {
         path: path_behind(opening.span, path, closing.span),
         end: brackets.span.end,
-        trailing: end.span,
+        trailing: suffix(source, mode, end.span),
     };
     Ok((header, rest))
 }

@@ -1,5 +1,6 @@
 -- What the contracts of this crate cite.
 pub mod Views
+pub mod Modes
 pub mod Sameness
 pub mod SamenessLaws
 pub mod Shown

@@ -2,10 +2,12 @@
 #![tactic(auto)]
 
 pub mod float_datetime;
+pub mod mode;
 pub mod raw_string;
 pub mod repr;
 pub mod write;
 
+pub use mode::Mode;
 pub use raw_string::{Mem, RawString};
 pub use repr::{Decor, Formatted, Repr, ScalarValue, ValueRepr, clone_spelling, despan_spelling};
 pub use write::{spelling_text, write_raw, write_scalar, write_side};

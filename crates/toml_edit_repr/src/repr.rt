@@ -9,6 +9,7 @@ ghost use Rattle.toml_edit_model.specs.Spelling.{SpellsInRange};
 ghost use Rattle.toml_edit_model.specs.Tree.{owned, span, unset, HasTrueSpelling, scalar_text};
 ghost use Rattle.toml_edit_model.specs.OwnedForm.{RawFits, OptionFits, DecorFits, owned_raw, owned_decor};
 
+use crate::mode::Mode;
 use crate::raw_string::{Mem, RawString};
 use crate::write::{spelling_text, write_scalar, write_side};
 use std::alloc::Global;
@@ -521,9 +522,9 @@ impl<T: ValueRepr> fmt::Display for Formatted<T> {
     ghost output = { λ scalar. Some (formatted_text T.scalar scalar) };
 
     fn fmt<W: Write>(&self, f: &mut Formatter<W>) -> fmt::Result {
-        write_side(f, self.decor.prefix(), "")?;
+        write_side(f, Mode::Plain, self.decor.prefix(), "")?;
         write_scalar(f, self)?;
-        write_side(f, self.decor.suffix(), "")
+        write_side(f, Mode::Plain, self.decor.suffix(), "")
     }
 }
 

@@ -3,10 +3,12 @@ ghost use Rattle.std.specs.Prelude.{◌≡◌, ◌<◌, false, ◌++◌, length,
 ghost use Rattle.std.specs.Option.{option_copied};
 ghost use Rattle.std.specs.Fmt.{WritesOnOk};
 ghost use Rattle.toml_edit_model.specs.Text.{without_returns};
-ghost use Rattle.toml_edit_model.specs.Mode.{plain};
+ghost use Rattle.toml_edit_model.specs.Mode.{shown_text};
 ghost use Rattle.toml_edit_model.specs.Tree.{scalar_text, shown_side, shown_raw};
+ghost use Rattle.toml_edit_repr.specs.Modes.{mode_of};
 ghost use Rattle.toml_edit_repr.specs.Views.{text_of};
 
+use crate::mode::Mode;
 use crate::raw_string::RawString;
 use crate::repr::{Formatted, Repr, ValueRepr};
 use memchr::memchr;
@@ -40,28 +42,40 @@ fn side_text(side: Option<&RawString>) -> Option<&str>
     side?.as_str()
 }
 
-/// Writes a decor's side without its carriage returns. One that is unset or a span is the default of its place.
+/// Writes a decor's side, in the plain mode without its carriage returns. One that is unset or a span is the default of its place.
 #[inline(always)]
 pub fn write_side<W: Write>(
     f: &mut Formatter<W>,
+    mode: Mode,
     side: Option<&RawString>,
     default: &str,
 ) -> fmt::Result
-    ensures { WritesOnOk W.write_str_gives f.old result (shown_side plain default.now (option_copied side.entry)) f.new }
+    ensures { WritesOnOk W.write_str_gives f.old result (shown_side (mode_of mode) default.now (option_copied side.entry)) f.new }
 {
     match side_text(side) {
-        Some(text) => write_without_returns(f, text),
+        Some(text) => write_text(f, mode, text),
         None => f.write_str(default),
     }
 }
 
-/// Writes the text without its carriage returns. A span has none.
-pub fn write_raw<W: Write>(f: &mut Formatter<W>, raw: &RawString) -> fmt::Result
-    ensures { WritesOnOk W.write_str_gives f.old result (shown_raw plain raw.now) f.new }
+/// Writes the text, in the plain mode without its carriage returns. A span has none.
+pub fn write_raw<W: Write>(f: &mut Formatter<W>, mode: Mode, raw: &RawString) -> fmt::Result
+    ensures { WritesOnOk W.write_str_gives f.old result (shown_raw (mode_of mode) raw.now) f.new }
 {
     match raw.as_str() {
-        Some(text) => write_without_returns(f, text),
+        Some(text) => write_text(f, mode, text),
         None => Ok(()),
+    }
+}
+
+/// Writes what is shown of the text.
+#[inline(always)]
+fn write_text<W: Write>(f: &mut Formatter<W>, mode: Mode, text: &str) -> fmt::Result
+    ensures { WritesOnOk W.write_str_gives f.old result (shown_text (mode_of mode) text.now) f.new }
+{
+    match mode {
+        Mode::Plain => write_without_returns(f, text),
+        Mode::Exact => f.write_str(text),
     }
 }
 

@@ -3,7 +3,7 @@ use Rattle.std.proofs.Common.{◌≡◌, refl, sym, ap, ◌∙◌, true, false, 
 use Rattle.std.specs.Prelude.{codes}
 use Rattle.toml_edit_model.specs.Text.{Text, is_empty}
 use Rattle.toml_edit_model.specs.Syntax.{path_text}
-use Rattle.toml_edit_model.specs.Mode.{plain}
+use Rattle.toml_edit_model.specs.Mode.{Mode}
 use Rattle.toml_edit_model.specs.Tree.{Decor, Key, Node, key_text, node_decor, shown_prefix, shown_suffix}
 use Rattle.toml_edit_model.specs.Print.{one_space, dot_prefix, dot_suffix, last_leaf, segments, segments_after, value_of}
 use Rattle.toml_edit_laws.proofs.common.Tests.{append-nil}
@@ -14,85 +14,86 @@ pub some_keys : (ks : List Key) (k : Key) → is_empty (ks ++ (k ∷ [])) ≡ fa
 some_keys [] k = refl
 some_keys (j ∷ ks) k = refl
 
--- what stands before a key behind one more
-pub before_key-behind : (ks : List Key) (j k : Key) → before_key (ks ++ (j ∷ [])) k ≡ dot_prefix plain k
-before_key-behind [] j k = refl
-before_key-behind (i ∷ ks) j k = refl
+module _ (mode : Mode) where
+  -- what stands before a key behind one more
+  pub before_key-behind : (ks : List Key) (j k : Key) → before_key mode (ks ++ (j ∷ [])) k ≡ dot_prefix mode k
+  before_key-behind [] j k = refl
+  before_key-behind (i ∷ ks) j k = refl
 
--- ---- keys before dots
+  -- ---- keys before dots
 
-five : (a b c d e f : Text) → (a ++ (b ++ (c ++ (d ++ e)))) ++ f ≡ a ++ (b ++ (c ++ (d ++ (e ++ f))))
-five a b c d e f = simp append_assoc
+  five : (a b c d e f : Text) → (a ++ (b ++ (c ++ (d ++ e)))) ++ f ≡ a ++ (b ++ (c ++ (d ++ (e ++ f))))
+  five a b c d e f = simp append_assoc
 
-dotted_keys-after : (ks : List Key) (k : Key)
-    → dotted_keys false (ks ++ (k ∷ [])) ≡ dotted_keys false ks ++ (dot_prefix plain k ++ (key_text k ++ (dot_suffix plain k ++ codes ".")))
-dotted_keys-after [] k = refl
-dotted_keys-after (j ∷ ks) k =
-    ap (λ t. dot_prefix plain j ++ (key_text j ++ (dot_suffix plain j ++ (codes "." ++ t)))) (dotted_keys-after ks k)
-    ∙ sym (five (dot_prefix plain j) (key_text j) (dot_suffix plain j) (codes ".") (dotted_keys false ks) (dot_prefix plain k ++ (key_text k ++ (dot_suffix plain k ++ codes "."))))
+  dotted_keys-after : (ks : List Key) (k : Key)
+      → dotted_keys mode false (ks ++ (k ∷ [])) ≡ dotted_keys mode false ks ++ (dot_prefix mode k ++ (key_text k ++ (dot_suffix mode k ++ codes ".")))
+  dotted_keys-after [] k = refl
+  dotted_keys-after (j ∷ ks) k =
+      ap (λ t. dot_prefix mode j ++ (key_text j ++ (dot_suffix mode j ++ (codes "." ++ t)))) (dotted_keys-after ks k)
+      ∙ sym (five (dot_prefix mode j) (key_text j) (dot_suffix mode j) (codes ".") (dotted_keys mode false ks) (dot_prefix mode k ++ (key_text k ++ (dot_suffix mode k ++ codes "."))))
 
--- one more key at the end
-pub dotted_keys-more : (ks : List Key) (k : Key)
-    → dotted_keys true (ks ++ (k ∷ [])) ≡ dotted_keys true ks ++ (before_key ks k ++ (key_text k ++ (dot_suffix plain k ++ codes ".")))
-dotted_keys-more [] k = refl
-dotted_keys-more (j ∷ ks) k =
-    ap (λ t. key_text j ++ (dot_suffix plain j ++ (codes "." ++ t))) (dotted_keys-after ks k)
-    ∙ sym (five [] (key_text j) (dot_suffix plain j) (codes ".") (dotted_keys false ks) (dot_prefix plain k ++ (key_text k ++ (dot_suffix plain k ++ codes "."))))
+  -- one more key at the end
+  pub dotted_keys-more : (ks : List Key) (k : Key)
+      → dotted_keys mode true (ks ++ (k ∷ [])) ≡ dotted_keys mode true ks ++ (before_key mode ks k ++ (key_text k ++ (dot_suffix mode k ++ codes ".")))
+  dotted_keys-more [] k = refl
+  dotted_keys-more (j ∷ ks) k =
+      ap (λ t. key_text j ++ (dot_suffix mode j ++ (codes "." ++ t))) (dotted_keys-after ks k)
+      ∙ sym (five [] (key_text j) (dot_suffix mode j) (codes ".") (dotted_keys mode false ks) (dot_prefix mode k ++ (key_text k ++ (dot_suffix mode k ++ codes "."))))
 
--- ---- whole keys
+  -- ---- whole keys
 
-pub last_leaf-end : (ks : List Key) (k : Key) → last_leaf (ks ++ (k ∷ [])) ≡ k.leaf
-last_leaf-end [] k = refl
-last_leaf-end (j ∷ []) k = refl
-last_leaf-end (j ∷ l ∷ ks) k = last_leaf-end (l ∷ ks) k
+  pub last_leaf-end : (ks : List Key) (k : Key) → last_leaf (ks ++ (k ∷ [])) ≡ k.leaf
+  last_leaf-end [] k = refl
+  last_leaf-end (j ∷ []) k = refl
+  last_leaf-end (j ∷ l ∷ ks) k = last_leaf-end (l ∷ ks) k
 
-step-after : (j l : Key) (rest : List Key)
-    → path_text (segments_after plain (j ∷ l ∷ rest)) ≡ (dot_prefix plain j ++ (key_text j ++ dot_suffix plain j)) ++ (codes "." ++ path_text (segments_after plain (l ∷ rest)))
-step-after j l [] = refl
-step-after j l (m ∷ rest) = refl
+  step-after : (j l : Key) (rest : List Key)
+      → path_text (segments_after mode (j ∷ l ∷ rest)) ≡ (dot_prefix mode j ++ (key_text j ++ dot_suffix mode j)) ++ (codes "." ++ path_text (segments_after mode (l ∷ rest)))
+  step-after j l [] = refl
+  step-after j l (m ∷ rest) = refl
 
-key-after : (j : Key) (ks : List Key) (k : Key)
-    → path_text (segments_after plain (j ∷ (ks ++ (k ∷ [])))) ≡ (dot_prefix plain j ++ (key_text j ++ dot_suffix plain j)) ++ (codes "." ++ path_text (segments_after plain (ks ++ (k ∷ []))))
-key-after j [] k = refl
-key-after j (l ∷ ks) k = step-after j l (ks ++ (k ∷ []))
+  key-after : (j : Key) (ks : List Key) (k : Key)
+      → path_text (segments_after mode (j ∷ (ks ++ (k ∷ [])))) ≡ (dot_prefix mode j ++ (key_text j ++ dot_suffix mode j)) ++ (codes "." ++ path_text (segments_after mode (ks ++ (k ∷ []))))
+  key-after j [] k = refl
+  key-after j (l ∷ ks) k = step-after j l (ks ++ (k ∷ []))
 
-step-first : (j l : Key) (rest : List Key)
-    → path_text (segments plain (j ∷ l ∷ rest)) ≡ (key_text j ++ dot_suffix plain j) ++ (codes "." ++ path_text (segments_after plain (l ∷ rest)))
-step-first j l [] = refl
-step-first j l (m ∷ rest) = refl
+  step-first : (j l : Key) (rest : List Key)
+      → path_text (segments mode (j ∷ l ∷ rest)) ≡ (key_text j ++ dot_suffix mode j) ++ (codes "." ++ path_text (segments_after mode (l ∷ rest)))
+  step-first j l [] = refl
+  step-first j l (m ∷ rest) = refl
 
-key-first : (j : Key) (ks : List Key) (k : Key)
-    → path_text (segments plain (j ∷ (ks ++ (k ∷ [])))) ≡ (key_text j ++ dot_suffix plain j) ++ (codes "." ++ path_text (segments_after plain (ks ++ (k ∷ []))))
-key-first j [] k = refl
-key-first j (l ∷ ks) k = step-first j l (ks ++ (k ∷ []))
+  key-first : (j : Key) (ks : List Key) (k : Key)
+      → path_text (segments mode (j ∷ (ks ++ (k ∷ [])))) ≡ (key_text j ++ dot_suffix mode j) ++ (codes "." ++ path_text (segments_after mode (ks ++ (k ∷ []))))
+  key-first j [] k = refl
+  key-first j (l ∷ ks) k = step-first j l (ks ++ (k ∷ []))
 
-six : (a b c d e f : Text) → (a ++ (b ++ c)) ++ (d ++ (e ++ f)) ≡ (a ++ (b ++ (c ++ (d ++ e)))) ++ f
-six a b c d e f = simp append_assoc
+  six : (a b c d e f : Text) → (a ++ (b ++ c)) ++ (d ++ (e ++ f)) ≡ (a ++ (b ++ (c ++ (d ++ e)))) ++ f
+  six a b c d e f = simp append_assoc
 
-path-after : (ks : List Key) (k : Key) → path_text (segments_after plain (ks ++ (k ∷ []))) ≡ dotted_keys false ks ++ (dot_prefix plain k ++ key_text k)
-path-after [] k = ap (λ t. dot_prefix plain k ++ t) (append-nil (key_text k))
-path-after (j ∷ ks) k =
-    key-after j ks k
-    ∙ ap (λ t. (dot_prefix plain j ++ (key_text j ++ dot_suffix plain j)) ++ (codes "." ++ t)) (path-after ks k)
-    ∙ six (dot_prefix plain j) (key_text j) (dot_suffix plain j) (codes ".") (dotted_keys false ks) (dot_prefix plain k ++ key_text k)
+  path-after : (ks : List Key) (k : Key) → path_text (segments_after mode (ks ++ (k ∷ []))) ≡ dotted_keys mode false ks ++ (dot_prefix mode k ++ key_text k)
+  path-after [] k = ap (λ t. dot_prefix mode k ++ t) (append-nil (key_text k))
+  path-after (j ∷ ks) k =
+      key-after j ks k
+      ∙ ap (λ t. (dot_prefix mode j ++ (key_text j ++ dot_suffix mode j)) ++ (codes "." ++ t)) (path-after ks k)
+      ∙ six (dot_prefix mode j) (key_text j) (dot_suffix mode j) (codes ".") (dotted_keys mode false ks) (dot_prefix mode k ++ key_text k)
 
--- a key behind others
-pub path-is : (ks : List Key) (k : Key) → path_text (segments plain (ks ++ (k ∷ []))) ≡ dotted_keys true ks ++ (before_key ks k ++ key_text k)
-path-is [] k = append-nil (key_text k)
-path-is (j ∷ ks) k =
-    key-first j ks k
-    ∙ ap (λ t. (key_text j ++ dot_suffix plain j) ++ (codes "." ++ t)) (path-after ks k)
-    ∙ six [] (key_text j) (dot_suffix plain j) (codes ".") (dotted_keys false ks) (dot_prefix plain k ++ key_text k)
+  -- a key behind others
+  pub path-is : (ks : List Key) (k : Key) → path_text (segments mode (ks ++ (k ∷ []))) ≡ dotted_keys mode true ks ++ (before_key mode ks k ++ key_text k)
+  path-is [] k = append-nil (key_text k)
+  path-is (j ∷ ks) k =
+      key-first j ks k
+      ∙ ap (λ t. (key_text j ++ dot_suffix mode j) ++ (codes "." ++ t)) (path-after ks k)
+      ∙ six [] (key_text j) (dot_suffix mode j) (codes ".") (dotted_keys mode false ks) (dot_prefix mode k ++ key_text k)
 
--- ---- lines
+  -- ---- lines
 
-in_order : (a d b t s e v n : Text) → a ++ ((d ++ (b ++ t)) ++ (s ++ (e ++ (v ++ n)))) ≡ (a ++ (d ++ (b ++ (t ++ (s ++ e))))) ++ (v ++ n)
-in_order a d b t s e v n = simp append_assoc
+  in_order : (a d b t s e v n : Text) → a ++ ((d ++ (b ++ t)) ++ (s ++ (e ++ (v ++ n)))) ≡ (a ++ (d ++ (b ++ (t ++ (s ++ e))))) ++ (v ++ n)
+  in_order a d b t s e v n = simp append_assoc
 
--- a line up to the end of its value, in the parts that are written
-pub line_start-is : (default : Text) (ks : List Key) (k : Key) (n : Node)
-    → line_start default (record { keys = ks ++ (k ∷ []); item = n; value = value_of plain n }) ≡ pair_start default ks k n
-line_start-is default ks k n =
-    ap (λ (d : Decor). shown_prefix plain default d ++ (path_text (segments plain (ks ++ (k ∷ []))) ++ (shown_suffix plain one_space d ++ (codes "=" ++ (shown_prefix plain one_space (node_decor n) ++ node_text n))))) (last_leaf-end ks k)
-    ∙ ap (λ (t : Text). shown_prefix plain default k.leaf ++ (t ++ (shown_suffix plain one_space k.leaf ++ (codes "=" ++ (shown_prefix plain one_space (node_decor n) ++ node_text n))))) (path-is ks k)
-    ∙ in_order (shown_prefix plain default k.leaf) (dotted_keys true ks) (before_key ks k) (key_text k) (shown_suffix plain one_space k.leaf) (codes "=") (shown_prefix plain one_space (node_decor n)) (node_text n)
+  -- a line up to the end of its value, in the parts that are written
+  pub line_start-is : (default : Text) (ks : List Key) (k : Key) (n : Node)
+      → line_start mode default (record { keys = ks ++ (k ∷ []); item = n; value = value_of mode n }) ≡ pair_start mode default ks k n
+  line_start-is default ks k n =
+      ap (λ (d : Decor). shown_prefix mode default d ++ (path_text (segments mode (ks ++ (k ∷ []))) ++ (shown_suffix mode one_space d ++ (codes "=" ++ (shown_prefix mode one_space (node_decor n) ++ node_text mode n))))) (last_leaf-end ks k)
+      ∙ ap (λ (t : Text). shown_prefix mode default k.leaf ++ (t ++ (shown_suffix mode one_space k.leaf ++ (codes "=" ++ (shown_prefix mode one_space (node_decor n) ++ node_text mode n))))) (path-is ks k)
+      ∙ in_order (shown_prefix mode default k.leaf) (dotted_keys mode true ks) (before_key mode ks k) (key_text k) (shown_suffix mode one_space k.leaf) (codes "=") (shown_prefix mode one_space (node_decor n)) (node_text mode n)

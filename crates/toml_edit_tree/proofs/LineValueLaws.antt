@@ -29,20 +29,20 @@ lines-joined own rest all-lines done new all split took more =
 
 module _ (es : List (Slot Item)) (i : ℕ) (s : Slot Item) (h : i < length es) (is : s ≡ get_or es i s) (ks : List Key) (done new all : List Shown) where
   -- a slot of a table
-  pub table-turn : new ≡ done ++ map line_value (lines_in_table (item_view s.item) (ks ++ (s.key ∷ [])))
+  pub table-turn : new ≡ done ++ map line_value (lines_in_table plain (item_view s.item) (ks ++ (s.key ∷ [])))
       → done ++ map line_value (table_lines plain (slots_view (drop i es)) ks) ≡ all
       → new ++ map line_value (table_lines plain (slots_view (drop (i + 1) es)) ks) ≡ all
   table-turn =
-      lines-joined (lines_in_table (item_view s.item) (ks ++ (s.key ∷ []))) (table_lines plain (slots_view (drop (i + 1) es)) ks)
-      (table_lines plain (slots_view (drop i es)) ks) done new all (from-slot-in-table es i s h is ks)
+      lines-joined (lines_in_table plain (item_view s.item) (ks ++ (s.key ∷ []))) (table_lines plain (slots_view (drop (i + 1) es)) ks)
+      (table_lines plain (slots_view (drop i es)) ks) done new all (from-slot-in-table plain es i s h is ks)
 
   -- a slot of an inline table
-  pub inside-turn : new ≡ done ++ map line_value (lines_of_item (item_view s.item) (ks ++ (s.key ∷ [])))
+  pub inside-turn : new ≡ done ++ map line_value (lines_of_item plain (item_view s.item) (ks ++ (s.key ∷ [])))
       → done ++ map line_value (inside_lines plain (slots_view (drop i es)) ks) ≡ all
       → new ++ map line_value (inside_lines plain (slots_view (drop (i + 1) es)) ks) ≡ all
   inside-turn =
-      lines-joined (lines_of_item (item_view s.item) (ks ++ (s.key ∷ []))) (inside_lines plain (slots_view (drop (i + 1) es)) ks)
-      (inside_lines plain (slots_view (drop i es)) ks) done new all (from-slot es i s h is ks)
+      lines-joined (lines_of_item plain (item_view s.item) (ks ++ (s.key ∷ []))) (inside_lines plain (slots_view (drop (i + 1) es)) ks)
+      (inside_lines plain (slots_view (drop i es)) ks) done new all (from-slot plain es i s h is ks)
 
 -- the lines of a whole table, and of an inline table
 pub table-whole : (t : Table) (start all : List Shown) → start ≡ []

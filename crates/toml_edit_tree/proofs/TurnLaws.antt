@@ -3,7 +3,7 @@ use Rattle.std.proofs.Common.{◌≡◌, ℕ, ◌+◌, ◌<◌, ◌≤◌, Bool,
 use Rattle.std.specs.Prelude.{if◌then◌else◌}
 use Rattle.std.proofs.lemmas.List.{at_drop_all, drop_more}
 use Rattle.toml_edit_model.specs.Text.{Text}
-use Rattle.toml_edit_model.specs.Mode.{plain}
+use Rattle.toml_edit_model.specs.Mode.{Mode}
 use Rattle.toml_edit_model.specs.Tree.{Decor, Items, Key, Node, is_value_node, item}
 use Rattle.toml_edit_model.specs.Print.{Line, inside_lines, table_lines}
 use Rattle.toml_edit_slots.specs.declared.slots.Slot.{Slot}
@@ -62,91 +62,92 @@ from-item : (xs : List Item) (i : ℕ) (x : Item) → i < length xs → x ≡ ge
 from-item xs i x h is =
     ap items_view (drop_more xs i x h) ∙ ap (λ (y : Item). item (item_view y) (items_view (drop (i + 1) xs))) (sym is)
 
-abbrev by_test : Bool → Bool → Node → Items → Bool → Text
-by_test comma is_first n xs b = if b then element_text is_first n ++ items_text comma false xs else items_text comma is_first xs
+module _ (mode : Mode) where
+  abbrev by_test : Bool → Bool → Node → Items → Bool → Text
+  by_test comma is_first n xs b = if b then element_text mode is_first n ++ items_text mode comma false xs else items_text mode comma is_first xs
 
-module _ (comma is_first : Bool) (xs : List Item) (i : ℕ) (x : Item) (h : i < length xs) (is : x ≡ get_or xs i x) where
-  value-text : (v : Value) → x ≡ items.Value v
-      → items_text comma is_first (items_view (drop i xs)) ≡ element_text is_first (value_view v) ++ items_text comma false (items_view (drop (i + 1) xs))
-  value-text v e =
-      ap (items_text comma is_first) (from-item xs i x h is)
-      ∙ ap (by_test comma is_first (item_view x) (items_view (drop (i + 1) xs))) (value-node x v e)
-      ∙ ap (λ (n : Node). element_text is_first n ++ items_text comma false (items_view (drop (i + 1) xs))) (ap item_view e ∙ view-Value v)
+  module _ (comma is_first : Bool) (xs : List Item) (i : ℕ) (x : Item) (h : i < length xs) (is : x ≡ get_or xs i x) where
+    value-text : (v : Value) → x ≡ items.Value v
+        → items_text mode comma is_first (items_view (drop i xs)) ≡ element_text mode is_first (value_view v) ++ items_text mode comma false (items_view (drop (i + 1) xs))
+    value-text v e =
+        ap (items_text mode comma is_first) (from-item xs i x h is)
+        ∙ ap (by_test comma is_first (item_view x) (items_view (drop (i + 1) xs))) (value-node x v e)
+        ∙ ap (λ (n : Node). element_text mode is_first n ++ items_text mode comma false (items_view (drop (i + 1) xs))) (ap item_view e ∙ view-Value v)
 
-  other-text : ((v : Value) → x ≡ items.Value v → ⊥)
-      → items_text comma is_first (items_view (drop i xs)) ≡ items_text comma is_first (items_view (drop (i + 1) xs))
-  other-text none =
-      ap (items_text comma is_first) (from-item xs i x h is)
-      ∙ ap (by_test comma is_first (item_view x) (items_view (drop (i + 1) xs))) (other-node x none)
+    other-text : ((v : Value) → x ≡ items.Value v → ⊥)
+        → items_text mode comma is_first (items_view (drop i xs)) ≡ items_text mode comma is_first (items_view (drop (i + 1) xs))
+    other-text none =
+        ap (items_text mode comma is_first) (from-item xs i x h is)
+        ∙ ap (by_test comma is_first (item_view x) (items_view (drop (i + 1) xs))) (other-node x none)
 
-  module _ (done all : Text) (more : done ++ items_text comma is_first (items_view (drop i xs)) ≡ all) where
-    -- an item that holds a value is written
-    pub value-turn : (v : Value) → x ≡ items.Value v
-        → (done ++ element_text is_first (value_view v)) ++ items_text comma false (items_view (drop (i + 1) xs)) ≡ all
-    value-turn v e =
-        append_assoc done (element_text is_first (value_view v)) (items_text comma false (items_view (drop (i + 1) xs)))
-        ∙ ap (λ (t : Text). done ++ t) (sym (value-text v e)) ∙ more
+    module _ (done all : Text) (more : done ++ items_text mode comma is_first (items_view (drop i xs)) ≡ all) where
+      -- an item that holds a value is written
+      pub value-turn : (v : Value) → x ≡ items.Value v
+          → (done ++ element_text mode is_first (value_view v)) ++ items_text mode comma false (items_view (drop (i + 1) xs)) ≡ all
+      value-turn v e =
+          append_assoc done (element_text mode is_first (value_view v)) (items_text mode comma false (items_view (drop (i + 1) xs)))
+          ∙ ap (λ (t : Text). done ++ t) (sym (value-text v e)) ∙ more
 
-    -- another is left out
-    pub other-turn : ((v : Value) → x ≡ items.Value v → ⊥) → done ++ items_text comma is_first (items_view (drop (i + 1) xs)) ≡ all
-    other-turn none = ap (λ (t : Text). done ++ t) (sym (other-text none)) ∙ more
+      -- another is left out
+      pub other-turn : ((v : Value) → x ≡ items.Value v → ⊥) → done ++ items_text mode comma is_first (items_view (drop (i + 1) xs)) ≡ all
+      other-turn none = ap (λ (t : Text). done ++ t) (sym (other-text none)) ∙ more
 
--- none are left
-pub items-end : (comma is_first : Bool) (xs : List Item) (i : ℕ) → length xs ≤ i → (done all : Text)
-    → done ++ items_text comma is_first (items_view (drop i xs)) ≡ all → done ++ last_comma comma is_first ≡ all
-items-end comma is_first xs i h done all more =
-    ap (λ (t : Text). done ++ t) (sym (at_drop_all (λ ys. items_text comma is_first (items_view ys)) xs i h)) ∙ more
+  -- none are left
+  pub items-end : (comma is_first : Bool) (xs : List Item) (i : ℕ) → length xs ≤ i → (done all : Text)
+      → done ++ items_text mode comma is_first (items_view (drop i xs)) ≡ all → done ++ last_comma comma is_first ≡ all
+  items-end comma is_first xs i h done all more =
+      ap (λ (t : Text). done ++ t) (sym (at_drop_all (λ ys. items_text mode comma is_first (items_view ys)) xs i h)) ∙ more
 
--- ---- slots
+  -- ---- slots
 
-module _ (es : List (Slot Item)) (i : ℕ) (s : Slot Item) (h : i < length es) (is : s ≡ get_or es i s) (ks : List Key) where
-  abbrev own : List Line
-  own = lines_of_item (item_view s.item) (ks ++ (s.key ∷ []))
+  module _ (es : List (Slot Item)) (i : ℕ) (s : Slot Item) (h : i < length es) (is : s ≡ get_or es i s) (ks : List Key) where
+    abbrev own : List Line
+    own = lines_of_item mode (item_view s.item) (ks ++ (s.key ∷ []))
 
-  abbrev rest : List Line
-  rest = inside_lines plain (slots_view (drop (i + 1) es)) ks
+    abbrev rest : List Line
+    rest = inside_lines mode (slots_view (drop (i + 1) es)) ks
 
-  pub from-slot : inside_lines plain (slots_view (drop i es)) ks ≡ own ++ rest
-  from-slot =
-      ap (λ (fs : List (Slot Item)). inside_lines plain (slots_view fs) ks) (drop_more es i s h)
-      ∙ ap (λ (e : Slot Item). lines_of_item (item_view e.item) (ks ++ (e.key ∷ [])) ++ rest) (sym is)
+    pub from-slot : inside_lines mode (slots_view (drop i es)) ks ≡ own ++ rest
+    from-slot =
+        ap (λ (fs : List (Slot Item)). inside_lines mode (slots_view fs) ks) (drop_more es i s h)
+        ∙ ap (λ (e : Slot Item). lines_of_item mode (item_view e.item) (ks ++ (e.key ∷ [])) ++ rest) (sym is)
 
-  -- the lines of a slot
-  pub lines-turn : (done all : Text) → done ++ lines_text (inside_lines plain (slots_view (drop i es)) ks) ≡ all
-      → (done ++ lines_text own) ++ lines_text rest ≡ all
-  lines-turn done all more =
-      append_assoc done (lines_text own) (lines_text rest)
-      ∙ ap (λ (t : Text). done ++ t) (sym (ap lines_text from-slot ∙ lines_text-append own rest)) ∙ more
+    -- the lines of a slot
+    pub lines-turn : (done all : Text) → done ++ lines_text mode (inside_lines mode (slots_view (drop i es)) ks) ≡ all
+        → (done ++ lines_text mode own) ++ lines_text mode rest ≡ all
+    lines-turn done all more =
+        append_assoc done (lines_text mode own) (lines_text mode rest)
+        ∙ ap (λ (t : Text). done ++ t) (sym (ap (lines_text mode) from-slot ∙ lines_text-append mode own rest)) ∙ more
 
-  abbrev own-in-table : List Line
-  own-in-table = lines_in_table (item_view s.item) (ks ++ (s.key ∷ []))
+    abbrev own-in-table : List Line
+    own-in-table = lines_in_table mode (item_view s.item) (ks ++ (s.key ∷ []))
 
-  abbrev rest-in-table : List Line
-  rest-in-table = table_lines plain (slots_view (drop (i + 1) es)) ks
+    abbrev rest-in-table : List Line
+    rest-in-table = table_lines mode (slots_view (drop (i + 1) es)) ks
 
-  pub from-slot-in-table : table_lines plain (slots_view (drop i es)) ks ≡ own-in-table ++ rest-in-table
-  from-slot-in-table =
-      ap (λ (fs : List (Slot Item)). table_lines plain (slots_view fs) ks) (drop_more es i s h)
-      ∙ ap (λ (e : Slot Item). lines_in_table (item_view e.item) (ks ++ (e.key ∷ [])) ++ rest-in-table) (sym is)
+    pub from-slot-in-table : table_lines mode (slots_view (drop i es)) ks ≡ own-in-table ++ rest-in-table
+    from-slot-in-table =
+        ap (λ (fs : List (Slot Item)). table_lines mode (slots_view fs) ks) (drop_more es i s h)
+        ∙ ap (λ (e : Slot Item). lines_in_table mode (item_view e.item) (ks ++ (e.key ∷ [])) ++ rest-in-table) (sym is)
 
-  -- the lines of a slot of a table
-  pub table-turn : (done all : Text) → done ++ lines_text (table_lines plain (slots_view (drop i es)) ks) ≡ all
-      → (done ++ lines_text own-in-table) ++ lines_text rest-in-table ≡ all
-  table-turn done all more =
-      append_assoc done (lines_text own-in-table) (lines_text rest-in-table)
-      ∙ ap (λ (t : Text). done ++ t) (sym (ap lines_text from-slot-in-table ∙ lines_text-append own-in-table rest-in-table)) ∙ more
+    -- the lines of a slot of a table
+    pub table-turn : (done all : Text) → done ++ lines_text mode (table_lines mode (slots_view (drop i es)) ks) ≡ all
+        → (done ++ lines_text mode own-in-table) ++ lines_text mode rest-in-table ≡ all
+    table-turn done all more =
+        append_assoc done (lines_text mode own-in-table) (lines_text mode rest-in-table)
+        ∙ ap (λ (t : Text). done ++ t) (sym (ap (lines_text mode) from-slot-in-table ∙ lines_text-append mode own-in-table rest-in-table)) ∙ more
 
-  module _ (before next : Option Decor) (last : next ≡ last_shown before own) where
-    -- the decor of the last pair
-    pub last-turn : (all : Option Decor) → last_shown before (inside_lines plain (slots_view (drop i es)) ks) ≡ all → last_shown next rest ≡ all
-    last-turn all more =
-        ap (λ (d : Option Decor). last_shown d rest) last
-        ∙ sym (ap (last_shown before) from-slot ∙ last_shown-append before own rest) ∙ more
+    module _ (before next : Option Decor) (last : next ≡ last_shown before own) where
+      -- the decor of the last pair
+      pub last-turn : (all : Option Decor) → last_shown before (inside_lines mode (slots_view (drop i es)) ks) ≡ all → last_shown next rest ≡ all
+      last-turn all more =
+          ap (λ (d : Option Decor). last_shown d rest) last
+          ∙ sym (ap (last_shown before) from-slot ∙ last_shown-append mode before own rest) ∙ more
 
-    -- the pairs of a slot
-    pub pairs-turn : (done all : Text) → done ++ pairs_shown before (inside_lines plain (slots_view (drop i es)) ks) ≡ all
-        → (done ++ pairs_shown before own) ++ pairs_shown next rest ≡ all
-    pairs-turn done all more =
-        append_assoc done (pairs_shown before own) (pairs_shown next rest)
-        ∙ ap (λ (d : Option Decor). done ++ (pairs_shown before own ++ pairs_shown d rest)) last
-        ∙ ap (λ (t : Text). done ++ t) (sym (ap (pairs_shown before) from-slot ∙ pairs_shown-append before own rest)) ∙ more
+      -- the pairs of a slot
+      pub pairs-turn : (done all : Text) → done ++ pairs_shown mode before (inside_lines mode (slots_view (drop i es)) ks) ≡ all
+          → (done ++ pairs_shown mode before own) ++ pairs_shown mode next rest ≡ all
+      pairs-turn done all more =
+          append_assoc done (pairs_shown mode before own) (pairs_shown mode next rest)
+          ∙ ap (λ (d : Option Decor). done ++ (pairs_shown mode before own ++ pairs_shown mode d rest)) last
+          ∙ ap (λ (t : Text). done ++ t) (sym (ap (pairs_shown mode before) from-slot ∙ pairs_shown-append mode before own rest)) ∙ more

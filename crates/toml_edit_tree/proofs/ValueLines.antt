@@ -2,7 +2,7 @@
 use Rattle.std.proofs.Common.{◌≡◌, Bool, true, false, List, [], ◌++◌, Option, None, sym, ap, ◌∙◌, rules}
 use Rattle.std.specs.Prelude.{codes, not}
 use Rattle.toml_edit_model.specs.Text.{Text}
-use Rattle.toml_edit_model.specs.Mode.{plain}
+use Rattle.toml_edit_model.specs.Mode.{Mode}
 use Rattle.toml_edit_model.specs.Tree.{Decor, Key, Raw, shown_raw}
 use Rattle.toml_edit_model.specs.Print.{Line, inside_lines, is_line_node}
 use Rattle.toml_edit_tree.specs.Containers.{array_node, inline_node}
@@ -60,38 +60,39 @@ pub braced-line : (v : Value) (t : InlineTable) → v ≡ values.InlineTable t �
 braced-line v t is braced =
     ap (λ x. is_line_node (value_view x)) is ∙ ap is_line_node (view-InlineTable t) ∙ ap not (inline-dotted t ∙ braced)
 
--- a dotted one has its lines
-pub dotted-value : (v : Value) (t : InlineTable) (ks : List Key) → v ≡ values.InlineTable t → (out-InlineTable t).dotted ≡ true
-    → lines_of_item (value_view v) ks ≡ inside_lines plain (slots_view (out-InlineTable t).items) ks
-dotted-value v t ks is dotted =
-    ap (λ x. lines_of_item (value_view x) ks) is
-    ∙ ap (λ n. lines_of_item n ks) (view-InlineTable t)
-    ∙ dotted-lines (inline_view t).fields (inline_view t).slots ks (inline-dotted t ∙ dotted)
-    ∙ ap (λ ss. inside_lines plain ss ks) (inline_slots t)
+module _ (mode : Mode) where
+  -- a dotted one has its lines
+  pub dotted-value : (v : Value) (t : InlineTable) (ks : List Key) → v ≡ values.InlineTable t → (out-InlineTable t).dotted ≡ true
+      → lines_of_item mode (value_view v) ks ≡ inside_lines mode (slots_view (out-InlineTable t).items) ks
+  dotted-value v t ks is dotted =
+      ap (λ x. lines_of_item mode (value_view x) ks) is
+      ∙ ap (λ n. lines_of_item mode n ks) (view-InlineTable t)
+      ∙ dotted-lines mode (inline_view t).fields (inline_view t).slots ks (inline-dotted t ∙ dotted)
+      ∙ ap (λ ss. inside_lines mode ss ks) (inline_slots t)
 
--- ---- the texts of containers, by their fields
+  -- ---- the texts of containers, by their fields
 
-pub array-text : (a : Array)
-    → codes "[" ++ (items_text (out-Array a).trailing_comma true (items_view (out-Array a).values.items) ++ (shown_raw plain (out-Array a).trailing ++ codes "]"))
-    ≡ node_text (array_node (array_view a))
-array-text a =
-    ap (λ c. codes "[" ++ (items_text c true (items_view (out-Array a).values.items) ++ (shown_raw plain (out-Array a).trailing ++ codes "]"))) (sym (array-comma a))
-    ∙ ap (λ xs. codes "[" ++ (items_text (array_view a).fields.comma true xs ++ (shown_raw plain (out-Array a).trailing ++ codes "]"))) (sym (array_items a))
-    ∙ ap (λ r. codes "[" ++ (items_text (array_view a).fields.comma true (array_view a).items ++ (shown_raw plain r ++ codes "]"))) (sym (array-trailing a))
-    ∙ sym (list-text (array_view a).fields (array_view a).items)
+  pub array-text : (a : Array)
+      → codes "[" ++ (items_text mode (out-Array a).trailing_comma true (items_view (out-Array a).values.items) ++ (shown_raw mode (out-Array a).trailing ++ codes "]"))
+      ≡ node_text mode (array_node (array_view a))
+  array-text a =
+      ap (λ c. codes "[" ++ (items_text mode c true (items_view (out-Array a).values.items) ++ (shown_raw mode (out-Array a).trailing ++ codes "]"))) (sym (array-comma a))
+      ∙ ap (λ xs. codes "[" ++ (items_text mode (array_view a).fields.comma true xs ++ (shown_raw mode (out-Array a).trailing ++ codes "]"))) (sym (array_items a))
+      ∙ ap (λ r. codes "[" ++ (items_text mode (array_view a).fields.comma true (array_view a).items ++ (shown_raw mode r ++ codes "]"))) (sym (array-trailing a))
+      ∙ sym (list-text mode (array_view a).fields (array_view a).items)
 
--- the pairs and what follows them, where d is the decor of the last
-abbrev pairs_and_end : Bool → Raw → Option Decor → List Line → Text
-pairs_and_end c r d ls = codes "{" ++ (pairs_shown None ls ++ (after_pairs c d ++ (shown_raw plain r ++ codes "}")))
+  -- the pairs and what follows them, where d is the decor of the last
+  abbrev pairs_and_end : Bool → Raw → Option Decor → List Line → Text
+  pairs_and_end c r d ls = codes "{" ++ (pairs_shown mode None ls ++ (after_pairs mode c d ++ (shown_raw mode r ++ codes "}")))
 
-pub inline-table-text : (t : InlineTable) (d : Option Decor) → d ≡ last_shown None (inside_lines plain (slots_view (out-InlineTable t).items) [])
-    → codes "{"
-    ++ (pairs_shown None (inside_lines plain (slots_view (out-InlineTable t).items) [])
-    ++ (after_pairs (out-InlineTable t).trailing_comma d ++ (shown_raw plain (out-InlineTable t).trailing ++ codes "}")))
-    ≡ node_text (inline_node (inline_view t))
-inline-table-text t d last =
-    ap (λ e. pairs_and_end (out-InlineTable t).trailing_comma (out-InlineTable t).trailing e (inside_lines plain (slots_view (out-InlineTable t).items) [])) last
-    ∙ ap (λ ss. pairs_and_end (out-InlineTable t).trailing_comma (out-InlineTable t).trailing (last_shown None (inside_lines plain ss [])) (inside_lines plain ss [])) (sym (inline_slots t))
-    ∙ ap (λ c. pairs_and_end c (out-InlineTable t).trailing (last_shown None (inside_lines plain (inline_view t).slots [])) (inside_lines plain (inline_view t).slots [])) (sym (inline-comma t))
-    ∙ ap (λ r. pairs_and_end (inline_view t).fields.comma r (last_shown None (inside_lines plain (inline_view t).slots [])) (inside_lines plain (inline_view t).slots [])) (sym (inline-trailing t))
-    ∙ sym (inline-text (inline_view t).fields (inline_view t).slots)
+  pub inline-table-text : (t : InlineTable) (d : Option Decor) → d ≡ last_shown None (inside_lines mode (slots_view (out-InlineTable t).items) [])
+      → codes "{"
+      ++ (pairs_shown mode None (inside_lines mode (slots_view (out-InlineTable t).items) [])
+      ++ (after_pairs mode (out-InlineTable t).trailing_comma d ++ (shown_raw mode (out-InlineTable t).trailing ++ codes "}")))
+      ≡ node_text mode (inline_node (inline_view t))
+  inline-table-text t d last =
+      ap (λ e. pairs_and_end (out-InlineTable t).trailing_comma (out-InlineTable t).trailing e (inside_lines mode (slots_view (out-InlineTable t).items) [])) last
+      ∙ ap (λ ss. pairs_and_end (out-InlineTable t).trailing_comma (out-InlineTable t).trailing (last_shown None (inside_lines mode ss [])) (inside_lines mode ss [])) (sym (inline_slots t))
+      ∙ ap (λ c. pairs_and_end c (out-InlineTable t).trailing (last_shown None (inside_lines mode (inline_view t).slots [])) (inside_lines mode (inline_view t).slots [])) (sym (inline-comma t))
+      ∙ ap (λ r. pairs_and_end (inline_view t).fields.comma r (last_shown None (inside_lines mode (inline_view t).slots [])) (inside_lines mode (inline_view t).slots [])) (sym (inline-trailing t))
+      ∙ sym (inline-text mode (inline_view t).fields (inline_view t).slots)

@@ -4,11 +4,11 @@ ghost use Rattle.std.specs.Option.{option_copied};
 ghost use Rattle.std.specs.Fmt.{WritesOnOk};
 ghost use Rattle.toml_edit_model.specs.Syntax.{comma_text, path_text};
 ghost use Rattle.toml_edit_model.specs.Text.{newline};
-ghost use Rattle.toml_edit_model.specs.Mode.{plain};
 ghost use Rattle.toml_edit_model.specs.Tree.{key_text, node_decor, shown_suffix};
 ghost use Rattle.toml_edit_model.specs.Conversions.{value_display};
 ghost use Rattle.toml_edit_model.specs.Print.{one_space, element_default, inside_lines, segments, table_lines};
 ghost use Rattle.toml_edit_laws.specs.PrintByVisits.{has_inside, has_lines};
+ghost use Rattle.toml_edit_repr.specs.Modes.{mode_of};
 ghost use Rattle.toml_edit_tree.specs.Printing.{WritesWithAnswer, node_text, keys_on, before_key, dotted_keys, key_part, pair_start, comma_before, element_text, last_comma, items_text, lines_of_item, lines_in_table, has_lines_inside, has_lines_in_table, between_pairs, after_pairs, pairs_shown, last_shown, lines_text};
 ghost use Rattle.toml_edit_tree.specs.Containers.{array_node, inline_node};
 ghost use Rattle.toml_edit_tree.specs.View.{array_view, inline_view, value_view, item_view, items_view, slots_view, table_slots, fields_view};
@@ -21,7 +21,7 @@ use crate::value::Value;
 use std::fmt;
 use std::fmt::{Formatter, Write};
 use toml_edit_key::Key;
-use toml_edit_repr::{Decor, spelling_text, write_raw, write_scalar, write_side};
+use toml_edit_repr::{Decor, Mode, spelling_text, write_raw, write_scalar, write_side};
 use toml_edit_slots::Slots;
 use toml_edit_token::write_key;
 
@@ -37,24 +37,25 @@ pub enum Path<'p, 'k> {
 
 /// The lines of a table: its values, and in their place those of dotted tables and of dotted inline tables.
 #[doc(hidden)]
-pub fn write_table_lines<W: Write>(f: &mut Formatter<W>, table: &Table) -> fmt::Result
-    ensures { WritesOnOk W.write_str_gives f.old result (lines_text (table_lines plain (table_slots table.now) [])) f.new }
+pub fn write_table_lines<W: Write>(f: &mut Formatter<W>, mode: Mode, table: &Table) -> fmt::Result
+    ensures { WritesOnOk W.write_str_gives f.old result (lines_text (mode_of mode) (table_lines (mode_of mode) (table_slots table.now) [])) f.new }
 {
-    write_lines(f, &table.slots, &Path::Root)
+    write_lines(f, mode, &table.slots, &Path::Root)
 }
 
 /// The lines of the slots of a table, in order.
 #[cycle(lines)]
 fn write_lines<'p, 'a, W: Write>(
     f: &mut Formatter<W>,
+    mode: Mode,
     slots: &'a Slots<Item>,
     path: &'p Path<'p, 'a>,
 ) -> fmt::Result
-    ensures { WritesOnOk W.write_str_gives f.old result (lines_text (table_lines plain (slots_view slots.now) (keys_on path.now))) f.new }
+    ensures { WritesOnOk W.write_str_gives f.old result (lines_text (mode_of mode) (table_lines (mode_of mode) (slots_view slots.now) (keys_on path.now))) f.new }
 {
     let entries = slots.as_slice();
     'slots: for slot in entries {
-        write_item_lines(f, &slot.item, &slot.key, path)?;
+        write_item_lines(f, mode, &slot.item, &slot.key, path)?;
     }
     Ok(())
 }
@@ -63,18 +64,19 @@ fn write_lines<'p, 'a, W: Write>(
 #[cycle(lines)]
 fn write_item_lines<'p, 'a, W: Write>(
     f: &mut Formatter<W>,
+    mode: Mode,
     item: &'a Item,
     key: &'a Key,
     path: &'p Path<'p, 'a>,
 ) -> fmt::Result
     ensures { WritesOnOk W.write_str_gives f.old result
-        (lines_text (lines_in_table (item_view item.now) (keys_on path.now ++ (key.now ∷ [])))) f.new }
+        (lines_text (mode_of mode) (lines_in_table (mode_of mode) (item_view item.now) (keys_on path.now ++ (key.now ∷ [])))) f.new }
 {
     match item {
-        Item::Value(value) => write_value_lines(f, value, key, path),
+        Item::Value(value) => write_value_lines(f, mode, value, key, path),
         Item::Table(table) => {
             if table.dotted {
-                write_lines(f, &table.slots, &Path::Under(path, key))
+                write_lines(f, mode, &table.slots, &Path::Under(path, key))
             } else {
                 Ok(())
             }
@@ -87,14 +89,15 @@ fn write_item_lines<'p, 'a, W: Write>(
 #[cycle(inside_lines)]
 fn write_inside_lines<'p, 'a, W: Write>(
     f: &mut Formatter<W>,
+    mode: Mode,
     slots: &'a Slots<Item>,
     path: &'p Path<'p, 'a>,
 ) -> fmt::Result
-    ensures { WritesOnOk W.write_str_gives f.old result (lines_text (inside_lines plain (slots_view slots.now) (keys_on path.now))) f.new }
+    ensures { WritesOnOk W.write_str_gives f.old result (lines_text (mode_of mode) (inside_lines (mode_of mode) (slots_view slots.now) (keys_on path.now))) f.new }
 {
     let entries = slots.as_slice();
     'slots: for slot in entries {
-        write_inside_item(f, &slot.item, &slot.key, path)?;
+        write_inside_item(f, mode, &slot.item, &slot.key, path)?;
     }
     Ok(())
 }
@@ -103,16 +106,17 @@ fn write_inside_lines<'p, 'a, W: Write>(
 #[cycle(inside_lines)]
 fn write_inside_item<'p, 'a, W: Write>(
     f: &mut Formatter<W>,
+    mode: Mode,
     item: &'a Item,
     key: &'a Key,
     path: &'p Path<'p, 'a>,
 ) -> fmt::Result
     ensures { WritesOnOk W.write_str_gives f.old result
-        (lines_text (lines_of_item (item_view item.now) (keys_on path.now ++ (key.now ∷ [])))) f.new }
+        (lines_text (mode_of mode) (lines_of_item (mode_of mode) (item_view item.now) (keys_on path.now ++ (key.now ∷ [])))) f.new }
 {
     match item {
-        Item::Value(value) => write_value_lines(f, value, key, path),
-        Item::Table(table) => write_inside_lines(f, &table.slots, &Path::Under(path, key)),
+        Item::Value(value) => write_value_lines(f, mode, value, key, path),
+        Item::Table(table) => write_inside_lines(f, mode, &table.slots, &Path::Under(path, key)),
         Item::None | Item::ArrayOfTables(_) => Ok(()),
     }
 }
@@ -121,22 +125,23 @@ fn write_inside_item<'p, 'a, W: Write>(
 #[cycle(inside_lines)]
 fn write_value_lines<'p, 'a, W: Write>(
     f: &mut Formatter<W>,
+    mode: Mode,
     value: &'a Value,
     key: &'a Key,
     path: &'p Path<'p, 'a>,
 ) -> fmt::Result
     ensures { WritesOnOk W.write_str_gives f.old result
-        (lines_text (lines_of_item (value_view value.now) (keys_on path.now ++ (key.now ∷ [])))) f.new }
+        (lines_text (mode_of mode) (lines_of_item (mode_of mode) (value_view value.now) (keys_on path.now ++ (key.now ∷ [])))) f.new }
 {
     match value {
         Value::InlineTable(table) => {
             if table.dotted {
-                write_inside_lines(f, &table.items, &Path::Under(path, key))
+                write_inside_lines(f, mode, &table.items, &Path::Under(path, key))
             } else {
-                write_line(f, path, key, value)
+                write_line(f, mode, path, key, value)
             }
         }
-        _ => write_line(f, path, key, value),
+        _ => write_line(f, mode, path, key, value),
     }
 }
 
@@ -214,73 +219,85 @@ fn value_has_lines(value: &Value) -> bool
 /// The line of a value.
 fn write_line<W: Write>(
     f: &mut Formatter<W>,
+    mode: Mode,
     path: &Path<'_, '_>,
     key: &Key,
     value: &Value,
 ) -> fmt::Result
     ensures { WritesOnOk W.write_str_gives f.old result
-        (pair_start [] (keys_on path.now) key.now (value_view value.now)
-        ++ (shown_suffix plain [] (node_decor (value_view value.now)) ++ newline)) f.new }
+        (pair_start (mode_of mode) [] (keys_on path.now) key.now (value_view value.now)
+        ++ (shown_suffix (mode_of mode) [] (node_decor (value_view value.now)) ++ newline)) f.new }
 {
     let decor = value.decor();
-    write_key_part(f, "", path, key)?;
-    write_side(f, decor.prefix(), " ")?;
-    write_value_text(f, value)?;
-    write_side(f, decor.suffix(), "")?;
+    write_key_part(f, mode, "", path, key)?;
+    write_side(f, mode, decor.prefix(), " ")?;
+    write_value_text(f, mode, value)?;
+    write_side(f, mode, decor.suffix(), "")?;
     f.write_str("\n")
 }
 
 /// The key with what stands around it, and the `=`.
 fn write_key_part<W: Write>(
     f: &mut Formatter<W>,
+    mode: Mode,
     default: &str,
     path: &Path<'_, '_>,
     key: &Key,
 ) -> fmt::Result
-    ensures { WritesOnOk W.write_str_gives f.old result (key_part default.now (keys_on path.now) key.now) f.new }
+    ensures { WritesOnOk W.write_str_gives f.old result (key_part (mode_of mode) default.now (keys_on path.now) key.now) f.new }
 {
     let decor = key.leaf_decor();
-    write_side(f, decor.prefix(), default)?;
-    write_dotted_keys(f, path)?;
-    write_before_key(f, path, key)?;
+    write_side(f, mode, decor.prefix(), default)?;
+    write_dotted_keys(f, mode, path)?;
+    write_before_key(f, mode, path, key)?;
     write_key_text(f, key)?;
-    write_side(f, decor.suffix(), " ")?;
+    write_side(f, mode, decor.suffix(), " ")?;
     f.write_str("=")
 }
 
 /// The keys of a path, each with the dot after it.
-fn write_dotted_keys<W: Write>(f: &mut Formatter<W>, path: &Path<'_, '_>) -> fmt::Result
-    ensures { WritesOnOk W.write_str_gives f.old result (dotted_keys true (keys_on path.now)) f.new }
+fn write_dotted_keys<W: Write>(f: &mut Formatter<W>, mode: Mode, path: &Path<'_, '_>) -> fmt::Result
+    ensures { WritesOnOk W.write_str_gives f.old result (dotted_keys (mode_of mode) true (keys_on path.now)) f.new }
 {
     match path {
         Path::Root => Ok(()),
         Path::Under(up, key) => {
-            write_dotted_keys(f, up)?;
-            write_before_key(f, up, key)?;
+            write_dotted_keys(f, mode, up)?;
+            write_before_key(f, mode, up, key)?;
             write_key_text(f, key)?;
-            write_side(f, key.dotted_decor().suffix(), "")?;
+            write_side(f, mode, key.dotted_decor().suffix(), "")?;
             f.write_str(".")
         }
     }
 }
 
 /// What stands between the dot before the key, if there is one, and the key.
-fn write_before_key<W: Write>(f: &mut Formatter<W>, path: &Path<'_, '_>, key: &Key) -> fmt::Result
-    ensures { WritesOnOk W.write_str_gives f.old result (before_key (keys_on path.now) key.now) f.new }
+fn write_before_key<W: Write>(
+    f: &mut Formatter<W>,
+    mode: Mode,
+    path: &Path<'_, '_>,
+    key: &Key,
+) -> fmt::Result
+    ensures { WritesOnOk W.write_str_gives f.old result (before_key (mode_of mode) (keys_on path.now) key.now) f.new }
 {
     match path {
         Path::Root => Ok(()),
-        Path::Under(_, _) => write_side(f, key.dotted_decor().prefix(), ""),
+        Path::Under(_, _) => write_side(f, mode, key.dotted_decor().prefix(), ""),
     }
 }
 
 /// The keys of a header, of which this one stands behind the path, without what stands around them.
 #[doc(hidden)]
-pub fn write_path<W: Write>(f: &mut Formatter<W>, path: &Path<'_, '_>, key: &Key) -> fmt::Result
-    ensures { WritesOnOk W.write_str_gives f.old result (path_text (segments plain (keys_on path.now ++ (key.now ∷ [])))) f.new }
+pub fn write_path<W: Write>(
+    f: &mut Formatter<W>,
+    mode: Mode,
+    path: &Path<'_, '_>,
+    key: &Key,
+) -> fmt::Result
+    ensures { WritesOnOk W.write_str_gives f.old result (path_text (segments (mode_of mode) (keys_on path.now ++ (key.now ∷ [])))) f.new }
 {
-    write_dotted_keys(f, path)?;
-    write_before_key(f, path, key)?;
+    write_dotted_keys(f, mode, path)?;
+    write_before_key(f, mode, path, key)?;
     write_key_text(f, key)
 }
 
@@ -296,8 +313,8 @@ fn write_key_text<W: Write>(f: &mut Formatter<W>, key: &Key) -> fmt::Result
 
 /// The spelling of the value as it stands, or the default one.
 #[cycle(print)]
-fn write_value_text<W: Write>(f: &mut Formatter<W>, value: &Value) -> fmt::Result
-    ensures { WritesOnOk W.write_str_gives f.old result (node_text (value_view value.now)) f.new }
+fn write_value_text<W: Write>(f: &mut Formatter<W>, mode: Mode, value: &Value) -> fmt::Result
+    ensures { WritesOnOk W.write_str_gives f.old result (node_text (mode_of mode) (value_view value.now)) f.new }
 {
     match value {
         Value::String(scalar) => write_scalar(f, scalar),
@@ -305,31 +322,36 @@ fn write_value_text<W: Write>(f: &mut Formatter<W>, value: &Value) -> fmt::Resul
         Value::Float(scalar) => write_scalar(f, scalar),
         Value::Boolean(scalar) => write_scalar(f, scalar),
         Value::Datetime(scalar) => write_scalar(f, scalar),
-        Value::Array(array) => write_array_text(f, array),
-        Value::InlineTable(table) => write_inline_text(f, table),
+        Value::Array(array) => write_array_text(f, mode, array),
+        Value::InlineTable(table) => write_inline_text(f, mode, table),
     }
 }
 
 /// The array, from bracket to bracket.
 #[cycle(print)]
-fn write_array_text<W: Write>(f: &mut Formatter<W>, array: &Array) -> fmt::Result
-    ensures { WritesOnOk W.write_str_gives f.old result (node_text (array_node (array_view array.now))) f.new }
+fn write_array_text<W: Write>(f: &mut Formatter<W>, mode: Mode, array: &Array) -> fmt::Result
+    ensures { WritesOnOk W.write_str_gives f.old result (node_text (mode_of mode) (array_node (array_view array.now))) f.new }
 {
     f.write_str("[")?;
-    write_items(f, &array.values, array.trailing_comma)?;
-    write_raw(f, &array.trailing)?;
+    write_items(f, mode, &array.values, array.trailing_comma)?;
+    write_raw(f, mode, &array.trailing)?;
     f.write_str("]")
 }
 
 /// The values in order, with commas between them, and one after the last if it is to stand there.
 #[cycle(print)]
-fn write_items<W: Write>(f: &mut Formatter<W>, items: &Vec<Item>, comma: bool) -> fmt::Result
-    ensures { WritesOnOk W.write_str_gives f.old result (items_text comma true (items_view items.now.items)) f.new }
+fn write_items<W: Write>(
+    f: &mut Formatter<W>,
+    mode: Mode,
+    items: &Vec<Item>,
+    comma: bool,
+) -> fmt::Result
+    ensures { WritesOnOk W.write_str_gives f.old result (items_text (mode_of mode) comma true (items_view items.now.items)) f.new }
 {
     let mut is_first = true;
     'items: for item in items {
         if let Item::Value(value) = item {
-            write_element(f, value, is_first)?;
+            write_element(f, mode, value, is_first)?;
             is_first = false;
         }
     }
@@ -338,16 +360,21 @@ fn write_items<W: Write>(f: &mut Formatter<W>, items: &Vec<Item>, comma: bool) -
 
 /// A value in an array, and the comma before it.
 #[cycle(print)]
-fn write_element<W: Write>(f: &mut Formatter<W>, value: &Value, is_first: bool) -> fmt::Result
-    ensures { WritesOnOk W.write_str_gives f.old result (element_text is_first (value_view value.now)) f.new }
+fn write_element<W: Write>(
+    f: &mut Formatter<W>,
+    mode: Mode,
+    value: &Value,
+    is_first: bool,
+) -> fmt::Result
+    ensures { WritesOnOk W.write_str_gives f.old result (element_text (mode_of mode) is_first (value_view value.now)) f.new }
 {
     let decor = value.decor();
     if !is_first {
         f.write_str(",")?;
     }
-    write_side(f, decor.prefix(), default_before(is_first))?;
-    write_value_text(f, value)?;
-    write_side(f, decor.suffix(), "")
+    write_side(f, mode, decor.prefix(), default_before(is_first))?;
+    write_value_text(f, mode, value)?;
+    write_side(f, mode, decor.suffix(), "")
 }
 
 /// What stands before an element whose decor says nothing.
@@ -370,13 +397,13 @@ fn write_last_comma<W: Write>(f: &mut Formatter<W>, comma: bool, is_first: bool)
 
 /// The inline table, from brace to brace.
 #[cycle(print)]
-fn write_inline_text<W: Write>(f: &mut Formatter<W>, table: &InlineTable) -> fmt::Result
-    ensures { WritesOnOk W.write_str_gives f.old result (node_text (inline_node (inline_view table.now))) f.new }
+fn write_inline_text<W: Write>(f: &mut Formatter<W>, mode: Mode, table: &InlineTable) -> fmt::Result
+    ensures { WritesOnOk W.write_str_gives f.old result (node_text (mode_of mode) (inline_node (inline_view table.now))) f.new }
 {
     f.write_str("{")?;
-    let last = write_pairs(f, &table.items, &Path::Root, None)?;
-    write_after_pairs(f, table.trailing_comma, last)?;
-    write_raw(f, &table.trailing)?;
+    let last = write_pairs(f, mode, &table.items, &Path::Root, None)?;
+    write_after_pairs(f, mode, table.trailing_comma, last)?;
+    write_raw(f, mode, &table.trailing)?;
     f.write_str("}")
 }
 
@@ -385,19 +412,20 @@ fn write_inline_text<W: Write>(f: &mut Formatter<W>, table: &InlineTable) -> fmt
 #[cycle(print)]
 fn write_pairs<'p, 'a, W: Write>(
     f: &mut Formatter<W>,
+    mode: Mode,
     slots: &'a Slots<Item>,
     path: &'p Path<'p, 'a>,
     before: Option<&'a Decor>,
 ) -> Result<Option<&'a Decor>, fmt::Error>
     ensures last { IfOk result (λ last. option_copied last
-        ≡ last_shown (option_copied before.entry) (inside_lines plain (slots_view slots.now) (keys_on path.now))) }
+        ≡ last_shown (option_copied before.entry) (inside_lines (mode_of mode) (slots_view slots.now) (keys_on path.now))) }
     ensures writes { WritesWithAnswer W.write_str_gives f.old result
-        (pairs_shown (option_copied before.entry) (inside_lines plain (slots_view slots.now) (keys_on path.now))) f.new }
+        (pairs_shown (mode_of mode) (option_copied before.entry) (inside_lines (mode_of mode) (slots_view slots.now) (keys_on path.now))) f.new }
 {
     let mut last = before;
     let entries = slots.as_slice();
     'slots: for slot in entries {
-        last = write_item_pairs(f, &slot.item, &slot.key, path, last)?;
+        last = write_item_pairs(f, mode, &slot.item, &slot.key, path, last)?;
     }
     Ok(last)
 }
@@ -406,19 +434,20 @@ fn write_pairs<'p, 'a, W: Write>(
 #[cycle(print)]
 fn write_item_pairs<'p, 'a, W: Write>(
     f: &mut Formatter<W>,
+    mode: Mode,
     item: &'a Item,
     key: &'a Key,
     path: &'p Path<'p, 'a>,
     before: Option<&'a Decor>,
 ) -> Result<Option<&'a Decor>, fmt::Error>
     ensures last { IfOk result (λ last. option_copied last
-        ≡ last_shown (option_copied before.entry) (lines_of_item (item_view item.now) (keys_on path.now ++ (key.now ∷ [])))) }
+        ≡ last_shown (option_copied before.entry) (lines_of_item (mode_of mode) (item_view item.now) (keys_on path.now ++ (key.now ∷ [])))) }
     ensures writes { WritesWithAnswer W.write_str_gives f.old result
-        (pairs_shown (option_copied before.entry) (lines_of_item (item_view item.now) (keys_on path.now ++ (key.now ∷ [])))) f.new }
+        (pairs_shown (mode_of mode) (option_copied before.entry) (lines_of_item (mode_of mode) (item_view item.now) (keys_on path.now ++ (key.now ∷ [])))) f.new }
 {
     match item {
-        Item::Value(value) => write_value_pairs(f, value, key, path, before),
-        Item::Table(table) => write_pairs(f, &table.slots, &Path::Under(path, key), before),
+        Item::Value(value) => write_value_pairs(f, mode, value, key, path, before),
+        Item::Table(table) => write_pairs(f, mode, &table.slots, &Path::Under(path, key), before),
         Item::None | Item::ArrayOfTables(_) => Ok(before),
     }
 }
@@ -427,27 +456,28 @@ fn write_item_pairs<'p, 'a, W: Write>(
 #[cycle(print)]
 fn write_value_pairs<'p, 'a, W: Write>(
     f: &mut Formatter<W>,
+    mode: Mode,
     value: &'a Value,
     key: &'a Key,
     path: &'p Path<'p, 'a>,
     before: Option<&'a Decor>,
 ) -> Result<Option<&'a Decor>, fmt::Error>
     ensures last { IfOk result (λ last. option_copied last
-        ≡ last_shown (option_copied before.entry) (lines_of_item (value_view value.now) (keys_on path.now ++ (key.now ∷ [])))) }
+        ≡ last_shown (option_copied before.entry) (lines_of_item (mode_of mode) (value_view value.now) (keys_on path.now ++ (key.now ∷ [])))) }
     ensures writes { WritesWithAnswer W.write_str_gives f.old result
-        (pairs_shown (option_copied before.entry) (lines_of_item (value_view value.now) (keys_on path.now ++ (key.now ∷ [])))) f.new }
+        (pairs_shown (mode_of mode) (option_copied before.entry) (lines_of_item (mode_of mode) (value_view value.now) (keys_on path.now ++ (key.now ∷ [])))) f.new }
 {
     match value {
         Value::InlineTable(table) => {
             if table.dotted {
-                write_pairs(f, &table.items, &Path::Under(path, key), before)
+                write_pairs(f, mode, &table.items, &Path::Under(path, key), before)
             } else {
-                write_pair(f, value, key, path, before)?;
+                write_pair(f, mode, value, key, path, before)?;
                 Ok(Some(value.decor()))
             }
         }
         _ => {
-            write_pair(f, value, key, path, before)?;
+            write_pair(f, mode, value, key, path, before)?;
             Ok(Some(value.decor()))
         }
     }
@@ -457,28 +487,33 @@ fn write_value_pairs<'p, 'a, W: Write>(
 #[cycle(print)]
 fn write_pair<W: Write>(
     f: &mut Formatter<W>,
+    mode: Mode,
     value: &Value,
     key: &Key,
     path: &Path<'_, '_>,
     before: Option<&Decor>,
 ) -> fmt::Result
     ensures { WritesOnOk W.write_str_gives f.old result
-        (between_pairs (option_copied before.entry) ++ pair_start one_space (keys_on path.now) key.now (value_view value.now)) f.new }
+        (between_pairs (mode_of mode) (option_copied before.entry) ++ pair_start (mode_of mode) one_space (keys_on path.now) key.now (value_view value.now)) f.new }
 {
-    write_between_pairs(f, before)?;
-    write_key_part(f, " ", path, key)?;
-    write_side(f, value.decor().prefix(), " ")?;
-    write_value_text(f, value)
+    write_between_pairs(f, mode, before)?;
+    write_key_part(f, mode, " ", path, key)?;
+    write_side(f, mode, value.decor().prefix(), " ")?;
+    write_value_text(f, mode, value)
 }
 
 /// What follows the value of a pair that another follows, and the comma.
-fn write_between_pairs<W: Write>(f: &mut Formatter<W>, before: Option<&Decor>) -> fmt::Result
-    ensures { WritesOnOk W.write_str_gives f.old result (between_pairs (option_copied before.entry)) f.new }
+fn write_between_pairs<W: Write>(
+    f: &mut Formatter<W>,
+    mode: Mode,
+    before: Option<&Decor>,
+) -> fmt::Result
+    ensures { WritesOnOk W.write_str_gives f.old result (between_pairs (mode_of mode) (option_copied before.entry)) f.new }
 {
     match before {
         None => Ok(()),
         Some(decor) => {
-            write_side(f, decor.suffix(), "")?;
+            write_side(f, mode, decor.suffix(), "")?;
             f.write_str(",")
         }
     }
@@ -487,15 +522,16 @@ fn write_between_pairs<W: Write>(f: &mut Formatter<W>, before: Option<&Decor>) -
 /// What follows the value of the last pair, and the comma if it is to stand there.
 fn write_after_pairs<W: Write>(
     f: &mut Formatter<W>,
+    mode: Mode,
     comma: bool,
     last: Option<&Decor>,
 ) -> fmt::Result
-    ensures { WritesOnOk W.write_str_gives f.old result (after_pairs comma (option_copied last.entry)) f.new }
+    ensures { WritesOnOk W.write_str_gives f.old result (after_pairs (mode_of mode) comma (option_copied last.entry)) f.new }
 {
     match last {
         None => Ok(()),
         Some(pair) => {
-            write_side(f, pair.suffix(), " ")?;
+            write_side(f, mode, pair.suffix(), " ")?;
             write_last_comma(f, comma, false)
         }
     }
@@ -505,16 +541,16 @@ fn write_after_pairs<W: Write>(
 pub(crate) fn write_array<W: Write>(f: &mut Formatter<W>, array: &Array) -> fmt::Result
     ensures { WritesOnOk W.write_str_gives f.old result (value_display (array_node (array_view array.now))) f.new }
 {
-    write_side(f, array.decor().prefix(), "")?;
-    write_array_text(f, array)?;
-    write_side(f, array.decor().suffix(), "")
+    write_side(f, Mode::Plain, array.decor().prefix(), "")?;
+    write_array_text(f, Mode::Plain, array)?;
+    write_side(f, Mode::Plain, array.decor().suffix(), "")
 }
 
 /// The inline table between the sides of its decor, which are empty where they are unset.
 pub(crate) fn write_inline<W: Write>(f: &mut Formatter<W>, table: &InlineTable) -> fmt::Result
     ensures { WritesOnOk W.write_str_gives f.old result (value_display (inline_node (inline_view table.now))) f.new }
 {
-    write_side(f, table.decor().prefix(), "")?;
-    write_inline_text(f, table)?;
-    write_side(f, table.decor().suffix(), "")
+    write_side(f, Mode::Plain, table.decor().prefix(), "")?;
+    write_inline_text(f, Mode::Plain, table)?;
+    write_side(f, Mode::Plain, table.decor().suffix(), "")
 }

@@ -70,7 +70,7 @@ fn add_item_lines<'p, 'a>(
     lines: &mut Vec<(Vec<&'a Key>, &'a Value)>,
 ) -> Mem<()>
     ensures { OnOk result (values_read lines.new.items
-        ≡ values_read lines.old.items ++ map line_value (lines_in_table (item_view item.now) (keys_on path.now ++ (key.now ∷ [])))) }
+        ≡ values_read lines.old.items ++ map line_value (lines_in_table plain (item_view item.now) (keys_on path.now ++ (key.now ∷ [])))) }
 {
     match item {
         Item::Value(value) => add_value_lines(alloc, value, key, path, lines),
@@ -113,7 +113,7 @@ fn add_inside_item<'p, 'a>(
     lines: &mut Vec<(Vec<&'a Key>, &'a Value)>,
 ) -> Mem<()>
     ensures { OnOk result (values_read lines.new.items
-        ≡ values_read lines.old.items ++ map line_value (lines_of_item (item_view item.now) (keys_on path.now ++ (key.now ∷ [])))) }
+        ≡ values_read lines.old.items ++ map line_value (lines_of_item plain (item_view item.now) (keys_on path.now ++ (key.now ∷ [])))) }
 {
     match item {
         Item::Value(value) => add_value_lines(alloc, value, key, path, lines),
@@ -132,7 +132,7 @@ fn add_value_lines<'p, 'a>(
     lines: &mut Vec<(Vec<&'a Key>, &'a Value)>,
 ) -> Mem<()>
     ensures { OnOk result (values_read lines.new.items
-        ≡ values_read lines.old.items ++ map line_value (lines_of_item (value_view value.now) (keys_on path.now ++ (key.now ∷ [])))) }
+        ≡ values_read lines.old.items ++ map line_value (lines_of_item plain (value_view value.now) (keys_on path.now ++ (key.now ∷ [])))) }
 {
     match value {
         Value::InlineTable(table) => {

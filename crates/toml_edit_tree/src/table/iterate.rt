@@ -13,6 +13,7 @@ use super::{Iter, Table};
 use crate::encode::write_table_lines;
 use crate::item::Item;
 use std::{fmt, vec};
+use toml_edit_repr::Mode;
 use toml_edit_slots::Slot;
 
 impl Table {
@@ -57,7 +58,7 @@ impl fmt::Display for Table {
     ghost output = { λ table. Some (table_display (table_slots table)) };
 
     fn fmt<W: fmt::Write>(&self, f: &mut fmt::Formatter<W>) -> fmt::Result {
-        write_table_lines(f, self)
+        write_table_lines(f, Mode::Plain, self)
     }
 }
 

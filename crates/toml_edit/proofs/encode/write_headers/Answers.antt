@@ -19,7 +19,7 @@ headers-preserved g c plain_f =
     let i = c.headers.header-index in
     let x = c.header-item.result in
     let below : i < length hs = omega arith in (
-      (done ++ header_text plain c.headers.is_first (header_view x)) ++ lines_text (table_lines plain (table_slots x.table.now) []),
+      (done ++ header_text plain c.headers.is_first (header_view x)) ++ lines_text plain (table_lines plain (table_slots x.table.now) []),
       has_written_append _ _ _ _ _ _ (has_written_append _ _ _ _ _ _ wrote one) two,
       headers-turn-lines plain header_view hs i x below c.header-item.is c.headers.is_first done _ more,
     )

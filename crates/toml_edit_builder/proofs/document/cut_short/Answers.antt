@@ -1,24 +1,25 @@
 -- A text whose events are cut short.
 use Rattle.toml_edit_tree.specs.View.{slots_view}
 use Rattle.toml_edit_version.specs.Grammar.{grammar}
+use Rattle.toml_edit_repr.specs.Modes.{mode_of}
 use Rattle.toml_edit_builder.proofs.WholeLaws.{no_cut, not_refused, refusal_is, short_refusal, of_report}
 use Rattle.toml_edit_builder.proofs.document.cut_short.Goals as goal
 
 pub returns-in-Ok-clause-every : goal.returns-in-Ok-clause-every
 returns-in-Ok-clause-every c =
     λ d accepted.
-    absurd (no_cut (grammar c.args.version) c.args.source.now c.args.events.now c.requires.cut (slots_view c.in-Ok.field-0.0) c.in-Ok.field-0.1 c.in-Ok.ensures.built c.requires.short d accepted.0)
+    absurd (no_cut (mode_of c.args.mode) (grammar c.args.version) c.args.source.now c.args.events.now c.requires.cut (slots_view c.in-Ok.field-0.0) c.in-Ok.field-0.1 c.in-Ok.ensures.built c.requires.short d accepted.0)
 
 pub returns-in-Ok-clause-refused : goal.returns-in-Ok-clause-refused
 returns-in-Ok-clause-refused c =
     of_report c.refusal_of_all.result _ _
-    (λ r same. short_refusal (grammar c.args.version) c.args.source.now c.args.events.now c.requires.cut _ r c.requires.short
-    (no_cut (grammar c.args.version) c.args.source.now c.args.events.now c.requires.cut (slots_view c.in-Ok.field-0.0) c.in-Ok.field-0.1 c.in-Ok.ensures.built c.requires.short) same) c.refusal_of_all.ensures
+    (λ r same. short_refusal (mode_of c.args.mode) (grammar c.args.version) c.args.source.now c.args.events.now c.requires.cut _ r c.requires.short
+    (no_cut (mode_of c.args.mode) (grammar c.args.version) c.args.source.now c.args.events.now c.requires.cut (slots_view c.in-Ok.field-0.0) c.in-Ok.field-0.1 c.in-Ok.ensures.built c.requires.short) same) c.refusal_of_all.ensures
 
 pub returns-clause-every : goal.returns-clause-every
 returns-clause-every c =
-    λ d accepted. not_refused (grammar c.args.version) c.args.source.now c.args.events.now c.requires.cut c.in-Err.fault c.in-Err.ensures.built d accepted
+    λ d accepted. not_refused (mode_of c.args.mode) (grammar c.args.version) c.args.source.now c.args.events.now c.requires.cut c.in-Err.fault c.in-Err.ensures.built d accepted
 
 pub returns-clause-refused : goal.returns-clause-refused
 returns-clause-refused c =
-    refusal_is (grammar c.args.version) c.args.source.now c.args.events.now c.requires.cut c.in-Err.fault c.in-Err.ensures.built c.in-Err.ensures.input
+    refusal_is (mode_of c.args.mode) (grammar c.args.version) c.args.source.now c.args.events.now c.requires.cut c.in-Err.fault c.in-Err.ensures.built c.in-Err.ensures.input

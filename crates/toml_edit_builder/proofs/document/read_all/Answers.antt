@@ -4,6 +4,7 @@ use Rattle.std.specs.Prelude.{Err}
 use Rattle.std.proofs.lemmas.Result.{err_from_is_err_and}
 use Rattle.toml_edit_tree.specs.View.{slots_view}
 use Rattle.toml_edit_version.specs.Grammar.{grammar}
+use Rattle.toml_edit_repr.specs.Modes.{mode_of}
 use Rattle.toml_edit_builder.proofs.WholeLaws.{parsed, not_refused, refusal_is}
 use Rattle.toml_edit_builder.proofs.document.read_all.Goals as goal
 
@@ -11,15 +12,15 @@ pub returns-in_err-built-clause-every : goal.returns-in_err-built-clause-every
 returns-in_err-built-clause-every c =
     λ d accepted.
     let p = err_from_is_err_and c.from_residual.result c.from_residual.ensures.1 in
-    rw (p.1, p.2) (inr (ap Err (not_refused (grammar c.args.version) c.args.source.now c.args.events.now c.requires.cut c.in_err-built.field-0.0 c.in_err-built.ensures.built d accepted)))
+    rw (p.1, p.2) (inr (ap Err (not_refused (mode_of c.args.mode) (grammar c.args.version) c.args.source.now c.args.events.now c.requires.cut c.in_err-built.field-0.0 c.in_err-built.ensures.built d accepted)))
 
 pub returns-in_err-built-clause-refused : goal.returns-in_err-built-clause-refused
 returns-in_err-built-clause-refused c =
     let p = err_from_is_err_and c.from_residual.result c.from_residual.ensures.1 in
     rw (p.1, p.2)
-    (refusal_is (grammar c.args.version) c.args.source.now c.args.events.now c.requires.cut c.in_err-built.field-0.0 c.in_err-built.ensures.built c.in_err-built.ensures.input)
+    (refusal_is (mode_of c.args.mode) (grammar c.args.version) c.args.source.now c.args.events.now c.requires.cut c.in_err-built.field-0.0 c.in_err-built.ensures.built c.in_err-built.ensures.input)
 
 pub returns-clause-parsed : goal.returns-clause-parsed
 returns-clause-parsed c =
-    parsed (grammar c.args.version) c.args.source.now c.args.events.now c.requires.cut (slots_view c.in_ok-built.built.0) c.in_ok-built.built.1 c.in_ok-built.ensures.built
+    parsed (mode_of c.args.mode) (grammar c.args.version) c.args.source.now c.args.events.now c.requires.cut (slots_view c.in_ok-built.built.0) c.in_ok-built.built.1 c.in_ok-built.ensures.built
     c.requires.whole

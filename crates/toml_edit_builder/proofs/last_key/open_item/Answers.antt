@@ -5,7 +5,7 @@ use Rattle.toml_edit_builder.proofs.last_key.open_item.Goals as goal
 
 pub returns-in-Table-clause-opened : goal.returns-in-Table-clause-opened
 returns-in-Table-clause-opened c =
-    λ g s m k head is.
+    λ mode g s m k head is.
     let seen = ap item_view c.in-Table.is ∙ view-Table c.in-Table.table in
-    let told = c.open_table.ensures.opened g s m k head is in
+    let told = c.open_table.ensures.opened mode g s m k head is in
     rw (seen, ← c.in-Table.table-is) told

@@ -2,7 +2,7 @@ use Rattle.std.proofs.Common.{ap, sym, ◌∙◌, Some, Ok, Err}
 use Rattle.std.proofs.lemmas.Result.{err_from_is_err_and}
 use Rattle.std.specs.Prelude.{option_map}
 use Rattle.toml_edit_model.specs.Tree.{Slots}
-use Rattle.toml_edit_model.specs.TreeOf.{spanned_form, header_fields}
+use Rattle.toml_edit_model.specs.TreeOf.{spanned_in, header_fields}
 use Rattle.toml_edit_laws.specs.InPlace.{replace_slot}
 use Rattle.toml_edit_slots.specs.Slots.{with_item}
 use Rattle.toml_edit_tree.specs.declared.item.Item.{Item}
@@ -16,16 +16,16 @@ put_slot-requires c = place-with c.args.key.name c.args.slots.now c.args.there c
 
 pub returns-clause-put : goal.returns-clause-put
 returns-clause-put c =
-    λ s m head is.
+    λ mode s m head is.
     let k = c.args.key in
     let es = c.args.slots.now in
     let ss = slots_view es in
     let old = c.item_mut.result.now in
     let y = c.open_item.new.there in
     let n = item_view c.open_item.new.item in
-    table-there {A = Unit {0}} c.args.source.now (Ok tt) s m k c.args.at (item_view old) ss (slots_view c.put_slot.new.slots) is
+    table-there mode {A = Unit {0}} c.args.source.now (Ok tt) s m k c.args.at (item_view old) ss (slots_view c.put_slot.new.slots) is
     (node-some k.name es c.args.there old c.requires.there c.item_mut.ensures.item)
-    (ap (option_map (λ x. replace_slot k.name k x ss)) (c.in_ok-open_item.ensures.opened (header_fields spanned_form s s.statement) s m k head is)
+    (ap (option_map (λ x. replace_slot k.name k x ss)) (c.in_ok-open_item.ensures.opened mode (header_fields (spanned_in mode) s s.statement) s m k head is)
     ∙ ap (λ (us : Slots). Some us) (sym (c.put_slot.ensures
     ∙ ap (λ (x : Item). replace_slot k.name k (item_view x) (slots_view (with_item c.args.there y es))) c.replace.ensures.value
     ∙ ap (replace_slot k.name k n) (with-place k.name es c.args.there y c.requires.there)
@@ -33,12 +33,12 @@ returns-clause-put c =
 
 pub returns-in_err-open_item-clause-put : goal.returns-in_err-open_item-clause-put
 returns-in_err-open_item-clause-put c =
-    λ s m head is.
+    λ mode s m head is.
     let k = c.args.key in
     let es = c.args.slots.now in
     let old = c.item_mut.result.now in
     let q = err_from_is_err_and c.from_residual.result c.from_residual.ensures.1 in
     rw (q.1, q.2)
-    (table-there {A = Unit {0}} c.args.source.now (Err c.in_err-open_item.field-0.0) s m k c.args.at (item_view old) (slots_view es) (slots_view es) is
+    (table-there mode {A = Unit {0}} c.args.source.now (Err c.in_err-open_item.field-0.0) s m k c.args.at (item_view old) (slots_view es) (slots_view es) is
     (node-some k.name es c.args.there old c.requires.there c.item_mut.ensures.item)
-    (c.in_err-open_item.ensures.opened (header_fields spanned_form s s.statement) s m k head is))
+    (c.in_err-open_item.ensures.opened mode (header_fields (spanned_in mode) s s.statement) s m k head is))

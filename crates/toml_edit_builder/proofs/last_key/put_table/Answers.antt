@@ -10,10 +10,10 @@ use Rattle.toml_edit_builder.proofs.last_key.put_table.Goals as goal
 
 pub returns-in_ok-push_item-in-None-clause-put : goal.returns-in_ok-push_item-in-None-clause-put
 returns-in_ok-push_item-in-None-clause-put c =
-    λ s m head is.
+    λ mode s m head is.
     let k = c.args.key in
     let es = c.args.slots.now in
-    table-new s m k c.args.at (item_view c.args.item.now) (slots_view es) _ is head
+    table-new mode s m k c.args.at (item_view c.args.item.now) (slots_view es) _ is head
     (node-none k.name es (sym (c.in-None.ensures.place ∙ ap (λ (x : Text). place x es) c.get.ensures.name)))
     (c.in_ok-push_item-in-None.ensures ∙ ap (λ (x : Item). with_slot (slots_view es) k (item_view x)) c.replace.ensures.value)
 

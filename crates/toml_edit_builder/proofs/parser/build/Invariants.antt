@@ -4,6 +4,7 @@ use Rattle.toml_edit_syntax.specs.Events.{events_of}
 use Rattle.toml_edit_syntax.specs.ValueEvents.{shortened}
 use Rattle.toml_edit_version.specs.Grammar.{grammar}
 use Rattle.toml_edit_parser.specs.ValueRead.{AreIn}
+use Rattle.toml_edit_repr.specs.Modes.{mode_of}
 use Rattle.toml_edit_builder.proofs.LoopLaws.{Progress}
 use Rattle.toml_edit_builder.proofs.parser.build.Given as goal
 
@@ -13,7 +14,7 @@ invariant-statements l =
     record {
       spans : AreIn l.source l.rest;
       count : l.building.headers + length l.rest < 2 ^ 63;
-      progress : (d : Document) → IsCut d l.source → l.events ≡ shortened 0 (events_of d) → Progress (grammar l.version) l.source d l.rest l.building;
+      progress : (d : Document) → IsCut d l.source → l.events ≡ shortened 0 (events_of d) → Progress (mode_of l.mode) (grammar l.version) l.source d l.rest l.building;
     }
 
 abbrev pub decreases-statements : goal.decreases-statements

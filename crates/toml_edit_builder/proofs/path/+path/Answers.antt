@@ -20,157 +20,157 @@ use Rattle.toml_edit_builder.proofs.path.+path.Goals.{add_in_table-then-is_line+
 
 pub add_path-returns-in_err-key-clause-added : goal.add_path-returns-in_err-key-clause-added
 add_path-returns-in_err-key-clause-added t c =
-    λ s ms head at.
+    λ mode s ms head at.
     let q = err_from_is_err_and c.from_residual.result c.from_residual.ensures.1 in
     rw (q.1, q.2) (mapped c.in_err-key.field-0.0 (λ r. ⊥) _ (λ r none. absurd none)
-    (refused-key c.args.source.now c.in_err-key.field-0.0 s ms c.args.path c.in_err-key.ensures.key at))
+    (refused-key mode c.args.source.now c.in_err-key.field-0.0 s ms c.args.path c.in_err-key.ensures.key at))
 
 pub add_path-returns-in-None-clause-added : goal.add_path-returns-in-None-clause-added
 add_path-returns-in-None-clause-added t c =
-    λ s ms head at.
+    λ mode s ms head at.
     let k : PathKey = c.in_ok-key.field-0 in
-    last-here c.args.source.now c.put_last.result s ms k (addition_for c.args.kind (item_view c.args.item.now)) (slots_view c.args.slots.now) _
-    (step-of c.args.source.now s ms c.args.path k c.in_ok-key.ensures.key at) c.in-None.is (λ m is. c.put_last.ensures.put s m head is)
+    last-here mode c.args.source.now c.put_last.result s ms k (addition_for c.args.kind (item_view c.args.item.now)) (slots_view c.args.slots.now) _
+    (step-of mode c.args.source.now s ms c.args.path k c.in_ok-key.ensures.key at) c.in-None.is (λ m is. c.put_last.ensures.put mode s m head is)
 
 pub add_path-returns-in-None-find-clause-added : goal.add_path-returns-in-None-find-clause-added
 add_path-returns-in-None-find-clause-added t c =
-    λ s ms head at.
+    λ mode s ms head at.
     let k : PathKey = c.in_ok-key.field-0 in
     let es = c.args.slots.now in
-    new-here c.args.source.now c.add_below.result s ms k c.in-Some.inside (addition_for c.args.kind (item_view c.args.item.now)) (slots_view es) _
-    (step-of c.args.source.now s ms c.args.path k c.in_ok-key.ensures.key at) c.in-Some.is
+    new-here mode c.args.source.now c.add_below.result s ms k c.in-Some.inside (addition_for c.args.kind (item_view c.args.item.now)) (slots_view es) _
+    (step-of mode c.args.source.now s ms c.args.path k c.in_ok-key.ensures.key at) c.in-Some.is
     (node-none k.key.name es (sym (c.in-None-find.ensures.place ∙ ap (λ (x : Text). place x es) c.get.ensures.name)))
-    (λ q path. c.add_below.ensures.added s q head path)
+    (λ q path. c.add_below.ensures.added mode s q head path)
 
 pub add_path-returns-in-Some-find-clause-added : goal.add_path-returns-in-Some-find-clause-added
 add_path-returns-in-Some-find-clause-added t c =
-    λ s ms head at.
+    λ mode s ms head at.
     let k : PathKey = c.in_ok-key.field-0 in
     let es = c.args.slots.now in
     let here = sym (c.in-Some-find.ensures.place ∙ ap (λ (x : Text). place x es) c.get.ensures.name) in
-    there-here c.args.source.now c.add_in_item.result s ms k c.in-Some.inside (addition_for c.args.kind (item_view c.args.item.now))
+    there-here mode c.args.source.now c.add_in_item.result s ms k c.in-Some.inside (addition_for c.args.kind (item_view c.args.item.now))
     (item_view c.item_mut.result.now) (item_view c.add_in_item.new.holder) (slots_view es) _
-    (step-of c.args.source.now s ms c.args.path k c.in_ok-key.ensures.key at) c.in-Some.is
+    (step-of mode c.args.source.now s ms c.args.path k c.in_ok-key.ensures.key at) c.in-Some.is
     (node-some k.key.name es c.in-Some-find.at c.item_mut.result.now here c.item_mut.ensures.item)
     (with-place k.key.name es c.in-Some-find.at c.add_in_item.new.holder here)
-    (λ m q is path. c.add_in_item.ensures.added s m q k.key head is path)
+    (λ m q is path. c.add_in_item.ensures.added mode s m q k.key head is path)
 
 -- ---- below a new key
 
 pub add_below-returns-in_err-add_path-clause-added : goal.add_below-returns-in_err-add_path-clause-added
 add_below-returns-in_err-add_path-clause-added t c =
-    λ s ms head at.
+    λ mode s ms head at.
     let q = err_from_is_err_and c.from_residual.result c.from_residual.ensures.1 in
     rw (q.1, q.2) (mapped c.in_err-add_path.field-0.0 (λ r. ⊥) _ (λ r none. absurd none)
     (below-refused c.args.source.now c.in_err-add_path.field-0.0 (addition_for c.args.kind (item_view c.args.item.now)) ms _ (ap slots_view c.new-inner.ensures)
-    (c.in_err-add_path.ensures.added s ms head at)))
+    (c.in_err-add_path.ensures.added mode s ms head at)))
 
 pub add_below-returns-clause-added : goal.add_below-returns-clause-added
 add_below-returns-clause-added t c =
-    λ s ms head at.
-    below-put c.args.kind (item_view c.args.item.now) ms c.args.key c.args.span (slots_view c.args.slots.now) _ (slots_view c.add_path.new.slots) _ c.is_line.result
-    (item_view c.passed_item.result) (ap slots_view c.new-inner.ensures) (c.in_ok-add_path.ensures.added s ms head at) c.is_line.ensures c.passed_item.ensures
+    λ mode s ms head at.
+    below-put mode c.args.kind (item_view c.args.item.now) ms c.args.key c.args.span (slots_view c.args.slots.now) _ (slots_view c.add_path.new.slots) _ c.is_line.result
+    (item_view c.passed_item.result) (ap slots_view c.new-inner.ensures) (c.in_ok-add_path.ensures.added mode s ms head at) c.is_line.ensures c.passed_item.ensures
     c.in_ok-push_item.ensures
 
 -- ---- below a key that is there
 
 pub add_in_item-returns-in-Table-clause-added : goal.add_in_item-returns-in-Table-clause-added
 add_in_item-returns-in-Table-clause-added t c =
-    λ s m ms k head is at.
-    let told = c.add_in_table.ensures.added s m ms k head is at in
+    λ mode s m ms k head is at.
+    let told = c.add_in_table.ensures.added mode s m ms k head is at in
     search (rules, the_lemmas)
 
 pub add_in_item-returns-in-ArrayOfTables-clause-added : goal.add_in_item-returns-in-ArrayOfTables-clause-added
 add_in_item-returns-in-ArrayOfTables-clause-added t c =
-    λ s m ms k head is at.
-    let told = c.add_in_tables.ensures.added s m ms k head is at in
+    λ mode s m ms k head is at.
+    let told = c.add_in_tables.ensures.added mode s m ms k head is at in
     search (rules, the_lemmas)
 
 pub add_in_item-returns-in-Value-clause-added : goal.add_in_item-returns-in-Value-clause-added
 add_in_item-returns-in-Value-clause-added t c =
-    λ s m ms k head is at.
+    λ mode s m ms k head is at.
     let a = addition_for c.args.kind (item_view c.args.item.now) in
     let seen = ap item_view c.in-Value.is ∙ view-Value c.in-Value.value in
-    stopped c.args.source.now c.extend_message.result.now c.refusal.result s _ m (item_view c.args.holder.now) k c.args.span _
+    stopped mode c.args.source.now c.extend_message.result.now c.refusal.result s _ m (item_view c.args.holder.now) k c.args.span _
     (rw seen (value-stops a m (path_clash a ms) _ (value-node c.in-Value.value))) is
     (c.extend_message.ensures m.role is.role ∙ ap (λ (x : Value). table_way_message m.role (value_view x)) c.in-Value.value-is ∙ ap (table_way_message m.role) (sym seen)) c.refusal.ensures
 
 pub add_in_item-returns-in-None-clause-added : goal.add_in_item-returns-in-None-clause-added
 add_in_item-returns-in-None-clause-added t c =
-    λ s m ms k head is at.
+    λ mode s m ms k head is at.
     let a = addition_for c.args.kind (item_view c.args.item.now) in
     let seen = ap item_view c.in-None.is ∙ view-None in
-    stopped c.args.source.now duplicate_key c.refusal-in-None.result s _ m (item_view c.args.holder.now) k c.args.span _
+    stopped mode c.args.source.now duplicate_key c.refusal-in-None.result s _ m (item_view c.args.holder.now) k c.args.span _
     (rw seen (nothing-stops a m (path_clash a ms))) is (sym (ap (table_way_message m.role) seen)) c.refusal-in-None.ensures
 
 pub add_in_table-returns-then-not-is_implicit-clause-added : goal.add_in_table-returns-then-not-is_implicit-clause-added
 add_in_table-returns-then-not-is_implicit-clause-added t c =
-    λ s m ms k head is at.
+    λ mode s m ms k head is at.
     let n = item_view c.args.item.now in
     let held = table_view c.args.table.now in
-    stopped c.args.source.now duplicate_key c.refusal.result s _ m (table_node held) k c.args.span _
+    stopped mode c.args.source.now duplicate_key c.refusal.result s _ m (table_node held) k c.args.span _
     (header-stops c.args.kind n m (path_clash (addition_for c.args.kind n) ms) held (sym c.is_line.ensures ∙ c.if-is_line.true)
     (sym c.is_implicit.ensures ∙ c.if-not-is_implicit.true)) is refl c.refusal.ensures
 
 pub add_in_table-returns-clause-added : goal.add_in_table-returns-clause-added
 add_in_table-returns-clause-added t c =
-    λ s m ms k head is at.
+    λ mode s m ms k head is at.
     let n = item_view c.args.item.now in
     let new = slots_view c.add_path.new.slots in
-    let told = c.add_path.ensures.added s ms head at in
+    let told = c.add_path.ensures.added mode s ms head at in
     elim c.if-is_line.branch [
       | add_in_table-then-is_line+else-not-is_implicit w ↦
-          line-in c.args.source.now c.add_path.result c.args.kind n m ms (table_view c.args.table.now) (table_view c.if-is_line.table) _ _ new
+          line-in mode c.args.source.now c.add_path.result c.args.kind n m ms (table_view c.args.table.now) (table_view c.if-is_line.table) _ _ new
           (sym c.is_line.ensures ∙ w.if-is_line.true) (sym w.is_implicit.ensures ∙ w.if-not-is_implicit.false)
           (ap table_view w.table-is ∙ w.set_dotted.ensures) c.slots_mut.ensures.slots (c.slots_mut.ensures.others c.add_path.new.slots) told
       | add_in_table-else-is_line w ↦
-          header-in c.args.source.now c.add_path.result c.args.kind n m ms (table_view c.args.table.now) _ _ new
+          header-in mode c.args.source.now c.add_path.result c.args.kind n m ms (table_view c.args.table.now) _ _ new
           (sym c.is_line.ensures ∙ w.if-is_line.false) (c.slots_mut.ensures.slots ∙ ap (λ v. (table_view v).slots) w.table-is)
           (c.slots_mut.ensures.others c.add_path.new.slots ∙ ap (λ v. record { fields = (table_view v).fields; slots = new }) w.table-is) told
     ]
 
 pub add_in_tables-returns-then-is_line-clause-added : goal.add_in_tables-returns-then-is_line-clause-added
 add_in_tables-returns-then-is_line-clause-added t c =
-    λ s m ms k head is at.
+    λ mode s m ms k head is at.
     let n = item_view c.args.item.now in
     let held = tables_view c.args.tables.now in
-    stopped c.args.source.now duplicate_key c.refusal.result s _ m (tables_node held) k c.args.span _
+    stopped mode c.args.source.now duplicate_key c.refusal.result s _ m (tables_node held) k c.args.span _
     (tables-stop c.args.kind n m (path_clash (addition_for c.args.kind n) ms) held (sym c.is_line.ensures ∙ c.if-is_line.true)) is refl c.refusal.ensures
 
 pub add_in_tables-returns-in-None-clause-added : goal.add_in_tables-returns-in-None-clause-added
 add_in_tables-returns-in-None-clause-added t c =
-    λ s m ms k head is at.
+    λ mode s m ms k head is at.
     let n = item_view c.args.item.now in
     let held = tables_view c.args.tables.now in
     let v = c.args.tables.now.values in
     let len : vec_len v ≡ length v.items = omega (arith, v.ok.0) in
-    stopped c.args.source.now duplicate_key c.refusal-in-None.result s _ m (tables_node held) k c.args.span _
+    stopped mode c.args.source.now duplicate_key c.refusal-in-None.result s _ m (tables_node held) k c.args.span _
     (empty-stops c.args.kind n m (path_clash (addition_for c.args.kind n) ms) held (sym c.is_line.ensures ∙ c.if-is_line.false)
     (tables-is c.args.tables.now ∙ ap items_view (no-items v.items (λ h. absurd (let e = c.in-None.ensures.variant.1 (omega (arith, len, h)) in cc))))) is refl c.refusal-in-None.ensures
 
 pub add_in_tables-returns-in-Some-clause-added : goal.add_in_tables-returns-in-Some-clause-added
 add_in_tables-returns-in-Some-clause-added t c =
-    λ s m ms k head is at.
+    λ mode s m ms k head is at.
     let v = c.args.tables.now.values in
     let y = c.add_in_element.new.holder in
     let len : vec_len v ≡ length v.items = omega (arith, v.ok.0) in
     let held = tables_view c.args.tables.now in
-    tables-in c.args.source.now c.add_in_element.result c.args.kind (item_view c.args.item.now) m ms held _ (item_view c.in-Some.last.now) (item_view y)
+    tables-in mode c.args.source.now c.add_in_element.result c.args.kind (item_view c.args.item.now) m ms held _ (item_view c.in-Some.last.now) (item_view y)
     (sym c.is_line.ensures ∙ c.if-is_line.false)
     (ap last_item (tables-is c.args.tables.now) ∙ last-at v.items c.in-Some.last.now (omega (arith, c.in-Some.ensures.variant.0 refl))
     ∙ ap (λ (x : Item). Some (item_view x)) (ap (λ (i : ℕ). get_or v.items (i - 1) c.in-Some.last.now) (sym len) ∙ sym c.in-Some.ensures.value))
     (tables-set c.args.tables.now (vec_len v - 1) y (ap (λ (i : ℕ). items_view (set v.items (i - 1) y)) len ∙ last-set v.items y))
-    (c.add_in_element.ensures.added s m ms k (tables_node held) head is at tt)
+    (c.add_in_element.ensures.added mode s m ms k (tables_node held) head is at tt)
 
 pub add_in_element-returns-in-Table-clause-added : goal.add_in_element-returns-in-Table-clause-added
 add_in_element-returns-in-Table-clause-added t c =
-    λ s m ms k way head is at tables.
-    let told = c.add_in_slots.ensures.added s ms head at in
+    λ mode s m ms k way head is at tables.
+    let told = c.add_in_slots.ensures.added mode s ms head at in
     search (rules, the_lemmas)
 
 pub add_in_slots-returns-clause-added : goal.add_in_slots-returns-clause-added
 add_in_slots-returns-clause-added t c =
-    λ s ms head at.
-    in-slots c.args.source.now c.add_path.result (addition_for c.args.kind (item_view c.args.item.now)) ms (table_view c.args.table.now) _
+    λ mode s ms head at.
+    in-slots mode c.args.source.now c.add_path.result (addition_for c.args.kind (item_view c.args.item.now)) ms (table_view c.args.table.now) _
     (slots_view c.slots_mut.result.now) (slots_view c.add_path.new.slots) c.slots_mut.ensures.slots (c.slots_mut.ensures.others c.add_path.new.slots)
-    (c.add_path.ensures.added s ms head at)
+    (c.add_path.ensures.added mode s ms head at)

@@ -5,6 +5,6 @@ use Rattle.toml_edit_builder.proofs.statement.head_item.Goals as goal
 
 pub returns : goal.returns
 returns c =
-    λ b h end are same.
+    λ mode b h end are same.
     let own : to_z w64 (of_z w64 c.args.position) ≡ c.args.position = search rules in
-    ap item_view c.put.ensures ∙ c.headed_item.ensures b h end are (own ∙ same)
+    ap item_view c.put.ensures ∙ c.headed_item.ensures mode b h end are (own ∙ same)

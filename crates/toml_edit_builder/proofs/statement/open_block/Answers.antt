@@ -16,15 +16,15 @@ use Rattle.toml_edit_builder.proofs.statement.open_block.Goals as goal
 
 pub returns-in_err-building-clause-opens : goal.returns-in_err-building-clause-opens
 returns-in_err-building-clause-opens c =
-    λ b h end is stands held at.
+    λ mode b h end is stands held at.
     let q = err_from_is_err_and c.from_residual.result c.from_residual.ensures.1 in
     let t = c.args.source.now in
     rw (q.1, q.2) (mapped c.in_err-building.field-0.0 (λ r. ⊥) _ (λ r none. absurd none)
-    (c.in_err-building.ensures.names _ h.path _ (key-ends t b h end is stands) (key-stands t b h end is stands) at.path))
+    (c.in_err-building.ensures.names _ h.path _ (key-ends mode t b h end is stands) (key-stands mode t b h end is stands) at.path))
 
 pub returns-in_err-add_path-clause-opens : goal.returns-in_err-add_path-clause-opens
 returns-in_err-add_path-clause-opens c =
-    λ b h end is stands held at.
+    λ mode b h end is stands held at.
     let t = c.args.source.now in
     let old = c.args.building.now in
     let s = source_at b (header h end) in
@@ -34,15 +34,15 @@ returns-in_err-add_path-clause-opens c =
     let back = subst (λ (ks : List Text). Swaps (slots_along ks (slots_view old.root)) (slots_view old.current) (slots_view old.root)
     (put_along ks (slots_view old.current) (slots_view old.root)) (slots_view c.swap_block.new.others) (slots_view c.swap_block.new.slots)) same c.swap_block.ensures in
     let number : old.headers + 1 ≡ suc b.headers = let one = held.headers in omega (arith, one) in
-    let head = header-item s h end n c.args.header.is_array c.args.header.brackets refl at.brackets (c.head_item.ensures b h end at (to_z_pos w64 (old.headers + 1) c.requires.count ∙ ap pos number)) in
-    rw (q.1, q.2) (header-stopped b h end c.header_kind.result c.args.header n (slots_view c.swap_block.new.slots) at c.header_kind.ensures old held
-    (put-back b old held (slots_view c.swap_block.new.others) (slots_view c.swap_block.new.slots) back) t c.in_err-add_path.field-0.0
-    (c.in_err-add_path.ensures.added s (mentions_at b (header h end)) (subst (λ (k : Kind). IsItemFor k s n) (sym c.header_kind.ensures) head)
-    (header-path t b h end is stands c.args.header at)))
+    let head = header-item mode s h end n c.args.header.is_array c.args.header.brackets refl at.brackets (c.head_item.ensures mode b h end at (to_z_pos w64 (old.headers + 1) c.requires.count ∙ ap pos number)) in
+    rw (q.1, q.2) (header-stopped mode b h end c.header_kind.result c.args.header n (slots_view c.swap_block.new.slots) at c.header_kind.ensures old held
+    (put-back mode b old held (slots_view c.swap_block.new.others) (slots_view c.swap_block.new.slots) back) t c.in_err-add_path.field-0.0
+    (c.in_err-add_path.ensures.added mode s (mentions_at b (header h end)) (subst (λ (k : Kind). IsItemFor mode k s n) (sym c.header_kind.ensures) head)
+    (header-path mode t b h end is stands c.args.header at)))
 
 pub returns-clause-opens : goal.returns-clause-opens
 returns-clause-opens c =
-    λ b h end is stands held at.
+    λ mode b h end is stands held at.
     let t = c.args.source.now in
     let old = c.args.building.now in
     let s = source_at b (header h end) in
@@ -51,14 +51,14 @@ returns-clause-opens c =
     let back = subst (λ (ks : List Text). Swaps (slots_along ks (slots_view old.root)) (slots_view old.current) (slots_view old.root)
     (put_along ks (slots_view old.current) (slots_view old.root)) (slots_view c.swap_block.new.others) (slots_view c.swap_block.new.slots)) same c.swap_block.ensures in
     let number : old.headers + 1 ≡ suc b.headers = let one = held.headers in omega (arith, one) in
-    let head = header-item s h end n c.args.header.is_array c.args.header.brackets refl at.brackets (c.head_item.ensures b h end at (to_z_pos w64 (old.headers + 1) c.requires.count ∙ ap pos number)) in
+    let head = header-item mode s h end n c.args.header.is_array c.args.header.brackets refl at.brackets (c.head_item.ensures mode b h end at (to_z_pos w64 (old.headers + 1) c.requires.count ∙ ap pos number)) in
     let empty = slots_view c.swap_block.new.others in
     let out = slots_view c.add_path.new.slots in
-    header-is-opened b h end c.header_kind.result c.args.header n (slots_view c.swap_block.new.slots) at c.header_kind.ensures old held
-    (put-back b old held (slots_view c.swap_block.new.others) (slots_view c.swap_block.new.slots) back) _ empty out is
-    (c.in_ok-add_path.ensures.added s (mentions_at b (header h end)) (subst (λ (k : Kind). IsItemFor k s n) (sym c.header_kind.ensures) head)
-    (header-path t b h end is stands c.args.header at))
-    (c.in_ok-building.ensures.names _ h.path _ (key-ends t b h end is stands) (key-stands t b h end is stands) at.path)
+    header-is-opened mode b h end c.header_kind.result c.args.header n (slots_view c.swap_block.new.slots) at c.header_kind.ensures old held
+    (put-back mode b old held (slots_view c.swap_block.new.others) (slots_view c.swap_block.new.slots) back) _ empty out is
+    (c.in_ok-add_path.ensures.added mode s (mentions_at b (header h end)) (subst (λ (k : Kind). IsItemFor mode k s n) (sym c.header_kind.ensures) head)
+    (header-path mode t b h end is stands c.args.header at))
+    (c.in_ok-building.ensures.names _ h.path _ (key-ends mode t b h end is stands) (key-stands mode t b h end is stands) at.path)
     refl
     (subst (λ (ks : List Text). Swaps (slots_along ks out) empty out (put_along ks empty out) (slots_view c.swap_block-2.new.others) (slots_view c.swap_block-2.new.slots))
     (ap names c.as_slice-2.ensures.value) c.swap_block-2.ensures)

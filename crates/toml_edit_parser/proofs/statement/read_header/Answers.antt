@@ -3,26 +3,27 @@ use Rattle.std.proofs.Common.{◌≡◌, ◌<◌, List, length, drop, sym, ap, s
 use Rattle.std.proofs.lemmas.List.{take_rest}
 use Rattle.toml_edit_syntax.specs.declared.event.Event.{Event}
 use Rattle.toml_edit_syntax.specs.ValueEvents.{shortened}
+use Rattle.toml_edit_repr.specs.Modes.{mode_of}
 use Rattle.toml_edit_parser.specs.PairRead.{PathView}
 use Rattle.toml_edit_parser.specs.ValueRead.{AreIn}
 use Rattle.toml_edit_parser.proofs.PairLaws.{fewer, in_drop, in_take, path-too-long}
 use Rattle.toml_edit_parser.proofs.SplitLaws.{first_in}
-use Rattle.toml_edit_parser.proofs.StatementLaws.{header-first, header-path, header-read, header_end, key_at, no-header, no-path}
+use Rattle.toml_edit_parser.proofs.StatementLaws.{header-first, header-path, header-read, header_end, key_at, no-header, no-path, third-in}
 use Rattle.toml_edit_parser.proofs.statement.read_header.Goals as goal
 
 pub returns-in_default-clause-header : goal.returns-in_default-clause-header
 returns-in_default-clause-header c =
-    λ h start more is stands e. no-header start h more c.args.events.now _ e c.in_default.ensures
+    λ h end start more is stands ended e. no-header start h more c.args.events.now _ e c.in_default.ensures
 
 pub returns-in_default-path_end-clause-header : goal.returns-in_default-path_end-clause-header
 returns-in_default-path_end-clause-header c =
-    λ h start more is stands e.
+    λ h end start more is stands ended e.
     let first = header-first start h more c.args.events.now c.in-Some.opening c.in-Some.inside.now e c.in-Some.ensures in
     no-path start h (shortened 0 more) c.in-Some.inside.now _ first.1 c.in_default-path_end.ensures.place
 
 pub returns-in_default-behind-clause-header : goal.returns-in_default-behind-clause-header
 returns-in_default-behind-clause-header c =
-    λ h start more is stands e.
+    λ h end start more is stands ended e.
     let first = header-first start h more c.args.events.now c.in-Some.opening c.in-Some.inside.now e c.in-Some.ensures in
     let parts = header-path start h (shortened 0 more) c.in-Some.inside.now c.in-Some-path_end.end_of_path first.1 c.in-Some-path_end.ensures.place in
     let same : length c.split_at.result.1.now ≡ length (header_end start h (shortened 0 more)) = ap (λ (es : List Event). length es) (c.split_at.ensures.back ∙ parts.1) in
@@ -31,7 +32,7 @@ returns-in_default-behind-clause-header c =
 
 pub returns-then-path-gt-MOST_PATH_EVENTS-clause-header : goal.returns-then-path-gt-MOST_PATH_EVENTS-clause-header
 returns-then-path-gt-MOST_PATH_EVENTS-clause-header c =
-    λ h start more is stands e.
+    λ h end start more is stands ended e.
     let first = header-first start h more c.args.events.now c.in-Some.opening c.in-Some.inside.now e c.in-Some.ensures in
     let parts = header-path start h (shortened 0 more) c.in-Some.inside.now c.in-Some-path_end.end_of_path first.1 c.in-Some-path_end.ensures.place in
     path-too-long c.args.source.now h.path (key_at start h) c.refusal_of_all-then-path-gt-MOST_PATH_EVENTS.result is.1
@@ -40,11 +41,11 @@ returns-then-path-gt-MOST_PATH_EVENTS-clause-header c =
 
 pub returns-clause-header : goal.returns-clause-header
 returns-clause-header c =
-    λ h start more is stands e.
+    λ h end start more is stands ended e.
     let first = header-first start h more c.args.events.now c.in-Some.opening c.in-Some.inside.now e c.in-Some.ensures in
     let parts = header-path start h (shortened 0 more) c.in-Some.inside.now c.in-Some-path_end.end_of_path first.1 c.in-Some-path_end.ensures.place in
-    header-read h start more c.in-Some.opening _ c.split_at.result.0.now c.split_at.result.1.now _ _ is.1 first.0 (c.split_at.ensures.front ∙ parts.0)
-    (c.split_at.ensures.back ∙ parts.1) c.if-path-gt-MOST_PATH_EVENTS.false c.path_behind.ensures refl refl refl
+    header-read (mode_of c.args.mode) c.args.source.now h end start more c.in-Some.opening _ c.split_at.result.0.now c.split_at.result.1.now _ _ is.1 stands ended first.0 (c.split_at.ensures.front ∙ parts.0)
+    (c.split_at.ensures.back ∙ parts.1) c.if-path-gt-MOST_PATH_EVENTS.false c.path_behind.ensures refl c.suffix.ensures refl
 
 pub returns-clause-path : goal.returns-clause-path
 returns-clause-path c =
@@ -66,3 +67,10 @@ returns-clause-rest c =
       subst (AreIn s) (sym (take_rest c.split_at.result.1.now 3)) (in_drop s 3 c.split_at.result.1.now behind),
       subst (λ (es : List Event). length es < length c.args.events.now) (sym (take_rest c.split_at.result.1.now 3)) (omega (arith, one, two, same, three)),
     )
+
+pub suffix-requires : goal.suffix-requires
+suffix-requires c =
+    let s = c.args.source.now in
+    let inside = first_in s c.args.events.now c.in-Some.opening c.in-Some.inside.now c.in-Some.ensures c.requires.spans in
+    let behind : AreIn s c.split_at.result.1.now = subst (AreIn s) (sym c.split_at.ensures.back) (in_drop s c.in-Some-path_end.end_of_path c.in-Some.inside.now inside.1) in
+    third-in s c.split_at.result.1.now _ c.in-len3-up.len_at_least behind

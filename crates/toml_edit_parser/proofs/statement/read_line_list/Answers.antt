@@ -10,6 +10,8 @@ use Rattle.toml_edit_syntax.specs.ValueEvents.{event}
 use Rattle.toml_edit_tree.specs.Casts.{both_sides}
 use Rattle.toml_edit_tree.specs.View.{item_view}
 use Rattle.toml_edit_tree.specs.declared.item.Item.{Item}
+use Rattle.toml_edit_repr.specs.Modes.{mode_of}
+use Rattle.toml_edit_parser.specs.StatementParts.{suffix_span}
 use Rattle.toml_edit_parser.specs.ValueRead.{IsRead, split_first}
 use Rattle.toml_edit_parser.proofs.ReadLaws.{same_parts}
 use Rattle.toml_edit_parser.proofs.SplitLaws.{first_in}
@@ -19,25 +21,26 @@ use Rattle.toml_edit_parser.proofs.statement.read_line_list.Goals as goal
 
 pub returns-in_err-value-clause-value : goal.returns-in_err-value-clause-value
 returns-in_err-value-clause-value c =
-    λ v start after more is stands e.
+    λ v start after suffix more is stands e counted.
     let p = err_from_is_err_and c.from_residual.result c.from_residual.ensures.1 in
     rw (p.1, p.2) (c.in_err-value.ensures.value v start 0 (event LineEnd (start + length (value_text v)) after ∷ more) is stands (omega arith) e)
 
 pub returns-in_default-clause-value : goal.returns-in_default-clause-value
 returns-in_default-clause-value c =
-    λ v start after more is stands e.
+    λ v start after suffix more is stands e counted.
     let h = c.in_ok-value.ensures.value v start 0 (event LineEnd (start + length (value_text v)) after ∷ more) is stands (omega arith) e in
     absurd (let none = c.in_default.ensures ∙ ap split_first h.rest_is in cc)
 
 pub returns-clause-value : goal.returns-clause-value
 returns-clause-value c =
-    λ v start after more is stands e.
+    λ v start after suffix more is stands e counted.
     let behind : List Event = event LineEnd (start + length (value_text v)) after ∷ more in
     let h = c.in_ok-value.ensures.value v start 0 behind is stands (omega arith) e in
     let P : Node → Type 0 = λ n. IsRead v start 0 behind n c.in_ok-value.rest.now in
     let last = same_parts c.in-Some.end _ c.in-Some.rest.now _ (c.in-Some.ensures ∙ ap split_first h.rest_is) in
-    line-value v start c.args.before after more _ _ c.raw.result c.raw-2.result c.in-Some.end.span c.in_ok-value.rest.now c.in-Some.rest.now
-    (subst P (sym (view-Value c.in_ok-value.value)) h) c.raw.ensures.raw c.raw-2.ensures.raw (ap (λ (x : Event). x.span) last.0)
+    line-value (mode_of c.args.mode) v start c.args.before after suffix more _ _ c.raw.result c.raw-2.result c.suffix.result c.in_ok-value.rest.now c.in-Some.rest.now
+    (subst P (sym (view-Value c.in_ok-value.value)) h) c.raw.ensures.raw c.raw-2.ensures.raw
+    (c.suffix.ensures ∙ ap (λ (x : Event). suffix_span (mode_of c.args.mode) c.args.source.now x.span) last.0 ∙ counted)
     (c.decorate.ensures ∙ ap (λ (x : Item). with_decor (both_sides c.raw.result c.raw-2.result) (item_view x)) c.put.ensures) last.1
 
 pub returns-clause-rest : goal.returns-clause-rest

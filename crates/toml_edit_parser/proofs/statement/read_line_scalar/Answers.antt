@@ -10,6 +10,8 @@ use Rattle.toml_edit_token.specs.Decoded.{IsSpelling, scalar_view}
 use Rattle.toml_edit_token.specs.declared.decode.Scalar as code
 use Rattle.toml_edit_tree.specs.View.{item_view}
 use Rattle.toml_edit_tree.specs.declared.item.Item.{Item}
+use Rattle.toml_edit_syntax.specs.declared.event.Span.{Span}
+use Rattle.toml_edit_repr.specs.Modes.{mode_of}
 use Rattle.toml_edit_parser.specs.StatementParts.{IsLineValue}
 use Rattle.toml_edit_parser.specs.ValueRead.{spanned_raw, split_first}
 use Rattle.toml_edit_parser.proofs.ScalarElements.{place_cut, scalar_put, scalar_refusal}
@@ -17,11 +19,11 @@ use Rattle.toml_edit_parser.proofs.SplitLaws.{first_in}
 use Rattle.toml_edit_parser.proofs.statement.read_line_scalar.Goals as goal
 
 pub returns-in_default-clause-value : goal.returns-in_default-clause-value
-returns-in_default-clause-value c = λ s t start after more spells stands place_is events_are. absurd (let none = c.in_default.ensures ∙ ap split_first events_are in cc)
+returns-in_default-clause-value c = λ s t start after suffix more spells stands place_is events_are counted. absurd (let none = c.in_default.ensures ∙ ap split_first events_are in cc)
 
 pub returns-in-Some-2-clause-value : goal.returns-in-Some-2-clause-value
 returns-in-Some-2-clause-value c =
-    λ s t start after more spells stands place_is events_are.
+    λ s t start after suffix more spells stands place_is events_are counted.
     let place = c.args.span in
     let text = c.cut-text.result.now in
     let text_is = c.cut-text.ensures ∙ place_cut c.args.source.now place start t place_is stands in
@@ -36,12 +38,13 @@ returns-in-Some-2-clause-value c =
     let decor =
     c.new-decor.ensures
     ∙ ap (λ (r : Raw). record { prefix = Some r; suffix = Some c.raw-in-Some-2.result }) c.raw.ensures.raw
-    ∙ ap (λ (r : Raw). record { prefix = Some (spanned_raw c.args.before); suffix = Some r }) c.raw-in-Some-2.ensures.raw in
+    ∙ ap (λ (r : Raw). record { prefix = Some (spanned_raw c.args.before); suffix = Some r }) c.raw-in-Some-2.ensures.raw
+    ∙ ap (λ (x : Span). record { prefix = Some (spanned_raw c.args.before); suffix = Some (spanned_raw x) }) c.suffix.ensures in
     let view =
     c.spanned-value.ensures ∙ ap (λ (x : scalars.Scalar). leaf x (Some (span place.start place.end)) c.new-decor.result) (sym same) in
-    subst (λ (x : Item). IsLineValue (syntax.scalar s t) start c.args.before after more (item_view x) c.in-Some.rest.now) (sym c.put.ensures)
-    (scalar_put s t start c.args.before after more place c.in-Some.end c.args.events.now c.in-Some.rest.now
-    c.spanned-value.result c.new-decor.result spells place_is events_are c.in-Some.ensures fits view decor)
+    subst (λ (x : Item). IsLineValue (mode_of c.args.mode) (syntax.scalar s t) start c.args.before suffix more (item_view x) c.in-Some.rest.now) (sym c.put.ensures)
+    (scalar_put (mode_of c.args.mode) c.args.source.now s t start c.args.before after suffix more place c.in-Some.end c.args.events.now c.in-Some.rest.now
+    c.spanned-value.result c.new-decor.result spells place_is events_are c.in-Some.ensures counted fits view decor)
 
 pub returns-in-Some-2-clause-rest : goal.returns-in-Some-2-clause-rest
 returns-in-Some-2-clause-rest c =
@@ -50,7 +53,7 @@ returns-in-Some-2-clause-rest c =
 
 pub returns-in-None-clause-value : goal.returns-in-None-clause-value
 returns-in-None-clause-value c =
-    λ s t start after more spells stands place_is events_are.
+    λ s t start after suffix more spells stands place_is events_are counted.
     let place = c.args.span in
     let text = c.cut-text.result.now in
     let text_is = c.cut-text.ensures ∙ place_cut c.args.source.now place start t place_is stands in

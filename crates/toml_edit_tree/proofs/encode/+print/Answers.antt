@@ -3,6 +3,7 @@ use Rattle.std.proofs.Common.{◌<◌, ◌≤◌, true, [], ◌∷◌, ◌++◌,
 use Rattle.std.proofs.Output.{has_written_append, has_written_of_eq}
 use Rattle.std.proofs.lemmas.Grind.{put_four, put_five}
 use Rattle.std.specs.Option.{option_copied}
+use Rattle.toml_edit_repr.specs.Modes.{mode_of}
 use Rattle.toml_edit_tree.specs.Printing.{element_text, items_text, keys_on, lines_of_item, pairs_shown}
 use Rattle.toml_edit_tree.specs.View.{item_view, items_view, value_view}
 use Rattle.toml_edit_tree.proofs.PairTextLaws.{pair-last, pair-shown}
@@ -17,7 +18,7 @@ write_array_text-returns g t c plain ok =
     let two = c.write_items.ensures one.plain (search rules) in
     let three = c.write_raw.ensures two.plain (search rules) in
     let four = c.write_str-2.ensures.writes three.plain ok in
-    put_four _ _ _ _ _ _ _ _ _ _ _ one two three four (array-text c.args.array.now)
+    put_four _ _ _ _ _ _ _ _ _ _ _ one two three four (array-text (mode_of c.args.mode) c.args.array.now)
 
 -- the items
 pub write_items-items-init : goal.write_items-items-init
@@ -30,17 +31,17 @@ write_items-items-preserved g t c plain =
     let i = c.items.item-index in
     let x = c.item-item.result in
     let below : i < length xs = omega arith in
-    let all = items_text c.args.comma true (items_view xs) in
+    let all = items_text (mode_of c.args.mode) c.args.comma true (items_view xs) in
     elim c.match-item.branch [
       | write_items-in-Value+in_ok-write_element w ↦
           let one = w.write_element.ensures wrote.plain (search rules) in
           rw (w.f-is, w.is_first-is) (
-            done ++ element_text c.items.is_first (value_view w.in-Value.value),
+            done ++ element_text (mode_of c.args.mode) c.items.is_first (value_view w.in-Value.value),
             has_written_append _ _ _ _ _ _ wrote one,
-            value-turn c.args.comma c.items.is_first xs i x below c.item-item.is done all more w.in-Value.value w.in-Value.is,
+            value-turn (mode_of c.args.mode) c.args.comma c.items.is_first xs i x below c.item-item.is done all more w.in-Value.value w.in-Value.is,
           )
       | write_items-in_default w ↦
-          rw (w.f-is, w.is_first-is) (done, wrote, other-turn c.args.comma c.items.is_first xs i x below c.item-item.is done all more w.in_default.not-Value)
+          rw (w.f-is, w.is_first-is) (done, wrote, other-turn (mode_of c.args.mode) c.args.comma c.items.is_first xs i x below c.item-item.is done all more w.in_default.not-Value)
     ]
 
 pub write_items-returns : goal.write_items-returns
@@ -49,8 +50,8 @@ write_items-returns g t c plain ok =
     let last = c.write_last_comma.ensures wrote.plain ok in
     let xs = c.deref-item-items.result.now in
     let past : length xs ≤ c.items.item-index = omega arith in
-    let all = items-end c.args.comma c.items.is_first xs c.items.item-index past done (items_text c.args.comma true (items_view xs)) more in
-    has_written_of_eq _ _ _ _ _ (all ∙ ap (λ ys. items_text c.args.comma true (items_view ys)) c.deref-item-items.ensures.value)
+    let all = items-end (mode_of c.args.mode) c.args.comma c.items.is_first xs c.items.item-index past done (items_text (mode_of c.args.mode) c.args.comma true (items_view xs)) more in
+    has_written_of_eq _ _ _ _ _ (all ∙ ap (λ ys. items_text (mode_of c.args.mode) c.args.comma true (items_view ys)) c.deref-item-items.ensures.value)
     (has_written_append _ _ _ _ _ _ wrote last)
 
 pub write_inline_text-returns : goal.write_inline_text-returns
@@ -61,9 +62,12 @@ write_inline_text-returns g t c plain ok =
     let four = c.write_raw.ensures three.plain (search rules) in
     let five = c.write_str-2.ensures.writes four.plain ok in
     put_five _ _ _ _ _ _ _ _ _ _ _ _ _ one two three four five
-    (inline-table-text c.args.table.now (option_copied c.in_ok-last.last) c.in_ok-last.ensures.last)
+    (inline-table-text (mode_of c.args.mode) c.args.table.now (option_copied c.in_ok-last.last) c.in_ok-last.ensures.last)
 
 -- the pairs
+pub write_pairs-slots-init : goal.write_pairs-slots-init
+write_pairs-slots-init g t c = record { last = refl; writes = λ plain. ([], search rules, refl) }
+
 pub write_pairs-slots-preserved : goal.write_pairs-slots-preserved
 write_pairs-slots-preserved g t c =
     let es = c.as_slice-entries.result.now in
@@ -74,13 +78,13 @@ write_pairs-slots-preserved g t c =
     let next = option_copied c.in_ok-last.last in
     let below : i < length es = omega arith in
     record {
-      last = last-turn es i s below c.slot-item.is ks before next c.in_ok-last.ensures.last _ c.slots.invariant.last;
+      last = last-turn (mode_of c.args.mode) es i s below c.slot-item.is ks before next c.in_ok-last.ensures.last _ c.slots.invariant.last;
       writes = λ plain.
           let (done, wrote, more) = c.slots.invariant.writes plain in
           let one = c.write_item_pairs.ensures.writes wrote.plain (search rules) in (
-            done ++ pairs_shown before (lines_of_item (item_view s.item) (ks ++ (s.key ∷ []))),
+            done ++ pairs_shown (mode_of c.args.mode) before (lines_of_item (mode_of c.args.mode) (item_view s.item) (ks ++ (s.key ∷ []))),
             has_written_append _ _ _ _ _ _ wrote one,
-            pairs-turn es i s below c.slot-item.is ks before next c.in_ok-last.ensures.last done _ more,
+            pairs-turn (mode_of c.args.mode) es i s below c.slot-item.is ks before next c.in_ok-last.ensures.last done _ more,
           );
     }
 
@@ -90,7 +94,7 @@ write_value_pairs-returns-in_ok-write_pair-in-InlineTable-clause-writes g t c pl
     let v = c.args.value.now in
     let alone = braced-line v c.in-InlineTable.table c.in-InlineTable.is c.if-table.false in
     has_written_of_eq _ _ _ _ _
-    (sym (pair-shown (keys_on c.args.path.now) c.args.key.now (value_view v) alone (option_copied c.args.before)))
+    (sym (pair-shown (mode_of c.args.mode) (keys_on c.args.path.now) c.args.key.now (value_view v) alone (option_copied c.args.before)))
     (c.write_pair.ensures plain (search rules))
 
 pub write_value_pairs-returns-in_ok-write_pair-in_default : goal.write_value_pairs-returns-in_ok-write_pair-in_default
@@ -100,8 +104,8 @@ write_value_pairs-returns-in_ok-write_pair-in_default g t c =
     let n = value_view c.args.value.now in
     let alone = other-line c.args.value.now c.in_default.not-InlineTable in
     record {
-      last = ap Some c.decor-in_default.ensures ∙ sym (pair-last ks k n alone (option_copied c.args.before));
+      last = ap Some c.decor-in_default.ensures ∙ sym (pair-last (mode_of c.args.mode) ks k n alone (option_copied c.args.before));
       writes = λ plain ok.
-          has_written_of_eq _ _ _ _ _ (sym (pair-shown ks k n alone (option_copied c.args.before)))
+          has_written_of_eq _ _ _ _ _ (sym (pair-shown (mode_of c.args.mode) ks k n alone (option_copied c.args.before)))
           (c.write_pair-in_default.ensures plain (search rules));
     }
