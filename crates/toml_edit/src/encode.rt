@@ -1,12 +1,13 @@
 //! Documents to text.
-ghost use Rattle.std.specs.Prelude.{◌≡◌, ◌++◌, ◌∷◌, [], map, if◌then◌else◌};
+ghost use Rattle.std.specs.Prelude.{◌≡◌, ◌++◌, ◌∷◌, [], map, if◌then◌else◌, IfOk, string_bytes};
 ghost use Rattle.std.specs.Fmt.{WritesOnOk};
 ghost use Rattle.std.specs.Option.{option_copied};
 ghost use Rattle.toml_edit_model.specs.Mode.{plain};
 ghost use Rattle.toml_edit_model.specs.Syntax.{closing_brackets, opening_brackets, path_text};
 ghost use Rattle.toml_edit_model.specs.Text.{has_byte, line_feed};
 ghost use Rattle.toml_edit_model.specs.Tree.{shown_prefix, shown_raw, shown_side, shown_suffix};
-ghost use Rattle.toml_edit_model.specs.Print.{header_default, print, segments};
+ghost use Rattle.toml_edit_model.specs.Print.{header_default, print, print_in, segments};
+ghost use Rattle.toml_edit_repr.specs.Modes.{mode_of};
 ghost use Rattle.toml_edit_laws.specs.PrintByVisits.{begins, header_text, headers_text, holds_newline, inside_brackets, root_lines};
 ghost use Rattle.toml_edit_tree.specs.Printing.{keys_on};
 ghost use Rattle.toml_edit_tree.specs.View.{fields_view, table_slots, tree_view};
@@ -15,23 +16,54 @@ ghost use Rattle.toml_edit.specs.HeadersView.{header_view};
 use crate::document::DocumentMut;
 use crate::headers::{Header, headers_in_order};
 use bumpalo::Bump;
+use std::alloc::{AllocError, Global};
 use std::fmt;
 use std::fmt::{Formatter, Write};
 use toml_edit_key::Key;
-use toml_edit_repr::{Mode, RawString, write_raw, write_side};
+use toml_edit_repr::{Mem, Mode, RawString, write_raw, write_side};
 use toml_edit_tree::{Path, Table, table_has_lines, write_path, write_table_lines};
 
 /// The text of the document. The order of its headers takes memory, of the allocator that the root's slots were made with: where that is
 /// refused, this is an error as a writer's fault is, and nothing is written.
 impl fmt::Display for DocumentMut {
     ghost use Rattle.std.specs.Prelude.{Some};
-    ghost use Rattle.toml_edit.specs.DocumentView.{tree_owned};
+    ghost use Rattle.toml_edit.specs.DocumentView.{print_of};
 
-    ghost output = { λ d. Some (print (tree_owned d)) };
+    ghost output = { λ d. Some (print_of d) };
 
     fn fmt<W: Write>(&self, f: &mut Formatter<W>) -> fmt::Result {
-        write_document(f, self.as_table(), &self.trailing)
+        write_text(f, self.mode, self.open_end, self.as_table(), &self.trailing)
     }
+}
+
+pub(crate) fn text_of(
+    _alloc: Global,
+    mode: Mode,
+    open_end: bool,
+    root: &Table,
+    trailing: &RawString,
+) -> Mem<String>
+    ensures { IfOk result (λ s. string_bytes s ≡ print_in (mode_of mode) open_end (tree_view root.now trailing.now)) }
+{
+    let _mode = mode;
+    let _open_end = open_end;
+    let _root = root;
+    let _trailing = trailing;
+    Err(AllocError)
+}
+
+pub(crate) fn write_text<W: Write>(
+    f: &mut Formatter<W>,
+    mode: Mode,
+    open_end: bool,
+    root: &Table,
+    trailing: &RawString,
+) -> fmt::Result
+    ensures { WritesOnOk W.write_str_gives f.old result (print_in (mode_of mode) open_end (tree_view root.now trailing.now)) f.new }
+{
+    let _mode = mode;
+    let _open_end = open_end;
+    write_document(f, root, trailing)
 }
 
 /// The document with this root: what stands before its lines, these, the headers in order, and what stands behind.

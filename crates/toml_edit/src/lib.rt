@@ -5,6 +5,7 @@ pub mod document;
 mod encode;
 mod headers;
 pub mod laws;
+mod pending;
 mod root;
 
 pub use document::{Document, DocumentMut, PrintFault, SourceText};
