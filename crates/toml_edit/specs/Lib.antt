@@ -5,3 +5,4 @@ pub mod HeadersView
 pub mod DocumentLending
 pub mod Faults
 pub mod Pending
+pub mod LastLines

@@ -3,7 +3,7 @@ ghost use Rattle.std.specs.Prelude.{◌≡◌, true};
 ghost use Rattle.toml_edit.specs.Roots.{is_table, tree_under};
 ghost use Rattle.toml_edit_model.specs.OwnedForm.{IsOver};
 
-use crate::encode::text_of;
+use crate::open_end::text_of;
 use crate::pending::{parse_with, tree_fits};
 use crate::root::table_of;
 use std::alloc::Global;
