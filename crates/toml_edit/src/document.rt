@@ -4,11 +4,11 @@ ghost use Rattle.toml_edit.specs.Roots.{is_table, tree_under};
 ghost use Rattle.toml_edit_model.specs.OwnedForm.{IsOver};
 
 use crate::open_end::text_of;
-use crate::pending::{parse_with, tree_fits};
 use crate::root::table_of;
 use std::alloc::Global;
 use toml_edit_builder as builder;
 use toml_edit_error::ParseFault;
+use toml_edit_fits::tree_fits;
 use toml_edit_parser::ParseOptions;
 use toml_edit_repr::{Mem, Mode, RawString};
 use toml_edit_tree::{Item, Iter, Table};
@@ -129,7 +129,7 @@ impl<S: SourceText> Document<S> {
     {
         let version = options.get_version();
         let mode = options.get_mode();
-        let (slots, trailing, is_open) = parse_with(alloc, raw.text(), version, mode)?;
+        let (slots, trailing, is_open) = builder::parse_with(alloc, raw.text(), version, mode)?;
         Ok(Document {
             raw,
             root: Item::Table(Table::root(slots)),

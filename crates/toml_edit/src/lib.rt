@@ -7,7 +7,6 @@ mod headers;
 mod last_line;
 pub mod laws;
 mod open_end;
-mod pending;
 mod root;
 
 pub use document::{Document, DocumentMut, PrintFault, SourceText};
