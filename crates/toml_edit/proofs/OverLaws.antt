@@ -3,7 +3,6 @@ use Rattle.std.proofs.Common.{◌≡◌, refl, sym, ap, subst, ◌∙◌}
 use Rattle.std.specs.Prelude.{Bool, ◌&&◌}
 use Rattle.std.specs.Str.{IsUtf8}
 use Rattle.toml_edit_model.specs.Mode.{Mode, plain, is_exact}
-use Rattle.toml_edit_model.specs.Normal.{has_open_end}
 use Rattle.toml_edit_model.specs.Text.{Text}
 use Rattle.toml_edit_model.specs.Tree.{Raw, Slots, Tree}
 use Rattle.toml_edit_model.specs.TreeOf.{spanned_in, root_fields, IsTreeOf}
@@ -21,7 +20,7 @@ use Rattle.toml_edit_model.specs.Version.{Version}
 use Rattle.toml_edit_model.specs.Syntax.{Document, IsCut}
 use Rattle.toml_edit_model.specs.Accepted.{AcceptedAs, AcceptedIn, is_accepted_in}
 use Rattle.toml_edit_laws.proofs.versions.Accepting.{later-accepts}
-use Rattle.toml_edit.specs.Documents.{IsReadingIn, IsReadingWith, opens}
+use Rattle.toml_edit.specs.Documents.{IsReadingIn, IsReadingWith}
 
 -- ---- what was parsed
 

@@ -3,8 +3,8 @@ use mathlib.Core.Logic.{∥∥₁_elim, ∥∥₁_map}
 use Rattle.std.proofs.Common.{◌≡◌, Bool, sym, ap, subst, ◌∙◌}
 use Rattle.toml_edit_model.specs.Mode.{Mode, plain, exact}
 use Rattle.toml_edit_model.specs.Text.{Text}
-use Rattle.toml_edit_model.specs.Syntax.{Document, IsCut}
-use Rattle.toml_edit_model.specs.Accepted.{AcceptedAs, AcceptedIn}
+use Rattle.toml_edit_model.specs.Syntax.{Document}
+use Rattle.toml_edit_model.specs.Accepted.{AcceptedAs}
 use Rattle.toml_edit_model.specs.Normal.{has_open_end, normal_text_in}
 use Rattle.toml_edit_model.specs.Print.{print_in}
 use Rattle.toml_edit_model.specs.Tree.{Tree, SlotsAreWellMade}
