@@ -4,9 +4,9 @@ use Rattle.std.proofs.Common.{◌≡◌, Bool, sym, ap, subst, ◌∙◌}
 use Rattle.toml_edit_model.specs.Mode.{Mode, plain, exact}
 use Rattle.toml_edit_model.specs.Text.{Text}
 use Rattle.toml_edit_model.specs.Syntax.{Document}
-use Rattle.toml_edit_model.specs.Accepted.{AcceptedAs}
+use Rattle.toml_edit_model.specs.Accepted.{AcceptedAs, AcceptedIn}
 use Rattle.toml_edit_model.specs.Normal.{has_open_end, normal_text_in}
-use Rattle.toml_edit_model.specs.Print.{print_in}
+use Rattle.toml_edit_model.specs.Print.{print_in, document_in}
 use Rattle.toml_edit_model.specs.Tree.{Tree, SlotsAreWellMade}
 use Rattle.toml_edit_model.specs.TreeOf.{spanned_in, owned_in, IsTreeOf}
 use Rattle.toml_edit_model.specs.Version.{Version}
@@ -14,6 +14,7 @@ use Rattle.toml_edit_laws.proofs.read_trees.ReadLaws.{owned_trees}
 use Rattle.toml_edit_laws.proofs.print_of_read.PrintOfRead.{print_normal}
 use Rattle.toml_edit_laws.proofs.normal_texts.TextLaws.{normal_texts}
 use Rattle.toml_edit_laws.proofs.normal_texts.TreesFit.{texts_fit}
+use Rattle.toml_edit_laws.proofs.versions.EarlyPrints.{prints_stay}
 use Rattle.toml_edit.specs.Documents.{IsOwnedReadingIn, IsOwnedReadingWith, IsOwnedTreeWith, IsReadingIn, IsReadingWith, opens}
 use Rattle.toml_edit_laws.proofs.read_trees.MeaningOfTrees.{trees_mean}
 use Rattle.toml_edit.proofs.SpanProps.{DecorFits-prop, SlotsFit-prop, RawFits-prop}
@@ -54,6 +55,13 @@ opens-so : (mode : Mode) (d : Document) (x : Tree) → print_in mode (has_open_e
     → print_in mode (opens mode d) x ≡ normal_text_in mode d
 opens-so plain d x h = h
 opens-so exact d x h = h
+
+-- And a version accepts what is printed of it so.
+stays-so : (mode : Mode) (version : Version) (d : Document) (x : Tree)
+    → AcceptedIn version (print_in mode (has_open_end d.statements) x) (document_in mode (has_open_end d.statements) x)
+    → AcceptedIn version (print_in mode (opens mode d) x) (document_in mode (opens mode d) x)
+stays-so plain version d x h = h
+stays-so exact version d x h = h
 
 -- The tree of an accepted text stays its tree, fits, and prints as the normal text.
 pub stays-tree : (mode : Mode) (t : Text) (x y : Tree) → y ≡ owned_tree t x → (d : Document) → AcceptedAs t d → IsTreeOf (spanned_in mode) d x
@@ -98,4 +106,12 @@ module _ (mode m : Mode) (mode-is : m ≡ mode) (t u : Text) (same : u ≡ t) (x
   pub own-reading-in : (version : Version) (was is_open : Bool) → is_open ≡ was → IsReadingIn mode version t x was
       → IsOwnedReadingIn mode version t y is_open
   own-reading-in version was is_open kept r =
-      record { reading = own-reading r.reading; accepted = r.accepted; open_end = kept ∙ r.open_end }
+      let d = r.reading.document in
+      let open_so = kept ∙ r.open_end in
+      let printed = prints_stay mode version t d (r.accepted d r.reading.accepted.0) y (owns r.reading).tree in
+      record {
+        reading = own-reading r.reading;
+        accepted = r.accepted;
+        open_end = open_so;
+        stays = subst (λ b. AcceptedIn version (print_in mode b y) (document_in mode b y)) (sym open_so) (stays-so mode version d y printed);
+      }

@@ -98,7 +98,9 @@ pub record IsReadingIn (mode : Mode) (version : Version) (t : Text) (x : Tree) (
   pub accepted : (d : Document) → IsCut d t → AcceptedIn version t d
   pub open_end : is_open ≡ opens mode reading.document
 
+-- It accepts what is printed of the tree too.
 pub record IsOwnedReadingIn (mode : Mode) (version : Version) (t : Text) (x : Tree) (is_open : Bool) : Type 0 where
   pub reading : IsOwnedReadingWith mode t x
   pub accepted : (d : Document) → IsCut d t → AcceptedIn version t d
   pub open_end : is_open ≡ opens mode reading.document
+  pub stays : AcceptedIn version (print_in mode is_open x) (document_in mode is_open x)
