@@ -3,14 +3,14 @@ use Rattle.std.proofs.Common.{◌≡◌, ℕ, ◌+◌, ◌<◌, Bool, true, fals
 use Rattle.std.specs.Prelude.{not, ◌||◌, ◌==◌, if◌then◌else◌}
 use Rattle.std.proofs.lemmas.List.{drop_more}
 use Rattle.std.proofs.lemmas.Option.{same_Some}
-use Rattle.toml_edit_model.specs.Mode.{plain}
+use Rattle.toml_edit_model.specs.Mode.{Mode, plain, exact, shown_text}
 use Rattle.toml_edit_model.specs.Syntax.{closing_brackets, opening_brackets, path_text}
 use Rattle.toml_edit_model.specs.Text.{Text, carriage_return, has_byte, line_feed, newline, without_returns}
 use Rattle.toml_edit_model.specs.Tree.{Decor, Items, Key, Node, Raw, Tree, inline, item, leaf, list, nothing, owned, shown_prefix, shown_raw, span, shown_suffix, table, tables}
 use Rattle.toml_edit_model.specs.Shown.{is_table_node}
 use Rattle.toml_edit_model.specs.Order.{sorted_by}
-use Rattle.toml_edit_model.specs.Print.{header_default, print, segments}
-use Rattle.toml_edit_laws.specs.PrintByVisits.{Headed, Walked, begins, by_place, enter, headed_tables, headers_text, root_lines, header_parts, header_text, holds_newline, inside_brackets, walked, walked_items, written_print}
+use Rattle.toml_edit_model.specs.Print.{header_default, print_in, segments}
+use Rattle.toml_edit_laws.specs.PrintByVisits.{Headed, Walked, begins, by_place, enter, headed_tables, headers_text, root_lines, header_parts, header_text, holds_newline, inside_brackets, walked, walked_items}
 use Rattle.toml_edit_laws.proofs.print_by_visits.KeyTexts.{last_leaf-end}
 use Rattle.toml_edit_laws.proofs.print_by_visits.PrintParts.{print-by-visits}
 use Rattle.toml_edit_repr.specs.Views.{text_of}
@@ -107,48 +107,50 @@ newline-kept (c ∷ t) = by_return (c == carriage_return) refl (newline-kept t)
     by_return false e h = ap (λ b. (c == line_feed) || b) h
 
 -- the text of a raw text that is no span
-pub shown-text : (r : Raw) (t : Text) → text_of r ≡ Some t → shown_raw plain r ≡ without_returns t
-shown-text (owned u) t e = ap without_returns (same_Some u t e)
-shown-text (span i j) t e = absurd cc
+pub shown-owned : (mode : Mode) (r : Raw) (t : Text) → text_of r ≡ Some t → shown_raw mode r ≡ shown_text mode t
+shown-owned mode (owned u) t e = ap (shown_text mode) (same_Some u t e)
+shown-owned mode (span i j) t e = absurd cc
+
+-- it has a newline just where it is shown with one, in each mode
+pub newline-shown : (mode : Mode) (r : Raw) (t : Text) → text_of r ≡ Some t → has_byte line_feed (shown_raw mode r) ≡ has_byte line_feed t
+newline-shown plain r t e = ap (has_byte line_feed) (shown-owned plain r t e) ∙ newline-kept t
+newline-shown exact r t e = ap (has_byte line_feed) (shown-owned exact r t e)
 
 -- ---- headers
 
 parts : (l p o i c s n : Text) → l ++ (p ++ ((o ++ (i ++ c)) ++ (s ++ n))) ≡ l ++ (p ++ (o ++ (i ++ (c ++ (s ++ n)))))
 parts l p o i c s n = simp append_assoc
 
--- a header whose keys end in this one, in the parts that are written
-pub header-written : (is_first : Bool) (h : Headed) (ks : List Key) (k : Key) → h.keys ≡ ks ++ (k ∷ [])
-    → (if holds_newline plain k.leaf then shown_prefix plain [] k.leaf else [])
-    ++ (shown_prefix plain (header_default is_first) h.fields.decor
-    ++ ((opening_brackets h.is_element ++ (inside_brackets plain k.leaf (path_text (segments plain (ks ++ (k ∷ [])))) ++ closing_brackets h.is_element))
-    ++ (shown_suffix plain [] h.fields.decor ++ newline)))
-    ≡ header_text plain is_first h
-header-written is_first h ks k e =
-    parts (if holds_newline plain k.leaf then shown_prefix plain [] k.leaf else []) (shown_prefix plain (header_default is_first) h.fields.decor)
-    (opening_brackets h.is_element) (inside_brackets plain k.leaf (path_text (segments plain (ks ++ (k ∷ []))))) (closing_brackets h.is_element)
-    (shown_suffix plain [] h.fields.decor) newline
-    ∙ ap (λ (d : Decor). header_parts plain is_first h.is_element d (path_text (segments plain (ks ++ (k ∷ [])))) h.fields) (sym (last_leaf-end ks k))
-    ∙ ap (λ (js : List Key). header_text plain is_first (record h { keys = js })) (sym e)
+module _ (mode : Mode) where
+  -- a header whose keys end in this one, in the parts that are written
+  pub header-written : (is_first : Bool) (h : Headed) (ks : List Key) (k : Key) → h.keys ≡ ks ++ (k ∷ [])
+      → (if holds_newline mode k.leaf then shown_prefix mode [] k.leaf else [])
+      ++ (shown_prefix mode (header_default is_first) h.fields.decor
+      ++ ((opening_brackets h.is_element ++ (inside_brackets mode k.leaf (path_text (segments mode (ks ++ (k ∷ [])))) ++ closing_brackets h.is_element))
+      ++ (shown_suffix mode [] h.fields.decor ++ newline)))
+      ≡ header_text mode is_first h
+  header-written is_first h ks k e =
+      parts (if holds_newline mode k.leaf then shown_prefix mode [] k.leaf else []) (shown_prefix mode (header_default is_first) h.fields.decor)
+      (opening_brackets h.is_element) (inside_brackets mode k.leaf (path_text (segments mode (ks ++ (k ∷ []))))) (closing_brackets h.is_element)
+      (shown_suffix mode [] h.fields.decor) newline
+      ∙ ap (λ (d : Decor). header_parts mode is_first h.is_element d (path_text (segments mode (ks ++ (k ∷ [])))) h.fields) (sym (last_leaf-end ks k))
+      ∙ ap (λ (js : List Key). header_text mode is_first (record h { keys = js })) (sym e)
 
--- the same where its parts are known to be these
-pub header-by-parts : (is_first : Bool) (h : Headed) (ks : List Key) (k : Key) → h.keys ≡ ks ++ (k ∷ [])
-    → (b : Bool) (p d s : Text) → b ≡ holds_newline plain k.leaf → p ≡ shown_prefix plain [] k.leaf
-    → d ≡ shown_prefix plain (header_default is_first) h.fields.decor → s ≡ shown_suffix plain [] h.fields.decor
-    → (if b then p else [])
-    ++ (d ++ ((opening_brackets h.is_element ++ (inside_brackets plain k.leaf (path_text (segments plain (ks ++ (k ∷ [])))) ++ closing_brackets h.is_element))
-    ++ (s ++ newline)))
-    ≡ header_text plain is_first h
-header-by-parts is_first h ks k e b p d s eb ep ed es = rw (eb, ep, ed, es) (header-written is_first h ks k e)
+  -- the same where its parts are known to be these
+  pub header-by-parts : (is_first : Bool) (h : Headed) (ks : List Key) (k : Key) → h.keys ≡ ks ++ (k ∷ [])
+      → (b : Bool) (p d s : Text) → b ≡ holds_newline mode k.leaf → p ≡ shown_prefix mode [] k.leaf
+      → d ≡ shown_prefix mode (header_default is_first) h.fields.decor → s ≡ shown_suffix mode [] h.fields.decor
+      → (if b then p else [])
+      ++ (d ++ ((opening_brackets h.is_element ++ (inside_brackets mode k.leaf (path_text (segments mode (ks ++ (k ∷ [])))) ++ closing_brackets h.is_element))
+      ++ (s ++ newline)))
+      ≡ header_text mode is_first h
+  header-by-parts is_first h ks k e b p d s eb ep ed es = rw (eb, ep, ed, es) (header-written is_first h ks k e)
 
--- ---- documents
+  -- ---- documents
 
-pub print-is : (t : Tree) → written_print plain t ≡ print t
-unfolding print
-print-is t = sym (print-by-visits plain t)
-
--- the same where its parts are known to be these
-pub print-by-parts : (t : Tree) (p r s u : Text) (b : Bool) (hs : List Headed) → p ≡ shown_prefix plain [] t.root.decor
-    → r ≡ root_lines plain t.root t.slots → b ≡ begins t.root t.slots → hs ≡ sorted_by by_place (headed_tables t.root t.slots)
-    → s ≡ shown_suffix plain [] t.root.decor → u ≡ shown_raw plain t.trailing
-    → p ++ (r ++ (headers_text plain b hs ++ (s ++ u))) ≡ print t
-print-by-parts t p r s u b hs ep er eb eh es eu = rw (ep, er, eb, eh, es, eu) (print-is t)
+  -- the print by its parts, where these are known to be these
+  pub print-by-parts : (t : Tree) (p r s u : Text) (b : Bool) (hs : List Headed) → p ≡ shown_prefix mode [] t.root.decor
+      → r ≡ root_lines mode t.root t.slots → b ≡ begins t.root t.slots → hs ≡ sorted_by by_place (headed_tables t.root t.slots)
+      → s ≡ shown_suffix mode [] t.root.decor → u ≡ shown_raw mode t.trailing
+      → p ++ (r ++ (headers_text mode b hs ++ (s ++ u))) ≡ print_in mode false t
+  print-by-parts t p r s u b hs ep er eb eh es eu = rw (ep, er, eb, eh, es, eu) (sym (print-by-visits mode t))

@@ -5,3 +5,6 @@ pub mod OverLaws
 pub mod TakenLaws
 pub mod HeaderLaws
 pub mod PrintMeaning
+pub mod LastLineLaws
+pub mod FoundLastLaws
+pub mod OpenEndLaws

@@ -1,17 +1,20 @@
 -- A document in owned form, by the document over its text.
 use mathlib.Core.Logic.{∥∥₁_elim, ∥∥₁_map}
-use Rattle.std.proofs.Common.{◌≡◌, sym, ap, subst, ◌∙◌}
-use Rattle.toml_edit_model.specs.Mode.{plain}
+use Rattle.std.proofs.Common.{◌≡◌, Bool, sym, ap, subst, ◌∙◌}
+use Rattle.toml_edit_model.specs.Mode.{Mode, plain, exact}
 use Rattle.toml_edit_model.specs.Text.{Text}
 use Rattle.toml_edit_model.specs.Syntax.{Document}
 use Rattle.toml_edit_model.specs.Accepted.{AcceptedAs}
+use Rattle.toml_edit_model.specs.Normal.{has_open_end, normal_text_in}
+use Rattle.toml_edit_model.specs.Print.{print_in}
 use Rattle.toml_edit_model.specs.Tree.{Tree, SlotsAreWellMade}
-use Rattle.toml_edit_model.specs.TreeOf.{spanned_form, owned_form, IsTreeOf}
+use Rattle.toml_edit_model.specs.TreeOf.{spanned_in, owned_in, IsTreeOf}
+use Rattle.toml_edit_model.specs.Version.{Version}
 use Rattle.toml_edit_laws.proofs.read_trees.ReadLaws.{owned_trees}
-use Rattle.toml_edit_laws.proofs.print_of_read.PrintOfRead.{plain_print_normal}
+use Rattle.toml_edit_laws.proofs.print_of_read.PrintOfRead.{print_normal}
 use Rattle.toml_edit_laws.proofs.normal_texts.TextLaws.{normal_texts}
 use Rattle.toml_edit_laws.proofs.normal_texts.TreesFit.{texts_fit}
-use Rattle.toml_edit.specs.Documents.{IsOwnedReading, IsOwnedTreeOf, IsReading}
+use Rattle.toml_edit.specs.Documents.{IsOwnedReadingIn, IsOwnedReadingWith, IsOwnedTreeWith, IsReadingIn, IsReadingWith, opens}
 use Rattle.toml_edit_laws.proofs.read_trees.MeaningOfTrees.{trees_mean}
 use Rattle.toml_edit.proofs.SpanProps.{DecorFits-prop, SlotsFit-prop, RawFits-prop}
 use Rattle.toml_edit_model.specs.OwnedForm.{IsOver, DecorFits, SlotsFit, RawFits, owned_raw, owned_fields, owned_slots, owned_tree}
@@ -46,28 +49,53 @@ owned-parts t u x y same root slots trailing =
     ∙ ap (λ r. record (owned_tree u x) { trailing = r }) trailing
     ∙ ap (λ v. owned_tree v x) same
 
+-- What is printed with its end open as that of the text is, is printed so, where line endings are kept; else no end is open.
+opens-so : (mode : Mode) (d : Document) (x : Tree) → print_in mode (has_open_end d.statements) x ≡ normal_text_in mode d
+    → print_in mode (opens mode d) x ≡ normal_text_in mode d
+opens-so plain d x h = h
+opens-so exact d x h = h
+
 -- The tree of an accepted text stays its tree, fits, and prints as the normal text.
-pub stays-tree : (t : Text) (x y : Tree) → y ≡ owned_tree t x → (d : Document) → AcceptedAs t d → IsTreeOf spanned_form d x → IsOwnedTreeOf t d y
-stays-tree t x y e d accepted is =
-    let own = subst (IsTreeOf owned_form d) (sym e) (owned_trees plain t d accepted.0 x is) in
-    let fine = texts_fit plain t d accepted y own in
+pub stays-tree : (mode : Mode) (t : Text) (x y : Tree) → y ≡ owned_tree t x → (d : Document) → AcceptedAs t d → IsTreeOf (spanned_in mode) d x
+    → IsOwnedTreeWith mode t d y
+stays-tree mode t x y e d accepted is =
+    let own = subst (IsTreeOf (owned_in mode) d) (sym e) (owned_trees mode t d accepted.0 x is) in
+    let fine = texts_fit mode t d accepted y own in
     record {
       tree = own;
       fits = fine.0;
       steady = fine.1;
-      prints = plain_print_normal d accepted.0.0 accepted.1 y own;
-      normal = (accepted, normal_texts plain t d accepted);
+      prints = opens-so mode d y (print_normal mode d accepted.0.0 accepted.1 y own);
+      normal = (accepted, normal_texts mode t d accepted);
     }
 
--- What is made of a reading of a text is one that owns its texts.
-pub own-reading : (t u : Text) (x y : Tree) → u ≡ t → IsReading t x
-    → ((d : Document) → AcceptedAs u d → IsTreeOf spanned_form d x → IsOwnedTreeOf u d y) → IsOwnedReading t y
-own-reading t u x y same r stays =
-    let own = subst (λ v. IsOwnedTreeOf v r.document y) same (stays r.document (subst (λ v. AcceptedAs v r.document) (sym same) r.accepted) r.tree) in
-    record {
-      document = r.document;
-      accepted = r.accepted;
-      only = r.only;
-      tree = own;
-      meaning = trees_mean r.document r.accepted.0.0 r.accepted.1 owned_form y own.tree;
-    }
+-- ---- what is made of a reading of a text
+
+-- what a document that was read says of its tree, made to own its texts
+abbrev Stays : Mode → Text → Tree → Tree → Type 0
+Stays mode u x y = (d : Document) → AcceptedAs u d → IsTreeOf (spanned_in mode) d x → IsOwnedTreeWith mode u d y
+
+-- where the document was read in the mode that was asked for
+module _ (mode m : Mode) (mode-is : m ≡ mode) (t u : Text) (same : u ≡ t) (x y : Tree) (stays : Stays m u x y) where
+  -- its tree owns its texts
+  pub owns : (r : IsReadingWith mode t x) → IsOwnedTreeWith mode t r.document y
+  owns r =
+      let asked : Stays mode u x y = subst (λ k. Stays k u x y) mode-is stays in
+      subst (λ v. IsOwnedTreeWith mode v r.document y) same (asked r.document (subst (λ v. AcceptedAs v r.document) (sym same) r.accepted) r.tree)
+
+  -- What is made of a reading of a text is one that owns its texts.
+  abbrev pub own-reading : IsReadingWith mode t x → IsOwnedReadingWith mode t y
+  own-reading r =
+      record {
+        document = r.document;
+        accepted = r.accepted;
+        only = r.only;
+        tree = owns r;
+        meaning = trees_mean r.document r.accepted.0.0 r.accepted.1 (owned_in mode) y (owns r).tree;
+      }
+
+  -- The same in a version of the grammar, where the end is open as it was.
+  pub own-reading-in : (version : Version) (was is_open : Bool) → is_open ≡ was → IsReadingIn mode version t x was
+      → IsOwnedReadingIn mode version t y is_open
+  own-reading-in version was is_open kept r =
+      record { reading = own-reading r.reading; accepted = r.accepted; open_end = kept ∙ r.open_end }

@@ -1,7 +1,8 @@
 -- The item that is the root of a document.
 use denote.Struct.Props.{props}
-use Rattle.std.proofs.Common.{◌≡◌, ap, refl, subst, ◌∙◌, true, rules}
-use Rattle.toml_edit_model.specs.Tree.{Raw, Node, nothing, leaf, list, inline, table, tables}
+use Rattle.std.proofs.Common.{◌≡◌, ap, refl, subst, sym, ◌∙◌, Bool, true, rules}
+use Rattle.toml_edit_repr.specs.declared.mode.Mode.{Mode}
+use Rattle.toml_edit_model.specs.Tree.{Raw, Node, Slots, TableFields, Tree, nothing, leaf, list, inline, table, tables}
 use Rattle.toml_edit_tree.specs.View.{item_view, fields_view, table_slots, tree_view}
 use Rattle.toml_edit_tree.specs.declared.item.Item.{Item, the_lemmas}
 use Rattle.toml_edit_tree.specs.declared.item.Item.TheVariants as items
@@ -22,17 +23,21 @@ tree-under x t r e = ap (λ y. tree_under y r) e ∙ ap (λ n. tree_at n r) (vie
 one-proof : (x : Item) → IsProp (is_table x ≡ true)
 one-proof x = hlevel props
 
-abbrev document : (x : Item) (r : Raw) → is_table x ≡ true → DocumentMut
-document x r h = record { root = x; trailing = r; rooted = h }
+module _ (m : Mode) (o : Bool) where
+  abbrev document : (x : Item) (r : Raw) → is_table x ≡ true → DocumentMut
+  document x r h = record { root = x; trailing = r; mode = m; open_end = o; rooted = h }
 
-same-root : (x y : Item) (r : Raw) (p : is_table x ≡ true) (q : is_table y ≡ true) → x ≡ y → document x r p ≡ document y r q
-same-root x y r p q e =
-    subst (λ (z : Item). (h : is_table z ≡ true) → document x r p ≡ document z r h) e
-    (λ h. ap (λ (g : is_table x ≡ true). document x r g) (one-proof x p h)) q
+  same-root : (x y : Item) (r : Raw) (p : is_table x ≡ true) (q : is_table y ≡ true) → x ≡ y → document x r p ≡ document y r q
+  same-root x y r p q e =
+      subst (λ (z : Item). (h : is_table z ≡ true) → document x r p ≡ document z r h) e
+      (λ h. ap (λ (g : is_table x ≡ true). document x r g) (one-proof x p h)) q
 
-pub same-parts : (a b : DocumentMut) → a.root ≡ b.root → a.trailing ≡ b.trailing → a ≡ b
-same-parts a b e f =
-    subst (λ (r : Raw). a ≡ document b.root r b.rooted) f (same-root a.root b.root a.trailing a.rooted b.rooted e)
+pub same-parts : (a b : DocumentMut) → a.root ≡ b.root → a.trailing ≡ b.trailing → a.mode ≡ b.mode → a.open_end ≡ b.open_end → a ≡ b
+same-parts a b e f g h =
+    same-root a.mode a.open_end a.root b.root a.trailing a.rooted b.rooted e
+    ∙ ap (λ (r : Raw). document a.mode a.open_end b.root r b.rooted) f
+    ∙ ap (λ (m : Mode). document m a.open_end b.root b.trailing b.rooted) g
+    ∙ ap (λ (o : Bool). document b.mode o b.root b.trailing b.rooted) h
 
 -- ---- what is behind the root, and the root as a node
 
@@ -46,3 +51,12 @@ trailing-at (tables e xs) r = refl
 
 pub root-under : (t : Table) (r : Raw) → root_node (tree_under (items.Table t) r) ≡ table (fields_view t) (table_slots t)
 root-under t r = ap (λ n. root_node (tree_at n r)) (view-table t)
+
+-- the tree with the parts of one is that
+pub tree-by-parts : (n : Node) (r : Raw) (f : TableFields) (ss : Slots) → f ≡ (tree_at n r).root → ss ≡ (tree_at n r).slots
+    → record { root = f; slots = ss; trailing = r } ≡ tree_at n r
+tree-by-parts n r f ss e g = same-tree f (tree_at n r).root ss (tree_at n r).slots r (tree_at n r).trailing e g (sym (trailing-at n r))
+  where
+    same-tree : (f h : TableFields) (ss us : Slots) (r q : Raw) → f ≡ h → ss ≡ us → r ≡ q
+        → (let t : Tree = record { root = f; slots = ss; trailing = r } in t) ≡ record { root = h; slots = us; trailing = q }
+    same-tree f h ss us r q e g k = rw (e, g, k) refl

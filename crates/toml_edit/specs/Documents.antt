@@ -4,11 +4,11 @@ use Rattle.toml_edit_model.specs.Text.{Text}
 use Rattle.toml_edit_model.specs.Version.{Version}
 use Rattle.toml_edit_model.specs.Accepted.{AcceptedAs, AcceptedIn}
 use Rattle.toml_edit_model.specs.Syntax.{Document, IsCut}
-use Rattle.toml_edit_model.specs.Fits.{Fits, FitsIn, is_steady_in}
+use Rattle.toml_edit_model.specs.Fits.{FitsIn, is_steady_in}
 use Rattle.toml_edit_model.specs.Meaning.{SameFacts, meaning}
 use Rattle.toml_edit_model.specs.Mode.{Mode, plain, is_exact}
 use Rattle.toml_edit_model.specs.Normal.{has_open_end, normal_text_in}
-use Rattle.toml_edit_model.specs.Print.{print, print_in, printed_document, document_in}
+use Rattle.toml_edit_model.specs.Print.{print_in, document_in}
 use Rattle.toml_edit_model.specs.Shown.{shown_meaning}
 use Rattle.toml_edit_model.specs.Tree.{owned, no_slots, Tree}
 use Rattle.toml_edit_model.specs.TreeOf.{spanned_in, owned_in, IsTreeOf}
@@ -36,11 +36,11 @@ pub record MeansWhatIsShown (mode : Mode) (is_open : Bool) (x : Tree) : Type 0 w
   pub accepted : AcceptedAs (print_in mode is_open x) (document_in mode is_open x)
   pub meaning : SameFacts (meaning (document_in mode is_open x)) (shown_meaning x)
 
--- The tree fits, and what it prints is accepted and means what the document means.
-pub record PrintsMeaningOf (d : Document) (x : Tree) : Type 0 where
-  pub fits : Fits x
-  pub accepted : AcceptedAs (print x) (printed_document x)
-  pub meaning : SameFacts (meaning (printed_document x)) (meaning d)
+-- The tree fits, and what it prints, with an open end or without one, is accepted and means what the document means.
+pub record PrintsMeaningOf (mode : Mode) (d : Document) (x : Tree) : Type 0 where
+  pub fits : FitsIn mode x
+  pub accepted : (is_open : Bool) → AcceptedAs (print_in mode is_open x) (document_in mode is_open x)
+  pub meaning : (is_open : Bool) → SameFacts (meaning (document_in mode is_open x)) (meaning d)
 
 -- the end of a document is printed open where its line endings are kept and its last statement has none
 abbrev pub opens : Mode → Document → Bool

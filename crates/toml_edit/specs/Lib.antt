@@ -4,3 +4,4 @@ pub mod Documents
 pub mod HeadersView
 pub mod DocumentLending
 pub mod Faults
+pub mod LastLines

@@ -3,13 +3,14 @@ ghost use Rattle.std.specs.Prelude.{◌≡◌, true};
 ghost use Rattle.toml_edit.specs.Roots.{is_table, tree_under};
 ghost use Rattle.toml_edit_model.specs.OwnedForm.{IsOver};
 
+use crate::open_end::text_of;
 use crate::root::table_of;
 use std::alloc::Global;
 use toml_edit_builder as builder;
 use toml_edit_error::ParseFault;
 use toml_edit_fits::tree_fits;
 use toml_edit_parser::ParseOptions;
-use toml_edit_repr::{Mem, RawString};
+use toml_edit_repr::{Mem, Mode, RawString};
 use toml_edit_tree::{Item, Iter, Table};
 
 mod index;
@@ -53,6 +54,8 @@ pub struct Document<S: SourceText> {
     raw: S,
     root: Item,
     trailing: RawString,
+    mode: Mode,
+    open_end: bool,
     ghost rooted: { is_table root ≡ true },
     // Each span cuts a text from the source, and each spelling so cut is true.
     ghost over: { ∥ IsOver (S.content raw) (tree_under root trailing) ∥₁ },
@@ -64,6 +67,8 @@ impl<S: SourceText> Drop for Document<S> {
             raw,
             root,
             trailing,
+            mode: _,
+            open_end: _,
         } = self;
         drop(raw);
         drop(root);
@@ -76,22 +81,23 @@ impl<S: SourceText> Document<S> {
     ghost use Rattle.toml_edit_model.specs.Syntax.{Document as Cut};
     ghost use Rattle.toml_edit_model.specs.Accepted.{AcceptedAs, AcceptedIn};
     ghost use Rattle.toml_edit_model.specs.Tree.{owned};
-    ghost use Rattle.toml_edit_model.specs.TreeOf.{spanned_form, IsTreeOf};
+    ghost use Rattle.toml_edit_model.specs.TreeOf.{spanned_in, IsTreeOf};
     ghost use Rattle.toml_edit_model.specs.OwnedForm.{owned_tree};
     ghost use Rattle.toml_edit_error.specs.Fault.{IfToml};
-    ghost use Rattle.toml_edit.specs.DocumentView.{source, tree_read, tree_owned};
-    ghost use Rattle.toml_edit.specs.Documents.{IsOwnedTreeOf, IsReading, IsReadingIn, IsRefusalIn, PrintsMeaningOf};
-    ghost use Rattle.toml_edit_parser.specs.Options.{version_of};
+    ghost use Rattle.toml_edit.specs.DocumentView.{IsPlainRead, mode_owned, mode_read, open_owned, open_read, source, tree_owned, tree_read};
+    ghost use Rattle.toml_edit.specs.Documents.{IsOwnedTreeWith, IsReading, IsReadingIn, IsRefusalIn, PrintsMeaningOf};
+    ghost use Rattle.toml_edit_parser.specs.Options.{mode_of, version_of};
     ghost use Rattle.toml_edit.specs.Roots.{root_node};
     ghost use Rattle.toml_edit_tree.specs.Held.{held, held_left};
     ghost use Rattle.toml_edit_builder.specs.DocumentRead.{IsRefusal};
     ghost use Rattle.toml_edit_tree.specs.View.{item_view, table_slots, tree_view, fields_view};
 
-    /// Reads a text. The errors are a `TomlError` for a text that is refused, which names a fault of its first faulty statement, or of a
-    /// text outside the grammar what is wrong with its syntax; and want of memory.
+    /// Reads a text, whose line endings are not kept. The errors are a `TomlError` for a text that is refused, which names a fault of its
+    /// first faulty statement, or of a text outside the grammar what is wrong with its syntax; and want of memory.
     pub fn parse(alloc: Global, raw: S) -> Result<Document<S>, ParseFault>
         ensures accepted { IfOk result (λ x. IsReading (S.content raw) (tree_read x)) }
         ensures source { IfOk result (λ x. source x ≡ S.content raw) }
+        ensures plain { IfOk result (λ x. IsPlainRead x) }
         // An accepted text is never refused.
         ensures every { (d : Cut) → AcceptedAs (S.content raw) d → IsOk result ⊎ IsErrOf result ParseFault.Memory }
         ensures refused { IfErr result (λ e. IfToml e (IsRefusal (S.content raw))) }
@@ -101,27 +107,35 @@ impl<S: SourceText> Document<S> {
             raw,
             root: Item::Table(Table::root(slots)),
             trailing,
+            mode: Mode::Plain,
+            open_end: false,
         })
     }
 
     /// Reads a text as these options say, as `parse` does otherwise. What the version of TOML lacks is a fault of its statement
-    /// (`needs TOML 1.1`), and marked.
+    /// (`needs TOML 1.1`), and marked. Where line endings are kept, the carriage return before a statement's line feed is read into what
+    /// stands behind the statement, and a last statement without a newline leaves the document's end open.
     pub fn parse_with(
         alloc: Global,
         raw: S,
         options: ParseOptions,
     ) -> Result<Document<S>, ParseFault>
-        ensures accepted { IfOk result (λ x. IsReadingIn (version_of options) (S.content raw) (tree_read x)) }
+        ensures accepted { IfOk result (λ x. IsReadingIn (mode_of options) (version_of options) (S.content raw) (tree_read x) (open_read x)) }
+        ensures mode { IfOk result (λ x. mode_read x ≡ mode_of options) }
         ensures source { IfOk result (λ x. source x ≡ S.content raw) }
         // A text that the version accepts is never refused.
         ensures every { (d : Cut) → AcceptedIn (version_of options) (S.content raw) d → IsOk result ⊎ IsErrOf result ParseFault.Memory }
         ensures refused { IfErr result (λ e. IfToml e (IsRefusalIn (version_of options) (S.content raw))) }
     {
-        let (slots, trailing) = builder::parse_in(alloc, raw.text(), options.get_version())?;
+        let version = options.get_version();
+        let mode = options.get_mode();
+        let (slots, trailing, is_open) = builder::parse_with(alloc, raw.text(), version, mode)?;
         Ok(Document {
             raw,
             root: Item::Table(Table::root(slots)),
             trailing,
+            mode,
+            open_end: options.is_exact() && is_open,
         })
     }
 
@@ -167,14 +181,17 @@ impl<S: SourceText> Document<S> {
     /// The root table alone, as an item. Its texts stay spans, for which a print has the default spellings and decors.
     pub fn into_item(self) -> Item
         ensures root { item_view result ≡ root_node (tree_read self) }
-        // Made the root of a document, it prints a text that means what the text that was read means.
-        ensures print { (d : Cut) → AcceptedAs (source self) d → IsTreeOf spanned_form d (tree_read self)
-            → PrintsMeaningOf d (record (tree_read self) { trailing = owned [] }) }
+        // Made the root of a document that keeps line endings as this one does, it prints a text that means what the text that was read
+        // means.
+        ensures print { (d : Cut) → AcceptedAs (source self) d → IsTreeOf (spanned_in (mode_read self)) d (tree_read self)
+            → PrintsMeaningOf (mode_read self) d (record (tree_read self) { trailing = owned [] }) }
     {
         let Document {
             raw,
             root,
             trailing,
+            mode: _,
+            open_end: _,
         } = self;
         drop(raw);
         drop(trailing);
@@ -185,33 +202,40 @@ impl<S: SourceText> Document<S> {
     pub fn into_table(self) -> Table
         ensures fields { fields_view result ≡ (tree_read self).root }
         ensures slots { table_slots result ≡ (tree_read self).slots }
-        // Made the root of a document, it prints a text that means what the text that was read means.
-        ensures print { (d : Cut) → AcceptedAs (source self) d → IsTreeOf spanned_form d (tree_read self)
-            → PrintsMeaningOf d (tree_view result (owned [])) }
+        // Made the root of a document that keeps line endings as this one does, it prints a text that means what the text that was read
+        // means.
+        ensures print { (d : Cut) → AcceptedAs (source self) d → IsTreeOf (spanned_in (mode_read self)) d (tree_read self)
+            → PrintsMeaningOf (mode_read self) d (tree_view result (owned [])) }
     {
         let Document {
             raw,
             root,
             trailing,
+            mode: _,
+            open_end: _,
         } = self;
         drop(raw);
         drop(trailing);
         table_of(root)
     }
 
-    /// The document with its spans turned into the texts that they cut. The only error is want of memory, which gives the document
-    /// up.
+    /// The document with its spans turned into the texts that they cut, which keeps its line endings and an open end as the document
+    /// does. The only error is want of memory, which gives the document up.
     pub fn into_mut(self, alloc: Global) -> Mem<DocumentMut>
         ensures owned { IfOk result (λ m. tree_owned m ≡ owned_tree (source self) (tree_read self)) }
+        ensures kept { IfOk result (λ m. (mode_owned m ≡ mode_read self) × (open_owned m ≡ open_read self)) }
         // The tree of an accepted text stays its tree, fits, and prints as the normal text, which is accepted, means the same and is
-        // settled. A settled text is its own normal text.
+        // settled. A settled text is its own normal text. Each is said in the mode that the document was read in.
         ensures normal { IfOk result (λ m. (d : Cut) → AcceptedAs (source self) d
-            → IsTreeOf spanned_form d (tree_read self) → IsOwnedTreeOf (source self) d (tree_owned m)) }
+            → IsTreeOf (spanned_in (mode_read self)) d (tree_read self)
+            → IsOwnedTreeWith (mode_read self) (source self) d (tree_owned m)) }
     {
         let Document {
             raw,
             root,
             mut trailing,
+            mode,
+            open_end,
         } = self;
         let mut table = table_of(root);
         table.despan(alloc, raw.text())?;
@@ -219,19 +243,22 @@ impl<S: SourceText> Document<S> {
         Ok(DocumentMut {
             root: Item::Table(table),
             trailing,
+            mode,
+            open_end,
         })
     }
 }
 
 impl Document<&'static str> {
     ghost use Rattle.std.specs.Prelude.{◌≡◌, []};
-    ghost use Rattle.toml_edit.specs.DocumentView.{source, tree_read};
+    ghost use Rattle.toml_edit.specs.DocumentView.{IsPlainRead, source, tree_read};
     ghost use Rattle.toml_edit.specs.Documents.{new_tree};
 
     /// No text, and a root without slots, which is the first of all headers.
     pub fn new(alloc: Global) -> Document<&'static str>
         ensures source { source result ≡ [] }
         ensures tree { tree_read result ≡ new_tree }
+        ensures plain { IsPlainRead result }
     {
         let mut root = Table::new(alloc);
         root.set_position(Some(0));
@@ -239,6 +266,8 @@ impl Document<&'static str> {
             raw: "",
             root: Item::Table(root),
             trailing: RawString::default(),
+            mode: Mode::Plain,
+            open_end: false,
         }
     }
 }
@@ -248,7 +277,7 @@ impl Document<String> {
     ghost use Rattle.toml_edit_model.specs.Syntax.{Document as Cut};
     ghost use Rattle.toml_edit_model.specs.Accepted.{AcceptedAs};
     ghost use Rattle.toml_edit_error.specs.Fault.{IfToml};
-    ghost use Rattle.toml_edit.specs.DocumentView.{source, tree_read};
+    ghost use Rattle.toml_edit.specs.DocumentView.{IsPlainRead, source, tree_read};
     ghost use Rattle.toml_edit.specs.Documents.{IsReading};
     ghost use Rattle.toml_edit_builder.specs.DocumentRead.{IsRefusal};
 
@@ -256,6 +285,7 @@ impl Document<String> {
     pub fn from_str(alloc: Global, text: &str) -> Result<Document<String>, ParseFault>
         ensures accepted { IfOk result (λ x. IsReading text.now (tree_read x)) }
         ensures source { IfOk result (λ x. source x ≡ text.now) }
+        ensures plain { IfOk result (λ x. IsPlainRead x) }
         // An accepted text is never refused.
         ensures every { (d : Cut) → AcceptedAs text.now d → IsOk result ⊎ IsErrOf result ParseFault.Memory }
         ensures refused { IfErr result (λ e. IfToml e (IsRefusal text.now)) }
@@ -270,29 +300,36 @@ impl Document<String> {
 pub struct DocumentMut {
     root: Item,
     pub(crate) trailing: RawString,
+    pub(crate) mode: Mode,
+    pub(crate) open_end: bool,
     ghost rooted: { is_table root ≡ true },
 }
 
 impl Drop for DocumentMut {
     fn drop(self) {
-        let DocumentMut { root, trailing } = self;
+        let DocumentMut {
+            root,
+            trailing,
+            mode: _,
+            open_end: _,
+        } = self;
         drop(root);
         drop(trailing);
     }
 }
 
 impl DocumentMut {
-    ghost use Rattle.std.specs.Prelude.{◌≡◌, ◌↔◌, ◌⊎◌, IfOk, IfErr, IsOk, IsErrOf, IsTrue, string_bytes};
-    ghost use Rattle.toml_edit_model.specs.Fits.{Fits};
+    ghost use Rattle.std.specs.Prelude.{◌≡◌, ◌↔◌, ◌⊎◌, if◌then◌else◌, IfOk, IfErr, IsOk, IsErrOf, IsTrue, string_bytes};
+    ghost use Rattle.toml_edit_model.specs.Fits.{FitsIn};
+    ghost use Rattle.toml_edit_model.specs.Mode as model;
     ghost use Rattle.toml_edit_model.specs.Syntax.{Document as Cut};
     ghost use Rattle.toml_edit_model.specs.Accepted.{AcceptedAs, AcceptedIn};
-    ghost use Rattle.toml_edit_model.specs.Print.{print as printed};
     ghost use Rattle.std.specs.Borrow.{sem};
     ghost use Rattle.toml_edit_error.specs.Fault.{IfToml};
     ghost use Rattle.toml_edit.specs.DocumentLending.{LendsRoot};
-    ghost use Rattle.toml_edit.specs.DocumentView.{tree_owned};
+    ghost use Rattle.toml_edit.specs.DocumentView.{IsPlain, IsPrintedAs, mode_owned, open_owned, print_of, tree_owned};
     ghost use Rattle.toml_edit.specs.Documents.{IsOwnedReading, IsOwnedReadingIn, IsRefusalIn, MeansWhatIsShown, new_tree};
-    ghost use Rattle.toml_edit_parser.specs.Options.{version_of};
+    ghost use Rattle.toml_edit_parser.specs.Options.{mode_of, version_of};
     ghost use Rattle.toml_edit.specs.Roots.{root_node};
     ghost use Rattle.toml_edit_builder.specs.DocumentRead.{IsRefusal};
     ghost use Rattle.toml_edit_tree.specs.Held.{held, held_left};
@@ -300,16 +337,18 @@ impl DocumentMut {
 
     /// A root without slots, which is the first of all headers, and nothing behind it.
     pub fn new(alloc: Global) -> DocumentMut
-        ensures { tree_owned result ≡ new_tree }
+        ensures tree { tree_owned result ≡ new_tree }
+        ensures plain { IsPlain result }
     {
         let mut root = Table::new(alloc);
         root.set_position(Some(0));
         DocumentMut::from(root)
     }
 
-    /// Reads a text. The errors are those of `Document::parse`.
+    /// Reads a text, whose line endings are not kept. The errors are those of `Document::parse`.
     pub fn from_str(alloc: Global, text: &str) -> Result<DocumentMut, ParseFault>
         ensures accepted { IfOk result (λ m. IsOwnedReading text.now (tree_owned m)) }
+        ensures plain { IfOk result (λ m. IsPlain m) }
         // An accepted text is never refused.
         ensures every { (d : Cut) → AcceptedAs text.now d → IsOk result ⊎ IsErrOf result ParseFault.Memory }
         ensures refused { IfErr result (λ e. IfToml e (IsRefusal text.now)) }
@@ -325,7 +364,8 @@ impl DocumentMut {
         text: &str,
         options: ParseOptions,
     ) -> Result<DocumentMut, ParseFault>
-        ensures accepted { IfOk result (λ m. IsOwnedReadingIn (version_of options) text.now (tree_owned m)) }
+        ensures accepted { IfOk result (λ m. IsOwnedReadingIn (mode_of options) (version_of options) text.now (tree_owned m) (open_owned m)) }
+        ensures mode { IfOk result (λ m. mode_owned m ≡ mode_of options) }
         // A text that the version accepts is never refused.
         ensures every { (d : Cut) → AcceptedIn (version_of options) text.now d → IsOk result ⊎ IsErrOf result ParseFault.Memory }
         ensures refused { IfErr result (λ e. IfToml e (IsRefusalIn (version_of options) text.now)) }
@@ -369,7 +409,12 @@ impl DocumentMut {
     pub fn into_item(self) -> Item
         ensures { item_view result ≡ root_node (tree_owned self) }
     {
-        let DocumentMut { root, trailing } = self;
+        let DocumentMut {
+            root,
+            trailing,
+            mode: _,
+            open_end: _,
+        } = self;
         drop(trailing);
         root
     }
@@ -379,7 +424,12 @@ impl DocumentMut {
         ensures fields { fields_view result ≡ (tree_owned self).root }
         ensures slots { table_slots result ≡ (tree_owned self).slots }
     {
-        let DocumentMut { root, trailing } = self;
+        let DocumentMut {
+            root,
+            trailing,
+            mode: _,
+            open_end: _,
+        } = self;
         drop(trailing);
         table_of(root)
     }
@@ -400,57 +450,105 @@ impl DocumentMut {
 
     /// Puts another text behind the last statement.
     pub fn set_trailing(&mut self, trailing: RawString)
-        ensures { tree_owned self.new ≡ record (tree_owned self.old) { trailing = trailing } }
+        ensures tree { tree_owned self.new ≡ record (tree_owned self.old) { trailing = trailing } }
+        ensures printed { IsPrintedAs self.new self.old }
     {
         self.trailing = trailing;
     }
 
-    /// An equal copy. The only error is want of memory.
+    /// Whether line endings are kept: decors, and the text behind the last statement, are printed with their carriage returns.
+    pub fn is_exact(&self) -> bool
+        ensures { result ≡ model.is_exact (mode_owned self.now) }
+    {
+        matches!(self.mode, Mode::Exact)
+    }
+
+    /// Keeps line endings from now on, or no longer. The texts that the document holds, and whether its end is open, stay.
+    pub fn set_exact(&mut self, exact: bool)
+        ensures mode { mode_owned self.new ≡ (if exact then model.exact else model.plain) }
+        ensures open_end { open_owned self.new ≡ open_owned self.old }
+        ensures tree { tree_owned self.new ≡ tree_owned self.old }
+    {
+        self.mode = if exact { Mode::Exact } else { Mode::Plain };
+    }
+
+    /// Whether the end is open: where line endings are kept, and nothing is printed behind the last statement, that statement is printed
+    /// without its newline. Where line endings are not kept, this has no effect.
+    pub fn open_end(&self) -> bool
+        ensures { result ≡ open_owned self.now }
+    {
+        self.open_end
+    }
+
+    /// Leaves the end open, or no longer. The texts that the document holds, and whether line endings are kept, stay.
+    pub fn set_open_end(&mut self, open_end: bool)
+        ensures open_end { open_owned self.new ≡ open_end }
+        ensures mode { mode_owned self.new ≡ mode_owned self.old }
+        ensures tree { tree_owned self.new ≡ tree_owned self.old }
+    {
+        self.open_end = open_end;
+    }
+
+    /// An equal copy, which keeps line endings and an open end as this document does. The only error is want of memory.
     pub fn clone(&self, alloc: Global) -> Mem<DocumentMut>
-        ensures { IfOk result (λ copy. tree_owned copy ≡ tree_owned self.now) }
+        ensures tree { IfOk result (λ copy. tree_owned copy ≡ tree_owned self.now) }
+        ensures printed { IfOk result (λ copy. IsPrintedAs copy self.now) }
     {
         let root = self.as_table().clone(alloc)?;
         let trailing = self.trailing.clone(alloc)?;
         Ok(DocumentMut {
             root: Item::Table(root),
             trailing,
+            mode: self.mode,
+            open_end: self.open_end,
         })
     }
 
     /// Whether the document fits: what is printed around keys, values and headers suits its place; neither the root nor an element of an
     /// array of tables is dotted; in the order of headers each element's, its own first, stand before the next element's; a path has at
-    /// most 80 keys, and no more than 80 brackets of a value are open at once (TOML, "Key/Value Pair" to "Array of Tables"). The print of
-    /// a document that fits is accepted, and means what its tree shows. This takes no memory: there is no error.
+    /// most 80 keys, and no more than 80 brackets of a value are open at once (TOML, "Key/Value Pair" to "Array of Tables"). Where line
+    /// endings are kept, carriage returns count: each one of a decor is followed by a line feed there, or ends the line. The print of a
+    /// document that fits is accepted, and means what its tree shows. This takes no memory: there is no error.
     pub fn fits(&self, _alloc: Global) -> Mem<bool>
-        ensures fits { IfOk result (λ fits. IsTrue fits ↔ Fits (tree_owned self.now)) }
+        ensures fits { IfOk result (λ fits. IsTrue fits ↔ FitsIn (mode_owned self.now) (tree_owned self.now)) }
         // What `print` writes then is accepted, and means what the tree shows.
-        ensures reparse { IfOk result (λ fits. IsTrue fits → ∥ MeansWhatIsShown (tree_owned self.now) ∥₁) }
+        ensures reparse { IfOk result (λ fits. IsTrue fits
+            → ∥ MeansWhatIsShown (mode_owned self.now) (open_owned self.now) (tree_owned self.now) ∥₁) }
         ensures free { IsOk result }
     {
-        Ok(tree_fits(self.as_table(), &self.trailing))
+        Ok(tree_fits(self.mode, self.as_table(), &self.trailing))
     }
 
-    /// The text of the document. The only error is want of memory.
+    /// The text of the document: with its line endings where they are kept, and else with line feeds alone and a newline behind the last
+    /// statement. The only error is want of memory.
     pub fn print(&self, alloc: Global) -> Mem<String>
-        ensures { IfOk result (λ s. string_bytes s ≡ printed (tree_owned self.now)) }
+        ensures { IfOk result (λ s. string_bytes s ≡ print_of self.now) }
     {
-        self.to_string(alloc)
+        text_of(
+            alloc,
+            self.mode,
+            self.open_end,
+            self.as_table(),
+            &self.trailing,
+        )
     }
 }
 
-/// The document with this root, and nothing behind its last statement.
+/// The document with this root, and nothing behind its last statement. Its line endings are not kept.
 impl From<Table> for DocumentMut {
     ghost use Rattle.std.specs.Prelude.{◌≡◌, []};
     ghost use Rattle.toml_edit_model.specs.Tree.{owned};
-    ghost use Rattle.toml_edit.specs.DocumentView.{tree_owned};
+    ghost use Rattle.toml_edit.specs.DocumentView.{IsPlain, tree_owned};
     ghost use Rattle.toml_edit_tree.specs.View.{tree_view};
 
-    ghost from_gives = { λ root document. tree_owned document ≡ tree_view root (owned []) };
+    ghost from_gives = { λ root document. (tree_owned document ≡ tree_view root (owned [])) × IsPlain document };
 
     fn from(root: Table) -> DocumentMut {
         DocumentMut {
             root: Item::Table(root),
             trailing: RawString::default(),
+            mode: Mode::Plain,
+            open_end: false,
         }
     }
 }

@@ -1,19 +1,21 @@
 //! Documents to text.
-ghost use Rattle.std.specs.Prelude.{◌≡◌, ◌++◌, ◌∷◌, [], map, if◌then◌else◌};
+ghost use Rattle.std.specs.Prelude.{◌≡◌, false, ◌++◌, ◌∷◌, [], map, if◌then◌else◌};
 ghost use Rattle.std.specs.Fmt.{WritesOnOk};
 ghost use Rattle.std.specs.Option.{option_copied};
-ghost use Rattle.toml_edit_model.specs.Mode.{plain};
+ghost use Rattle.toml_edit_model.specs.Mode.{Mode as LineMode};
 ghost use Rattle.toml_edit_model.specs.Syntax.{closing_brackets, opening_brackets, path_text};
 ghost use Rattle.toml_edit_model.specs.Text.{has_byte, line_feed};
 ghost use Rattle.toml_edit_model.specs.Tree.{shown_prefix, shown_raw, shown_side, shown_suffix};
-ghost use Rattle.toml_edit_model.specs.Print.{header_default, print, segments};
+ghost use Rattle.toml_edit_model.specs.Print.{header_default, print_in, segments};
 ghost use Rattle.toml_edit_laws.specs.PrintByVisits.{begins, header_text, headers_text, holds_newline, inside_brackets, root_lines};
+ghost use Rattle.toml_edit_repr.specs.Modes.{mode_of};
 ghost use Rattle.toml_edit_tree.specs.Printing.{keys_on};
 ghost use Rattle.toml_edit_tree.specs.View.{fields_view, table_slots, tree_view};
 ghost use Rattle.toml_edit.specs.HeadersView.{header_view};
 
 use crate::document::DocumentMut;
 use crate::headers::{Header, headers_in_order};
+use crate::open_end::write_text;
 use bumpalo::Bump;
 use std::fmt;
 use std::fmt::{Formatter, Write};
@@ -21,43 +23,49 @@ use toml_edit_key::Key;
 use toml_edit_repr::{Mode, RawString, write_raw, write_side};
 use toml_edit_tree::{Path, Table, table_has_lines, write_path, write_table_lines};
 
-/// The text of the document. The order of its headers takes memory, of the allocator that the root's slots were made with: where that is
-/// refused, this is an error as a writer's fault is, and nothing is written.
+/// The text of the document. The order of its headers takes memory, and the text where its end is open, of the allocator that the root's
+/// slots were made with: where that is refused, this is an error as a writer's fault is, and nothing is written.
 impl fmt::Display for DocumentMut {
     ghost use Rattle.std.specs.Prelude.{Some};
-    ghost use Rattle.toml_edit.specs.DocumentView.{tree_owned};
+    ghost use Rattle.toml_edit.specs.DocumentView.{print_of};
 
-    ghost output = { λ d. Some (print (tree_owned d)) };
+    ghost output = { λ d. Some (print_of d) };
 
     fn fmt<W: Write>(&self, f: &mut Formatter<W>) -> fmt::Result {
-        write_document(f, self.as_table(), &self.trailing)
+        write_text(f, self.mode, self.open_end, self.as_table(), &self.trailing)
     }
 }
 
-/// The document with this root: what stands before its lines, these, the headers in order, and what stands behind.
-fn write_document<W: Write>(f: &mut Formatter<W>, root: &Table, trailing: &RawString) -> fmt::Result
-    ensures { WritesOnOk W.write_str_gives f.old result (print (tree_view root.now trailing.now)) f.new }
+/// The document with this root, each of its statements with a newline: what stands before the root's lines, these, the headers in order,
+/// and what stands behind.
+pub(crate) fn write_document<W: Write>(
+    f: &mut Formatter<W>,
+    mode: Mode,
+    root: &Table,
+    trailing: &RawString,
+) -> fmt::Result
+    ensures { WritesOnOk W.write_str_gives f.old result (print_in (mode_of mode) false (tree_view root.now trailing.now)) f.new }
 {
     let arena = Bump::new(root.slots.allocator());
     let top = Path::Root;
     let Ok(headers) = headers_in_order(&arena, root, &top) else {
         return Err(fmt::Error);
     };
-    write_side(f, Mode::Plain, root.decor().prefix(), "")?;
-    write_root_lines(f, root)?;
-    write_headers(f, headers.as_slice(), headers_begin(root))?;
-    write_side(f, Mode::Plain, root.decor().suffix(), "")?;
-    write_raw(f, Mode::Plain, trailing)
+    write_side(f, mode, root.decor().prefix(), "")?;
+    write_root_lines(f, mode, root)?;
+    write_headers(f, mode, headers.as_slice(), headers_begin(root))?;
+    write_side(f, mode, root.decor().suffix(), "")?;
+    write_raw(f, mode, trailing)
 }
 
 /// The lines of the root. A dotted root has none.
-fn write_root_lines<W: Write>(f: &mut Formatter<W>, root: &Table) -> fmt::Result
-    ensures { WritesOnOk W.write_str_gives f.old result (root_lines plain (fields_view root.now) (table_slots root.now)) f.new }
+fn write_root_lines<W: Write>(f: &mut Formatter<W>, mode: Mode, root: &Table) -> fmt::Result
+    ensures { WritesOnOk W.write_str_gives f.old result (root_lines (mode_of mode) (fields_view root.now) (table_slots root.now)) f.new }
 {
     if root.is_dotted() {
         Ok(())
     } else {
-        write_table_lines(f, Mode::Plain, root)
+        write_table_lines(f, mode, root)
     }
 }
 
@@ -71,15 +79,16 @@ fn headers_begin(root: &Table) -> bool
 /// The headers in this order, each with the lines of its table behind it.
 fn write_headers<W: Write>(
     f: &mut Formatter<W>,
+    mode: Mode,
     headers: &[Header<'_, '_>],
     begins: bool,
 ) -> fmt::Result
-    ensures { WritesOnOk W.write_str_gives f.old result (headers_text plain begins (map header_view headers.now)) f.new }
+    ensures { WritesOnOk W.write_str_gives f.old result (headers_text (mode_of mode) begins (map header_view headers.now)) f.new }
 {
     let mut is_first = begins;
     'headers: for header in headers {
-        write_header(f, header, is_first)?;
-        write_table_lines(f, Mode::Plain, header.table)?;
+        write_header(f, mode, header, is_first)?;
+        write_table_lines(f, mode, header.table)?;
         is_first = false;
     }
     Ok(())
@@ -88,18 +97,19 @@ fn write_headers<W: Write>(
 /// A header with what stands around it. A text before its last key that holds a newline stands before the header.
 fn write_header<W: Write>(
     f: &mut Formatter<W>,
+    mode: Mode,
     header: &Header<'_, '_>,
     is_first: bool,
 ) -> fmt::Result
-    ensures { WritesOnOk W.write_str_gives f.old result (header_text plain is_first (header_view header.now)) f.new }
+    ensures { WritesOnOk W.write_str_gives f.old result (header_text (mode_of mode) is_first (header_view header.now)) f.new }
 {
     let leaf = header.key.leaf_decor();
     let decor = header.table.decor();
     let lifted = has_newline(leaf.prefix());
-    write_side_if(f, lifted, leaf.prefix())?;
-    write_side(f, Mode::Plain, decor.prefix(), before_header(is_first))?;
-    write_brackets(f, header, lifted)?;
-    write_side(f, Mode::Plain, decor.suffix(), "")?;
+    write_side_if(f, mode, lifted, leaf.prefix())?;
+    write_side(f, mode, decor.prefix(), before_header(is_first))?;
+    write_brackets(f, mode, header, lifted)?;
+    write_side(f, mode, decor.suffix(), "")?;
     f.write_str("\n")
 }
 
@@ -113,55 +123,58 @@ fn before_header(is_first: bool) -> &'static str
 /// The brackets of a header with what stands in them.
 fn write_brackets<W: Write>(
     f: &mut Formatter<W>,
+    mode: Mode,
     header: &Header<'_, '_>,
     lifted: bool,
 ) -> fmt::Result
-    requires { lifted ≡ holds_newline plain header.now.key.now.leaf }
+    requires { lifted ≡ holds_newline (mode_of mode) header.now.key.now.leaf }
     ensures { WritesOnOk W.write_str_gives f.old result
         (opening_brackets header.now.is_element
-        ++ (inside_brackets plain header.now.key.now.leaf (path_text (segments plain (keys_on header.now.path.now ++ (header.now.key.now ∷ []))))
+        ++ (inside_brackets (mode_of mode) header.now.key.now.leaf (path_text (segments (mode_of mode) (keys_on header.now.path.now ++ (header.now.key.now ∷ []))))
         ++ closing_brackets header.now.is_element)) f.new }
 {
     f.write_str(if header.is_element { "[[" } else { "[" })?;
-    write_inside_brackets(f, header.path, header.key, lifted)?;
+    write_inside_brackets(f, mode, header.path, header.key, lifted)?;
     f.write_str(if header.is_element { "]]" } else { "]" })
 }
 
 /// The keys of a header, with what stands around them unless that was lifted out.
 fn write_inside_brackets<W: Write>(
     f: &mut Formatter<W>,
+    mode: Mode,
     path: &Path<'_, '_>,
     key: &Key,
     lifted: bool,
 ) -> fmt::Result
-    requires { lifted ≡ holds_newline plain key.now.leaf }
+    requires { lifted ≡ holds_newline (mode_of mode) key.now.leaf }
     ensures { WritesOnOk W.write_str_gives f.old result
-        (inside_brackets plain key.now.leaf (path_text (segments plain (keys_on path.now ++ (key.now ∷ []))))) f.new }
+        (inside_brackets (mode_of mode) key.now.leaf (path_text (segments (mode_of mode) (keys_on path.now ++ (key.now ∷ []))))) f.new }
 {
     let leaf = key.leaf_decor();
-    write_side_if(f, !lifted, leaf.prefix())?;
-    write_path(f, Mode::Plain, path, key)?;
-    write_side_if(f, !lifted, leaf.suffix())
+    write_side_if(f, mode, !lifted, leaf.prefix())?;
+    write_path(f, mode, path, key)?;
+    write_side_if(f, mode, !lifted, leaf.suffix())
 }
 
 /// The side of a decor where it is to stand.
 fn write_side_if<W: Write>(
     f: &mut Formatter<W>,
+    mode: Mode,
     stands: bool,
     side: Option<&RawString>,
 ) -> fmt::Result
-    ensures { WritesOnOk W.write_str_gives f.old result (if stands then shown_side plain [] (option_copied side.entry) else []) f.new }
+    ensures { WritesOnOk W.write_str_gives f.old result (if stands then shown_side (mode_of mode) [] (option_copied side.entry) else []) f.new }
 {
     if stands {
-        write_side(f, Mode::Plain, side, "")
+        write_side(f, mode, side, "")
     } else {
         Ok(())
     }
 }
 
-/// Whether the side of a decor has a newline.
+/// Whether the side of a decor has a newline, which is the same in each mode.
 fn has_newline(side: Option<&RawString>) -> bool
-    ensures { result ≡ has_byte line_feed (shown_side plain [] (option_copied side.entry)) }
+    ensures { (mode : LineMode) → result ≡ has_byte line_feed (shown_side mode [] (option_copied side.entry)) }
 {
     match side {
         Some(raw) => raw_has_newline(raw),
@@ -170,7 +183,7 @@ fn has_newline(side: Option<&RawString>) -> bool
 }
 
 fn raw_has_newline(raw: &RawString) -> bool
-    ensures { result ≡ has_byte line_feed (shown_raw plain raw.now) }
+    ensures { (mode : LineMode) → result ≡ has_byte line_feed (shown_raw mode raw.now) }
 {
     match raw.as_str() {
         Some(text) => text.as_bytes().contains(&b'\n'),

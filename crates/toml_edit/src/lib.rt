@@ -4,7 +4,9 @@
 pub mod document;
 mod encode;
 mod headers;
+mod last_line;
 pub mod laws;
+mod open_end;
 mod root;
 
 pub use document::{Document, DocumentMut, PrintFault, SourceText};

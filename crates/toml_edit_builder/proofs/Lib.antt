@@ -4,6 +4,7 @@ pub mod ItemLaws
 pub mod SwapLaws
 pub mod LoopLaws
 pub mod StatementLaws
+pub mod OpenEndLaws
 pub mod WholeLaws
 pub mod NamesLaws
 pub mod OpeningLaws

@@ -1,5 +1,5 @@
 -- From the events of a text to what parsing it answers.
-use Rattle.std.proofs.Common.{◌≡◌, ◌≤◌, ◌⊎◌, Result, Ok, Err, IsOk, IsErrOf, inl, inr, true, false, List, [], ◌∷◌, ◌++◌, refl, sym, ap, ◌∙◌, subst, None, Some, arith}
+use Rattle.std.proofs.Common.{◌≡◌, ◌≤◌, ◌⊎◌, Result, Ok, Err, IsOk, IsErrOf, inl, inr, Bool, true, false, List, [], ◌∷◌, ◌++◌, refl, sym, ap, ◌∙◌, subst, None, Some, arith}
 use Rattle.std.proofs.lemmas.Bool.Decides.{nat_tests}
 use Rattle.std.proofs.lemmas.Bool.{false≢true, leb-true, cases_Bool}
 use Rattle.std.specs.Prelude.{◌&&◌, nat_le}
@@ -10,6 +10,7 @@ use Rattle.toml_edit_model.specs.Syntax.{Value, Statement, key_line, header, Doc
 use Rattle.toml_edit_model.specs.Version.{Version, v1_1}
 use Rattle.toml_edit_model.specs.Paths.{Placed, Context, source_of, mentions_of, context_after, placed_from, start_context}
 use Rattle.toml_edit_model.specs.Accepted.{has_agreeing_tables, is_sound, is_accepted, is_accepted_in, AcceptedIn, AcceptedAs}
+use Rattle.toml_edit_model.specs.Normal.{has_open_end}
 use Rattle.toml_edit_model.specs.Tree.{Raw, Slots}
 use Rattle.toml_edit_model.specs.TreeOf.{spanned_in, IsTreeOf}
 use Rattle.toml_edit_laws.specs.OneByOne.{is_right_after, all_right_after}
@@ -32,6 +33,7 @@ use Rattle.toml_edit_syntax.specs.Events.{IsSpanOf, AreEventsOf, events_of, exce
 use Rattle.toml_edit_syntax.specs.ValueEvents.{are_deep, shortened}
 use Rattle.toml_edit_builder.specs.StatementRead.{tree_of}
 use Rattle.toml_edit_builder.specs.DocumentRead.{IsParsed, IsParsedIn, IsParsedWith, IsRefusal, IsRefusalIn}
+use Rattle.toml_edit_builder.proofs.OpenEndLaws.{uncut}
 
 -- ---- no value of an accepted document is too deep
 
@@ -72,11 +74,13 @@ module _ (mode : Mode) (version : Version) (t : Text) (es : List Event) (h : Are
   IsRefusedSo e = (d : Document) → IsCut d t → es ≡ shortened 0 (events_of d) → IfToml e (λ r. (r.input ≡ t) × IsRefusedIn version d (fault_of r))
 
   -- events that are not cut short are those of the text's one cut
-  pub parsed : (slots : Slots) (trailing : Raw) → IsBuiltSo slots trailing → are_deep es ≡ false → IsParsedWith mode version t slots trailing
-  parsed slots trailing built whole =
+  pub parsed : (slots : Slots) (trailing : Raw) (is_open : Bool) → IsBuiltSo slots trailing → are_deep es ≡ false
+      → ((d : Document) → es ≡ events_of d → is_open ≡ has_open_end d.statements) → IsParsedWith mode version t slots trailing is_open
+  parsed slots trailing is_open built whole told =
       let (d, cut) = h.has_cut whole in
       let (accepted, tree) = built d cut (h.every d cut) in
-      record { document = d; accepted = (cut, accepted); only = λ other c. h.only d other cut c; tree = tree }
+      let same = h.every d cut ∙ uncut 0 (events_of d) (subst (λ (x : List Event). are_deep x ≡ false) (h.every d cut) whole) in
+      record { document = d; accepted = (cut, accepted); only = λ other c. h.only d other cut c; tree = tree; open_end = told d same }
 
   -- others are of no text that is accepted
   pub no_cut : (slots : Slots) (trailing : Raw) → IsBuiltSo slots trailing → are_deep es ≡ true → (d : Document) → IsCut d t → ⊥
@@ -132,8 +136,14 @@ of_report Memory P Q more h = tt
 
 -- ---- in the plain mode
 
-pub parsed_plain : (version : Version) (t : Text) (slots : Slots) (trailing : Raw) → IsParsedWith plain version t slots trailing → IsParsedIn version t slots trailing
-parsed_plain version t slots trailing h = record { document = h.document; accepted = h.accepted; only = h.only; tree = h.tree }
+-- an error is the same, whatever was wanted
+pub same-error : {A B : Type 0} (e f : ParseFault) → IsOk {T = A} (Err e) ⊎ IsErrOf {T = A} (Err e) f → IsOk {T = B} (Err e) ⊎ IsErrOf {T = B} (Err e) f
+same-error e f (inl none) = absurd cc
+same-error e f (inr same) = inr (ap Err (let h : e ≡ f = cc in h))
+
+pub parsed_plain : (version : Version) (t : Text) (slots : Slots) (trailing : Raw) (is_open : Bool) → IsParsedWith plain version t slots trailing is_open
+    → IsParsedIn version t slots trailing
+parsed_plain version t slots trailing is_open h = record { document = h.document; accepted = h.accepted; only = h.only; tree = h.tree }
 
 -- ---- in TOML 1.1
 

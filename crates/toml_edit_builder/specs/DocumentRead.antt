@@ -1,9 +1,10 @@
 -- What parsing a text gives: the tree of its one cut, or why it is refused.
-use Rattle.std.specs.Prelude.{◌≡◌, ◌⊎◌, Some}
+use Rattle.std.specs.Prelude.{◌≡◌, ◌⊎◌, Bool, Some}
 use Rattle.toml_edit_model.specs.Mode.{Mode}
 use Rattle.toml_edit_model.specs.Text.{Text}
 use Rattle.toml_edit_model.specs.Version.{Version}
 use Rattle.toml_edit_model.specs.Accepted.{AcceptedIn, AcceptedAs}
+use Rattle.toml_edit_model.specs.Normal.{has_open_end}
 use Rattle.toml_edit_model.specs.Syntax.{Document, IsCut}
 use Rattle.toml_edit_model.specs.Tree.{Raw, Slots}
 use Rattle.toml_edit_model.specs.TreeOf.{spanned_form, spanned_in, IsTreeOf}
@@ -58,8 +59,10 @@ module _ (version : Version) where
 -- ---- in a mode
 
 -- The text has one cut, by which the version accepts it, and these slots and this trailing text are the tree of it, read in this mode.
-pub record IsParsedWith (mode : Mode) (version : Version) (t : Text) (slots : Slots) (trailing : Raw) : Type 0 where
+pub record IsParsedWith (mode : Mode) (version : Version) (t : Text) (slots : Slots) (trailing : Raw) (is_open : Bool) : Type 0 where
   pub document : Document
   pub accepted : AcceptedIn version t document
   pub only : (other : Document) → IsCut other t → other ≡ document
   pub tree : IsTreeOf (spanned_in mode) document (tree_of slots trailing)
+  -- whether its last statement has no newline
+  pub open_end : is_open ≡ has_open_end document.statements

@@ -1,9 +1,10 @@
 //! From a text to its tree.
 ghost use Rattle.std.specs.Prelude.{◌≡◌, ◌⊎◌, true, false, IfOk, IfErr, IsOk, IsErrOf};
 ghost use Rattle.toml_edit_model.specs.Accepted.{AcceptedAs, AcceptedIn};
+ghost use Rattle.toml_edit_model.specs.Normal.{has_open_end};
 ghost use Rattle.toml_edit_model.specs.Syntax.{Document};
 ghost use Rattle.toml_edit_error.specs.Fault.{IfToml};
-ghost use Rattle.toml_edit_syntax.specs.Events.{AreEventsOf};
+ghost use Rattle.toml_edit_syntax.specs.Events.{AreEventsOf, events_of};
 ghost use Rattle.toml_edit_syntax.specs.ValueEvents.{are_deep};
 ghost use Rattle.toml_edit_version.specs.Grammar.{grammar};
 ghost use Rattle.toml_edit_tree.specs.View.{slots_view};
@@ -41,36 +42,47 @@ fn cut_short(
     }
 }
 
-/// The slots of a text all of whose events are read, and the text after the last statement.
+/// Whether the last statement has no newline: the text after the statements begins right where the last statement's own text ends.
+fn ends_open(events: &[Event]) -> bool
+    ensures { (d : Document) → events.now ≡ events_of d → result ≡ has_open_end d.statements }
+{
+    match events {
+        [.., line_end, last] => line_end.span.end == last.span.start,
+        // A text without statements has one event.
+        _ => false,
+    }
+}
+
+/// The slots of a text all of whose events are read, the text after the last statement, and whether that statement has no newline.
 fn read_all(
     alloc: Global,
     source: &str,
     events: &[Event],
     version: Version,
     mode: Mode,
-) -> Result<(Slots<Item>, RawString), ParseFault>
+) -> Result<(Slots<Item>, RawString, bool), ParseFault>
     requires cut { AreEventsOf source.now events.now }
     requires spans { AreIn source.now events.now }
     requires whole { are_deep events.now ≡ false }
-    ensures parsed { IfOk result (λ r. IsParsedWith (mode_of mode) (grammar version) source.now (slots_view r.0) r.1) }
+    ensures parsed { IfOk result (λ r. IsParsedWith (mode_of mode) (grammar version) source.now (slots_view r.0) r.1 r.2) }
     ensures every { (d : Document) → AcceptedIn (grammar version) source.now d → IsOk result ⊎ IsErrOf result ParseFault.Memory }
     ensures refused { IfErr result (λ e. IfToml e (IsRefusalIn (grammar version) source.now)) }
 {
-    let built = build(alloc, source, events, version, mode)?;
-    Ok(built)
+    let (slots, trailing) = build(alloc, source, events, version, mode)?;
+    Ok((slots, trailing, ends_open(events)))
 }
 
-/// The slots of a text with these events, and the text after the last statement.
+/// The slots of a text with these events, the text after the last statement, and whether that statement has no newline.
 fn parse_events(
     alloc: Global,
     source: &str,
     events: &[Event],
     version: Version,
     mode: Mode,
-) -> Result<(Slots<Item>, RawString), ParseFault>
+) -> Result<(Slots<Item>, RawString, bool), ParseFault>
     requires cut { AreEventsOf source.now events.now }
     requires spans { AreIn source.now events.now }
-    ensures parsed { IfOk result (λ r. IsParsedWith (mode_of mode) (grammar version) source.now (slots_view r.0) r.1) }
+    ensures parsed { IfOk result (λ r. IsParsedWith (mode_of mode) (grammar version) source.now (slots_view r.0) r.1 r.2) }
     ensures every { (d : Document) → AcceptedIn (grammar version) source.now d → IsOk result ⊎ IsErrOf result ParseFault.Memory }
     ensures refused { IfErr result (λ e. IfToml e (IsRefusalIn (grammar version) source.now)) }
 {
@@ -81,17 +93,17 @@ fn parse_events(
     }
 }
 
-/// The slots of the root of a text's tree, whose keys and values are spans of the text, and the text after the last statement, where this
-/// version of the grammar accepts the text, with its line endings in this mode. The errors are a `TomlError` for a text that is refused, and
-/// want of memory.
+/// The slots of the root of a text's tree, whose keys and values are spans of the text, the text after the last statement, and whether that
+/// statement has no newline, where this version of the grammar accepts the text, with its line endings in this mode. The errors are a
+/// `TomlError` for a text that is refused, and want of memory.
 #[doc(hidden)]
 pub fn parse_with(
     alloc: Global,
     source: &str,
     version: Version,
     mode: Mode,
-) -> Result<(Slots<Item>, RawString), ParseFault>
-    ensures parsed { IfOk result (λ r. IsParsedWith (mode_of mode) (grammar version) source.now (slots_view r.0) r.1) }
+) -> Result<(Slots<Item>, RawString, bool), ParseFault>
+    ensures parsed { IfOk result (λ r. IsParsedWith (mode_of mode) (grammar version) source.now (slots_view r.0) r.1 r.2) }
     // A text that the version accepts is never refused.
     ensures every { (d : Document) → AcceptedIn (grammar version) source.now d → IsOk result ⊎ IsErrOf result ParseFault.Memory }
     ensures refused { IfErr result (λ e. IfToml e (IsRefusalIn (grammar version) source.now)) }
@@ -123,7 +135,8 @@ pub fn parse_in(
     ensures every { (d : Document) → AcceptedIn (grammar version) source.now d → IsOk result ⊎ IsErrOf result ParseFault.Memory }
     ensures refused { IfErr result (λ e. IfToml e (IsRefusalIn (grammar version) source.now)) }
 {
-    parse_with(alloc, source, version, Mode::Plain)
+    let (slots, trailing, _) = parse_with(alloc, source, version, Mode::Plain)?;
+    Ok((slots, trailing))
 }
 
 /// The same in TOML 1.1: the slots of the root of a text's tree, whose keys and values are spans of the text, and the text after the last

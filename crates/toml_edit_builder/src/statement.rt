@@ -28,8 +28,8 @@ use crate::path::{Kind, add_path, add_value};
 use std::alloc::Global;
 use toml_edit_error::ParseFault;
 use toml_edit_parser::{
-    KeyPath, PathKey, next_key, put, raw, read_header, read_key_line, refusal,
-    refusal_of_all, split_first,
+    KeyPath, PathKey, next_key, put, raw, read_header, read_key_line, refusal, refusal_of_all,
+    split_first,
 };
 use toml_edit_repr::{Decor, Mode};
 use toml_edit_slots::Slots;

@@ -3,12 +3,12 @@ use Rattle.std.proofs.Common.{◌≡◌, refl, sym, ◌∙◌, ap, ℤ, pos, Boo
 use Rattle.std.specs.Prelude.{◌&&◌, ◌↔◌, not, int_le, filter, map, is_some, if◌then◌else◌, unwrap_or}
 use Rattle.std.specs.List.{AllByRecursion, list_all}
 use Rattle.std.proofs.lemmas.Bool.{cases_Bool}
-use Rattle.toml_edit_model.specs.Mode.{plain}
+use Rattle.toml_edit_model.specs.Mode.{Mode}
 use Rattle.toml_edit_model.specs.Tree.{Tree}
 use Rattle.toml_edit_model.specs.Order.{insert_by, sorted_by}
 use Rattle.toml_edit_model.specs.HeaderOrder.{Visit, PlacedVisit, visit_of, slots_walk, walk, place_of, places_from, comes_before, in_header_order}
 use Rattle.toml_edit_model.specs.Print.{has_header}
-use Rattle.toml_edit_model.specs.Fits.{Fits, is_too_late, none_too_late, headed, elements_are_ordered}
+use Rattle.toml_edit_model.specs.Fits.{FitsIn, is_too_late, none_too_late, headed, elements_are_ordered}
 use Rattle.toml_edit_laws.specs.PrintByVisits.{root_place}
 use Rattle.toml_edit_laws.proofs.common.Each.{all-map, all-insert}
 use Rattle.toml_edit_laws.proofs.common.Tests.{and_both, true-false, false-by}
@@ -117,10 +117,10 @@ filter-alike P first second same [] h = refl
 filter-alike P first second same (x ∷ xs) h =
     rw (same x h.0) (ap (λ ys. if second x then x ∷ ys else ys) (filter-alike P first second same xs h.1))
 
-abbrev has_own : PlacedVisit → Bool
-has_own v = has_header plain v.1
+module _ (mode : Mode) (t : Tree) where
+  abbrev has_own : PlacedVisit → Bool
+  has_own v = has_header mode v.1
 
-module _ (t : Tree) where
   abbrev below_root : List Visit
   below_root = slots_walk t.slots [] []
 
@@ -130,7 +130,7 @@ module _ (t : Tree) where
   -- those below the root, where these places are seen
   own-heads : (seen : ℤ) → filter has_own (places_from seen (slots_walk t.slots [] [])) ≡ heads seen (slots_walk t.slots [] [])
   own-heads seen =
-      filter-alike (λ (v : PlacedVisit). IsBelowRoot v.1) has_own shows_header (λ v h. has-header plain v h) (places_from seen (slots_walk t.slots [] []))
+      filter-alike (λ (v : PlacedVisit). IsBelowRoot v.1) has_own shows_header (λ v h. has-header mode v h) (places_from seen (slots_walk t.slots [] []))
       (places-all IsBelowRoot seen (slots_walk t.slots [] []) (slots-below t.slots [] []))
 
   with-headers : filter has_own (places_from (pos 0) (walk t)) ≡ heads (root_place t.root) (slots_walk t.slots [] [])
@@ -142,9 +142,9 @@ module _ (t : Tree) where
       by_dot true = own-heads (pos 0)
       by_dot false = own-heads (unwrap_or t.root.position (pos 0))
 
-  headed-is : headed plain t ≡ map (λ (v : PlacedVisit). v.1) (sorted_by comes_before (heads (root_place t.root) (slots_walk t.slots [] [])))
+  headed-is : headed mode t ≡ map (λ (v : PlacedVisit). v.1) (sorted_by comes_before (heads (root_place t.root) (slots_walk t.slots [] [])))
   headed-is =
-      filter-image (λ (v : PlacedVisit). v.1) (has_header plain) (in_header_order t)
+      filter-image (λ (v : PlacedVisit). v.1) (has_header mode) (in_header_order t)
       ∙ ap (map (λ (v : PlacedVisit). v.1)) (filter-sorted comes_before before-trans before-total has_own (places_from (pos 0) (walk t)) ∙ ap (sorted_by comes_before) with-headers)
 
   heads-below : AllByRecursion (λ (v : PlacedVisit). IsBelowRoot v.1) (heads (root_place t.root) (slots_walk t.slots [] []))
@@ -167,14 +167,14 @@ module _ (t : Tree) where
   )
 
   -- none is too late just where the walk finds them in order
-  ordered-walk : elements_are_ordered plain t ≡ true → AllPairs Fine (heads (root_place t.root) (slots_walk t.slots [] []))
+  ordered-walk : elements_are_ordered mode t ≡ true → AllPairs Fine (heads (root_place t.root) (slots_walk t.slots [] []))
   ordered-walk h =
       let hs = heads (root_place t.root) (slots_walk t.slots [] []) in
       let calm = not-late (map (λ (v : PlacedVisit). v.1) (sorted_by comes_before hs)) (ap none_too_late (sym headed-is) ∙ h) in
       let turned = (sorted-pairs comes_before before-trans before-total CalmAt hs).0 (pairs-unimage (λ (v : PlacedVisit). v.1) Calm (sorted_by comes_before hs) calm) in
       pairs-of (λ (v : PlacedVisit). IsBelowRoot v.1) (Turned comes_before CalmAt) Fine hs to-fine heads-below turned
 
-  walk-ordered : SlotsAreApart t.slots → AllPairs Fine (heads (root_place t.root) (slots_walk t.slots [] [])) → elements_are_ordered plain t ≡ true
+  walk-ordered : SlotsAreApart t.slots → AllPairs Fine (heads (root_place t.root) (slots_walk t.slots [] [])) → elements_are_ordered mode t ≡ true
   walk-ordered apart h =
       let hs = heads (root_place t.root) (slots_walk t.slots [] []) in
       let calm : AllPairs CalmAt hs = pairs-filter CalmAt shows_header (places_from (root_place t.root) (slots_walk t.slots [] []))
@@ -199,16 +199,16 @@ module _ (t : Tree) where
   any-place (x ∷ xs) = (refl, any-place xs)
 
   -- a tree that fits passes both tests
-  pub passes : Fits t → (parts_fit t && is_some (order_slots None (root_marks t.root) t.slots)) ≡ true
+  pub passes : FitsIn mode t → (parts_fit mode t && is_some (order_slots None (root_marks t.root) t.slots)) ≡ true
   passes fits =
       let hs = heads (root_place t.root) (slots_walk t.slots [] []) in
-      and_both (parts_fit t) (is_some (order_slots None (root_marks t.root) t.slots))
-      ((parts-decide t).1 (fits.decors, fits.undotted, fits.limits))
+      and_both (parts_fit mode t) (is_some (order_slots None (root_marks t.root) t.slots))
+      ((parts-decide mode t).1 (fits.decors, fits.undotted, fits.limits))
       (ap is_some ((slots-ordered t.slots [] [] None (root_marks t.root)).0 (ordered-walk fits.ordered, any-place hs)))
 
   -- and one that passes them fits
-  pub passing : SlotsAreApart t.slots → parts_fit t ≡ true → is_some (order_slots None (root_marks t.root) t.slots) ≡ true → Fits t
+  pub passing : SlotsAreApart t.slots → parts_fit mode t ≡ true → is_some (order_slots None (root_marks t.root) t.slots) ≡ true → FitsIn mode t
   passing apart parts order =
-      let all = (parts-decide t).0 parts in
+      let all = (parts-decide mode t).0 parts in
       let walked = (slots-ordered t.slots [] [] None (root_marks t.root)).1 apart order in
       record { decors = all.0; undotted = all.1; ordered = walk-ordered apart walked.0; limits = all.2 }

@@ -1,14 +1,21 @@
 -- Which texts are trivia, told byte by byte (TOML 1.1.0, "Comment", "Whitespace" and "Newline").
 use Rattle.std.specs.Prelude.{Bool, true, false, not, ◌&&◌, ◌==◌, if◌then◌else◌, [], ◌∷◌, Option, None, Some, is_some}
 use Rattle.std.specs.List.{list_all}
-use Rattle.toml_edit_model.specs.Text.{Text, line_feed, hash}
+use Rattle.toml_edit_model.specs.Mode.{Mode, plain, exact, line_end}
+use Rattle.toml_edit_model.specs.Text.{Text, line_feed, carriage_return, hash}
 use Rattle.toml_edit_model.specs.Trivia.{is_blank, is_visible}
 
--- Whether a comment is open at the end of trivia, behind one that is open or not; none, where the text is no trivia.
+abbrev pub starts_with_feed : Text → Bool
+starts_with_feed [] = false
+starts_with_feed (c ∷ t) = c == line_feed
+
+-- Whether a comment is open at the end of trivia, behind one that is open or not; none, where the text is no trivia. A carriage return
+-- stands only before a line feed.
 abbrev pub open_after : Bool → Text → Option Bool
 open_after is_open [] = Some is_open
 open_after is_open (c ∷ t) =
     if c == line_feed then open_after false t
+    else if starts_with_feed t && c == carriage_return then open_after is_open t
     else if is_open then (if is_visible c then open_after true t else None)
     else if c == hash then open_after true t
     else if is_blank c then open_after false t
@@ -37,5 +44,11 @@ ends_line_from is_open (c ∷ t) =
     else if c == hash then ends_line_from true t
     else is_blank c && ends_line_from false t
 
-abbrev pub ends_line : Text → Bool
-ends_line t = ends_line_from false t
+-- the same of a suffix, which in the exact mode may end in the carriage return of its newline
+abbrev pub ends_line : Mode → Text → Bool
+ends_line mode t = ends_line_from false (line_end mode t)
+
+-- A carriage return before this text is passed over: in the plain mode it isn't shown, and in the exact mode it begins a newline.
+abbrev pub passes_return : Mode → Text → Bool
+passes_return plain t = true
+passes_return exact t = starts_with_feed t

@@ -1,14 +1,15 @@
 //! Whether a document fits.
 ghost use Rattle.std.specs.Prelude.{◌≡◌, ◌↔◌, IsTrue, None, is_some};
-ghost use Rattle.toml_edit_model.specs.Fits.{Fits};
+ghost use Rattle.toml_edit_model.specs.Fits.{FitsIn};
 ghost use Rattle.toml_edit_model.specs.Tree.{SlotsAreWellMade};
+ghost use Rattle.toml_edit_repr.specs.Modes.{mode_of};
 ghost use Rattle.toml_edit_tree.specs.View.{fields_view, table_slots, tree_view};
 ghost use Rattle.toml_edit_fits.specs.OrderTests as tests;
 
 use crate::made::see_table;
 use crate::order::{Marks, order_slots};
 use crate::table::parts_fit;
-use toml_edit_repr::RawString;
+use toml_edit_repr::{Mode, RawString};
 use toml_edit_tree::Table;
 
 /// The marks before the tables below the root.
@@ -33,15 +34,15 @@ fn headers_are_ordered(root: &Table) -> bool
     order_slots(None, root_marks(root), &root.slots).is_some()
 }
 
-/// Whether the document with this root and this trailing text fits: what is printed around keys, values and headers suits its place,
-/// neither the root nor an element of an array of tables is dotted, the headers of each element stand before those of the next, and paths
-/// and values are within the limits. It takes no memory, and time by the size of the tree.
+/// Whether the document with this root and this trailing text fits in the mode: what is printed around keys, values and headers suits its
+/// place, neither the root nor an element of an array of tables is dotted, the headers of each element stand before those of the next, and
+/// paths and values are within the limits. It takes no memory, and time by the size of the tree.
 #[doc(hidden)]
-pub fn tree_fits(root: &Table, trailing: &RawString) -> bool
-    ensures fits { IsTrue result ↔ Fits (tree_view root.now trailing.now) }
+pub fn tree_fits(mode: Mode, root: &Table, trailing: &RawString) -> bool
+    ensures fits { IsTrue result ↔ FitsIn (mode_of mode) (tree_view root.now trailing.now) }
     // The tree is well made, as its types see to it.
     ensures made { ∥ SlotsAreWellMade (table_slots root.now) ∥₁ }
 {
     see_table(root);
-    parts_fit(root, trailing) && headers_are_ordered(root)
+    parts_fit(mode, root, trailing) && headers_are_ordered(root)
 }

@@ -1,10 +1,11 @@
 //! The keys of a path, one after the other, and what stands around a key and its value.
 ghost use Rattle.std.specs.Prelude.{◌≡◌};
+ghost use Rattle.toml_edit_repr.specs.Modes.{mode_of};
 ghost use Rattle.toml_edit_fits.specs.FitTests as tests;
 
 use crate::trivia::{ends_line, is_white, is_whole};
 use toml_edit_key::Key;
-use toml_edit_repr::Decor;
+use toml_edit_repr::{Decor, Mode};
 
 /// The most keys in a path, and the most brackets that are open at once.
 pub(crate) const NESTING_LIMIT: usize = 80;
@@ -28,51 +29,51 @@ pub(crate) fn no_keys() -> Route
 }
 
 /// Whether the key may end the path.
-pub(crate) fn key_fits(route: Route, key: &Key) -> bool
-    ensures { result ≡ tests.key_fits route key.now }
+pub(crate) fn key_fits(mode: Mode, route: Route, key: &Key) -> bool
+    ensures { result ≡ tests.key_fits (mode_of mode) route key.now }
 {
     route.fits
         && route.room > 0
-        && (route.room == NESTING_LIMIT || is_white(key.dotted_decor().prefix()))
+        && (route.room == NESTING_LIMIT || is_white(mode, key.dotted_decor().prefix()))
 }
 
 /// The path with one more key, before another.
-pub(crate) fn then_key(route: Route, key: &Key) -> Route
-    ensures { result ≡ tests.then_key route key.now }
+pub(crate) fn then_key(mode: Mode, route: Route, key: &Key) -> Route
+    ensures { result ≡ tests.then_key (mode_of mode) route key.now }
 {
     Route {
         room: route.room.saturating_sub(1),
-        fits: key_fits(route, key) && is_white(key.dotted_decor().suffix()),
+        fits: key_fits(mode, route, key) && is_white(mode, key.dotted_decor().suffix()),
     }
 }
 
 /// Whether what stands behind a value suits its place, where so many more brackets may be opened: trivia in brackets, and elsewhere the end
 /// of a line.
-fn may_follow(room: usize, decor: &Decor) -> bool
-    ensures { result ≡ tests.may_follow room decor.now }
+fn may_follow(mode: Mode, room: usize, decor: &Decor) -> bool
+    ensures { result ≡ tests.may_follow (mode_of mode) room decor.now }
 {
     if room == NESTING_LIMIT {
-        ends_line(decor.suffix())
+        ends_line(mode, decor.suffix())
     } else {
-        is_whole(decor.suffix())
+        is_whole(mode, decor.suffix())
     }
 }
 
 /// Whether what stands around a key and its value, of this decor, suits its place, and the path is short enough.
-pub(crate) fn pair_fits(room: usize, route: Route, key: &Key, decor: &Decor) -> bool
-    ensures { result ≡ tests.pair_fits room route key.now decor.now }
+pub(crate) fn pair_fits(mode: Mode, room: usize, route: Route, key: &Key, decor: &Decor) -> bool
+    ensures { result ≡ tests.pair_fits (mode_of mode) room route key.now decor.now }
 {
     let leaf = key.leaf_decor();
-    key_fits(route, key)
-        && is_whole(leaf.prefix())
-        && is_white(leaf.suffix())
-        && is_white(decor.prefix())
-        && may_follow(room, decor)
+    key_fits(mode, route, key)
+        && is_whole(mode, leaf.prefix())
+        && is_white(mode, leaf.suffix())
+        && is_white(mode, decor.prefix())
+        && may_follow(mode, room, decor)
 }
 
 /// Whether what stands around an element of an array is trivia.
-pub(crate) fn element_fits(decor: &Decor) -> bool
-    ensures { result ≡ tests.element_fits decor.now }
+pub(crate) fn element_fits(mode: Mode, decor: &Decor) -> bool
+    ensures { result ≡ tests.element_fits (mode_of mode) decor.now }
 {
-    is_whole(decor.prefix()) && is_whole(decor.suffix())
+    is_whole(mode, decor.prefix()) && is_whole(mode, decor.suffix())
 }

@@ -1,6 +1,7 @@
 //! Whether tables fit, but for the order of their headers.
 ghost use Rattle.std.specs.Prelude.{◌≡◌, ◌&&◌};
 ghost use Rattle.toml_edit_laws.specs.PrintByVisits as visits;
+ghost use Rattle.toml_edit_repr.specs.Modes.{mode_of};
 ghost use Rattle.toml_edit_tree.specs.View.{fields_view, item_view, items_view, slots_view, table_slots};
 ghost use Rattle.toml_edit_fits.specs.FitTests as tests;
 
@@ -8,7 +9,7 @@ use crate::route::{Route, key_fits, no_keys, then_key};
 use crate::trivia::{ends_line, has_newline, is_final, is_white, is_whole};
 use crate::value::lines_fit;
 use toml_edit_key::Key;
-use toml_edit_repr::{Decor, RawString};
+use toml_edit_repr::{Decor, Mode, RawString};
 use toml_edit_slots::Slots;
 use toml_edit_tree::{Item, Table, table_has_lines};
 
@@ -20,45 +21,45 @@ pub(crate) fn has_header(is_element: bool, table: &Table) -> bool
 }
 
 /// Whether what stands around the last key in a header's brackets, of this decor, suits its place.
-fn brackets_fit(decor: &Decor) -> bool
-    ensures { result ≡ tests.brackets_fit decor.now }
+fn brackets_fit(mode: Mode, decor: &Decor) -> bool
+    ensures { result ≡ tests.brackets_fit (mode_of mode) decor.now }
 {
     if has_newline(decor.prefix()) {
-        is_whole(decor.prefix())
+        is_whole(mode, decor.prefix())
     } else {
-        is_white(decor.prefix()) && is_white(decor.suffix())
+        is_white(mode, decor.prefix()) && is_white(mode, decor.suffix())
     }
 }
 
 /// Whether what stands in and around a header suits its place, and its path is short enough.
-fn header_fits(route: Route, key: &Key, decor: &Decor) -> bool
-    ensures { result ≡ tests.header_fits route key.now decor.now }
+fn header_fits(mode: Mode, route: Route, key: &Key, decor: &Decor) -> bool
+    ensures { result ≡ tests.header_fits (mode_of mode) route key.now decor.now }
 {
-    key_fits(route, key)
-        && brackets_fit(key.leaf_decor())
-        && is_whole(decor.prefix())
-        && ends_line(decor.suffix())
+    key_fits(mode, route, key)
+        && brackets_fit(mode, key.leaf_decor())
+        && is_whole(mode, decor.prefix())
+        && ends_line(mode, decor.suffix())
 }
 
 /// Whether the header and the lines of a table fit. A dotted table has neither, and is no element.
-fn table_fits(route: Route, key: &Key, is_element: bool, table: &Table) -> bool
-    ensures { result ≡ tests.table_fits route key.now is_element (fields_view table.now) (table_slots table.now) }
+fn table_fits(mode: Mode, route: Route, key: &Key, is_element: bool, table: &Table) -> bool
+    ensures { result ≡ tests.table_fits (mode_of mode) route key.now is_element (fields_view table.now) (table_slots table.now) }
 {
     if table.is_dotted() {
         return !is_element;
     }
-    (!has_header(is_element, table) || header_fits(route, key, table.decor()))
-        && lines_fit(no_keys(), &table.slots)
+    (!has_header(is_element, table) || header_fits(mode, route, key, table.decor()))
+        && lines_fit(mode, no_keys(), &table.slots)
 }
 
 /// Whether the tables below these slots fit.
 #[cycle(tables)]
-fn tables_fit(route: Route, slots: &Slots<Item>) -> bool
-    ensures { result ≡ tests.tables_fit route (slots_view slots.now) }
+fn tables_fit(mode: Mode, route: Route, slots: &Slots<Item>) -> bool
+    ensures { result ≡ tests.tables_fit (mode_of mode) route (slots_view slots.now) }
 {
     let entries = slots.as_slice();
     'slots: for slot in entries {
-        if !node_fits(route, &slot.key, &slot.item) {
+        if !node_fits(mode, route, &slot.key, &slot.item) {
             return false;
         }
     }
@@ -67,23 +68,23 @@ fn tables_fit(route: Route, slots: &Slots<Item>) -> bool
 
 /// Whether the tables of a slot fit: itself, or its elements, and those below.
 #[cycle(tables)]
-fn node_fits(route: Route, key: &Key, item: &Item) -> bool
-    ensures { result ≡ tests.node_fits route key.now (item_view item.now) }
+fn node_fits(mode: Mode, route: Route, key: &Key, item: &Item) -> bool
+    ensures { result ≡ tests.node_fits (mode_of mode) route key.now (item_view item.now) }
 {
     match item {
-        Item::Table(table) => entered_fits(route, key, false, table),
-        Item::ArrayOfTables(tables) => elements_fit(route, key, &tables.values),
+        Item::Table(table) => entered_fits(mode, route, key, false, table),
+        Item::ArrayOfTables(tables) => elements_fit(mode, route, key, &tables.values),
         Item::None | Item::Value(_) => true,
     }
 }
 
 /// Whether the elements of an array of tables fit, and the tables below them.
 #[cycle(tables)]
-fn elements_fit(route: Route, key: &Key, items: &Vec<Item>) -> bool
-    ensures { result ≡ tests.elements_fit route key.now (items_view items.now.items) }
+fn elements_fit(mode: Mode, route: Route, key: &Key, items: &Vec<Item>) -> bool
+    ensures { result ≡ tests.elements_fit (mode_of mode) route key.now (items_view items.now.items) }
 {
     'items: for item in items {
-        if !as_element_fits(route, key, item) {
+        if !as_element_fits(mode, route, key, item) {
             return false;
         }
     }
@@ -92,41 +93,42 @@ fn elements_fit(route: Route, key: &Key, items: &Vec<Item>) -> bool
 
 /// Whether an item of an array of tables fits. One that is no table isn't printed.
 #[cycle(tables)]
-fn as_element_fits(route: Route, key: &Key, item: &Item) -> bool
-    ensures { result ≡ tests.as_element_fits route key.now (item_view item.now) }
+fn as_element_fits(mode: Mode, route: Route, key: &Key, item: &Item) -> bool
+    ensures { result ≡ tests.as_element_fits (mode_of mode) route key.now (item_view item.now) }
 {
     match item {
-        Item::Table(table) => entered_fits(route, key, true, table),
+        Item::Table(table) => entered_fits(mode, route, key, true, table),
         Item::None | Item::Value(_) | Item::ArrayOfTables(_) => true,
     }
 }
 
 /// Whether a table fits, and those below it.
 #[cycle(tables)]
-fn entered_fits(route: Route, key: &Key, is_element: bool, table: &Table) -> bool
+fn entered_fits(mode: Mode, route: Route, key: &Key, is_element: bool, table: &Table) -> bool
     ensures { result
-        ≡ (tests.table_fits route key.now is_element (fields_view table.now) (table_slots table.now)
-        && tests.tables_fit (tests.then_key route key.now) (table_slots table.now)) }
+        ≡ (tests.table_fits (mode_of mode) route key.now is_element (fields_view table.now) (table_slots table.now)
+        && tests.tables_fit (mode_of mode) (tests.then_key (mode_of mode) route key.now) (table_slots table.now)) }
 {
-    table_fits(route, key, is_element, table) && tables_fit(then_key(route, key), &table.slots)
+    table_fits(mode, route, key, is_element, table)
+        && tables_fit(mode, then_key(mode, route, key), &table.slots)
 }
 
 /// Whether what stands around the root suits its place, and its lines fit. The root is not dotted.
-fn root_fits(root: &Table, trailing: &RawString) -> bool
-    ensures { result ≡ tests.root_fits (fields_view root.now) (table_slots root.now) trailing.now }
+fn root_fits(mode: Mode, root: &Table, trailing: &RawString) -> bool
+    ensures { result ≡ tests.root_fits (mode_of mode) (fields_view root.now) (table_slots root.now) trailing.now }
 {
     !root.is_dotted()
-        && lines_fit(no_keys(), &root.slots)
-        && is_whole(root.decor().prefix())
-        && is_whole(root.decor().suffix())
-        && is_final(Some(trailing))
+        && lines_fit(mode, no_keys(), &root.slots)
+        && is_whole(mode, root.decor().prefix())
+        && is_whole(mode, root.decor().suffix())
+        && is_final(mode, Some(trailing))
 }
 
 /// Whether all of a document fits but the order of its headers: what is printed suits its place, no element and not the root is dotted,
 /// and paths and values are within their limits.
-pub(crate) fn parts_fit(root: &Table, trailing: &RawString) -> bool
+pub(crate) fn parts_fit(mode: Mode, root: &Table, trailing: &RawString) -> bool
     ensures { result
-        ≡ (tests.root_fits (fields_view root.now) (table_slots root.now) trailing.now && tests.tables_fit tests.no_keys (table_slots root.now)) }
+        ≡ (tests.root_fits (mode_of mode) (fields_view root.now) (table_slots root.now) trailing.now && tests.tables_fit (mode_of mode) tests.no_keys (table_slots root.now)) }
 {
-    root_fits(root, trailing) && tables_fit(no_keys(), &root.slots)
+    root_fits(mode, root, trailing) && tables_fit(mode, no_keys(), &root.slots)
 }

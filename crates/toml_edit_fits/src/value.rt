@@ -1,27 +1,31 @@
 //! Whether values and lines fit.
 ghost use Rattle.std.specs.Prelude.{◌≡◌};
+ghost use Rattle.toml_edit_repr.specs.Modes.{mode_of};
 ghost use Rattle.toml_edit_tree.specs.View.{item_view, items_view, slots_view, value_view};
 ghost use Rattle.toml_edit_fits.specs.FitTests as tests;
 
 use crate::route::{NESTING_LIMIT, Route, element_fits, no_keys, pair_fits, then_key};
 use crate::trivia::is_whole;
 use toml_edit_key::Key;
+use toml_edit_repr::Mode;
 use toml_edit_slots::Slots;
 use toml_edit_tree::{Item, Value};
 
 /// Whether what is printed inside a value suits its place, and no more than so many brackets are opened in it, and its keys are short.
 #[cycle(value)]
-pub(crate) fn value_fits(room: usize, value: &Value) -> bool
-    ensures { result ≡ tests.value_fits room (value_view value.now) }
+pub(crate) fn value_fits(mode: Mode, room: usize, value: &Value) -> bool
+    ensures { result ≡ tests.value_fits (mode_of mode) room (value_view value.now) }
 {
     match value {
         Value::Array(array) => {
-            room > 0 && is_whole(Some(array.trailing())) && items_fit(room - 1, &array.values)
+            room > 0
+                && is_whole(mode, Some(array.trailing()))
+                && items_fit(mode, room - 1, &array.values)
         }
         Value::InlineTable(table) => {
             room > 0
-                && is_whole(Some(table.trailing()))
-                && inside_fits(room - 1, no_keys(), &table.items)
+                && is_whole(mode, Some(table.trailing()))
+                && inside_fits(mode, room - 1, no_keys(), &table.items)
         }
         Value::String(_)
         | Value::Integer(_)
@@ -33,11 +37,11 @@ pub(crate) fn value_fits(room: usize, value: &Value) -> bool
 
 /// Whether the elements of an array do.
 #[cycle(value)]
-fn items_fit(room: usize, items: &Vec<Item>) -> bool
-    ensures { result ≡ tests.items_fit room (items_view items.now.items) }
+fn items_fit(mode: Mode, room: usize, items: &Vec<Item>) -> bool
+    ensures { result ≡ tests.items_fit (mode_of mode) room (items_view items.now.items) }
 {
     'items: for item in items {
-        if !item_fits(room, item) {
+        if !item_fits(mode, room, item) {
             return false;
         }
     }
@@ -46,23 +50,23 @@ fn items_fit(room: usize, items: &Vec<Item>) -> bool
 
 /// Whether an item of an array does. One that is no value isn't printed.
 #[cycle(value)]
-fn item_fits(room: usize, item: &Item) -> bool
-    ensures { result ≡ tests.item_fits room (item_view item.now) }
+fn item_fits(mode: Mode, room: usize, item: &Item) -> bool
+    ensures { result ≡ tests.item_fits (mode_of mode) room (item_view item.now) }
 {
     match item {
-        Item::Value(value) => element_fits(value.decor()) && value_fits(room, value),
+        Item::Value(value) => element_fits(mode, value.decor()) && value_fits(mode, room, value),
         Item::None | Item::Table(_) | Item::ArrayOfTables(_) => true,
     }
 }
 
 /// Whether the pairs in an inline table do, with the keys so far.
 #[cycle(value)]
-fn inside_fits(room: usize, route: Route, slots: &Slots<Item>) -> bool
-    ensures { result ≡ tests.inside_fits room route (slots_view slots.now) }
+fn inside_fits(mode: Mode, room: usize, route: Route, slots: &Slots<Item>) -> bool
+    ensures { result ≡ tests.inside_fits (mode_of mode) room route (slots_view slots.now) }
 {
     let entries = slots.as_slice();
     'slots: for slot in entries {
-        if !pair_slot_fits(room, route, &slot.key, &slot.item) {
+        if !pair_slot_fits(mode, room, route, &slot.key, &slot.item) {
             return false;
         }
     }
@@ -71,27 +75,27 @@ fn inside_fits(room: usize, route: Route, slots: &Slots<Item>) -> bool
 
 /// Whether a slot of an inline table does: its pair, or the pairs in a table.
 #[cycle(value)]
-fn pair_slot_fits(room: usize, route: Route, key: &Key, item: &Item) -> bool
-    ensures { result ≡ tests.pair_slot_fits room route key.now (item_view item.now) }
+fn pair_slot_fits(mode: Mode, room: usize, route: Route, key: &Key, item: &Item) -> bool
+    ensures { result ≡ tests.pair_slot_fits (mode_of mode) room route key.now (item_view item.now) }
 {
     match item {
-        Item::Value(value) => pair_value_fits(room, route, key, value),
-        Item::Table(table) => inside_fits(room, then_key(route, key), &table.slots),
+        Item::Value(value) => pair_value_fits(mode, room, route, key, value),
+        Item::Table(table) => inside_fits(mode, room, then_key(mode, route, key), &table.slots),
         Item::None | Item::ArrayOfTables(_) => true,
     }
 }
 
 /// Whether the pair of a value does, or those in a dotted inline table.
 #[cycle(value)]
-fn pair_value_fits(room: usize, route: Route, key: &Key, value: &Value) -> bool
-    ensures { result ≡ tests.pair_slot_fits room route key.now (value_view value.now) }
+fn pair_value_fits(mode: Mode, room: usize, route: Route, key: &Key, value: &Value) -> bool
+    ensures { result ≡ tests.pair_slot_fits (mode_of mode) room route key.now (value_view value.now) }
 {
     match value {
         Value::InlineTable(table) => {
             if table.is_dotted() {
-                inside_fits(room, then_key(route, key), &table.items)
+                inside_fits(mode, room, then_key(mode, route, key), &table.items)
             } else {
-                pair_fits(room, route, key, value.decor()) && value_fits(room, value)
+                pair_fits(mode, room, route, key, value.decor()) && value_fits(mode, room, value)
             }
         }
         Value::String(_)
@@ -100,19 +104,19 @@ fn pair_value_fits(room: usize, route: Route, key: &Key, value: &Value) -> bool
         | Value::Boolean(_)
         | Value::Datetime(_)
         | Value::Array(_) => {
-            pair_fits(room, route, key, value.decor()) && value_fits(room, value)
+            pair_fits(mode, room, route, key, value.decor()) && value_fits(mode, room, value)
         }
     }
 }
 
 /// Whether the lines of a table fit, with the keys so far.
 #[cycle(lines)]
-pub(crate) fn lines_fit(route: Route, slots: &Slots<Item>) -> bool
-    ensures { result ≡ tests.lines_fit route (slots_view slots.now) }
+pub(crate) fn lines_fit(mode: Mode, route: Route, slots: &Slots<Item>) -> bool
+    ensures { result ≡ tests.lines_fit (mode_of mode) route (slots_view slots.now) }
 {
     let entries = slots.as_slice();
     'slots: for slot in entries {
-        if !slot_fits(route, &slot.key, &slot.item) {
+        if !slot_fits(mode, route, &slot.key, &slot.item) {
             return false;
         }
     }
@@ -121,13 +125,13 @@ pub(crate) fn lines_fit(route: Route, slots: &Slots<Item>) -> bool
 
 /// Whether the lines of a slot of a table do: of a value, or of a dotted table.
 #[cycle(lines)]
-fn slot_fits(route: Route, key: &Key, item: &Item) -> bool
-    ensures { result ≡ tests.slot_fits route key.now (item_view item.now) }
+fn slot_fits(mode: Mode, route: Route, key: &Key, item: &Item) -> bool
+    ensures { result ≡ tests.slot_fits (mode_of mode) route key.now (item_view item.now) }
 {
     match item {
-        Item::Value(value) => pair_value_fits(NESTING_LIMIT, route, key, value),
+        Item::Value(value) => pair_value_fits(mode, NESTING_LIMIT, route, key, value),
         Item::Table(table) => {
-            !table.is_dotted() || lines_fit(then_key(route, key), &table.slots)
+            !table.is_dotted() || lines_fit(mode, then_key(mode, route, key), &table.slots)
         }
         Item::None | Item::ArrayOfTables(_) => true,
     }

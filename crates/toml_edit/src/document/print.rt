@@ -1,9 +1,8 @@
 //! The print of a document, written to an output.
 ghost use Rattle.std.specs.Prelude.{◌≡◌, false, true, OnOk, IsErrOf};
 ghost use Rattle.std.specs.Io.KnownBytes.{Appends};
-ghost use Rattle.toml_edit_model.specs.Print.{print as printed};
 ghost use Rattle.toml_edit_stream.specs.Whole.{AppendsBeginning};
-ghost use Rattle.toml_edit.specs.DocumentView.{tree_owned};
+ghost use Rattle.toml_edit.specs.DocumentView.{print_of};
 
 use super::DocumentMut;
 use std::alloc::{AllocError, Global};
@@ -61,11 +60,11 @@ impl DocumentMut {
     /// before anything is written, and a fault of the output, which holds a beginning of the text then.
     pub fn print_to<W: Output>(&self, alloc: Global, out: &mut W) -> Result<(), PrintFault>
         requires { W.has_failed out.old ≡ false }
-        ensures prints { OnOk result (Appends (W.contents out.old) (W.contents out.new) (printed (tree_owned self.now))) }
+        ensures prints { OnOk result (Appends (W.contents out.old) (W.contents out.new) (print_of self.now)) }
         ensures works { OnOk result (W.has_failed out.new ≡ false) }
         ensures memory { IsErrOf result PrintFault.Memory → out.new ≡ out.old }
         ensures device { IsErrOf result PrintFault.Device → (W.has_failed out.new ≡ true)
-            × AppendsBeginning (W.contents out.old) (W.contents out.new) (printed (tree_owned self.now)) }
+            × AppendsBeginning (W.contents out.old) (W.contents out.new) (print_of self.now) }
     {
         let text = self.print(alloc)?;
         write_all(out, text.as_bytes())?;

@@ -8,19 +8,19 @@ use Rattle.toml_edit_repr.specs.Modes.{mode_of}
 use Rattle.toml_edit_builder.proofs.WholeLaws.{parsed, not_refused, refusal_is}
 use Rattle.toml_edit_builder.proofs.document.read_all.Goals as goal
 
-pub returns-in_err-built-clause-every : goal.returns-in_err-built-clause-every
-returns-in_err-built-clause-every c =
+pub returns-in_err-slots-clause-every : goal.returns-in_err-slots-clause-every
+returns-in_err-slots-clause-every c =
     λ d accepted.
     let p = err_from_is_err_and c.from_residual.result c.from_residual.ensures.1 in
-    rw (p.1, p.2) (inr (ap Err (not_refused (mode_of c.args.mode) (grammar c.args.version) c.args.source.now c.args.events.now c.requires.cut c.in_err-built.field-0.0 c.in_err-built.ensures.built d accepted)))
+    rw (p.1, p.2) (inr (ap Err (not_refused (mode_of c.args.mode) (grammar c.args.version) c.args.source.now c.args.events.now c.requires.cut c.in_err-slots.field-0.0 c.in_err-slots.ensures.built d accepted)))
 
-pub returns-in_err-built-clause-refused : goal.returns-in_err-built-clause-refused
-returns-in_err-built-clause-refused c =
+pub returns-in_err-slots-clause-refused : goal.returns-in_err-slots-clause-refused
+returns-in_err-slots-clause-refused c =
     let p = err_from_is_err_and c.from_residual.result c.from_residual.ensures.1 in
     rw (p.1, p.2)
-    (refusal_is (mode_of c.args.mode) (grammar c.args.version) c.args.source.now c.args.events.now c.requires.cut c.in_err-built.field-0.0 c.in_err-built.ensures.built c.in_err-built.ensures.input)
+    (refusal_is (mode_of c.args.mode) (grammar c.args.version) c.args.source.now c.args.events.now c.requires.cut c.in_err-slots.field-0.0 c.in_err-slots.ensures.built c.in_err-slots.ensures.input)
 
 pub returns-clause-parsed : goal.returns-clause-parsed
 returns-clause-parsed c =
-    parsed (mode_of c.args.mode) (grammar c.args.version) c.args.source.now c.args.events.now c.requires.cut (slots_view c.in_ok-built.built.0) c.in_ok-built.built.1 c.in_ok-built.ensures.built
-    c.requires.whole
+    parsed (mode_of c.args.mode) (grammar c.args.version) c.args.source.now c.args.events.now c.requires.cut (slots_view c.in_ok-slots.slots) c.in_ok-slots.trailing
+    c.ends_open.result c.in_ok-slots.ensures.built c.requires.whole c.ends_open.ensures

@@ -4,7 +4,7 @@ use Rattle.toml_edit_model.specs.Tree.{Tree, SlotsAreWellMade}
 use Rattle.toml_edit_model.specs.OwnedForm.{DecorFits, RawFits, SlotsFit, owned_slots, owned_fields, owned_raw}
 use Rattle.toml_edit_tree.specs.View.{tree_view}
 use Rattle.toml_edit_tree.specs.declared.item.Item.TheVariants as items
-use Rattle.toml_edit.specs.DocumentView.{source, tree_read}
+use Rattle.toml_edit.specs.DocumentView.{mode_read, source, tree_read}
 use Rattle.toml_edit.specs.Roots.{tree_under}
 use Rattle.toml_edit.proofs.RootLaws.{tree-under}
 use Rattle.toml_edit.proofs.OwnLaws.{over-root, over-slots, over-trailing, over-true, owned-parts, stays-tree}
@@ -46,4 +46,4 @@ returns-clause-normal g c =
     (c.in_ok-despan.ensures.fields ∙ ap (λ (x : Tree). owned_fields u x.root) as_read)
     (c.in_ok-despan.ensures.slots ∙ ap (λ (x : Tree). owned_slots u x.slots) as_read)
     (c.in_ok-despan-2.ensures.ok ∙ ap (λ v. owned_raw v c.args.self.trailing) (c.text-2.ensures ∙ sym c.text.ensures) ∙ ap (λ (x : Tree). owned_raw u x.trailing) as_read) in
-    stays-tree (source c.args.self) read (tree_under (items.Table c.despan.new.self) c.despan-2.new.self) (as_own ∙ is_owned)
+    stays-tree (mode_read c.args.self) (source c.args.self) read (tree_under (items.Table c.despan.new.self) c.despan-2.new.self) (as_own ∙ is_owned)

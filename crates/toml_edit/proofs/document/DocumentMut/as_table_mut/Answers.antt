@@ -10,7 +10,7 @@ use Rattle.toml_edit.proofs.document.DocumentMut.as_table_mut.Goals as goal
 pub returns : goal.returns
 returns c =
     let view = ap item_view c.in-Table.is ∙ view-table c.in-Table.table in (
-      (refl, λ w. same-parts _ _ (rw c.in-Table.is (search (rules, the_lemmas))) refl),
+      (refl, λ w. same-parts _ _ (rw c.in-Table.is (search (rules, the_lemmas))) refl refl refl),
       record {
         writes_back = tt;
         fields = ap fields_view c.in-Table.table-is ∙ sym (ap (λ (n : Node). (tree_at n c.args.self.now.trailing).root) view);

@@ -55,8 +55,9 @@ returns c =
         λ w _. (
           ap (written_under k (item_view w)) (root-is d t f s) ∙ c.index_or_insert.ensures.leaves w ∙ ap Some (sym (root-under (item_put k w t) d.trailing)),
           trailing-at (item_view (items.Table (item_put k w t))) d.trailing ∙ sym (trailing-at (item_view d.root) d.trailing),
+          (refl, refl),
         ),
-        on_err r (tree-under (items.Table t) t d.trailing refl ∙ stays d t f s),
+        on_err r (tree-under (items.Table t) t d.trailing refl ∙ stays d t f s, (refl, refl)),
       ),
       (
         subst (λ n. IfOk r (λ lent. lent_under k n ≡ Some (item_view lent.now))) (sym (root-is d t f s)) c.index_or_insert.ensures.item,

@@ -1,0 +1,87 @@
+-- The text with an open end is that with a closed one, but for the newline of the last statement, which may be cut off.
+use Rattle.std.proofs.Common.{◌≡◌, ℕ, zero, suc, ◌+◌, ◌-◌, ◌<◌, ◌≤◌, Bool, true, false, [], ◌∷◌, ◌++◌, Option, None, Some, length, get_or, take, refl, sym, ap, subst, ◌∙◌, arith, length-append, IsUtf8, IsAscii, IsCharBoundary, lit<}
+use Rattle.std.specs.Prelude.{◌==◌, if◌then◌else◌, slice_index}
+use Rattle.std.proofs.lemmas.List.{take-append-le}
+use Rattle.std.proofs.lemmas.Str.{IsCharBoundary-at_seam, IsUtf8-from_ascii, IsUtf8-nil}
+use Rattle.toml_edit_model.specs.Mode.{Mode, plain, exact, ends_in_return}
+use Rattle.toml_edit_model.specs.Text.{Text, carriage_return, newline}
+use Rattle.toml_edit_model.specs.Tree.{Decor, Tree, shown_suffix}
+use Rattle.toml_edit_model.specs.Print.{leaves_open, print_in}
+use Rattle.toml_edit_laws.proofs.accepted_prints.OpenEnds.{open-prints}
+use Rattle.toml_edit.specs.LastLines.{last_statement, newline_of}
+use Rattle.toml_edit.proofs.LastLineLaws.{last-newline-is}
+
+-- ---- the print
+
+-- where the end is left open, the newline of the last statement is left out
+pub open-print : (mode : Mode) (is_open : Bool) (t : Tree) → leaves_open mode is_open t ≡ true
+    → print_in mode is_open t ++ newline_of exact (last_statement t.root t.slots) ≡ print_in mode false t
+open-print plain is_open t e = absurd cc
+open-print exact false t e = absurd cc
+open-print exact true t e = ap (λ (n : Text). print_in exact true t ++ n) (sym (last-newline-is exact t)) ∙ (open-prints exact t).0 e
+
+-- else nothing is
+pub closed-print : (mode : Mode) (is_open : Bool) (t : Tree) → leaves_open mode is_open t ≡ false → print_in mode is_open t ≡ print_in mode false t
+closed-print mode true t e = (open-prints mode t).1 e
+closed-print mode false t e = refl
+
+-- ---- the cut
+
+lf-ascii : IsAscii newline
+lf-ascii zero = lit< tt
+lf-ascii (suc i) = lit< tt
+
+crlf-ascii : IsAscii (carriage_return ∷ newline)
+crlf-ascii zero = lit< tt
+crlf-ascii (suc zero) = lit< tt
+crlf-ascii (suc (suc i)) = lit< tt
+
+pub newline-utf8 : (d : Option Decor) → IsUtf8 (newline_of exact d)
+newline-utf8 None = IsUtf8-nil
+newline-utf8 (Some d) = by_test (ends_in_return (shown_suffix exact [] d))
+  where
+    by_test : (b : Bool) → IsUtf8 (if b then carriage_return ∷ newline else newline)
+    by_test true = IsUtf8-from_ascii (carriage_return ∷ newline) crlf-ascii
+    by_test false = IsUtf8-from_ascii newline lf-ascii
+
+-- the text may be cut there
+abbrev pub MayBeCut : Text → ℕ → Type 0
+MayBeCut t n = (n ≤ length t) × (0 < n → n < length t → 128 ≤ slice_index t n → 192 ≤ slice_index t n)
+
+module _ (whole front end : Text) (n : ℕ) (e : front ++ end ≡ whole) (is : n ≡ length end) where
+  lengths : length front + n ≡ length whole
+  lengths = ap (λ m. length front + m) is ∙ sym (length-append front end) ∙ ap length e
+
+  -- the end is no longer than the whole
+  pub end-fits : n ≤ length whole
+  end-fits = let h = lengths in omega arith
+
+  where-cut : length whole - n ≡ length front
+  where-cut = let h = lengths in omega arith
+
+  pub front-taken : take (length whole - n) whole ≡ front
+  front-taken =
+      ap (λ m. take m whole) where-cut ∙ ap (take (length front)) (sym e) ∙ take-append-le (length front) front end (omega arith) ∙ take-all front
+    where
+      take-all : (t : Text) → take (length t) t ≡ t
+      take-all [] = refl
+      take-all (c ∷ t) = ap (λ u. c ∷ u) (take-all t)
+
+  -- no character is cut
+  pub cut-between : IsUtf8 end → MayBeCut whole (length whole - n)
+  cut-between h =
+      let at = subst (IsCharBoundary whole) (sym where-cut) (IsCharBoundary-at_seam whole front end (sym e) h) in
+      (at.0, λ some. at.1)
+
+-- ---- how a text ends
+
+-- the last byte tells whether it ends in CR
+pub last-return : (t : Text) → (slice_index t (length t - 1) == carriage_return) ≡ ends_in_return t
+last-return [] = refl
+last-return (c ∷ []) = refl
+last-return (c ∷ d ∷ t) =
+    let one : length (c ∷ d ∷ t) - 1 ≡ suc (length t) = omega arith in
+    let other : length t ≡ length (d ∷ t) - 1 = omega arith in
+    ap (λ n. get_or (c ∷ d ∷ t) n 0 == carriage_return) one
+    ∙ ap (λ n. get_or (d ∷ t) n 0 == carriage_return) other
+    ∙ last-return (d ∷ t)

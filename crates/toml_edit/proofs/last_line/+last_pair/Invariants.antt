@@ -1,0 +1,10 @@
+-- What was found, with the slots to come, gives what is found in all.
+use Rattle.std.proofs.Common.{◌≡◌, drop}
+use Rattle.std.specs.Option.{option_copied}
+use Rattle.toml_edit_laws.specs.PrintByVisits.{last_pair}
+use Rattle.toml_edit_tree.specs.View.{slots_view}
+use Rattle.toml_edit.proofs.last_line.+last_pair.Given as goal
+
+abbrev pub invariant-last_of_pairs-slots : goal.invariant-last_of_pairs-slots
+invariant-last_of_pairs-slots l =
+    last_pair (slots_view (drop l.slot-index l.entries)) (option_copied l.last) ≡ last_pair (slots_view l.entries) (option_copied l.initial.last)
