@@ -1,16 +1,17 @@
 -- How a run ends.
-use Rattle.std.proofs.Common.{◌≡◌, refl, sym, ap, subst, ◌∙◌, Bool, true, List, [], ◌∷◌, length, Option, None, Some, inl, inr, arith, IsUtf8, string_bytes}
+use Rattle.std.proofs.Common.{◌≡◌, refl, sym, ap, subst, ◌∙◌, Bool, true, false, List, [], ◌∷◌, length, Option, None, Some, inl, inr, arith, IsUtf8, string_bytes}
 use Rattle.std.proofs.lemmas.Bool.{false≢true}
 use Rattle.std.specs.Prelude.{IfSome}
 use Rattle.toml_edit_model.specs.Syntax.{Document}
 use Rattle.toml_edit_model.specs.Text.{Text}
+use Rattle.toml_edit_model.specs.Mode.{Mode}
 use Rattle.toml_edit_model.specs.Version.{Version}
-use Rattle.toml_edit_model.specs.Tree.{Node, Tree}
-use Rattle.toml_edit_command.specs.Mistakes.{InRead, InWords, usage_line}
+use Rattle.toml_edit_model.specs.Tree.{Node}
+use Rattle.toml_edit_command.specs.Mistakes.{InRead, InTree, InWords, usage_line}
 use Rattle.toml_edit_command.specs.Run.{Begins, BeginsCommand, Does, DoesCommand, IsNotAccepted, Tells, TellsMistake, TellsRefusal}
-use Rattle.toml_edit_command.specs.Steps.{BeganToWrite, Outcome, StopsDoing, StopsInWords, TellsStop, WroteRead, status_of}
+use Rattle.toml_edit_command.specs.Steps.{BeganToWrite, Outcome, StopsActing, StopsDoing, StopsInWords, TellsStop, WroteRead, status_of}
 use Rattle.toml_edit_command.specs.Words.{Action, printing, getting, setting, removing, Asked, IsCommand, IsSet, Says, SpellsPath, SpellsValue, TakesPath}
-use Rattle.toml_edit_command.specs.Written.{IsReadAs}
+use Rattle.toml_edit_command.specs.Written.{Held, IsHeldAs, IsHeldOf, IsReadOf}
 use Rattle.toml_edit_command.specs.declared.stop.Mistake.{Mistake}
 use Rattle.toml_edit_command.specs.declared.stop.Mistake.TheVariants as mistakes
 use Rattle.toml_edit_command.specs.declared.stop.Stop.{Stop}
@@ -100,40 +101,66 @@ wrong-words q WriteFailed old new failed stops wrong told = absurd stops
 
 -- ---- what was done, and what stopped it
 
-module _ (q : Asked) (a : Action) (said : Says q a) (version : Version) (same : version ≡ q.version) (known : Option Text) where
-  does : (known old new : Option Text) → WroteRead version a known old new → Does version a known old new
-  does None old new wrote = tt
-  does (Some bytes) old new (d, t, is, (x, made, grew)) = (d, t, is, (x, made-written q a said version bytes d t is x made, grew))
+module _ (q : Asked) (a : Action) (said : Says q a) (mode : Mode) (in_mode : mode ≡ q.mode) (version : Version) (same : version ≡ q.version)
+    (known : Option Text) where
+  -- what is said in this mode and version is said in those that are asked for
+  as_asked : (P : Mode → Version → Type 0) → P mode version → P q.mode q.version
+  as_asked P h = subst (λ v. P q.mode v) same (subst (λ m. P m version) in_mode h)
 
-  pub does-command : (old new : Option Text) → WroteRead version a known old new → DoesCommand q known old new
-  does-command old new wrote = (a, said, subst (λ v. Does v a known old new) same (does known old new wrote))
+  does : (known old new : Option Text) → WroteRead mode version a known old new → Does mode version a known old new
+  does None old new wrote = tt
+  does (Some bytes) old new (d, h, is, (x, made, grew)) = (d, h.tree, is.read, (x, made-written mode version bytes d h is q a said x made, grew))
+
+  pub does-command : (old new : Option Text) → WroteRead mode version a known old new → DoesCommand q known old new
+  does-command old new wrote = (a, said, as_asked (λ m v. Does m v a known old new) (does known old new wrote))
 
   begins : (known old new : Option Text)
-      → IfSome known (λ bytes. (d : Document) × (t : Tree) × IsReadAs version bytes d t × BeganToWrite a t old new) → Begins version a known old new
+      → IfSome known (λ bytes. (d : Document) × (h : Held) × IsHeldAs mode version bytes d h × BeganToWrite a h old new) → Begins mode version a known old new
   begins None old new began = tt
-  begins (Some bytes) old new (d, t, is, (x, made, grew)) = (d, t, is, (x, made-written q a said version bytes d t is x made, grew))
+  begins (Some bytes) old new (d, h, is, (x, made, grew)) = (d, h.tree, is.read, (x, made-written mode version bytes d h is q a said x made, grew))
 
   module _ (failed : Bool) (s : Outcome) where
-    pub begins-command : (stop : Stop) → StopsDoing version a known failed s stop → s.failed ≡ true → BeginsCommand q known s.old s.new
+    pub begins-command : (stop : Stop) → StopsDoing mode version a known failed s stop → s.failed ≡ true → BeginsCommand q known s.old s.new
     begins-command (Mistaken m) stops h = absurd (false≢true (sym stops.2.1 ∙ h))
     begins-command NotUtf8 stops h = absurd (false≢true (sym stops.1.1 ∙ h))
     begins-command (Refused e) stops h = absurd (false≢true (sym stops.1.1 ∙ h))
     begins-command Memory stops h = absurd (false≢true (sym stops.1.1 ∙ h))
     begins-command ReadFailed stops h = absurd (false≢true (sym stops.1.1 ∙ h))
-    begins-command WriteFailed stops h = (a, said, subst (λ v. Begins v a known s.old s.new) same (begins known s.old s.new stops.1))
+    begins-command WriteFailed stops h = (a, said, as_asked (λ m v. Begins m v a known s.old s.new) (begins known s.old s.new stops.1))
 
-    pub tells-mistake : (stop : Stop) (old new : Option Text) (broken : Bool) → StopsDoing version a known failed s stop → status_of stop ≡ 2
+    pub tells-mistake : (stop : Stop) (old new : Option Text) (broken : Bool) → StopsDoing mode version a known failed s stop → status_of stop ≡ 2
         → TellsStop stop old new broken → TellsMistake q known old new broken
-    tells-mistake (Mistaken m) old new broken stops two told = (m, inr (a, said, subst (λ v. InRead v a known m) same stops.0), told)
+    tells-mistake (Mistaken m) old new broken stops two told = (m, inr (a, said, as_asked (λ w v. InRead w v a known m) stops.0), told)
     tells-mistake NotUtf8 old new broken stops two told = absurd (omega (arith, two))
     tells-mistake (Refused e) old new broken stops two told = absurd (omega (arith, two))
     tells-mistake Memory old new broken stops two told = absurd (omega (arith, two))
     tells-mistake ReadFailed old new broken stops two told = absurd (omega (arith, two))
     tells-mistake WriteFailed old new broken stops two told = absurd (omega (arith, two))
 
+-- what stops the action on what is held of what was read stops the command
+module _ (mode : Mode) (version : Version) (a : Action) (h : Held) (in_mode : h.mode ≡ mode) where
+  read-of : (known : Option Text) → IfSome known (λ bytes. IsHeldOf mode version bytes h) → IfSome known (λ bytes. IsReadOf mode version bytes h.tree)
+  read-of None is = tt
+  read-of (Some bytes) (d, is) = (d, is.read)
+
+  began : (known : Option Text) (old new : Option Text) → IfSome known (λ bytes. IsHeldOf mode version bytes h) → BeganToWrite a h old new
+      → IfSome known (λ bytes. (d : Document) × (k : Held) × IsHeldAs mode version bytes d k × BeganToWrite a k old new)
+  began None old new is wrote = tt
+  began (Some bytes) old new (d, is) wrote = (d, h, is, wrote)
+
+  pub stops-doing : (known : Option Text) → IfSome known (λ bytes. IsHeldOf mode version bytes h) → (failed : Bool) → failed ≡ false → (s : Outcome)
+      → (stop : Stop) → StopsActing a h s stop → StopsDoing mode version a known failed s stop
+  stops-doing known is failed works s (Mistaken m) stops =
+      ((h.tree, subst (λ n. InTree n a h.tree m) in_mode stops.0, read-of known is), works, stops.1)
+  stops-doing known is failed works s NotUtf8 stops = absurd stops
+  stops-doing known is failed works s (Refused e) stops = absurd stops
+  stops-doing known is failed works s Memory stops = (works, stops)
+  stops-doing known is failed works s ReadFailed stops = absurd stops
+  stops-doing known is failed works s WriteFailed stops = (works, began known s.old s.new is stops.0, stops.1)
+
 -- what a run with status 1 has read is not accepted, and it tells why
-module _ (version : Version) (a : Action) (failed : Bool) (s : Outcome) where
-  pub not-accepted : (known : Option Text) (stop : Stop) → StopsDoing version a known failed s stop → status_of stop ≡ 1
+module _ (mode : Mode) (version : Version) (a : Action) (failed : Bool) (s : Outcome) where
+  pub not-accepted : (known : Option Text) (stop : Stop) → StopsDoing mode version a known failed s stop → status_of stop ≡ 1
       → IfSome known (IsNotAccepted version)
   not-accepted None stop stops one = tt
   not-accepted (Some bytes) NotUtf8 stops one = λ d utf8 accepted. stops.0.0 utf8
@@ -143,7 +170,7 @@ module _ (version : Version) (a : Action) (failed : Bool) (s : Outcome) where
   not-accepted (Some bytes) ReadFailed stops one = absurd (omega (arith, one))
   not-accepted (Some bytes) WriteFailed stops one = absurd (omega (arith, one))
 
-  pub tells-refusal : (known : Option Text) (stop : Stop) (old new : Option Text) (broken : Bool) → StopsDoing version a known failed s stop
+  pub tells-refusal : (known : Option Text) (stop : Stop) (old new : Option Text) (broken : Bool) → StopsDoing mode version a known failed s stop
       → status_of stop ≡ 1 → TellsStop stop old new broken → IfSome known (λ bytes. IsUtf8 bytes → TellsRefusal version bytes old new broken)
   tells-refusal None stop old new broken stops one told = tt
   tells-refusal (Some bytes) NotUtf8 old new broken stops one told = λ u. absurd (stops.0.0 u)

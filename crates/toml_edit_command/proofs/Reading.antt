@@ -1,46 +1,54 @@
 -- The tree of what was read, and what the words stop.
-use Rattle.std.proofs.Common.{◌≡◌, sym, ap, subst, ◌∙◌, List, inl, inr}
+use Rattle.std.proofs.Common.{◌≡◌, sym, ap, subst, ◌∙◌, Bool, List, inl, inr}
 use Rattle.std.specs.Str.{IsUtf8}
-use Rattle.toml_edit_model.specs.Mode.{plain}
+use Rattle.toml_edit_model.specs.Mode.{Mode}
 use Rattle.toml_edit_model.specs.Text.{Text}
 use Rattle.toml_edit_model.specs.Version.{Version}
 use Rattle.toml_edit_model.specs.Syntax.{Document}
 use Rattle.toml_edit_model.specs.Accepted.{AcceptedAs, AcceptedIn}
-use Rattle.toml_edit_model.specs.Normal.{normal, normal_text}
 use Rattle.toml_edit_model.specs.Tree.{Tree, SlotsAreWellMade}
-use Rattle.toml_edit_model.specs.TreeOf.{spanned_form, IsTreeOf}
+use Rattle.toml_edit_model.specs.TreeOf.{spanned_in, IsTreeOf}
 use Rattle.toml_edit_model.specs.OwnedForm.{owned_tree}
 use Rattle.toml_edit_laws.proofs.read_trees.ReadLaws.{trees_over}
 use Rattle.toml_edit_laws.proofs.versions.EarlyPrints.{normal_texts_stay}
-use Rattle.toml_edit.specs.Documents.{IsOwnedTreeOf, IsReadingIn}
+use Rattle.toml_edit.specs.Documents.{IsOwnedTreeWith, IsReadingIn}
 use Rattle.toml_edit_command.specs.Forms.{MayStopPath, MayStopValue}
 use Rattle.toml_edit_command.specs.Steps.{StopsInWords}
 use Rattle.toml_edit_command.specs.Words.{Asked, IsSet, SpellsPath, TakesPath}
-use Rattle.toml_edit_command.specs.Written.{IsReadOf}
+use Rattle.toml_edit_command.specs.Written.{Held, IsHeldOf}
 use Rattle.toml_edit_command.specs.declared.stop.Stop.{Stop}
 
 -- what is made of a reading of a text, so that it owns its texts
-pub read-as : (version : Version) (t u : Text) (x y : Tree) → u ≡ t → IsUtf8 t → IsReadingIn version t x → y ≡ owned_tree u x
-    → ((d : Document) → AcceptedAs u d → IsTreeOf spanned_form d x → IsOwnedTreeOf u d y) → IsReadOf version t y
-unfolding normal normal_text
-read-as version t u x y same utf8 within is owned =
-    let r = within.reading in
-    let accepted : AcceptedIn version t r.document = within.accepted r.document r.accepted.0 in
-    let own = subst (λ v. IsOwnedTreeOf v r.document y) same (owned r.document (subst (λ v. AcceptedAs v r.document) (sym same) r.accepted) r.tree) in (
-      r.document,
-      record {
-        accepted = accepted;
-        stays = normal_texts_stay plain version t r.document accepted;
-        normal = own.normal;
-        read = record {
-          is_document = r.accepted.0.0;
-          accepted = r.accepted.1;
-          tree = own.tree;
-          made = subst (λ (z : Tree). SlotsAreWellMade z.slots) (sym (is ∙ ap (λ v. owned_tree v x) same))
-              (trees_over plain t r.document utf8 r.accepted x r.tree).well_made;
-        };
-      },
-    )
+module _ (mode : Mode) (version : Version) (t u : Text) (x : Tree) (kept : Mode) (is_open : Bool) (h : Held) where
+  pub read-as : u ≡ t → IsUtf8 t → IsReadingIn mode version t x is_open → kept ≡ mode → h.tree ≡ owned_tree u x
+      → (h.mode ≡ kept) × (h.is_open ≡ is_open)
+      → ((d : Document) → AcceptedAs u d → IsTreeOf (spanned_in kept) d x → IsOwnedTreeWith kept u d h.tree) → IsHeldOf mode version t h
+  read-as same utf8 within in_mode is printed owned =
+      let r = within.reading in
+      let accepted : AcceptedIn version t r.document = within.accepted r.document r.accepted.0 in
+      let own =
+      subst (λ v. IsOwnedTreeWith mode v r.document h.tree) same
+      (subst (λ m. IsOwnedTreeWith m u r.document h.tree) in_mode
+      (owned r.document (subst (λ v. AcceptedAs v r.document) (sym same) r.accepted)
+      (subst (λ m. IsTreeOf (spanned_in m) r.document x) (sym in_mode) r.tree))) in (
+        r.document,
+        record {
+          read = record {
+            accepted = accepted;
+            stays = normal_texts_stay mode version t r.document accepted;
+            normal = own.normal;
+            read = record {
+              is_document = r.accepted.0.0;
+              accepted = r.accepted.1;
+              tree = own.tree;
+              made = subst (λ (z : Tree). SlotsAreWellMade z.slots) (sym (is ∙ ap (λ v. owned_tree v x) same))
+                  (trees_over mode t r.document utf8 r.accepted x r.tree).well_made;
+            };
+          };
+          same_mode = printed.0 ∙ in_mode;
+          open_end = printed.1 ∙ within.open_end;
+        },
+      )
 
 -- PATH, or VALUE, stops what the words say
 pub path-stops : (q : Asked) (path : Text) (stop : Stop) → TakesPath q.command path → MayStopPath path stop → StopsInWords q stop

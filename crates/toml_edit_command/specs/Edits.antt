@@ -1,7 +1,7 @@
 -- What `set` and `remove` change of the statements of what was read.
 use Rattle.std.specs.Prelude.{◌≡◌, ℕ, true, List, [], ◌∷◌, ◌++◌, Some, None}
 use Rattle.toml_edit_model.specs.Text.{Text}
-use Rattle.toml_edit_model.specs.Mode.{plain}
+use Rattle.toml_edit_model.specs.Mode.{Mode}
 use Rattle.toml_edit_model.specs.Syntax.{Document}
 use Rattle.toml_edit_model.specs.Paths.{to_key}
 use Rattle.toml_edit_model.specs.Tree.{Key, Node, Tree, is_value_node}
@@ -16,52 +16,53 @@ use Rattle.toml_edit_laws.specs.CommandLaws.{NamesTable, ChangesStatement, AddsS
 abbrev pub AtKey : Tree → List Text → (List Text → Visit → Text → List Text → Type 0) → Type 0
 AtKey t names Is = (path : List Text) (v : Visit) (k : Text) (inner : List Text) → names ≡ path ++ (k ∷ inner) → NamesTable t path v → Is path v k inner
 
--- ---- set
+module _ (mode : Mode) where
+  -- ---- set
 
--- At a value, or inside one: its statement changes, in its frame.
-abbrev pub ChangesOne : Document → Tree → Tree → List Text → Node → Type 0
-ChangesOne d t u names value =
-    AtKey t names
-    (λ path v k inner. (l : Key) (old n : Node) → slot_of k (slot_list v.slots) ≡ Some (l, old) → is_value_node old ≡ true
-    → set_below value inner old ≡ done n → ChangesStatement plain d t u (to_key v.path l.name) old n)
+  -- At a value, or inside one: its statement changes, in its frame.
+  abbrev pub ChangesOne : Document → Tree → Tree → List Text → Node → Type 0
+  ChangesOne d t u names value =
+      AtKey t names
+      (λ path v k inner. (l : Key) (old n : Node) → slot_of k (slot_list v.slots) ≡ Some (l, old) → is_value_node old ≡ true
+      → set_below value inner old ≡ done n → ChangesStatement mode d t u (to_key v.path l.name) old n)
 
--- At a new key of the root or of a table that has a header, or below one: one statement more, behind the others of the table.
-abbrev pub AddsOne : Document → Tree → Tree → List Text → Node → Type 0
-AddsOne d t u names value =
-    AtKey t names
-    (λ path v k more. slot_of k (slot_list v.slots) ≡ None → has_block plain v ≡ true
-    → AddsStatement plain d t u v (new_key k) (made_below more value))
+  -- At a new key of the root or of a table that has a header, or below one: one statement more, behind the others of the table.
+  abbrev pub AddsOne : Document → Tree → Tree → List Text → Node → Type 0
+  AddsOne d t u names value =
+      AtKey t names
+      (λ path v k more. slot_of k (slot_list v.slots) ≡ None → has_block mode v ≡ true
+      → AddsStatement mode d t u v (new_key k) (made_below more value))
 
--- The second tree is the first with the value at the path, all else as it was.
-pub record Sets (d : Document) (t u : Tree) (names : List Text) (value : Node) : Type 0 where
-  pub done : set_at names value t ≡ done u
-  pub changes : ChangesOne d t u names value
-  pub adds : AddsOne d t u names value
+  -- The second tree is the first with the value at the path, all else as it was.
+  pub record Sets (d : Document) (t u : Tree) (names : List Text) (value : Node) : Type 0 where
+    pub done : set_at names value t ≡ done u
+    pub changes : ChangesOne d t u names value
+    pub adds : AddsOne d t u names value
 
--- ---- remove
+  -- ---- remove
 
--- At a slot: its statements go, with those of all below it.
-abbrev pub DropsSlot : Document → Tree → Tree → List Text → Type 0
-DropsSlot d t u names =
-    (path : List Text) (v : Visit) (k : Text) (s : Slot) → names ≡ path ++ (k ∷ []) → NamesTable t path v → slot_of k (slot_list v.slots) ≡ Some s
-    → DropsStatements plain d t u (to_key v.path s.0.name)
+  -- At a slot: its statements go, with those of all below it.
+  abbrev pub DropsSlot : Document → Tree → Tree → List Text → Type 0
+  DropsSlot d t u names =
+      (path : List Text) (v : Visit) (k : Text) (s : Slot) → names ≡ path ++ (k ∷ []) → NamesTable t path v → slot_of k (slot_list v.slots) ≡ Some s
+      → DropsStatements mode d t u (to_key v.path s.0.name)
 
--- At an element of an array of tables: its own go, with those of all below it.
-abbrev pub DropsElement : Document → Tree → Tree → List Text → Type 0
-DropsElement d t u names =
-    (path : List Text) (v w : Visit) (k x : Text) (i : ℕ) → names ≡ path ++ (k ∷ x ∷ []) → NamesTable t path v → number_of x ≡ Some i
-    → Leads (into_element k i ∷ []) v w → DropsStatements plain d t u w.path
+  -- At an element of an array of tables: its own go, with those of all below it.
+  abbrev pub DropsElement : Document → Tree → Tree → List Text → Type 0
+  DropsElement d t u names =
+      (path : List Text) (v w : Visit) (k x : Text) (i : ℕ) → names ≡ path ++ (k ∷ x ∷ []) → NamesTable t path v → number_of x ≡ Some i
+      → Leads (into_element k i ∷ []) v w → DropsStatements mode d t u w.path
 
--- Inside a value: that value's statement changes, in its frame.
-abbrev pub DropsInside : Document → Tree → Tree → List Text → Type 0
-DropsInside d t u names =
-    AtKey t names
-    (λ path v k inner. (l : Key) (old n : Node) → slot_of k (slot_list v.slots) ≡ Some (l, old) → is_value_node old ≡ true
-    → remove_below inner old ≡ done n → ChangesStatement plain d t u (to_key v.path l.name) old n)
+  -- Inside a value: that value's statement changes, in its frame.
+  abbrev pub DropsInside : Document → Tree → Tree → List Text → Type 0
+  DropsInside d t u names =
+      AtKey t names
+      (λ path v k inner. (l : Key) (old n : Node) → slot_of k (slot_list v.slots) ≡ Some (l, old) → is_value_node old ≡ true
+      → remove_below inner old ≡ done n → ChangesStatement mode d t u (to_key v.path l.name) old n)
 
--- The second tree is the first without the slot or the element at the path, all else as it was.
-pub record Removes (d : Document) (t u : Tree) (names : List Text) : Type 0 where
-  pub done : remove_at names t ≡ done u
-  pub slot : DropsSlot d t u names
-  pub element : DropsElement d t u names
-  pub inside : DropsInside d t u names
+  -- The second tree is the first without the slot or the element at the path, all else as it was.
+  pub record Removes (d : Document) (t u : Tree) (names : List Text) : Type 0 where
+    pub done : remove_at names t ≡ done u
+    pub slot : DropsSlot d t u names
+    pub element : DropsElement d t u names
+    pub inside : DropsInside d t u names

@@ -3,7 +3,7 @@ use Rattle.std.specs.Prelude.{◌≡◌, ◌⊎◌, List, Option, Some, None}
 use Rattle.toml_edit_model.specs.Text.{Text}
 use Rattle.toml_edit_model.specs.Version.{Version}
 use Rattle.toml_edit_command.specs.Words.{Asked, IsPrint, IsGet, IsSet, IsRemove, IsCommand, IsNoPath, IsNoValue}
-use Rattle.toml_edit_parser.specs.Options.{version_of}
+use Rattle.toml_edit_parser.specs.Options.{mode_of, version_of}
 use Rattle.toml_edit_parser.specs.declared.options.ParseOptions.{ParseOptions}
 use Rattle.toml_edit_command.specs.declared.words.Form.{Form}
 use Rattle.toml_edit_command.specs.declared.words.Form.TheVariants.{Print, Get, Set, Remove}
@@ -11,9 +11,9 @@ use Rattle.toml_edit_command.specs.declared.stop.Mistake.TheVariants as mistakes
 use Rattle.toml_edit_command.specs.declared.stop.Stop.{Stop}
 use Rattle.toml_edit_command.specs.declared.stop.Stop.TheVariants.{Mistaken, Memory}
 
--- a command, in the version of the options
+-- a command, in the mode and the version of the options
 abbrev pub asked_by : ParseOptions → List Text → Asked
-asked_by options ws = record { version = version_of options; command = ws }
+asked_by options ws = record { mode = mode_of options; version = version_of options; command = ws }
 
 abbrev pub IsForm : List Text → Option Form → Type 0
 IsForm ws None = ¬ (IsCommand ws)

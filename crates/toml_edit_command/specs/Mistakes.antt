@@ -1,8 +1,9 @@
 -- What is wrong with a command, and the lines that are told of a run's end.
 use Rattle.std.specs.Prelude.{◌⊎◌, List, ◌++◌, codes, Option, IfSome}
 use Rattle.toml_edit_model.specs.Text.{Text, newline}
+use Rattle.toml_edit_model.specs.Mode.{Mode}
 use Rattle.toml_edit_model.specs.Version.{Version}
-use Rattle.toml_edit_model.specs.Fits.{Fits}
+use Rattle.toml_edit_model.specs.Fits.{FitsIn}
 use Rattle.toml_edit_model.specs.Tree.{Tree}
 use Rattle.toml_edit_laws.specs.Commands.{no_such_path, wrong_kind}
 use Rattle.toml_edit_command.specs.Words.{Action, Asked, TakesPath, IsCommand, IsSet, IsNoPath, IsNoValue, Says, SpellsPath}
@@ -13,7 +14,7 @@ use Rattle.toml_edit_command.specs.declared.stop.Mistake.TheVariants.{Words, Pat
 -- ---- lines
 
 abbrev pub usage_line : Text
-usage_line = codes "tomled: usage: tomled [strict] print | get PATH | set PATH VALUE | remove PATH" ++ newline
+usage_line = codes "tomled: usage: tomled [exact] [strict] print | get PATH | set PATH VALUE | remove PATH" ++ newline
 
 abbrev pub encoding_line : Text
 encoding_line = codes "tomled: input is not UTF-8" ++ newline
@@ -47,18 +48,19 @@ InWords q NoSuchPath = ⊥
 InWords q WrongKind = ⊥
 InWords q Unfit = ⊥
 
--- It stands in what they say of the tree: nothing is at the path, or the wrong kind, or the changed tree does not fit.
-abbrev pub InTree : Action → Tree → Mistake → Type 0
-InTree a t Words = ⊥
-InTree a t Path = ⊥
-InTree a t Value = ⊥
-InTree a t NoSuchPath = Refuses a t no_such_path
-InTree a t WrongKind = Refuses a t wrong_kind
-InTree a t Unfit = (u : Tree) × Changes a t u × (¬ (Fits u))
+module _ (mode : Mode) where
+  -- It stands in what they say of the tree: nothing is at the path, or the wrong kind, or the changed tree does not fit.
+  abbrev pub InTree : Action → Tree → Mistake → Type 0
+  InTree a t Words = ⊥
+  InTree a t Path = ⊥
+  InTree a t Value = ⊥
+  InTree a t NoSuchPath = Refuses a t no_such_path
+  InTree a t WrongKind = Refuses a t wrong_kind
+  InTree a t Unfit = (u : Tree) × Changes a t u × (¬ (FitsIn mode u))
 
--- so it is in that of what was left to read
-abbrev pub InRead : Version → Action → Option Text → Mistake → Type 0
-InRead version a known m = (t : Tree) × InTree a t m × IfSome known (λ bytes. IsReadOf version bytes t)
+  -- so it is in that of what was left to read
+  abbrev pub InRead : Version → Action → Option Text → Mistake → Type 0
+  InRead version a known m = (t : Tree) × InTree a t m × IfSome known (λ bytes. IsReadOf mode version bytes t)
 
 abbrev pub IsMistaken : Asked → Option Text → Mistake → Type 0
-IsMistaken q known m = InWords q m ⊎ ((a : Action) × Says q a × InRead q.version a known m)
+IsMistaken q known m = InWords q m ⊎ ((a : Action) × Says q a × InRead q.mode q.version a known m)

@@ -2,6 +2,7 @@
 use Rattle.std.specs.Prelude.{◌≡◌, Bool, false, Option, IfSome, IsUtf8}
 use Rattle.std.specs.Io.KnownBytes.{Appends}
 use Rattle.toml_edit_model.specs.Text.{Text}
+use Rattle.toml_edit_model.specs.Mode.{Mode}
 use Rattle.toml_edit_model.specs.Version.{Version}
 use Rattle.toml_edit_model.specs.Syntax.{Document}
 use Rattle.toml_edit_model.specs.Accepted.{AcceptedIn}
@@ -28,22 +29,25 @@ module _ (version : Version) where
   abbrev pub IsNotAccepted : Text → Type 0
   IsNotAccepted bytes = (d : Document) → IsUtf8 bytes → AcceptedIn version bytes d → ⊥
 
+module _ (mode : Mode) (version : Version) where
   -- What the output holds grew by what the action writes of what was left to read.
   abbrev pub Does : Action → Option Text → Option Text → Option Text → Type 0
   Does a known old new =
-      IfSome known (λ bytes. (d : Document) × (t : Tree) × IsReadAs version bytes d t × ((x : Text) × Writes a d t x × Appends old new x))
+      IfSome known (λ bytes. (d : Document) × (t : Tree) × IsReadAs mode version bytes d t
+      × ((x : Text) × Writes mode a d t x × Appends old new x))
 
   -- It grew by a beginning of that.
   abbrev pub Begins : Action → Option Text → Option Text → Option Text → Type 0
   Begins a known old new =
-      IfSome known (λ bytes. (d : Document) × (t : Tree) × IsReadAs version bytes d t × ((x : Text) × Writes a d t x × AppendsBeginning old new x))
+      IfSome known (λ bytes. (d : Document) × (t : Tree) × IsReadAs mode version bytes d t
+      × ((x : Text) × Writes mode a d t x × AppendsBeginning old new x))
 
 -- so it is for what the words say
 abbrev pub DoesCommand : Asked → Option Text → Option Text → Option Text → Type 0
-DoesCommand q known old new = (a : Action) × Says q a × Does q.version a known old new
+DoesCommand q known old new = (a : Action) × Says q a × Does q.mode q.version a known old new
 
 abbrev pub BeginsCommand : Asked → Option Text → Option Text → Option Text → Type 0
-BeginsCommand q known old new = (a : Action) × Says q a × Begins q.version a known old new
+BeginsCommand q known old new = (a : Action) × Says q a × Begins q.mode q.version a known old new
 
 -- What is held grew by this line, unless the writer has failed; then it may have grown by a beginning alone.
 abbrev pub Tells : Option Text → Option Text → Bool → Text → Type 0

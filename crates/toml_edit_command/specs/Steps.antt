@@ -2,14 +2,14 @@
 use Rattle.std.specs.Prelude.{◌≡◌, ℕ, nat_lt, Bool, true, false, if◌then◌else◌, Option, None, Some, IfSome, IsUtf8, string_bytes}
 use Rattle.std.specs.Io.KnownBytes.{Appends}
 use Rattle.toml_edit_model.specs.Text.{Text}
+use Rattle.toml_edit_model.specs.Mode.{Mode}
 use Rattle.toml_edit_model.specs.Version.{Version}
 use Rattle.toml_edit_model.specs.Syntax.{Document}
-use Rattle.toml_edit_model.specs.Fits.{Fits}
-use Rattle.toml_edit_model.specs.Tree.{Tree}
+use Rattle.toml_edit_model.specs.Fits.{FitsIn}
 use Rattle.toml_edit_stream.specs.Whole.{AppendsBeginning}
 use Rattle.toml_edit_tree.specs.View.{value_view}
 use Rattle.toml_edit_command.specs.Words.{Action, printing, getting, setting, removing, Asked, IsCommand}
-use Rattle.toml_edit_command.specs.Written.{IsPrintOf, IsReadAs, Makes}
+use Rattle.toml_edit_command.specs.Written.{Held, IsHeldAs, IsPrintFor, Makes}
 use Rattle.toml_edit_command.specs.Mistakes.{InWords, InTree, InRead, mistake_line, encoding_line, memory_line, read_line, write_line}
 use Rattle.toml_edit_command.specs.Run.{IsExcerptOf, IsRefused, Tells}
 use Rattle.toml_edit_command.specs.declared.words.Command.{Command}
@@ -76,38 +76,39 @@ pub record Outcome : Type 0 where
 abbrev pub IsUnwritten : Outcome → Type 0
 IsUnwritten s = (s.new ≡ s.old) × (s.failed ≡ false)
 
--- what the action makes of the tree was written, or a beginning of it
-abbrev pub Wrote : Action → Tree → Option Text → Option Text → Type 0
-Wrote a t old new = (x : Text) × Makes a t x × Appends old new x
+-- what the action makes of what is held was written, or a beginning of it
+abbrev pub Wrote : Action → Held → Option Text → Option Text → Type 0
+Wrote a h old new = (x : Text) × Makes a h x × Appends old new x
 
-abbrev pub BeganToWrite : Action → Tree → Option Text → Option Text → Type 0
-BeganToWrite a t old new = (x : Text) × Makes a t x × AppendsBeginning old new x
+abbrev pub BeganToWrite : Action → Held → Option Text → Option Text → Type 0
+BeganToWrite a h old new = (x : Text) × Makes a h x × AppendsBeginning old new x
 
--- the action on a tree stops so
-abbrev pub StopsActing : Action → Tree → Outcome → Stop → Type 0
-StopsActing a t s (Mistaken m) = InTree a t m × IsUnwritten s
-StopsActing a t s NotUtf8 = ⊥
-StopsActing a t s (Refused e) = ⊥
-StopsActing a t s Memory = IsUnwritten s
-StopsActing a t s ReadFailed = ⊥
-StopsActing a t s WriteFailed = BeganToWrite a t s.old s.new × (s.failed ≡ true)
+-- the action on what is held stops so
+abbrev pub StopsActing : Action → Held → Outcome → Stop → Type 0
+StopsActing a h s (Mistaken m) = InTree h.mode a h.tree m × IsUnwritten s
+StopsActing a h s NotUtf8 = ⊥
+StopsActing a h s (Refused e) = ⊥
+StopsActing a h s Memory = IsUnwritten s
+StopsActing a h s ReadFailed = ⊥
+StopsActing a h s WriteFailed = BeganToWrite a h s.old s.new × (s.failed ≡ true)
 
--- the action on what was left to read, in this version, stops so, and whether the input has failed then
-abbrev pub StopsDoing : Version → Action → Option Text → Bool → Outcome → Stop → Type 0
-StopsDoing version a known failed s (Mistaken m) = InRead version a known m × (failed ≡ false) × IsUnwritten s
-StopsDoing version a known failed s NotUtf8 = StopsReading version known failed NotUtf8 × IsUnwritten s
-StopsDoing version a known failed s (Refused e) = StopsReading version known failed (Refused e) × IsUnwritten s
-StopsDoing version a known failed s Memory = StopsReading version known failed Memory × IsUnwritten s
-StopsDoing version a known failed s ReadFailed = StopsReading version known failed ReadFailed × IsUnwritten s
-StopsDoing version a known failed s WriteFailed =
-    (failed ≡ false)
-    × IfSome known (λ bytes. (d : Document) × (t : Tree) × IsReadAs version bytes d t × BeganToWrite a t s.old s.new) × (s.failed ≡ true)
+module _ (mode : Mode) (version : Version) where
+  -- the action on what was left to read, in this mode and version, stops so, and whether the input has failed then
+  abbrev pub StopsDoing : Action → Option Text → Bool → Outcome → Stop → Type 0
+  StopsDoing a known failed s (Mistaken m) = InRead mode version a known m × (failed ≡ false) × IsUnwritten s
+  StopsDoing a known failed s NotUtf8 = StopsReading version known failed NotUtf8 × IsUnwritten s
+  StopsDoing a known failed s (Refused e) = StopsReading version known failed (Refused e) × IsUnwritten s
+  StopsDoing a known failed s Memory = StopsReading version known failed Memory × IsUnwritten s
+  StopsDoing a known failed s ReadFailed = StopsReading version known failed ReadFailed × IsUnwritten s
+  StopsDoing a known failed s WriteFailed =
+      (failed ≡ false)
+      × IfSome known (λ bytes. (d : Document) × (h : Held) × IsHeldAs mode version bytes d h × BeganToWrite a h s.old s.new) × (s.failed ≡ true)
 
--- ---- on the way
+  -- ---- on the way
 
--- what the action makes of the tree of what was left to read was written
-abbrev pub WroteRead : Version → Action → Option Text → Option Text → Option Text → Type 0
-WroteRead version a known old new = IfSome known (λ bytes. (d : Document) × (t : Tree) × IsReadAs version bytes d t × Wrote a t old new)
+  -- what the action makes of what is held of what was left to read was written
+  abbrev pub WroteRead : Action → Option Text → Option Text → Option Text → Type 0
+  WroteRead a known old new = IfSome known (λ bytes. (d : Document) × (h : Held) × IsHeldAs mode version bytes d h × Wrote a h old new)
 
 -- a fault of a change stops the run so
 abbrev pub stop_for : ChangeFault → Stop
@@ -115,18 +116,18 @@ stop_for NoSuchPath = Mistaken mistakes.NoSuchPath
 stop_for WrongKind = Mistaken mistakes.WrongKind
 stop_for faults.Memory = Memory
 
--- a tree that fits was printed
-abbrev pub Printed : Tree → Option Text → Option Text → Type 0
-Printed u old new = (x : Text) × IsPrintOf u x × Appends old new x
+-- what is held fits, and was printed
+abbrev pub Printed : Held → Option Text → Option Text → Type 0
+Printed h old new = (x : Text) × IsPrintFor h h.tree x × Appends old new x
 
--- the print of a tree, if it fits, stops so
-abbrev pub StopsPrinting : Tree → Outcome → Stop → Type 0
-StopsPrinting u s (Mistaken m) = (m ≡ mistakes.Unfit) × (¬ (Fits u)) × IsUnwritten s
-StopsPrinting u s NotUtf8 = ⊥
-StopsPrinting u s (Refused e) = ⊥
-StopsPrinting u s Memory = IsUnwritten s
-StopsPrinting u s ReadFailed = ⊥
-StopsPrinting u s WriteFailed = ((x : Text) × IsPrintOf u x × AppendsBeginning s.old s.new x) × (s.failed ≡ true)
+-- its print, if it fits, stops so
+abbrev pub StopsPrinting : Held → Outcome → Stop → Type 0
+StopsPrinting h s (Mistaken m) = (m ≡ mistakes.Unfit) × (¬ (FitsIn h.mode h.tree)) × IsUnwritten s
+StopsPrinting h s NotUtf8 = ⊥
+StopsPrinting h s (Refused e) = ⊥
+StopsPrinting h s Memory = IsUnwritten s
+StopsPrinting h s ReadFailed = ⊥
+StopsPrinting h s WriteFailed = ((x : Text) × IsPrintFor h h.tree x × AppendsBeginning s.old s.new x) × (s.failed ≡ true)
 
 -- the place that the text names among so many
 abbrev pub among : ℕ → Option ℕ → Option ℕ

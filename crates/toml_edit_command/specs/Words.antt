@@ -1,6 +1,7 @@
 -- What the words of a command say.
 use Rattle.std.specs.Prelude.{◌≡◌, ◌⊎◌, true, if◌then◌else◌, List, [], ◌∷◌, map, codes}
 use Rattle.toml_edit_model.specs.Text.{Text, same_text}
+use Rattle.toml_edit_model.specs.Mode.{Mode, plain, exact}
 use Rattle.toml_edit_model.specs.Syntax.{Segment, Value}
 use Rattle.toml_edit_model.specs.Version.{Version, v1_0, v1_1}
 use Rattle.toml_edit_model.specs.Tree.{Node}
@@ -13,18 +14,25 @@ pub data Action : Type 0 where
   setting : List Text → Node → Action
   removing : List Text → Action
 
--- ---- the version
+-- ---- the mode and the version
 
--- what words ask for: the version of TOML that texts are read as, and what is left of the words, the command
+-- what words ask for: the mode that the input is read in, the version of TOML that texts are read as, and what is left of the words, the command
 pub record Asked : Type 0 where
+  pub mode : Mode
   pub version : Version
   pub command : List Text
 
 -- TOML 1.0 by the word `strict` in front, and TOML 1.1 without it
+abbrev pub asked_in : Mode → List Text → Asked
+asked_in mode [] = record { mode = mode; version = v1_1; command = [] }
+asked_in mode (w ∷ ws) =
+    if same_text w (codes "strict") then record { mode = mode; version = v1_0; command = ws }
+    else record { mode = mode; version = v1_1; command = w ∷ ws }
+
+-- the exact mode by the word `exact` in front of that, and the plain mode without it
 abbrev pub asked : List Text → Asked
-asked [] = record { version = v1_1; command = [] }
-asked (w ∷ ws) =
-    if same_text w (codes "strict") then record { version = v1_0; command = ws } else record { version = v1_1; command = w ∷ ws }
+asked [] = asked_in plain []
+asked (w ∷ ws) = if same_text w (codes "exact") then asked_in exact ws else asked_in plain (w ∷ ws)
 
 -- ---- the commands
 

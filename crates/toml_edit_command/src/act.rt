@@ -1,9 +1,9 @@
 // What is done with a document.
 ghost use Rattle.std.specs.Prelude.{◌≡◌, false, IfErr, OnOk};
-ghost use Rattle.toml_edit.specs.DocumentView.{tree_owned};
 ghost use Rattle.toml_edit_command.specs.Steps.{StopsActing, StopsDoing, Wrote, WroteRead, action_of};
 ghost use Rattle.toml_edit_command.specs.Words.{printing};
-ghost use Rattle.toml_edit_parser.specs.Options.{version_of};
+ghost use Rattle.toml_edit_command.specs.Written.{held};
+ghost use Rattle.toml_edit_parser.specs.Options.{mode_of, version_of};
 
 use super::edit::{remove, set};
 use super::get::get;
@@ -24,9 +24,9 @@ pub fn perform<I: Input, O: Output>(
 ) -> Result<(), Stop>
     requires input { I.has_failed input.old ≡ false }
     requires output { O.has_failed output.old ≡ false }
-    ensures wrote { OnOk result (WroteRead (version_of options) (action_of command) (I.remaining input.old) (O.contents output.old) (O.contents output.new)) }
+    ensures wrote { OnOk result (WroteRead (mode_of options) (version_of options) (action_of command) (I.remaining input.old) (O.contents output.old) (O.contents output.new)) }
     ensures ok { OnOk result ((I.has_failed input.new ≡ false) × (O.has_failed output.new ≡ false)) }
-    ensures err { IfErr result (StopsDoing (version_of options) (action_of command) (I.remaining input.old) (I.has_failed input.new) (record {
+    ensures err { IfErr result (StopsDoing (mode_of options) (version_of options) (action_of command) (I.remaining input.old) (I.has_failed input.new) (record {
       old = O.contents output.old;
       new = O.contents output.new;
       failed = O.has_failed output.new;
@@ -53,9 +53,9 @@ fn act<O: Output>(
     output: &mut O,
 ) -> Result<(), Stop>
     requires { O.has_failed output.old ≡ false }
-    ensures wrote { OnOk result (Wrote (action_of command) (tree_owned document.old) (O.contents output.old) (O.contents output.new)) }
+    ensures wrote { OnOk result (Wrote (action_of command) (held document.old) (O.contents output.old) (O.contents output.new)) }
     ensures ok { OnOk result (O.has_failed output.new ≡ false) }
-    ensures err { IfErr result (StopsActing (action_of command) (tree_owned document.old) (record {
+    ensures err { IfErr result (StopsActing (action_of command) (held document.old) (record {
       old = O.contents output.old;
       new = O.contents output.new;
       failed = O.has_failed output.new;
@@ -72,9 +72,9 @@ fn act<O: Output>(
 // Prints the document.
 pub fn print<O: Output>(alloc: Global, document: &DocumentMut, output: &mut O) -> Result<(), Stop>
     requires { O.has_failed output.old ≡ false }
-    ensures wrote { OnOk result (Wrote printing (tree_owned document.now) (O.contents output.old) (O.contents output.new)) }
+    ensures wrote { OnOk result (Wrote printing (held document.now) (O.contents output.old) (O.contents output.new)) }
     ensures ok { OnOk result (O.has_failed output.new ≡ false) }
-    ensures err { IfErr result (StopsActing printing (tree_owned document.now) (record {
+    ensures err { IfErr result (StopsActing printing (held document.now) (record {
       old = O.contents output.old;
       new = O.contents output.new;
       failed = O.has_failed output.new;

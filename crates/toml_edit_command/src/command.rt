@@ -29,6 +29,10 @@ const DONE: u8 = 0;
 /// The word `strict` in front of a command asks for TOML 1.0: the input and VALUE are read as that,
 /// and as TOML 1.1 without it.
 ///
+/// The word `exact` in front of both asks for the line endings of the input: what `print`, `set` and
+/// `remove` write has them as they are, and its last line has no newline where that of the input has
+/// none. Without it each line ends in a line feed, the last one too. `get` writes the same with it.
+///
 /// | Status | When | What is told to `errors` |
 /// |---|---|---|
 /// | 0 | done | nothing |

@@ -1,11 +1,12 @@
 // What `set` and `remove` do.
 ghost use Rattle.std.specs.Prelude.{◌≡◌, false, IfErr, OnOk};
-ghost use Rattle.toml_edit.specs.DocumentView.{tree_owned};
+ghost use Rattle.toml_edit.specs.DocumentView.{IsPrintedAs, tree_owned};
 ghost use Rattle.toml_edit_laws.specs.Commands.{remove_at, set_at};
 ghost use Rattle.toml_edit_tree.specs.View.{value_view};
 ghost use Rattle.toml_edit_change.specs.Changes.{Changes, names};
 ghost use Rattle.toml_edit_command.specs.Steps.{Printed, StopsActing, StopsPrinting, Wrote, stop_for};
 ghost use Rattle.toml_edit_command.specs.Words.{removing, setting};
+ghost use Rattle.toml_edit_command.specs.Written.{held};
 
 use super::act::print;
 use super::stop::{Mistake, Stop};
@@ -23,9 +24,9 @@ pub fn set<O: Output>(
     output: &mut O,
 ) -> Result<(), Stop>
     requires { O.has_failed output.old ≡ false }
-    ensures wrote { OnOk result (Wrote (setting (names path.now) (value_view value)) (tree_owned document.old) (O.contents output.old) (O.contents output.new)) }
+    ensures wrote { OnOk result (Wrote (setting (names path.now) (value_view value)) (held document.old) (O.contents output.old) (O.contents output.new)) }
     ensures ok { OnOk result (O.has_failed output.new ≡ false) }
-    ensures err { IfErr result (StopsActing (setting (names path.now) (value_view value)) (tree_owned document.old) (record {
+    ensures err { IfErr result (StopsActing (setting (names path.now) (value_view value)) (held document.old) (record {
       old = O.contents output.old;
       new = O.contents output.new;
       failed = O.has_failed output.new;
@@ -45,9 +46,9 @@ pub fn remove<O: Output>(
     output: &mut O,
 ) -> Result<(), Stop>
     requires { O.has_failed output.old ≡ false }
-    ensures wrote { OnOk result (Wrote (removing (names path.now)) (tree_owned document.old) (O.contents output.old) (O.contents output.new)) }
+    ensures wrote { OnOk result (Wrote (removing (names path.now)) (held document.old) (O.contents output.old) (O.contents output.new)) }
     ensures ok { OnOk result (O.has_failed output.new ≡ false) }
-    ensures err { IfErr result (StopsActing (removing (names path.now)) (tree_owned document.old) (record {
+    ensures err { IfErr result (StopsActing (removing (names path.now)) (held document.old) (record {
       old = O.contents output.old;
       new = O.contents output.new;
       failed = O.has_failed output.new;
@@ -66,14 +67,16 @@ fn set_value(
     path: &[Key],
     value: Value,
 ) -> Result<(), ChangeFault>
-    ensures { Changes (set_at (names path.now) (value_view value) (tree_owned document.old)) (tree_owned document.old) (tree_owned document.new) result }
+    ensures changes { Changes (set_at (names path.now) (value_view value) (tree_owned document.old)) (tree_owned document.old) (tree_owned document.new) result }
+    ensures printed { IsPrintedAs document.new document.old }
 {
     toml_edit_change::set(alloc, document.as_table_mut(), path, value)
 }
 
 // Removes what is at the path.
 fn remove_item(document: &mut DocumentMut, path: &[Key]) -> Result<(), ChangeFault>
-    ensures { Changes (remove_at (names path.now) (tree_owned document.old)) (tree_owned document.old) (tree_owned document.new) result }
+    ensures changes { Changes (remove_at (names path.now) (tree_owned document.old)) (tree_owned document.old) (tree_owned document.new) result }
+    ensures printed { IsPrintedAs document.new document.old }
 {
     toml_edit_change::remove(document.as_table_mut(), path)
 }
@@ -96,9 +99,9 @@ fn write_fitting<O: Output>(
     output: &mut O,
 ) -> Result<(), Stop>
     requires { O.has_failed output.old ≡ false }
-    ensures wrote { OnOk result (Printed (tree_owned document.now) (O.contents output.old) (O.contents output.new)) }
+    ensures wrote { OnOk result (Printed (held document.now) (O.contents output.old) (O.contents output.new)) }
     ensures ok { OnOk result (O.has_failed output.new ≡ false) }
-    ensures err { IfErr result (StopsPrinting (tree_owned document.now) (record {
+    ensures err { IfErr result (StopsPrinting (held document.now) (record {
       old = O.contents output.old;
       new = O.contents output.new;
       failed = O.has_failed output.new;

@@ -1,6 +1,5 @@
 // What `get` does.
 ghost use Rattle.std.specs.Prelude.{◌≡◌, ◌++◌, false, IfErr, IfOk, OnOk, option_and_then, option_map, string_bytes};
-ghost use Rattle.toml_edit.specs.DocumentView.{tree_owned};
 ghost use Rattle.toml_edit_model.specs.Indexing as indexing;
 ghost use Rattle.toml_edit_model.specs.Indexing.{indexed, number};
 ghost use Rattle.toml_edit_model.specs.Lists.{is_item, only};
@@ -15,6 +14,7 @@ ghost use Rattle.toml_edit_tree.specs.View.{item_view, value_view};
 ghost use Rattle.toml_edit_change.specs.Changes.{names};
 ghost use Rattle.toml_edit_command.specs.Steps.{StopsActing, Wrote, among};
 ghost use Rattle.toml_edit_command.specs.Words.{getting};
+ghost use Rattle.toml_edit_command.specs.Written.{held};
 
 use super::stop::{Mistake, Stop};
 use std::alloc::Global;
@@ -30,9 +30,9 @@ pub fn get<O: Output>(
     output: &mut O,
 ) -> Result<(), Stop>
     requires { O.has_failed output.old ≡ false }
-    ensures wrote { OnOk result (Wrote (getting (names path.now)) (tree_owned document.now) (O.contents output.old) (O.contents output.new)) }
+    ensures wrote { OnOk result (Wrote (getting (names path.now)) (held document.now) (O.contents output.old) (O.contents output.new)) }
     ensures ok { OnOk result (O.has_failed output.new ≡ false) }
-    ensures err { IfErr result (StopsActing (getting (names path.now)) (tree_owned document.now) (record {
+    ensures err { IfErr result (StopsActing (getting (names path.now)) (held document.now) (record {
       old = O.contents output.old;
       new = O.contents output.new;
       failed = O.has_failed output.new;

@@ -2,12 +2,12 @@
 ghost use Rattle.std.specs.Prelude.{◌≡◌, false, IfSome, IfOk, IfErr, OnOk, string_bytes};
 ghost use Rattle.toml_edit_error.specs.Fault.{IfToml};
 ghost use Rattle.toml_edit_model.specs.Version.{Version};
-ghost use Rattle.toml_edit.specs.DocumentView.{tree_owned};
 ghost use Rattle.toml_edit.specs.Documents.{IsRefusalIn};
+ghost use Rattle.toml_edit.specs.DocumentView.{mode_owned};
 ghost use Rattle.toml_edit_command.specs.Run.{IsRefused};
 ghost use Rattle.toml_edit_command.specs.Steps.{StopsReading};
-ghost use Rattle.toml_edit_command.specs.Written.{IsReadOf};
-ghost use Rattle.toml_edit_parser.specs.Options.{version_of};
+ghost use Rattle.toml_edit_command.specs.Written.{IsHeldOf, held};
+ghost use Rattle.toml_edit_parser.specs.Options.{mode_of, version_of};
 
 use super::stop::Stop;
 use std::alloc::Global;
@@ -21,7 +21,8 @@ pub fn read_document<I: Input>(
     options: ParseOptions,
 ) -> Result<DocumentMut, Stop>
     requires { I.has_failed input.old ≡ false }
-    ensures read { IfOk result (λ m. IfSome (I.remaining input.old) (λ bytes. IsReadOf (version_of options) bytes (tree_owned m))) }
+    ensures read { IfOk result (λ m. IfSome (I.remaining input.old) (λ bytes. IsHeldOf (mode_of options) (version_of options) bytes (held m))) }
+    ensures mode { IfOk result (λ m. mode_owned m ≡ mode_of options) }
     ensures ok { OnOk result (I.has_failed input.new ≡ false) }
     ensures err { IfErr result (StopsReading (version_of options) (I.remaining input.old) (I.has_failed input.new)) }
 {
@@ -56,7 +57,8 @@ fn text_of<I: Input>(alloc: Global, input: &mut I) -> Result<String, Stop>
 
 // The document that the text is by these options.
 fn document_of(alloc: Global, text: &str, options: ParseOptions) -> Result<DocumentMut, ParseFault>
-    ensures ok { IfOk result (λ m. IsReadOf (version_of options) text.now (tree_owned m)) }
+    ensures ok { IfOk result (λ m. IsHeldOf (mode_of options) (version_of options) text.now (held m)) }
+    ensures mode { IfOk result (λ m. mode_owned m ≡ mode_of options) }
     ensures refused { IfErr result (λ e. IfToml e (λ r. IsRefused (version_of options) text.now × IsRefusalIn (version_of options) text.now r)) }
 {
     let document = Document::parse_with(alloc, text, options)?;

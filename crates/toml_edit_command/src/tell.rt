@@ -45,7 +45,7 @@ fn mistake_text(mistake: Mistake) -> &'static str
 {
     match mistake {
         Mistake::Words => {
-            "tomled: usage: tomled [strict] print | get PATH | set PATH VALUE | remove PATH\n"
+            "tomled: usage: tomled [exact] [strict] print | get PATH | set PATH VALUE | remove PATH\n"
         }
         Mistake::Path => "tomled: bad path\n",
         Mistake::Value => "tomled: bad value\n",

@@ -1,10 +1,11 @@
 // What the words of a command say.
-ghost use Rattle.std.specs.Prelude.{◌≡◌, [], ◌∷◌, IfErr, IfOk, map, string_bytes};
+ghost use Rattle.std.specs.Prelude.{◌≡◌, [], ◌∷◌, IfErr, IfOk, map, if◌then◌else◌, string_bytes};
+ghost use Rattle.toml_edit_model.specs.Mode as model;
 ghost use Rattle.toml_edit_change.specs.Changes.{names};
 ghost use Rattle.toml_edit_command.specs.Steps.{StopsInWords, action_of};
-ghost use Rattle.toml_edit_command.specs.Words.{Says, SpellsPath, SpellsValue, asked};
+ghost use Rattle.toml_edit_command.specs.Words.{Says, SpellsPath, SpellsValue, asked, asked_in};
 ghost use Rattle.toml_edit_command.specs.Forms.{IsForm, MayStopPath, MayStopValue, asked_by};
-ghost use Rattle.toml_edit_parser.specs.Options.{version_of};
+ghost use Rattle.toml_edit_parser.specs.Options.{mode_of, version_of};
 ghost use Rattle.toml_edit_tree.specs.View.{value_view};
 
 use super::stop::{Mistake, Stop};
@@ -33,6 +34,7 @@ impl Command {
     // The command that the words are, and how it reads its input.
     pub fn of_words(alloc: Global, words: &[String]) -> Result<(Command, ParseOptions), Stop>
         ensures said { IfOk result (λ r. Says (asked (map string_bytes words.now)) (action_of r.0)) }
+        ensures mode { IfOk result (λ r. mode_of r.1 ≡ (asked (map string_bytes words.now)).mode) }
         ensures version { IfOk result (λ r. version_of r.1 ≡ (asked (map string_bytes words.now)).version) }
         ensures stops { IfErr result (StopsInWords (asked (map string_bytes words.now))) }
     {
@@ -61,15 +63,26 @@ impl Command {
     }
 }
 
-// How texts are read by the words, and the words without the one that says so.
+// How texts are read by the words, and the words without those that say so.
 fn options_of(words: &[String]) -> (ParseOptions, &[String])
     ensures { asked_by result.0 (map string_bytes result.1.now) ≡ asked (map string_bytes words.now) }
 {
     match words {
+        [first, rest @ ..] if first.as_str() == "exact" => options_in(true, rest),
+        _ => options_in(false, words),
+    }
+}
+
+// The same of words that follow `exact`, or don't.
+fn options_in(exact: bool, words: &[String]) -> (ParseOptions, &[String])
+    ensures { asked_by result.0 (map string_bytes result.1.now) ≡ asked_in (if exact then model.exact else model.plain) (map string_bytes words.now) }
+{
+    let options = ParseOptions::new().exact(exact);
+    match words {
         [first, rest @ ..] if first.as_str() == "strict" => {
-            (ParseOptions::new().version(Version::V1_0), rest)
+            (options.version(Version::V1_0), rest)
         }
-        _ => (ParseOptions::new(), words),
+        _ => (options, words),
     }
 }
 

@@ -1,5 +1,6 @@
-//! `tomled [strict] print | get PATH | set PATH VALUE | remove PATH`: reads a TOML document from standard input, and writes to standard
-//! output the document, the item at a path of keys, or the document with that item set or removed. With `strict` it reads TOML 1.0.
+//! `tomled [exact] [strict] print | get PATH | set PATH VALUE | remove PATH`: reads a TOML document from standard input, and writes to
+//! standard output the document, the item at a path of keys, or the document with that item set or removed. With `exact` it keeps line
+//! endings, and an end without one; with `strict` it reads TOML 1.0.
 #![tactic(auto)]
 
 use std::io::ErrorKind;

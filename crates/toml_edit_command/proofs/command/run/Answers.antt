@@ -4,7 +4,7 @@ use Rattle.std.specs.Prelude.{IfSome}
 use Rattle.toml_edit_command.specs.Run.{IsNotAccepted, TellsRefusal}
 use Rattle.toml_edit_command.specs.Steps.{action_of}
 use Rattle.toml_edit_command.specs.Words.{asked}
-use Rattle.toml_edit_parser.specs.Options.{version_of}
+use Rattle.toml_edit_parser.specs.Options.{mode_of, version_of}
 use Rattle.toml_edit_command.proofs.Ends.{begins-command, does-command, not-accepted, says-command, says-right, tells-mistake, tells-refusal, wrong-words}
 use Rattle.toml_edit_command.proofs.command.run.Goals as goal
 
@@ -18,8 +18,8 @@ returns-in-Err-clause-wrong_words g c =
 pub returns-in-Ok-perform-clause-done : goal.returns-in-Ok-perform-clause-done
 returns-in-Ok-perform-clause-done g c =
     λ _.
-    does-command (asked (map string_bytes c.args.words.now)) (action_of c.in-Ok.read.0) c.in-Ok.ensures.said (version_of c.in-Ok.read.1)
-    c.in-Ok.ensures.version (g.I.Input.remaining c.args.input.now) (g.O.Output.contents c.args.output.now)
+    does-command (asked (map string_bytes c.args.words.now)) (action_of c.in-Ok.read.0) c.in-Ok.ensures.said (mode_of c.in-Ok.read.1) c.in-Ok.ensures.mode
+    (version_of c.in-Ok.read.1) c.in-Ok.ensures.version (g.I.Input.remaining c.args.input.now) (g.O.Output.contents c.args.output.now)
     (g.O.Output.contents c.perform.new.output) c.in-Ok-perform.ensures.wrote
 
 pub returns-in-Ok-perform-clause-wrong_words : goal.returns-in-Ok-perform-clause-wrong_words
@@ -34,7 +34,7 @@ pub returns-in-Err-perform-clause-refused : goal.returns-in-Err-perform-clause-r
 returns-in-Err-perform-clause-refused g c =
     λ one.
     subst (λ v. IfSome (g.I.Input.remaining c.args.input.now) (IsNotAccepted v)) c.in-Ok.ensures.version
-    (not-accepted (version_of c.in-Ok.read.1) (action_of c.in-Ok.read.0) (g.I.Input.has_failed c.perform.new.input) _
+    (not-accepted (mode_of c.in-Ok.read.1) (version_of c.in-Ok.read.1) (action_of c.in-Ok.read.0) (g.I.Input.has_failed c.perform.new.input) _
     (g.I.Input.remaining c.args.input.now) c.in-Err-perform.stop c.in-Err-perform.ensures.err (sym c.end-in-Err-perform.ensures.status ∙ one))
 
 pub returns-in-Err-perform-clause-excerpt : goal.returns-in-Err-perform-clause-excerpt
@@ -45,7 +45,7 @@ returns-in-Err-perform-clause-excerpt g c =
     TellsRefusal v bytes (g.E.Output.contents c.args.errors.now) (g.E.Output.contents c.end-in-Err-perform.new.errors)
     (g.E.Output.has_failed c.end-in-Err-perform.new.errors)))
     c.in-Ok.ensures.version
-    (tells-refusal (version_of c.in-Ok.read.1) (action_of c.in-Ok.read.0) (g.I.Input.has_failed c.perform.new.input) _
+    (tells-refusal (mode_of c.in-Ok.read.1) (version_of c.in-Ok.read.1) (action_of c.in-Ok.read.0) (g.I.Input.has_failed c.perform.new.input) _
     (g.I.Input.remaining c.args.input.now) c.in-Err-perform.stop (g.E.Output.contents c.args.errors.now)
     (g.E.Output.contents c.end-in-Err-perform.new.errors) (g.E.Output.has_failed c.end-in-Err-perform.new.errors) c.in-Err-perform.ensures.err
     (sym c.end-in-Err-perform.ensures.status ∙ one) c.end-in-Err-perform.ensures.told)
@@ -53,8 +53,8 @@ returns-in-Err-perform-clause-excerpt g c =
 pub returns-in-Err-perform-clause-mistaken : goal.returns-in-Err-perform-clause-mistaken
 returns-in-Err-perform-clause-mistaken g c =
     λ two.
-    tells-mistake (asked (map string_bytes c.args.words.now)) (action_of c.in-Ok.read.0) c.in-Ok.ensures.said (version_of c.in-Ok.read.1)
-    c.in-Ok.ensures.version (g.I.Input.remaining c.args.input.now) (g.I.Input.has_failed c.perform.new.input) _ c.in-Err-perform.stop (g.E.Output.contents c.args.errors.now)
+    tells-mistake (asked (map string_bytes c.args.words.now)) (action_of c.in-Ok.read.0) c.in-Ok.ensures.said (mode_of c.in-Ok.read.1) c.in-Ok.ensures.mode
+    (version_of c.in-Ok.read.1) c.in-Ok.ensures.version (g.I.Input.remaining c.args.input.now) (g.I.Input.has_failed c.perform.new.input) _ c.in-Err-perform.stop (g.E.Output.contents c.args.errors.now)
     (g.E.Output.contents c.end-in-Err-perform.new.errors) (g.E.Output.has_failed c.end-in-Err-perform.new.errors) c.in-Err-perform.ensures.err
     (sym c.end-in-Err-perform.ensures.status ∙ two) c.end-in-Err-perform.ensures.told
 
@@ -69,5 +69,5 @@ returns-in-Err-perform-clause-untouched g c =
 pub returns-in-Err-perform-clause-beginning : goal.returns-in-Err-perform-clause-beginning
 returns-in-Err-perform-clause-beginning g c =
     λ broken.
-    begins-command (asked (map string_bytes c.args.words.now)) (action_of c.in-Ok.read.0) c.in-Ok.ensures.said (version_of c.in-Ok.read.1)
-    c.in-Ok.ensures.version (g.I.Input.remaining c.args.input.now) (g.I.Input.has_failed c.perform.new.input) _ c.in-Err-perform.stop c.in-Err-perform.ensures.err broken
+    begins-command (asked (map string_bytes c.args.words.now)) (action_of c.in-Ok.read.0) c.in-Ok.ensures.said (mode_of c.in-Ok.read.1) c.in-Ok.ensures.mode
+    (version_of c.in-Ok.read.1) c.in-Ok.ensures.version (g.I.Input.remaining c.args.input.now) (g.I.Input.has_failed c.perform.new.input) _ c.in-Err-perform.stop c.in-Err-perform.ensures.err broken

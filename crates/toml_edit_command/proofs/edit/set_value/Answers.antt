@@ -4,7 +4,7 @@ use Rattle.toml_edit_change.specs.Changes.{names}
 use Rattle.toml_edit_command.proofs.Trees.{set-root}
 use Rattle.toml_edit_command.proofs.edit.set_value.Goals as goal
 
-pub returns : goal.returns
-returns c =
+pub returns-clause-changes : goal.returns-clause-changes
+returns-clause-changes c =
     set-root c.args.document.now c.as_table_mut.result.now c.set.new.root c.as_table_mut.ensures.fields c.as_table_mut.ensures.slots (names c.args.path.now)
     (value_view c.args.value) c.set.result c.set.ensures
