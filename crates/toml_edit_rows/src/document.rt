@@ -24,7 +24,16 @@ pub fn answer(row: Row<'_>, out: &mut Answer) {
 
 /// Rows on the text of a document that is read as TOML 1.0.
 pub fn strict(row: Row<'_>, out: &mut Answer) {
-    let options = ParseOptions::new().version(Version::V1_0);
+    by_options(ParseOptions::new().version(Version::V1_0), row, out);
+}
+
+/// Rows on the text of a document whose line endings are kept.
+pub fn exact(row: Row<'_>, out: &mut Answer) {
+    by_options(ParseOptions::new().exact(true), row, out);
+}
+
+/// Rows on the text of a document that is read as these options say.
+fn by_options(options: ParseOptions, row: Row<'_>, out: &mut Answer) {
     match row.question {
         "from_str_prints" | "from_str_at" | "from_str_error" => {
             steps::read(
@@ -113,6 +122,8 @@ impl Subject for DocumentMut {
             "clone" => copied(self.clone(out.alloc), behind(words, 1), out),
             "as_table_mut" => table::change(self.as_table_mut(), behind(words, 1), out),
             "index_or_insert" => indexing::go_into(self, words, out),
+            "set_exact" => self.set_exact(is_true(words)),
+            "set_open_end" => self.set_open_end(is_true(words)),
             "set_trailing" => {
                 if let Ok(raw) = out.given(RawString::from_text(out.alloc, word(words, 1))) {
                     self.set_trailing(raw);
@@ -137,12 +148,19 @@ impl Asked for DocumentMut {
         match word(words, 0) {
             "iter" => table::names(self.iter(), out),
             "trailing" => out.raw(Some(self.trailing())),
+            "is_exact" => out.truth(self.is_exact()),
+            "open_end" => out.truth(self.open_end()),
             "to_string" => out.shown(self),
             "print" => out.made(self.print(out.alloc)),
             "as_item" => table::ask_item(self.as_item(), behind(words, 1), out),
             _ => table::ask(self.as_table(), words, out),
         }
     }
+}
+
+/// Whether the second word says so.
+fn is_true(words: &[Json]) -> bool {
+    word(words, 1) == "true"
 }
 
 /// Puts a copy of an item into a new document, under the key that the first word is, and asks of that.

@@ -4,9 +4,10 @@ use crate::{date_time, document, key, run, scalar, table, tokens, value};
 use serde_json::Value as Json;
 
 /// The kinds of rows. A row is of a kind if it has a member of this name, which says what is asked.
-const KINDS: [&str; 22] = [
+const KINDS: [&str; 23] = [
     "text",
     "strict_text",
+    "exact_text",
     "strict_value",
     "document",
     "value",
@@ -159,6 +160,7 @@ fn answer(row: Row<'_>, out: &mut Answer) {
     match row.kind {
         "text" => document::answer(row, out),
         "strict_text" => document::strict(row, out),
+        "exact_text" => document::exact(row, out),
         "strict_value" => value::strict(row, out),
         "document" => document::empty(row, out),
         "value" => value::answer(row, out),
