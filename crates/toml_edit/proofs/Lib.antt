@@ -2,6 +2,8 @@ pub mod SpanProps
 pub mod RootLaws
 pub mod OwnLaws
 pub mod OverLaws
+pub mod LinesInModes
+pub mod WeakerFits
 pub mod TakenLaws
 pub mod HeaderLaws
 pub mod PrintMeaning

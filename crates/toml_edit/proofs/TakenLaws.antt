@@ -1,12 +1,13 @@
 -- The root of a document that was read, taken as it is and made the root of a document again.
 use Rattle.std.proofs.Common.{◌≡◌, refl, sym, ap, ◌∙◌, Option, Some, None, option_map}
 use Rattle.std.specs.Prelude.{[], ◌||◌}
-use Rattle.toml_edit_model.specs.Mode.{Mode}
+use Rattle.toml_edit_model.specs.Mode.{Mode, plain}
 use Rattle.toml_edit_model.specs.Text.{Text, same_text}
 use Rattle.toml_edit_model.specs.Syntax.{Document}
 use Rattle.toml_edit_model.specs.Accepted.{AcceptedAs}
 use Rattle.toml_edit_model.specs.Tree.{Raw, owned, span, Node, nothing, leaf, list, inline, table, tables, Items, no_items, item, Slots, no_slots, slot, Tree, has_key, HasTrueSpelling, IsWellMade, ItemsAreWellMade, SlotsAreWellMade}
-use Rattle.toml_edit_model.specs.TreeOf.{spanned_in, IsTreeOf}
+use Rattle.toml_edit_model.specs.TreeOf.{spanned_in, owned_in, IsTreeOf}
+use Rattle.toml_edit_model.specs.Fits.{FitsIn}
 use Rattle.toml_edit_model.specs.OwnedForm.{owned_raw, owned_node, owned_items, owned_slots, owned_tree}
 use Rattle.toml_edit_laws.specs.AcceptedPrints.{IsFitting}
 use Rattle.toml_edit_laws.proofs.normal_texts.SpansSuit.{spans_fit}
@@ -16,6 +17,7 @@ use Rattle.toml_edit_laws.proofs.read_trees.ReadLaws.{owned_trees}
 use Rattle.toml_edit_laws.proofs.read_trees.TreeMade.{tree-made}
 use Rattle.toml_edit.specs.Documents.{PrintsMeaningOf}
 use Rattle.toml_edit.proofs.PrintMeaning.{made-print}
+use Rattle.toml_edit.proofs.WeakerFits.{plain-fits}
 
 -- ---- a tree over its text is as well made as the one that owns its texts
 
@@ -47,20 +49,34 @@ mutual
 
 -- ---- what its print means
 
--- The root alone, with no text behind it, fits, and prints a text of the same meaning.
-pub root-prints : (mode : Mode) (t : Text) (d : Document) (x : Tree) → AcceptedAs t d → IsTreeOf (spanned_in mode) d x
-    → PrintsMeaningOf mode d (record x { trailing = owned [] })
-root-prints mode t d x accepted is =
-    let root : Tree = record x { trailing = owned [] } in
-    let own = owned_trees mode t d accepted.0 x is in
-    let fits = (spans_fit mode t d x is (texts_fit mode t d accepted (owned_tree t x) own).0).1 in
-    let made = slots-over t x.slots (tree-made mode d (owned_tree t x) accepted.0.0 accepted.1 own) in
-    let fitting : IsFitting mode root = record { made = made; fits = fits } in
-    let means = taken_roots_mean d accepted.0.0 accepted.1 (spanned_in mode) x root is refl in
-    record {
-      fits = fits;
-      accepted = λ is_open. (made-print mode is_open root fitting).accepted;
-      meaning = λ is_open f.
-          let shown = (made-print mode is_open root fitting).meaning f in
-          (λ c. (means f).0 (shown.0 c), λ c. shown.1 ((means f).1 c));
-    }
+module _ (mode : Mode) (t : Text) (d : Document) (x : Tree) (accepted : AcceptedAs t d) (is : IsTreeOf (spanned_in mode) d x) where
+  -- the root alone, with no text behind it
+  abbrev root : Tree
+  root = record x { trailing = owned [] }
+
+  own : IsTreeOf (owned_in mode) d (owned_tree t x)
+  own = owned_trees mode t d accepted.0 x is
+
+  root-fits : FitsIn mode root
+  root-fits = (spans_fit mode t d x is (texts_fit mode t d accepted (owned_tree t x) own).0).1
+
+  -- In each mode in which it fits it prints a text of the same meaning.
+  prints-in : (other : Mode) → FitsIn other root → PrintsMeaningOf other d root
+  prints-in other fits =
+      let made = slots-over t x.slots (tree-made mode d (owned_tree t x) accepted.0.0 accepted.1 own) in
+      let fitting : IsFitting other root = record { made = made; fits = fits } in
+      let means = taken_roots_mean d accepted.0.0 accepted.1 (spanned_in mode) x root is refl in
+      record {
+        fits = fits;
+        accepted = λ is_open. (made-print other is_open root fitting).accepted;
+        meaning = λ is_open f.
+            let shown = (made-print other is_open root fitting).meaning f in
+            (λ c. (means f).0 (shown.0 c), λ c. shown.1 ((means f).1 c));
+      }
+
+  -- It fits in the mode in which the text was read, and so in the plain mode too.
+  pub root-prints : PrintsMeaningOf mode d root
+  root-prints = prints-in mode root-fits
+
+  pub root-prints-plain : PrintsMeaningOf plain d root
+  root-prints-plain = prints-in plain (plain-fits mode root root-fits)

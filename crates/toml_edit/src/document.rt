@@ -78,6 +78,7 @@ impl<S: SourceText> Drop for Document<S> {
 
 impl<S: SourceText> Document<S> {
     ghost use Rattle.std.specs.Prelude.{◌≡◌, ◌⊎◌, [], IfOk, IfErr, IsOk, IsErrOf};
+    ghost use Rattle.toml_edit_model.specs.Mode as model;
     ghost use Rattle.toml_edit_model.specs.Syntax.{Document as Cut};
     ghost use Rattle.toml_edit_model.specs.Accepted.{AcceptedAs, AcceptedIn};
     ghost use Rattle.toml_edit_model.specs.Tree.{owned};
@@ -178,13 +179,17 @@ impl<S: SourceText> Document<S> {
         self.raw.text()
     }
 
-    /// The root table alone, as an item. Its texts stay spans, for which a print has the default spellings and decors.
+    /// The root table alone, as an item. Its texts stay spans, for which a print has the default spellings and decors. Made the root of a
+    /// document, which keeps line endings as this one does or keeps none, it prints a text that means what the text that was read means.
     pub fn into_item(self) -> Item
         ensures root { item_view result ≡ root_node (tree_read self) }
         // Made the root of a document that keeps line endings as this one does, it prints a text that means what the text that was read
         // means.
         ensures print { (d : Cut) → AcceptedAs (source self) d → IsTreeOf (spanned_in (mode_read self)) d (tree_read self)
             → PrintsMeaningOf (mode_read self) d (record (tree_read self) { trailing = owned [] }) }
+        // So it does in a document that `DocumentMut::from` makes, whose line endings are not kept.
+        ensures print_plain { (d : Cut) → AcceptedAs (source self) d → IsTreeOf (spanned_in (mode_read self)) d (tree_read self)
+            → PrintsMeaningOf model.plain d (record (tree_read self) { trailing = owned [] }) }
     {
         let Document {
             raw,
@@ -198,7 +203,8 @@ impl<S: SourceText> Document<S> {
         root
     }
 
-    /// The root table alone. Its texts stay spans, for which a print has the default spellings and decors.
+    /// The root table alone. Its texts stay spans, for which a print has the default spellings and decors. Made the root of a document,
+    /// which keeps line endings as this one does or keeps none, it prints a text that means what the text that was read means.
     pub fn into_table(self) -> Table
         ensures fields { fields_view result ≡ (tree_read self).root }
         ensures slots { table_slots result ≡ (tree_read self).slots }
@@ -206,6 +212,9 @@ impl<S: SourceText> Document<S> {
         // means.
         ensures print { (d : Cut) → AcceptedAs (source self) d → IsTreeOf (spanned_in (mode_read self)) d (tree_read self)
             → PrintsMeaningOf (mode_read self) d (tree_view result (owned [])) }
+        // So it does in a document that `DocumentMut::from` makes, whose line endings are not kept.
+        ensures print_plain { (d : Cut) → AcceptedAs (source self) d → IsTreeOf (spanned_in (mode_read self)) d (tree_read self)
+            → PrintsMeaningOf model.plain d (tree_view result (owned [])) }
     {
         let Document {
             raw,
