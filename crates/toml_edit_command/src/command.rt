@@ -30,8 +30,9 @@ const DONE: u8 = 0;
 /// and as TOML 1.1 without it.
 ///
 /// The word `exact` in front of both asks for the line endings of the input: what `print`, `set` and
-/// `remove` write has them as they are, and its last line has no newline where that of the input has
-/// none. Without it each line ends in a line feed, the last one too. `get` writes the same with it.
+/// `remove` write keeps its carriage returns, and its last statement has no newline where that of the
+/// input has none; else a new statement ends in a line feed. Without the word, carriage returns outside
+/// strings are dropped, and each statement ends in a line feed. `get` writes the same with it.
 ///
 /// | Status | When | What is told to `errors` |
 /// |---|---|---|
