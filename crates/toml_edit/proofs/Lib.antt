@@ -1,5 +1,6 @@
 pub mod SpanProps
 pub mod RootLaws
+pub mod ReadInModes
 pub mod OwnLaws
 pub mod OverLaws
 pub mod LinesInModes
@@ -10,3 +11,4 @@ pub mod PrintMeaning
 pub mod LastLineLaws
 pub mod FoundLastLaws
 pub mod OpenEndLaws
+pub mod PlainReads

@@ -2,7 +2,7 @@
 use Rattle.std.proofs.Common.{◌≡◌, refl, sym, ap, subst, ◌∙◌}
 use Rattle.std.specs.Prelude.{Bool, ◌&&◌}
 use Rattle.std.specs.Str.{IsUtf8}
-use Rattle.toml_edit_model.specs.Mode.{Mode, plain, is_exact}
+use Rattle.toml_edit_model.specs.Mode.{Mode, is_exact}
 use Rattle.toml_edit_model.specs.Text.{Text}
 use Rattle.toml_edit_model.specs.Tree.{Raw, Slots, Tree}
 use Rattle.toml_edit_model.specs.TreeOf.{spanned_in, root_fields, IsTreeOf}
@@ -14,7 +14,7 @@ use Rattle.toml_edit_tree.specs.declared.table.Table.{Table}
 use Rattle.toml_edit.specs.Roots.{tree_under}
 use Rattle.toml_edit.proofs.RootLaws.{tree-under}
 use Rattle.toml_edit_tree.specs.View.{table_slots, fields_view, tree_view}
-use Rattle.toml_edit_builder.specs.DocumentRead.{IsParsed, IsParsedWith}
+use Rattle.toml_edit_builder.specs.DocumentRead.{IsParsedWith}
 use Rattle.toml_edit_builder.specs.StatementRead.{tree_of}
 use Rattle.toml_edit_model.specs.Version.{Version}
 use Rattle.toml_edit_model.specs.Syntax.{Document, IsCut}
@@ -30,10 +30,6 @@ pub record IsParsedAs (mode : Mode) (t : Text) (slots : Slots) (trailing : Raw) 
   pub accepted : AcceptedAs t document
   pub only : (other : Document) → IsCut other t → other ≡ document
   pub tree : IsTreeOf (spanned_in mode) document (tree_of slots trailing)
-
--- where line endings are not kept
-abbrev pub parsed-plain : (t : Text) (slots : Slots) (trailing : Raw) → IsParsed t slots trailing → IsParsedAs plain t slots trailing
-parsed-plain t slots trailing h = record { document = h.document; accepted = h.accepted; only = h.only; tree = h.tree }
 
 -- what a version accepts is parsed as in TOML 1.1
 abbrev pub parsed-later : (mode : Mode) (version : Version) (t : Text) (slots : Slots) (trailing : Raw) (is_open : Bool)

@@ -18,6 +18,7 @@ use Rattle.toml_edit_laws.proofs.versions.EarlyPrints.{prints_stay}
 use Rattle.toml_edit.specs.Documents.{IsOwnedReadingIn, IsOwnedReadingWith, IsOwnedTreeWith, IsReadingIn, IsReadingWith, opens}
 use Rattle.toml_edit_laws.proofs.read_trees.MeaningOfTrees.{trees_mean}
 use Rattle.toml_edit.proofs.SpanProps.{DecorFits-prop, SlotsFit-prop, RawFits-prop}
+use Rattle.toml_edit.proofs.ReadInModes.{fits-in-each}
 use Rattle.toml_edit_model.specs.OwnedForm.{IsOver, DecorFits, SlotsFit, RawFits, owned_raw, owned_fields, owned_slots, owned_tree}
 
 -- ---- what is known of a tree over its text
@@ -63,7 +64,7 @@ stays-so : (mode : Mode) (version : Version) (d : Document) (x : Tree)
 stays-so plain version d x h = h
 stays-so exact version d x h = h
 
--- The tree of an accepted text stays its tree, fits, and prints as the normal text.
+-- The tree of an accepted text stays its tree, fits in each mode, and prints as the normal text, which each version accepts that accepts the text.
 pub stays-tree : (mode : Mode) (t : Text) (x y : Tree) → y ≡ owned_tree t x → (d : Document) → AcceptedAs t d → IsTreeOf (spanned_in mode) d x
     → IsOwnedTreeWith mode t d y
 stays-tree mode t x y e d accepted is =
@@ -71,10 +72,11 @@ stays-tree mode t x y e d accepted is =
     let fine = texts_fit mode t d accepted y own in
     record {
       tree = own;
-      fits = fine.0;
+      fits = fits-in-each mode d accepted.0.0 y own fine.0;
       steady = fine.1;
       prints = opens-so mode d y (print_normal mode d accepted.0.0 accepted.1 y own);
       normal = (accepted, normal_texts mode t d accepted);
+      stays = λ version accepted_in. stays-so mode version d y (prints_stay mode version t d accepted_in y own);
     }
 
 -- ---- what is made of a reading of a text
@@ -108,10 +110,10 @@ module _ (mode m : Mode) (mode-is : m ≡ mode) (t u : Text) (same : u ≡ t) (x
   own-reading-in version was is_open kept r =
       let d = r.reading.document in
       let open_so = kept ∙ r.open_end in
-      let printed = prints_stay mode version t d (r.accepted d r.reading.accepted.0) y (owns r.reading).tree in
+      let printed = (owns r.reading).stays version (r.accepted d r.reading.accepted.0) in
       record {
         reading = own-reading r.reading;
         accepted = r.accepted;
         open_end = open_so;
-        stays = subst (λ b. AcceptedIn version (print_in mode b y) (document_in mode b y)) (sym open_so) (stays-so mode version d y printed);
+        stays = subst (λ b. AcceptedIn version (print_in mode b y) (document_in mode b y)) (sym open_so) printed;
       }

@@ -1,7 +1,7 @@
 -- What a text is read as.
 use Rattle.std.specs.Prelude.{◌≡◌, Bool, ◌&&◌, true, [], Some, pos}
 use Rattle.toml_edit_model.specs.Text.{Text}
-use Rattle.toml_edit_model.specs.Version.{Version}
+use Rattle.toml_edit_model.specs.Version.{Version, v1_1}
 use Rattle.toml_edit_model.specs.Accepted.{AcceptedAs, AcceptedIn}
 use Rattle.toml_edit_model.specs.Syntax.{Document, IsCut}
 use Rattle.toml_edit_model.specs.Fits.{FitsIn, is_steady_in}
@@ -23,13 +23,13 @@ use Rattle.toml_edit_laws.specs.ReadTrees.{HaveCutSpellings}
 abbrev pub new_tree : Tree
 new_tree = record { root = record new_table { position = Some (pos 0) }; slots = no_slots; trailing = owned [] }
 
--- the report says why the text is refused
-abbrev pub IsRefusal : Text → Report → Type 0
-IsRefusal t r = builder.IsRefusal t r
-
 -- the report says why the version refuses the text
 abbrev pub IsRefusalIn : Version → Text → Report → Type 0
 IsRefusalIn version t r = builder.IsRefusalIn version t r
+
+-- the report says why TOML 1.1 refuses it
+abbrev pub IsRefusal : Text → Report → Type 0
+IsRefusal t r = IsRefusalIn v1_1 t r
 
 -- What the tree prints is accepted, and means what the tree shows.
 pub record MeansWhatIsShown (mode : Mode) (is_open : Bool) (x : Tree) : Type 0 where
@@ -62,14 +62,15 @@ module _ (mode : Mode) where
   abbrev pub HasNormalText : Text → Document → Type 0
   HasNormalText t d = AcceptedAs t d × IsNormalForm mode t d
 
-  -- The tree owns its texts and is of this accepted text: it fits, is steady, and prints the normal text, its end open where that of the
-  -- text is.
+  -- The tree owns its texts and is of this accepted text: it fits in each mode, is steady, and prints the normal text, its end open where
+  -- that of the text is. A version that accepts the text accepts this print too.
   pub record IsOwnedTreeWith (t : Text) (d : Document) (x : Tree) : Type 0 where
     pub tree : IsTreeOf (owned_in mode) d x
-    pub fits : FitsIn mode x
+    pub fits : (printed : Mode) → FitsIn printed x
     pub steady : is_steady_in mode x ≡ true
     pub prints : print_in mode (opens mode d) x ≡ normal_text_in mode d
     pub normal : HasNormalText t d
+    pub stays : (version : Version) → AcceptedIn version t d → AcceptedIn version (print_in mode (opens mode d) x) (document_in mode (opens mode d) x)
 
   -- The text has one cut, by which it is accepted, and this tree, which owns its texts, is of that cut. It means what the text means.
   pub record IsOwnedReadingWith (t : Text) (x : Tree) : Type 0 where

@@ -86,11 +86,10 @@ impl<S: SourceText> Document<S> {
     ghost use Rattle.toml_edit_model.specs.OwnedForm.{owned_tree};
     ghost use Rattle.toml_edit_error.specs.Fault.{IfToml};
     ghost use Rattle.toml_edit.specs.DocumentView.{IsPlainRead, mode_owned, mode_read, open_owned, open_read, source, tree_owned, tree_read};
-    ghost use Rattle.toml_edit.specs.Documents.{IsOwnedTreeWith, IsReading, IsReadingIn, IsRefusalIn, PrintsMeaningOf};
+    ghost use Rattle.toml_edit.specs.Documents.{IsOwnedTreeWith, IsReading, IsReadingIn, IsRefusal, IsRefusalIn, PrintsMeaningOf};
     ghost use Rattle.toml_edit_parser.specs.Options.{mode_of, version_of};
     ghost use Rattle.toml_edit.specs.Roots.{root_node};
     ghost use Rattle.toml_edit_tree.specs.Held.{held, held_left};
-    ghost use Rattle.toml_edit_builder.specs.DocumentRead.{IsRefusal};
     ghost use Rattle.toml_edit_tree.specs.View.{item_view, table_slots, tree_view, fields_view};
 
     /// Reads a text, whose line endings are not kept. The errors are a `TomlError` for a text that is refused, which names a fault of its
@@ -103,14 +102,7 @@ impl<S: SourceText> Document<S> {
         ensures every { (d : Cut) → AcceptedAs (S.content raw) d → IsOk result ⊎ IsErrOf result ParseFault.Memory }
         ensures refused { IfErr result (λ e. IfToml e (IsRefusal (S.content raw))) }
     {
-        let (slots, trailing) = builder::parse(alloc, raw.text())?;
-        Ok(Document {
-            raw,
-            root: Item::Table(Table::root(slots)),
-            trailing,
-            mode: Mode::Plain,
-            open_end: false,
-        })
+        Document::parse_with(alloc, raw, ParseOptions::new())
     }
 
     /// Reads a text as these options say, as `parse` does otherwise. What the version of TOML lacks is a fault of its statement
@@ -234,7 +226,8 @@ impl<S: SourceText> Document<S> {
         ensures owned { IfOk result (λ m. tree_owned m ≡ owned_tree (source self) (tree_read self)) }
         ensures kept { IfOk result (λ m. (mode_owned m ≡ mode_read self) × (open_owned m ≡ open_read self)) }
         // The tree of an accepted text stays its tree, fits, and prints as the normal text, which is accepted, means the same and is
-        // settled. A settled text is its own normal text. Each is said in the mode that the document was read in.
+        // settled. A settled text is its own normal text. A version of TOML that accepts the text accepts the print too. The tree fits
+        // in each mode; the rest is said in the mode that the document was read in.
         ensures normal { IfOk result (λ m. (d : Cut) → AcceptedAs (source self) d
             → IsTreeOf (spanned_in (mode_read self)) d (tree_read self)
             → IsOwnedTreeWith (mode_read self) (source self) d (tree_owned m)) }
@@ -287,8 +280,7 @@ impl Document<String> {
     ghost use Rattle.toml_edit_model.specs.Accepted.{AcceptedAs};
     ghost use Rattle.toml_edit_error.specs.Fault.{IfToml};
     ghost use Rattle.toml_edit.specs.DocumentView.{IsPlainRead, source, tree_read};
-    ghost use Rattle.toml_edit.specs.Documents.{IsReading};
-    ghost use Rattle.toml_edit_builder.specs.DocumentRead.{IsRefusal};
+    ghost use Rattle.toml_edit.specs.Documents.{IsReading, IsRefusal};
 
     /// Reads a text, of which it holds a copy. The errors are those of `parse`.
     pub fn from_str(alloc: Global, text: &str) -> Result<Document<String>, ParseFault>
@@ -337,10 +329,9 @@ impl DocumentMut {
     ghost use Rattle.toml_edit_error.specs.Fault.{IfToml};
     ghost use Rattle.toml_edit.specs.DocumentLending.{LendsRoot};
     ghost use Rattle.toml_edit.specs.DocumentView.{IsPlain, IsPrintedAs, mode_owned, open_owned, print_of, tree_owned};
-    ghost use Rattle.toml_edit.specs.Documents.{IsOwnedReading, IsOwnedReadingIn, IsRefusalIn, MeansWhatIsShown, new_tree};
+    ghost use Rattle.toml_edit.specs.Documents.{IsOwnedReading, IsOwnedReadingIn, IsRefusal, IsRefusalIn, MeansWhatIsShown, new_tree};
     ghost use Rattle.toml_edit_parser.specs.Options.{mode_of, version_of};
     ghost use Rattle.toml_edit.specs.Roots.{root_node};
-    ghost use Rattle.toml_edit_builder.specs.DocumentRead.{IsRefusal};
     ghost use Rattle.toml_edit_tree.specs.Held.{held, held_left};
     ghost use Rattle.toml_edit_tree.specs.View.{item_view, table_slots, fields_view};
 
@@ -362,9 +353,7 @@ impl DocumentMut {
         ensures every { (d : Cut) → AcceptedAs text.now d → IsOk result ⊎ IsErrOf result ParseFault.Memory }
         ensures refused { IfErr result (λ e. IfToml e (IsRefusal text.now)) }
     {
-        let document = Document::parse(alloc, text)?;
-        let owned = document.into_mut(alloc)?;
-        Ok(owned)
+        DocumentMut::from_str_with(alloc, text, ParseOptions::new())
     }
 
     /// Reads a text as these options say, and makes the document own its texts. The errors are those of `Document::parse_with`.

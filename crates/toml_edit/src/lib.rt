@@ -4,12 +4,14 @@
 pub mod document;
 mod encode;
 mod headers;
+mod item;
 mod last_line;
 pub mod laws;
 mod open_end;
 mod root;
 
 pub use document::{Document, DocumentMut, PrintFault, SourceText};
+pub use item::value;
 pub use toml_edit_datetime::{Date, Datetime, DatetimeFault, FloatText, Offset, Time};
 pub use toml_edit_error::{ParseFault, TomlError};
 pub use toml_edit_key::{Key, KeyMut};
@@ -20,9 +22,10 @@ pub use toml_edit_stream::{Broken, Input, Output, Watched};
 pub use toml_edit_table_like::{
     AnyTable, AsTableLike, TableLike, TableLikeEntry, TableLikeSlot, TableRef, TableRefMut,
 };
+pub use toml_edit_tree::item::{array, table};
 pub use toml_edit_tree::{
     Array, ArrayIntoIter, ArrayIter, ArrayOfTables, ArrayOfTablesIntoIter, ArrayOfTablesIter,
     Entry, Index, IndexFault, InlineEntry, InlineOccupiedEntry, InlineSlotMut, InlineTable,
     InlineTableIntoIter, InlineTableIter, InlineVacantEntry, IntoIter, Item, Iter, OccupiedEntry,
-    Table, VacantEntry, Value, array, array_of_tables, inline_table, item, table, value,
+    Table, VacantEntry, Value,
 };

@@ -4,12 +4,12 @@ use Rattle.std.proofs.lemmas.Bool.Decides.{nat_tests}
 use Rattle.std.proofs.lemmas.Bool.{false≢true, leb-true, cases_Bool}
 use Rattle.std.specs.Prelude.{◌&&◌, nat_le}
 use Rattle.std.specs.List.{list_any}
-use Rattle.toml_edit_model.specs.Mode.{Mode, plain}
+use Rattle.toml_edit_model.specs.Mode.{Mode}
 use Rattle.toml_edit_model.specs.Text.{Text, one}
 use Rattle.toml_edit_model.specs.Syntax.{Value, Statement, key_line, header, Document, IsCut, depth, nesting_limit, is_short, has_short_keys, keeps_limits, is_ranged}
-use Rattle.toml_edit_model.specs.Version.{Version, v1_1}
+use Rattle.toml_edit_model.specs.Version.{Version}
 use Rattle.toml_edit_model.specs.Paths.{Placed, Context, source_of, mentions_of, context_after, placed_from, start_context}
-use Rattle.toml_edit_model.specs.Accepted.{has_agreeing_tables, is_sound, is_accepted, is_accepted_in, AcceptedIn, AcceptedAs}
+use Rattle.toml_edit_model.specs.Accepted.{has_agreeing_tables, is_sound, is_accepted, is_accepted_in, AcceptedIn}
 use Rattle.toml_edit_model.specs.Normal.{has_open_end}
 use Rattle.toml_edit_model.specs.Tree.{Raw, Slots}
 use Rattle.toml_edit_model.specs.TreeOf.{spanned_in, IsTreeOf}
@@ -32,7 +32,7 @@ use Rattle.toml_edit_syntax.specs.Faults.{syntax_message}
 use Rattle.toml_edit_syntax.specs.Events.{IsSpanOf, AreEventsOf, events_of, exceeds_depth, has_deep_value, OpensTooMany}
 use Rattle.toml_edit_syntax.specs.ValueEvents.{are_deep, shortened}
 use Rattle.toml_edit_builder.specs.StatementRead.{tree_of}
-use Rattle.toml_edit_builder.specs.DocumentRead.{IsParsed, IsParsedIn, IsParsedWith, IsRefusal, IsRefusalIn}
+use Rattle.toml_edit_builder.specs.DocumentRead.{IsParsedWith, IsRefusalIn}
 use Rattle.toml_edit_builder.proofs.OpenEndLaws.{uncut}
 
 -- ---- no value of an accepted document is too deep
@@ -133,28 +133,3 @@ wrong_syntax version t m mistake s r none is within same =
 pub of_report : (e : ParseFault) (P Q : Report → Type 0) → ((r : Report) → P r → Q r) → IfToml e P → IfToml e Q
 of_report (Toml r) P Q more h = more r h
 of_report Memory P Q more h = tt
-
--- ---- in the plain mode
-
--- an error is the same, whatever was wanted
-pub same-error : {A B : Type 0} (e f : ParseFault) → IsOk {T = A} (Err e) ⊎ IsErrOf {T = A} (Err e) f → IsOk {T = B} (Err e) ⊎ IsErrOf {T = B} (Err e) f
-same-error e f (inl none) = absurd cc
-same-error e f (inr same) = inr (ap Err (let h : e ≡ f = cc in h))
-
-pub parsed_plain : (version : Version) (t : Text) (slots : Slots) (trailing : Raw) (is_open : Bool) → IsParsedWith plain version t slots trailing is_open
-    → IsParsedIn version t slots trailing
-parsed_plain version t slots trailing is_open h = record { document = h.document; accepted = h.accepted; only = h.only; tree = h.tree }
-
--- ---- in TOML 1.1
-
-pub parsed_later : (t : Text) (slots : Slots) (trailing : Raw) → IsParsedIn v1_1 t slots trailing → IsParsed t slots trailing
-parsed_later t slots trailing h = record { document = h.document; accepted = later-accepts v1_1 t h.document h.accepted; only = h.only; tree = h.tree }
-
-pub accepted_later : (t : Text) (d : Document) → AcceptedAs t d → AcceptedIn v1_1 t d
-unfolding is_accepted
-accepted_later t d h = h
-
-pub refusal_later : (t : Text) (r : Report) → IsRefusalIn v1_1 t r → IsRefusal t r
-unfolding is_accepted
-refusal_later t r h =
-    record { input = h.input; names = λ d cut. let told = h.names d cut in record { names = told.names; refused = told.refused }; syntax = h.syntax }

@@ -3,12 +3,11 @@ use Rattle.std.specs.Prelude.{◌≡◌, ◌⊎◌, Bool, Some}
 use Rattle.toml_edit_model.specs.Mode.{Mode}
 use Rattle.toml_edit_model.specs.Text.{Text}
 use Rattle.toml_edit_model.specs.Version.{Version}
-use Rattle.toml_edit_model.specs.Accepted.{AcceptedIn, AcceptedAs}
+use Rattle.toml_edit_model.specs.Accepted.{AcceptedIn}
 use Rattle.toml_edit_model.specs.Normal.{has_open_end}
 use Rattle.toml_edit_model.specs.Syntax.{Document, IsCut}
 use Rattle.toml_edit_model.specs.Tree.{Raw, Slots}
-use Rattle.toml_edit_model.specs.TreeOf.{spanned_form, spanned_in, IsTreeOf}
-use Rattle.toml_edit_laws.specs.Building.{IsRefusedBy}
+use Rattle.toml_edit_model.specs.TreeOf.{spanned_in, IsTreeOf}
 use Rattle.toml_edit_laws.specs.Versions.{IsRefusedIn}
 use Rattle.toml_edit_error.specs.Report.{Report, fault_of}
 use Rattle.toml_edit_syntax.specs.declared.event.Span.{Span}
@@ -16,13 +15,6 @@ use Rattle.toml_edit_syntax.specs.declared.mistake.Mistake.{Mistake}
 use Rattle.toml_edit_syntax.specs.Events.{IsSpanOf, OpensTooMany}
 use Rattle.toml_edit_syntax.specs.Faults.{syntax_message}
 use Rattle.toml_edit_builder.specs.StatementRead.{tree_of}
-
--- The text has one cut, by which it is accepted, and these slots and this trailing text are the tree of it.
-pub record IsParsed (t : Text) (slots : Slots) (trailing : Raw) : Type 0 where
-  pub document : Document
-  pub accepted : AcceptedAs t document
-  pub only : (other : Document) → IsCut other t → other ≡ document
-  pub tree : IsTreeOf spanned_form document (tree_of slots trailing)
 
 -- the report says what is wrong with the syntax of the text, and marks a place in it
 pub record MarksMistake (t : Text) (r : Report) : Type 0 where
@@ -32,31 +24,12 @@ pub record MarksMistake (t : Text) (r : Report) : Type 0 where
   pub marks : r.span ≡ Some (span.start, span.end)
   pub within : IsSpanOf t span
 
--- The report is of the text. Of a text of the grammar it names a fault of the first faulty statement. Of another it says what is wrong
--- with its syntax, unless too many brackets are open before that.
-pub record IsRefusal (t : Text) (r : Report) : Type 0 where
+-- The report is of the text. Of a text of the grammar it names a fault of the first faulty statement, which may be what the statement has
+-- that the version hasn't. Of another it says what is wrong with its syntax, unless too many brackets are open before that.
+pub record IsRefusalIn (version : Version) (t : Text) (r : Report) : Type 0 where
   pub input : r.input ≡ t
-  pub names : (d : Document) → IsCut d t → IsRefusedBy d (fault_of r)
+  pub names : (d : Document) → IsCut d t → IsRefusedIn version d (fault_of r)
   pub syntax : ((d : Document) → IsCut d t → ⊥) → MarksMistake t r ⊎ OpensTooMany t
-
--- ---- in a version of the grammar
-
-module _ (version : Version) where
-  -- The text has one cut, by which the version accepts it, and these slots and this trailing text are the tree of it.
-  pub record IsParsedIn (t : Text) (slots : Slots) (trailing : Raw) : Type 0 where
-    pub document : Document
-    pub accepted : AcceptedIn version t document
-    pub only : (other : Document) → IsCut other t → other ≡ document
-    pub tree : IsTreeOf spanned_form document (tree_of slots trailing)
-
-  -- The report is of the text, as `IsRefusal` says it; of a text of the grammar it may name what the first faulty statement has that the
-  -- version hasn't.
-  pub record IsRefusalIn (t : Text) (r : Report) : Type 0 where
-    pub input : r.input ≡ t
-    pub names : (d : Document) → IsCut d t → IsRefusedIn version d (fault_of r)
-    pub syntax : ((d : Document) → IsCut d t → ⊥) → MarksMistake t r ⊎ OpensTooMany t
-
--- ---- in a mode
 
 -- The text has one cut, by which the version accepts it, and these slots and this trailing text are the tree of it, read in this mode.
 pub record IsParsedWith (mode : Mode) (version : Version) (t : Text) (slots : Slots) (trailing : Raw) (is_open : Bool) : Type 0 where

@@ -1,6 +1,6 @@
 //! From a text to its tree.
 ghost use Rattle.std.specs.Prelude.{◌≡◌, ◌⊎◌, true, false, IfOk, IfErr, IsOk, IsErrOf};
-ghost use Rattle.toml_edit_model.specs.Accepted.{AcceptedAs, AcceptedIn};
+ghost use Rattle.toml_edit_model.specs.Accepted.{AcceptedIn};
 ghost use Rattle.toml_edit_model.specs.Normal.{has_open_end};
 ghost use Rattle.toml_edit_model.specs.Syntax.{Document};
 ghost use Rattle.toml_edit_error.specs.Fault.{IfToml};
@@ -10,7 +10,7 @@ ghost use Rattle.toml_edit_version.specs.Grammar.{grammar};
 ghost use Rattle.toml_edit_tree.specs.View.{slots_view};
 ghost use Rattle.toml_edit_repr.specs.Modes.{mode_of};
 ghost use Rattle.toml_edit_parser.specs.ValueRead.{AreIn};
-ghost use Rattle.toml_edit_builder.specs.DocumentRead.{IsParsed, IsParsedIn, IsParsedWith, IsRefusal, IsRefusalIn};
+ghost use Rattle.toml_edit_builder.specs.DocumentRead.{IsParsedWith, IsRefusalIn};
 
 use crate::parser::build;
 use std::alloc::Global;
@@ -119,34 +119,4 @@ pub fn parse_with(
             Err(refusal(alloc, source, mistake.message(), span))
         }
     }
-}
-
-/// The same where line endings are not kept: the slots of the root of a text's tree, whose keys and values are spans of the text, and the
-/// text after the last statement, where this version of the grammar accepts the text. The errors are a `TomlError` for a text that is
-/// refused, and want of memory.
-#[doc(hidden)]
-pub fn parse_in(
-    alloc: Global,
-    source: &str,
-    version: Version,
-) -> Result<(Slots<Item>, RawString), ParseFault>
-    ensures parsed { IfOk result (λ r. IsParsedIn (grammar version) source.now (slots_view r.0) r.1) }
-    // A text that the version accepts is never refused.
-    ensures every { (d : Document) → AcceptedIn (grammar version) source.now d → IsOk result ⊎ IsErrOf result ParseFault.Memory }
-    ensures refused { IfErr result (λ e. IfToml e (IsRefusalIn (grammar version) source.now)) }
-{
-    let (slots, trailing, _) = parse_with(alloc, source, version, Mode::Plain)?;
-    Ok((slots, trailing))
-}
-
-/// The same in TOML 1.1: the slots of the root of a text's tree, whose keys and values are spans of the text, and the text after the last
-/// statement. The errors are a `TomlError` for a text that is refused, and want of memory.
-#[doc(hidden)]
-pub fn parse(alloc: Global, source: &str) -> Result<(Slots<Item>, RawString), ParseFault>
-    ensures parsed { IfOk result (λ r. IsParsed source.now (slots_view r.0) r.1) }
-    // An accepted text is never refused.
-    ensures every { (d : Document) → AcceptedAs source.now d → IsOk result ⊎ IsErrOf result ParseFault.Memory }
-    ensures refused { IfErr result (λ e. IfToml e (IsRefusal source.now)) }
-{
-    parse_in(alloc, source, Version::V1_1)
 }

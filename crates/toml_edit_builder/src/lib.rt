@@ -11,7 +11,7 @@ mod statement;
 #[doc(hidden)]
 pub use block::swap_block;
 #[doc(hidden)]
-pub use document::{parse, parse_in, parse_with};
+pub use document::parse_with;
 #[doc(hidden)]
 pub use path::{Kind, add_path};
 pub use toml_edit_parser::FromStr;

@@ -1,7 +1,8 @@
 -- How a run ends.
-use Rattle.std.proofs.Common.{◌≡◌, refl, sym, ap, subst, ◌∙◌, Bool, true, false, List, [], ◌∷◌, length, Option, None, Some, inl, inr, arith, IsUtf8, string_bytes}
+use Rattle.std.proofs.Common.{◌≡◌, ◌⊎◌, refl, sym, ap, subst, ◌∙◌, Bool, true, false, List, [], ◌∷◌, length, Option, None, Some, Result, Ok, Err, OnOk, IfErr, inl, inr, arith, IsUtf8, string_bytes}
 use Rattle.std.proofs.lemmas.Bool.{false≢true}
 use Rattle.std.specs.Prelude.{IfSome}
+use Rattle.std.specs.Io.KnownBytes.{IsAtEnd}
 use Rattle.toml_edit_model.specs.Syntax.{Document}
 use Rattle.toml_edit_model.specs.Text.{Text}
 use Rattle.toml_edit_model.specs.Mode.{Mode}
@@ -9,7 +10,7 @@ use Rattle.toml_edit_model.specs.Version.{Version}
 use Rattle.toml_edit_model.specs.Tree.{Node}
 use Rattle.toml_edit_command.specs.Mistakes.{InRead, InTree, InWords, usage_line}
 use Rattle.toml_edit_command.specs.Run.{Begins, BeginsCommand, Does, DoesCommand, IsNotAccepted, Tells, TellsMistake, TellsRefusal}
-use Rattle.toml_edit_command.specs.Steps.{BeganToWrite, Outcome, StopsActing, StopsDoing, StopsInWords, TellsStop, WroteRead, status_of}
+use Rattle.toml_edit_command.specs.Steps.{BeganToWrite, HasReadAll, Outcome, StopsActing, StopsDoing, StopsInWords, TellsStop, WroteRead, status_of}
 use Rattle.toml_edit_command.specs.Words.{Action, printing, getting, setting, removing, Asked, IsCommand, IsSet, Says, SpellsPath, SpellsValue, TakesPath}
 use Rattle.toml_edit_command.specs.Written.{Held, IsHeldAs, IsHeldOf, IsReadOf}
 use Rattle.toml_edit_command.specs.declared.stop.Mistake.{Mistake}
@@ -179,3 +180,57 @@ module _ (mode : Mode) (version : Version) (a : Action) (failed : Bool) (s : Out
   tells-refusal (Some bytes) Memory old new broken stops one told = absurd (omega (arith, one))
   tells-refusal (Some bytes) ReadFailed old new broken stops one told = absurd (omega (arith, one))
   tells-refusal (Some bytes) WriteFailed old new broken stops one told = absurd (omega (arith, one))
+
+-- ---- how far it has read
+
+module _ (left : Option Text) where
+  at-end : (stop : Stop) → IsAtEnd left → HasReadAll left stop
+  at-end (Mistaken m) h = h
+  at-end NotUtf8 h = h
+  at-end (Refused e) h = h
+  at-end Memory h = tt
+  at-end ReadFailed h = tt
+  at-end WriteFailed h = h
+
+  -- what is done with what was read to the end
+  pub done-at-end : {A : Type 0} (r : Result A Stop) → IsAtEnd left → OnOk r (IsAtEnd left)
+  done-at-end (Ok x) h = h
+  done-at-end (Err stop) h = tt
+
+  pub stops-at-end : {A : Type 0} (r : Result A Stop) → IsAtEnd left → IfErr r (HasReadAll left)
+  stops-at-end (Ok x) h = tt
+  stops-at-end (Err stop) h = at-end stop h
+
+  -- what stops a command after its words
+  pub refused-at-end : (stop : Stop) → HasReadAll left stop → (status_of stop ≡ 0) ⊎ (status_of stop ≡ 1) → IsAtEnd left
+  refused-at-end (Mistaken m) h status = h
+  refused-at-end NotUtf8 h status = h
+  refused-at-end (Refused e) h status = h
+  refused-at-end Memory h status = elim status [ inl none ↦ absurd (omega (arith, none)) | inr one ↦ absurd (omega (arith, one)) ]
+  refused-at-end ReadFailed h status = elim status [ inl none ↦ absurd (omega (arith, none)) | inr one ↦ absurd (omega (arith, one)) ]
+  refused-at-end WriteFailed h status = h
+
+  pub mistaken-at-end : (stop : Stop) → HasReadAll left stop → status_of stop ≡ 2 → IsAtEnd left
+  mistaken-at-end (Mistaken m) h two = h
+  mistaken-at-end NotUtf8 h two = h
+  mistaken-at-end (Refused e) h two = h
+  mistaken-at-end Memory h two = absurd (omega (arith, two))
+  mistaken-at-end ReadFailed h two = absurd (omega (arith, two))
+  mistaken-at-end WriteFailed h two = h
+
+  -- and its words
+  pub words-refuse-none : (q : Asked) (stop : Stop) → StopsInWords q stop → (status_of stop ≡ 0) ⊎ (status_of stop ≡ 1) → IsAtEnd left
+  words-refuse-none q (Mistaken m) stops status = elim status [ inl none ↦ absurd (omega (arith, none)) | inr one ↦ absurd (omega (arith, one)) ]
+  words-refuse-none q NotUtf8 stops status = absurd stops
+  words-refuse-none q (Refused e) stops status = absurd stops
+  words-refuse-none q Memory stops status = elim status [ inl none ↦ absurd (omega (arith, none)) | inr one ↦ absurd (omega (arith, one)) ]
+  words-refuse-none q ReadFailed stops status = absurd stops
+  words-refuse-none q WriteFailed stops status = absurd stops
+
+pub words-mistaken : (q : Asked) (stop : Stop) → StopsInWords q stop → status_of stop ≡ 2 → (m : Mistake) × InWords q m
+words-mistaken q (Mistaken m) stops two = (m, stops)
+words-mistaken q NotUtf8 stops two = absurd stops
+words-mistaken q (Refused e) stops two = absurd stops
+words-mistaken q Memory stops two = absurd (omega (arith, two))
+words-mistaken q ReadFailed stops two = absurd stops
+words-mistaken q WriteFailed stops two = absurd stops

@@ -1,6 +1,6 @@
 -- Why a run stops, and what it leaves then.
 use Rattle.std.specs.Prelude.{◌≡◌, ℕ, nat_lt, Bool, true, false, if◌then◌else◌, Option, None, Some, IfSome, IsUtf8, string_bytes}
-use Rattle.std.specs.Io.KnownBytes.{Appends}
+use Rattle.std.specs.Io.KnownBytes.{Appends, IsAtEnd}
 use Rattle.toml_edit_model.specs.Text.{Text}
 use Rattle.toml_edit_model.specs.Mode.{Mode}
 use Rattle.toml_edit_model.specs.Version.{Version}
@@ -65,6 +65,15 @@ StopsReading version known failed (Refused e) =
 StopsReading version known failed Memory = failed ≡ false
 StopsReading version known failed ReadFailed = failed ≡ true
 StopsReading version known failed WriteFailed = ⊥
+
+-- a step that stops so has read the input to its end, unless memory ran out or the input failed: what is left to read then
+abbrev pub HasReadAll : Option Text → Stop → Type 0
+HasReadAll left (Mistaken m) = IsAtEnd left
+HasReadAll left NotUtf8 = IsAtEnd left
+HasReadAll left (Refused e) = IsAtEnd left
+HasReadAll left Memory = Unit {0}
+HasReadAll left ReadFailed = Unit {0}
+HasReadAll left WriteFailed = IsAtEnd left
 
 -- what a step that writes has seen: what the output held before and after, and whether it has failed then
 pub record Outcome : Type 0 where

@@ -1,6 +1,7 @@
 // What is done with a document.
 ghost use Rattle.std.specs.Prelude.{◌≡◌, false, IfErr, OnOk};
-ghost use Rattle.toml_edit_command.specs.Steps.{StopsActing, StopsDoing, Wrote, WroteRead, action_of};
+ghost use Rattle.std.specs.Io.KnownBytes.{IsAtEnd};
+ghost use Rattle.toml_edit_command.specs.Steps.{HasReadAll, StopsActing, StopsDoing, Wrote, WroteRead, action_of};
 ghost use Rattle.toml_edit_command.specs.Words.{printing};
 ghost use Rattle.toml_edit_command.specs.Written.{held};
 ghost use Rattle.toml_edit_parser.specs.Options.{mode_of, version_of};
@@ -26,6 +27,8 @@ pub fn perform<I: Input, O: Output>(
     requires output { O.has_failed output.old ≡ false }
     ensures wrote { OnOk result (WroteRead (mode_of options) (version_of options) (action_of command) (I.remaining input.old) (O.contents output.old) (O.contents output.new)) }
     ensures ok { OnOk result ((I.has_failed input.new ≡ false) × (O.has_failed output.new ≡ false)) }
+    ensures end { OnOk result (IsAtEnd (I.remaining input.new)) }
+    ensures err_end { IfErr result (HasReadAll (I.remaining input.new)) }
     ensures err { IfErr result (StopsDoing (mode_of options) (version_of options) (action_of command) (I.remaining input.old) (I.has_failed input.new) (record {
       old = O.contents output.old;
       new = O.contents output.new;

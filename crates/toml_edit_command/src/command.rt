@@ -1,4 +1,5 @@
 ghost use Rattle.std.specs.Prelude.{◌≡◌, ◌≤◌, ◌↔◌, ◌⊎◌, false, true, map, IfSome, IsUtf8, string_bytes};
+ghost use Rattle.std.specs.Io.KnownBytes.{IsAtEnd};
 ghost use Rattle.toml_edit_command.specs.declared.stop.Mistake.{Mistake};
 ghost use Rattle.toml_edit_command.specs.Mistakes.{InWords, encoding_line, memory_line, read_line, usage_line, write_line};
 ghost use Rattle.toml_edit_command.specs.Run.{BeginsCommand, DoesCommand, IsNotAccepted, Tells, TellsMistake, TellsRefusal};
@@ -68,6 +69,9 @@ pub fn run<I: Input, O: Output, E: Output>(
         (E.contents errors.old) (E.contents errors.new) (E.has_failed errors.new) }
     ensures wrong_words { ¬ (IsCommand (asked (map string_bytes words.now)).command) → (result ≡ 2)
         × Tells (E.contents errors.old) (E.contents errors.new) (E.has_failed errors.new) usage_line }
+    // All of the input was read before it is done or refused, and before what the words say of it is mistaken.
+    ensures end { (result ≡ 0) ⊎ (result ≡ 1) → IsAtEnd (I.remaining input.new) }
+    ensures mistaken_end { result ≡ 2 → ((m : Mistake) × InWords (asked (map string_bytes words.now)) m) ⊎ IsAtEnd (I.remaining input.new) }
     ensures print { IsPrint (asked (map string_bytes words.now)).command → ¬ (result ≡ 2) }
     // Where the words are, nothing is read.
     ensures untouched { (m : Mistake) → InWords (asked (map string_bytes words.now)) m

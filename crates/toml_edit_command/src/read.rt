@@ -1,11 +1,12 @@
 // What the input holds.
 ghost use Rattle.std.specs.Prelude.{◌≡◌, false, IfSome, IfOk, IfErr, OnOk, string_bytes};
+ghost use Rattle.std.specs.Io.KnownBytes.{IsAtEnd};
 ghost use Rattle.toml_edit_error.specs.Fault.{IfToml};
 ghost use Rattle.toml_edit_model.specs.Version.{Version};
 ghost use Rattle.toml_edit.specs.Documents.{IsRefusalIn};
 ghost use Rattle.toml_edit.specs.DocumentView.{mode_owned};
 ghost use Rattle.toml_edit_command.specs.Run.{IsRefused};
-ghost use Rattle.toml_edit_command.specs.Steps.{StopsReading};
+ghost use Rattle.toml_edit_command.specs.Steps.{HasReadAll, StopsReading};
 ghost use Rattle.toml_edit_command.specs.Written.{IsHeldOf, held};
 ghost use Rattle.toml_edit_parser.specs.Options.{mode_of, version_of};
 
@@ -24,7 +25,9 @@ pub fn read_document<I: Input>(
     ensures read { IfOk result (λ m. IfSome (I.remaining input.old) (λ bytes. IsHeldOf (mode_of options) (version_of options) bytes (held m))) }
     ensures mode { IfOk result (λ m. mode_owned m ≡ mode_of options) }
     ensures ok { OnOk result (I.has_failed input.new ≡ false) }
+    ensures end { OnOk result (IsAtEnd (I.remaining input.new)) }
     ensures err { IfErr result (StopsReading (version_of options) (I.remaining input.old) (I.has_failed input.new)) }
+    ensures err_end { IfErr result (HasReadAll (I.remaining input.new)) }
 {
     let text = text_of(alloc, input)?;
     match document_of(alloc, text.as_str(), options) {
@@ -42,8 +45,10 @@ fn text_of<I: Input>(alloc: Global, input: &mut I) -> Result<String, Stop>
     requires { I.has_failed input.old ≡ false }
     ensures text { IfOk result (λ s. IfSome (I.remaining input.old) (λ bytes. string_bytes s ≡ bytes)) }
     ensures ok { OnOk result (I.has_failed input.new ≡ false) }
+    ensures end { OnOk result (IsAtEnd (I.remaining input.new)) }
     // It stops so in any version.
     ensures err { (version : Version) → IfErr result (StopsReading version (I.remaining input.old) (I.has_failed input.new)) }
+    ensures err_end { IfErr result (HasReadAll (I.remaining input.new)) }
 {
     match read_to_end(alloc, input) {
         Ok(bytes) => match String::from_utf8(bytes) {

@@ -47,6 +47,7 @@ impl ParseOptions {
     }
 
     /// The version of TOML that a text is read as.
+    #[doc(hidden)]
     pub fn get_version(self) -> Version
         ensures { grammar result ≡ version_of self }
     {
@@ -54,6 +55,7 @@ impl ParseOptions {
     }
 
     /// Whether line endings are kept.
+    #[doc(hidden)]
     pub fn is_exact(self) -> bool
         ensures { result ≡ model.is_exact (mode_of self) }
     {

@@ -3,7 +3,7 @@ use Rattle.std.specs.Prelude.{◌≡◌, Bool, true, false, ◌&&◌, ℕ, IsTru
 use Rattle.std.specs.Bool.{Decides}
 use Rattle.std.specs.Cmp.{IsEquivalence, IsPartialEquivalence, partial_equiv_from_equiv, on_equiv, on_per, and_equiv, and_per}
 use Rattle.std.specs.Hash.{Alike, same_Alike, on_Alike, and-Alike}
-use Rattle.std.proofs.Common.{refl, ap, sym}
+use Rattle.std.proofs.Common.{refl, ap, sym, ◌∙◌}
 use Rattle.std.proofs.lemmas.Bool.{eqb-true, eq-eqb}
 use Rattle.std.proofs.lemmas.Bool.Decides.{same_from_decides}
 use Rattle.std.proofs.lemmas.Slice.Eq.{bytes_eq-Decides}
@@ -115,6 +115,11 @@ pub same_formatted_partial_equiv : {X : Type 0} {same : X → X → Bool} → Is
 same_formatted_partial_equiv values =
     and_per (on_per (λ v. v.value) values)
     (and_per (on_per (λ v. v.repr) (partial_equiv_from_equiv same_side_equiv)) (on_per (λ v. v.decor) same_decor_partial_equiv))
+
+-- one with an equal value, and the same spelling and decor, is equal
+pub same_formatted-copied : {X : Type 0} (same : X → X → Bool) (a b : FormattedView X) → IsTrue (same a.value b.value) → a.repr ≡ b.repr → a.decor ≡ b.decor → IsTrue (same_formatted same a b)
+same_formatted-copied same a b values spellings decors =
+    rw (values, ap (λ r. same_side r b.repr) spellings ∙ same_side_itself b.repr, ap (λ d. same_decor d b.decor) decors ∙ same_decor_itself b.decor) refl
 
 pub formatted_hash_respects : {X : Type 0} {same : X → X → Bool} {input : X → List (List ℕ)}
     → ((x y : X) → IsTrue (same x y) → input x ≡ input y)

@@ -302,7 +302,7 @@ pub fn clone_spelling(alloc: Global, repr: &Option<Repr>) -> Mem<Option<Repr>>
 }
 
 /// A value that is a scalar.
-pub trait ScalarValue {
+pub trait ScalarValue: PartialEq {
     ghost use Rattle.toml_edit_model.specs.Scalars.{Scalar};
 
     // the scalar that the value is
@@ -314,7 +314,8 @@ pub trait ScalarValue {
 
     /// An equal copy. The only error is want of memory.
     fn copy(&self, alloc: Global) -> Mem<Self>
-        ensures { IfOk result (λ copy. scalar copy ≡ scalar self.now) };
+        ensures scalar { IfOk result (λ copy. scalar copy ≡ scalar self.now) }
+        ensures equal { IfOk result (λ copy. IsTrue (Self.eq copy self.now)) };
 }
 
 /// A value that has a spelling.
@@ -531,6 +532,7 @@ impl<T: ValueRepr> fmt::Display for Formatted<T> {
 impl<T: ValueRepr> Formatted<T> {
     ghost use Rattle.std.specs.Borrow.{sem};
     ghost use Rattle.toml_edit_repr.specs.LendingParts.{LendsDecor};
+    ghost use Rattle.toml_edit_repr.specs.Sameness.{same_formatted};
     ghost use Rattle.toml_edit_repr.specs.Views.{range_of, text_of};
 
     /// The value with the default spelling and no decor.
@@ -560,6 +562,8 @@ impl<T: ValueRepr> Formatted<T> {
         ensures value { IfOk result (λ copy. T.scalar copy.value ≡ T.scalar self.now.value) }
         ensures repr { IfOk result (λ copy. copy.repr ≡ self.now.repr) }
         ensures decor { IfOk result (λ copy. copy.decor ≡ self.now.decor) }
+        // By `==`.
+        ensures equal { IfOk result (λ copy. IsTrue (same_formatted T.eq copy self.now)) }
     {
         let repr = clone_spelling(alloc, &self.repr)?;
         let decor = self.decor.clone(alloc)?;
@@ -629,7 +633,7 @@ impl<T: ValueRepr> Formatted<T> {
 
     /// What stands around the value, to be changed.
     pub fn decor_mut(&mut self) -> &mut Decor
-        ensures* writes_back { sem 𝓛 (LendsDecor T.row (record { spells = T.spells }) (record { scalar = T.scalar }) self.entry result) }
+        ensures* writes_back { sem 𝓛 (LendsDecor T.row (record { spells = T.spells }) (record { scalar = T.scalar }) (record { eq = T.eq }) self.entry result) }
         ensures decor { result.now ≡ self.old.decor }
     {
         &mut self.decor

@@ -53,7 +53,7 @@ fn fill(entry: Mem<Entry<'_>>, made: Option<Item>, out: &mut Answer) {
 }
 
 fn or_insert(entry: Entry<'_>, item: Item, out: &mut Answer) {
-    out.shown(entry.key());
+    out.text(entry.key());
     out.text("=");
     if let Ok(there) = entry.or_insert(item) {
         there.tell(out);
@@ -111,7 +111,7 @@ fn if_vacant(entry: Entry<'_>, words: &[Json], out: &mut Answer) {
 
 fn fill_vacant(entry: VacantEntry<'_>, words: &[Json], out: &mut Answer) {
     match word(words, 0) {
-        "key" => out.shown(entry.key()),
+        "key" => out.text(entry.key()),
         _ => insert_vacant(entry, made::item(word(words, 1), out), out),
     }
 }
@@ -152,7 +152,7 @@ fn change_lent(table: &mut Table, words: &[Json], out: &mut Answer) {
 fn change_slot(slot: &mut OccupiedEntry<'_>, words: &[Json], out: &mut Answer) {
     let rest = behind(words, 1);
     match word(words, 0) {
-        "key" => out.shown(slot.key()),
+        "key" => out.text(slot.key()),
         "get" => slot.get().tell(out),
         "leaf_decor_mut" => value::change_decor(slot.leaf_decor_mut(), rest, out),
         "dotted_decor_mut" => value::change_decor(slot.dotted_decor_mut(), rest, out),

@@ -16,13 +16,10 @@ pub fn change(table: &mut InlineTable, words: &[Json], out: &mut Answer) {
         "entry" => fill(table.entry(name), made::value(rest, out), out),
         "entry_with" => fill_with(table.entry(name), out),
         "entry_format" => enter_formatted(table, words, out),
-        "entry_remove" => remove(table, name, out),
-        "entry_into_mut" => write_over(table, name, made::value(rest, out), out),
+        "entry_remove" => remove(table.entry(name), out),
+        "entry_into_mut" => write_over(table.entry(name), made::value(rest, out), out),
         "vacant" => use_vacant(table.entry(name), rest, out),
-        "get_key_value_mut" => match table.get_key_value_mut(name) {
-            Some(mut slot) => change_slot(&mut slot, rest, out),
-            None => out.text("none"),
-        },
+        "occupied" => use_occupied(table.entry(name), rest, out),
         _ => inline_slot::change(table, words, out),
     }
 }
@@ -60,7 +57,7 @@ fn fill(entry: Mem<InlineEntry<'_>>, made: Option<Value>, out: &mut Answer) {
 }
 
 fn or_insert(entry: InlineEntry<'_>, value: Value, out: &mut Answer) {
-    out.shown(entry.key());
+    out.text(entry.key());
     out.text("=");
     if let Ok(there) = entry.or_insert(value) {
         out.shown(there);
@@ -85,19 +82,54 @@ fn or_insert_with(entry: InlineEntry<'_>, out: &mut Answer) {
     out.refuse();
 }
 
-/// Takes a slot out by the entry that is lent of its key.
-fn remove(table: &mut InlineTable, name: &str, out: &mut Answer) {
-    match table.get_key_value_mut(name) {
-        Some(entry) => tell_given(entry.remove(), out),
-        None => out.text("none"),
+/// Takes a slot out by the entry of its key.
+fn remove(entry: Mem<InlineEntry<'_>>, out: &mut Answer) {
+    match entry {
+        Ok(entry) => remove_occupied(entry, out),
+        Err(_) => out.refuse(),
     }
 }
 
-/// Writes what was made over what stands there, by the entry that is lent of its key.
-fn write_over(table: &mut InlineTable, name: &str, made: Option<Value>, out: &mut Answer) {
-    match table.get_key_value_mut(name) {
-        Some(entry) => write(Some(entry.into_mut()), made, out),
-        None => out.text("none"),
+fn remove_occupied(entry: InlineEntry<'_>, out: &mut Answer) {
+    if let InlineEntry::Occupied(entry) = entry {
+        tell_given(entry.remove(), out);
+        return;
+    }
+    out.text("none");
+}
+
+/// Writes what was made over what stands there, by the entry of its key.
+fn write_over(entry: Mem<InlineEntry<'_>>, made: Option<Value>, out: &mut Answer) {
+    match entry {
+        Ok(entry) => write_occupied(entry, made, out),
+        Err(_) => {
+            drop(made);
+            out.refuse();
+        }
+    }
+}
+
+fn write_occupied(entry: InlineEntry<'_>, made: Option<Value>, out: &mut Answer) {
+    if let InlineEntry::Occupied(entry) = entry {
+        write(Some(entry.into_mut()), made, out);
+        return;
+    }
+    drop(made);
+    out.text("none");
+}
+
+/// Does a step with the entry of a key that is there.
+fn use_occupied(entry: Mem<InlineEntry<'_>>, words: &[Json], out: &mut Answer) {
+    match entry {
+        Ok(mut entry) => if_occupied(&mut entry, words, out),
+        Err(_) => out.refuse(),
+    }
+}
+
+fn if_occupied(entry: &mut InlineEntry<'_>, words: &[Json], out: &mut Answer) {
+    match entry {
+        InlineEntry::Occupied(entry) => change_slot(entry, words, out),
+        InlineEntry::Vacant(_) => out.text("none"),
     }
 }
 
@@ -118,7 +150,7 @@ fn if_vacant(entry: InlineEntry<'_>, words: &[Json], out: &mut Answer) {
 
 fn fill_vacant(entry: InlineVacantEntry<'_>, words: &[Json], out: &mut Answer) {
     match word(words, 0) {
-        "key" => out.shown(entry.key()),
+        "key" => out.text(entry.key()),
         _ => insert_vacant(entry, made::value(behind(words, 1), out), out),
     }
 }
@@ -138,7 +170,7 @@ fn insert_vacant(entry: InlineVacantEntry<'_>, made: Option<Value>, out: &mut An
 fn change_slot(slot: &mut InlineOccupiedEntry<'_>, words: &[Json], out: &mut Answer) {
     let rest = behind(words, 1);
     match word(words, 0) {
-        "key" => out.shown(slot.key()),
+        "key" => out.text(slot.key()),
         "get" => slot.get().tell(out),
         "leaf_decor_mut" => value::change_decor(slot.leaf_decor_mut(), rest, out),
         "dotted_decor_mut" => value::change_decor(slot.dotted_decor_mut(), rest, out),

@@ -15,6 +15,10 @@ pub fn change(table: &mut InlineTable, words: &[Json], out: &mut Answer) {
             Some(mut slot) => change_slot(&mut slot, rest, out),
             None => out.text("none"),
         },
+        "get_key_value_mut" => match table.get_key_value_mut(name) {
+            Some(mut slot) => change_slot(&mut slot, rest, out),
+            None => out.text("none"),
+        },
         "key_value_at_mut" => match table.key_value_at_mut(index(words)) {
             Some(mut slot) => change_slot(&mut slot, rest, out),
             None => out.text("none"),

@@ -52,9 +52,9 @@ pub fn table(text: &str, out: &mut Answer) -> Option<Table> {
 /// An item: an empty one of a kind, a new table of the pairs behind `new`, a value, or what stands under `t` in a document.
 pub fn item(text: &str, out: &mut Answer) -> Option<Item> {
     match text {
-        "none" => Some(Item::None),
-        "table" => Some(toml_edit::item::table(out.alloc)),
-        "array of tables" => Some(toml_edit::item::array(out.alloc)),
+        "none" => Some(Item::default()),
+        "table" => Some(toml_edit::table(out.alloc)),
+        "array of tables" => Some(toml_edit::array(out.alloc)),
         _ => match text.strip_prefix("new ") {
             Some(pairs) => new_table(read(Value::from_str(out.alloc, pairs), out)),
             None => item_read(text, out),
@@ -74,7 +74,7 @@ fn new_table(made: Option<Value>) -> Option<Item> {
 
 fn item_read(text: &str, out: &mut Answer) -> Option<Item> {
     match read(Value::from_str(out.alloc, text), out) {
-        Some(value) => Some(toml_edit::item::value(value)),
+        Some(value) => Some(toml_edit::value(value)),
         None => under_t(table(text, out)),
     }
 }

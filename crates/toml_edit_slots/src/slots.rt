@@ -6,8 +6,9 @@ use crate::index::{add_new_place, close_gap, find_place, index_those};
 use crate::order::{is_in_order, sort_entries};
 use crate::places::Places;
 use std::alloc::{AllocError, Global};
+use std::error::Error;
 use std::marker::Model;
-use std::mem;
+use std::{fmt, mem};
 use toml_edit_key::Key;
 use toml_edit_repr::Mem;
 
@@ -20,6 +21,19 @@ mod whole;
 /// Want of memory, with the value that found no place.
 #[derive(Debug, Drop)]
 pub struct NoMemory<T>(pub T);
+
+/// Writes `out of memory`.
+impl<T> fmt::Display for NoMemory<T> {
+    ghost use Rattle.std.specs.Prelude.{Some, codes};
+
+    ghost output = { λ _. Some (codes "out of memory") };
+
+    fn fmt<W: fmt::Write>(&self, f: &mut fmt::Formatter<W>) -> fmt::Result {
+        f.write_str("out of memory")
+    }
+}
+
+impl<T: fmt::Debug + Drop> Error for NoMemory<T> {}
 
 impl<T: Drop> From<NoMemory<T>> for AllocError {
     fn from(_refused: NoMemory<T>) -> AllocError {
@@ -260,7 +274,7 @@ impl<T> Slots<T> {
 
     /// Puts the item under the name: a key that is there is reset and keeps its place, and the answer is its old item; a new one
     /// goes last. The only error is want of memory, at a new name: the slots stay, and the error has the item.
-    pub fn insert(&mut self, alloc: Global, text: &str, item: T) -> Result<Option<T>, NoMemory<T>>
+    pub fn insert(&mut self, text: &str, item: T) -> Result<Option<T>, NoMemory<T>>
         ensures old { IfOk result (λ old. old ≡ lookup text.now self.old) }
         ensures slots { OnOk result (self.new ≡ put text.now item self.old) }
         ensures seen { OnOk result (seen self.new ≡ inserted text.now item (seen self.old)) }
@@ -275,7 +289,7 @@ impl<T> Slots<T> {
                 Ok(Some(mem::replace(&mut slot.item, item)))
             }
             None => {
-                let Ok(key) = Key::from_text(alloc, text) else {
+                let Ok(key) = Key::from_text(*self.entries.allocator(), text) else {
                     return Err(NoMemory(item));
                 };
                 match self.push(Slot { key, item }) {

@@ -12,9 +12,10 @@ use Rattle.toml_edit_model.specs.Iterating.{filled_pairs}
 use Rattle.toml_edit_model.specs.Keys.{new_key}
 use Rattle.toml_edit_model.specs.Lists.{is_item, only, slot_list}
 use Rattle.toml_edit_model.specs.Slots as model
-use Rattle.toml_edit_model.specs.TableCalls.{get}
+use Rattle.toml_edit_model.specs.InlineCalls.{contains_value_key}
+use Rattle.toml_edit_model.specs.TableCalls.{get, get_slot}
 use Rattle.toml_edit_model.specs.Text.{Text, same_text}
-use Rattle.toml_edit_model.specs.Tree.{Key, Node, nothing, leaf, list, inline, table, tables, Slots, no_slots, slot}
+use Rattle.toml_edit_model.specs.Tree.{Key, Node, nothing, leaf, list, inline, table, tables, Slots, no_slots, slot, is_value_node}
 use Rattle.toml_edit_slots.specs.Seen.{pair_read, seen}
 use Rattle.toml_edit_slots.specs.declared.slots.Slot.{Slot}
 use Rattle.toml_edit_slots.specs.Slots.{lookup_slot, place, with_item}
@@ -103,6 +104,29 @@ has_slot-found t (s ∷ es) =
 pub is_some-mapped : {X Y : Type 0} (f : X → Y) (o : Option X) → is_some (option_map f o) ≡ is_some o
 is_some-mapped f None = refl
 is_some-mapped f (Some x) = refl
+
+-- ---- a value is held where the slot that is no placeholder holds one
+
+abbrev pub holds_value : Option (model.Slot Node) → Bool
+holds_value None = false
+holds_value (Some s) = is_value_node s.item
+
+value-item : (k : Text) (s : model.Slot Node) (n : Node) → s.item ≡ n → holds_value (passing is_item k s) ≡ is_some (passing is_value_node k s)
+value-item k s nothing e = rw e refl
+value-item k s (leaf scalar spelling d) e = rw e refl
+value-item k s (list f xs) e = rw e refl
+value-item k s (inline f ss) e = rw e refl
+value-item k s (table f ss) e = rw e refl
+value-item k s (tables d xs) e = rw e refl
+
+value-slot : (k : Text) (o : Option (model.Slot Node)) → holds_value (option_and_then (passing is_item k) o) ≡ is_some (option_and_then (passing is_value_node k) o)
+value-slot k None = refl
+value-slot k (Some s) = value-item k s s.item refl
+
+pub value-filled : (k : Text) (es : List (model.Slot Node)) (o : Option (model.Slot Node)) → model.AreApart es → o ≡ get_slot k es → contains_value_key k es ≡ holds_value o
+value-filled k es o apart is =
+    has_slot-found k (model.those is_value_node es) ∙ ap is_some (found-those is_value_node k es apart)
+    ∙ sym (ap holds_value (is ∙ found-those is_item k es apart) ∙ value-slot k (model.lookup_slot k es))
 
 -- ---- the item of a key that is no placeholder
 

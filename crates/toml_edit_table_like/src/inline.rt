@@ -26,7 +26,7 @@ pub(crate) fn insert_item(
     ensures back { IfErr result (λ refused. refused.0 ≡ item) }
     ensures err { OnErr result (table.new ≡ table.old) }
 {
-    match table.items.insert(table.items.allocator(), key, item) {
+    match table.items.insert(key, item) {
         Ok(old) => {
             make_value_under(&mut table.items, key);
             Ok(old_value_item(old))

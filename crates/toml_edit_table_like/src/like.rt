@@ -5,8 +5,9 @@ ghost use Rattle.std.specs.Prelude.{◌≡◌, ◌<◌, ◌↔◌, [], true, IfE
 ghost use Rattle.toml_edit_model.specs.Conversions.{formatted};
 ghost use Rattle.toml_edit_model.specs.Iterating.{filled, filled_pairs};
 ghost use Rattle.toml_edit_model.specs.Keys.{new_key};
-ghost use Rattle.toml_edit_model.specs.Slots.{changed, has_slot, lookup, lookup_key, place, put, with_item, without};
-ghost use Rattle.toml_edit_model.specs.Sorting.{IsDeepReorder};
+ghost use Rattle.toml_edit_model.specs.Lists.{slots_from};
+ghost use Rattle.toml_edit_model.specs.Slots.{AreApart, changed, has_slot, lookup, lookup_key, place, put, with_item, without};
+ghost use Rattle.toml_edit_model.specs.Sorting.{IsDeepReorder, sorted_slots};
 ghost use Rattle.toml_edit_model.specs.TableCalls.{get, get_slot};
 ghost use Rattle.toml_edit_model.specs.TableLike.{like_contains_key, like_get_values, like_inserted, like_old, LikeSorted};
 ghost use Rattle.toml_edit_table_like.specs.Entries.{entry_key, entry_ref};
@@ -34,11 +35,14 @@ use toml_edit_tree::{InlineTable, Item, Iter, Table, Value};
 /// A table of either kind, by itself or by the item that holds it: a list of slots, which may hold any item. A placeholder counts as absent,
 /// but keeps its place.
 pub trait AnyTable: HasSlots {
-    /// How many slots there are, placeholders too.
+    /// How many slots there are, placeholders too. No two keys have one text.
     fn slots(&self) -> usize
-        ensures { result ≡ length (Self.slots_of self.now) }
+        ensures count { result ≡ length (Self.slots_of self.now) }
+        ensures apart { AreApart (Self.slots_of self.now) }
     {
-        self.as_slots().len()
+        let slots = self.as_slots();
+        let _entries = slots.as_slice();
+        slots.len()
     }
 
     /// How many slots hold an item.
@@ -235,6 +239,8 @@ pub trait AnyTable: HasSlots {
     fn sort_values(&mut self) -> Mem<()>
         ensures reorders { IsDeepReorder (differences_of (Self.beside self.old)).enters (Self.slots_of self.old) (Self.slots_of self.new) }
         ensures sorted { OnOk result (LikeSorted (differences_of (Self.beside self.old)) (Self.slots_of self.old) (Self.slots_of self.new)) }
+        // The order of names is lawful, so that there is one such list.
+        ensures in_order { OnOk result (Self.slots_of self.new ≡ sorted_slots (differences_of (Self.beside self.old)).enters (slots_from (Self.slots_of self.old))) }
         ensures beside { Self.beside self.new ≡ Self.beside self.old }
         ensures origin { Self.origin self.new ≡ Self.origin self.old };
 }
@@ -324,7 +330,10 @@ impl TableLike for Table {
 
 impl AnyTable for InlineTable {
     fn contains_key(&self, key: &str) -> bool {
-        InlineTable::get_key_value(self, key).is_some()
+        match InlineTable::get_key_value(self, key) {
+            Some((_, item)) => item.is_value(),
+            None => false,
+        }
     }
 
     fn get_values(&self, alloc: Global) -> Mem<Vec<(Vec<&Key>, &Value)>> {

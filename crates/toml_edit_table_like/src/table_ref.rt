@@ -2,7 +2,7 @@
 ghost use Rattle.std.specs.Option.{option_copied};
 ghost use Rattle.std.specs.Prelude.{◌≡◌, ◌↔◌, [], IfOk, IsTrue, length, option_map, slice_get};
 ghost use Rattle.toml_edit_model.specs.Iterating.{filled, filled_pairs};
-ghost use Rattle.toml_edit_model.specs.Slots.{lookup_key};
+ghost use Rattle.toml_edit_model.specs.Slots.{AreApart, lookup_key};
 ghost use Rattle.toml_edit_model.specs.TableCalls.{get, get_slot};
 ghost use Rattle.toml_edit_model.specs.TableLike.{like_contains_key, like_get_values};
 ghost use Rattle.toml_edit_table_like.specs.Kinds.{differences_of, stands_dotted};
@@ -31,11 +31,14 @@ pub enum TableRef<'a> {
 }
 
 impl<'a> TableRef<'a> {
-    /// How many slots there are, placeholders too.
+    /// How many slots there are, placeholders too. No two keys have one text.
     pub fn slots(&self) -> usize
-        ensures { result ≡ length (ref_slots self.now) }
+        ensures count { result ≡ length (ref_slots self.now) }
+        ensures apart { AreApart (ref_slots self.now) }
     {
-        self.as_slots().len()
+        let slots = self.as_slots();
+        let _entries = slots.as_slice();
+        slots.len()
     }
 
     /// How many slots hold an item.

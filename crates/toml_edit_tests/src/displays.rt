@@ -5,8 +5,8 @@ use std::alloc::Global;
 use std::fmt::Display;
 use std::str::FromStr;
 use toml_edit::{
-    Broken, Date, Datetime, DatetimeFault, Document, FloatText, Formatted, Key, ParseFault,
-    PrintFault, Time, Value,
+    Broken, Date, Datetime, DatetimeFault, Document, FloatText, Formatted, Key, NoMemory,
+    ParseFault, PrintFault, Time, Value,
 };
 use toml_edit_stream::ReadFault;
 
@@ -125,4 +125,5 @@ fn shows_errors(rt: HostRuntime) {
     assert!(rt; shows(alloc, Broken, "broken"));
     assert!(rt; shows(alloc, ReadFault::Memory, "out of memory"));
     assert!(rt; shows(alloc, PrintFault::Device, "write failed"));
+    assert!(rt; shows(alloc, NoMemory(7u8), "out of memory"));
 }

@@ -1,7 +1,7 @@
 //! What moves its argument in or out, and errors that are made and not come upon.
 use crate::holding::{holds, holds_moved, shows};
 use std::alloc::Global;
-use toml_edit::{Decor, Document, Formatted, Key, ParseFault, RawString, Value};
+use toml_edit::{Decor, Document, Formatted, Key, ParseFault, RawString, Value, value};
 
 fn moves_text(_alloc: Global, text: String) -> bool {
     holds(Some(RawString::from(text)), is_moved)
@@ -71,6 +71,13 @@ fn takes_suffix(alloc: Global, after: RawString) -> bool {
         Value::from(true).decorated(RawString::default(), after),
         "true ",
     )
+}
+
+#[test]
+fn makes_items_of_what_converts_into_a_value(rt: HostRuntime) {
+    assert!(rt; shows(rt.alloc(), value(42), "42"));
+    assert!(rt; shows(rt.alloc(), value(true), "true"));
+    assert!(rt; shows(rt.alloc(), value(Value::from(7)), "7"));
 }
 
 #[test]

@@ -27,18 +27,18 @@ fn are_found(slots: &Slots<u8>) -> bool {
 }
 
 /// Whether the item is put in behind the others, or is given back where there is no memory.
-fn inserts(alloc: Global, slots: &mut Slots<u8>, name: &str, item: u8) -> bool {
+fn inserts(slots: &mut Slots<u8>, name: &str, item: u8) -> bool {
     let before = slots.len();
-    match slots.insert(alloc, name, item) {
+    match slots.insert(name, item) {
         Ok(old) => old.is_none() && is_next(slots, name, before),
         Err(refused) => { refused.0 == item && slots.len() == before && slots.find(name).is_none() }
     }
 }
 
-fn inserts_all(alloc: Global, slots: &mut Slots<u8>) -> bool {
+fn inserts_all(_alloc: Global, slots: &mut Slots<u8>) -> bool {
     let mut is_right = slots.is_empty();
     for name in NAMES.iter() {
-        is_right = is_right && inserts(alloc, slots, name, 7) && are_found(slots);
+        is_right = is_right && inserts(slots, name, 7) && are_found(slots);
     }
     is_right
 }
@@ -75,9 +75,9 @@ fn pushes_slots(rt: HostRuntime) {
 }
 
 /// Whether the items of `a` and `b` are found, replaced and lent.
-fn changes(alloc: Global, slots: &mut Slots<u8>) -> bool {
+fn changes(slots: &mut Slots<u8>) -> bool {
     let is_found = slots.get("a") == Some(&1) && slots.find("c").is_none();
-    let is_replaced = match slots.insert(alloc, "b", 4) {
+    let is_replaced = match slots.insert("b", 4) {
         Ok(old) => old == Some(2),
         Err(_) => true,
     };
@@ -104,10 +104,10 @@ fn removes(alloc: Global, slots: &mut Slots<u8>) -> bool {
 }
 
 fn changes_all(alloc: Global, slots: &mut Slots<u8>) -> bool {
-    let is_filled = inserts(alloc, slots, "a", 1) && inserts(alloc, slots, "b", 2);
+    let is_filled = inserts(slots, "a", 1) && inserts(slots, "b", 2);
     // Where no memory was left there may be nothing to change.
     if is_filled && slots.len() == 2 {
-        return changes(alloc, slots) && lends_first(slots) && removes(alloc, slots);
+        return changes(slots) && lends_first(slots) && removes(alloc, slots);
     }
     is_filled
 }
@@ -132,13 +132,12 @@ fn is_same(slots: &Slots<u32>, pairs: &Pairs) -> bool {
 }
 
 fn inserts_in_both(
-    alloc: Global,
     slots: &mut Slots<u32>,
     pairs: &mut Pairs,
     name: String,
     item: u32,
 ) -> Mem<bool> {
-    let old = slots.insert(alloc, name.as_str(), item)?;
+    let old = slots.insert(name.as_str(), item)?;
     match place_of(pairs, name.as_str()) {
         Some(at) => match pairs.get_mut(at) {
             Some(pair) => Ok(old == Some(mem::replace(&mut pair.1, item))),
@@ -202,7 +201,7 @@ fn mixes(alloc: Global, slots: &mut Slots<u32>) -> Mem<bool> {
             1..=15 => removes_from_both(slots, &mut pairs, name.as_str()),
             16..=31 => gets_from_both(slots, &pairs, name.as_str()),
             32..=47 => enters_in_both(slots, &mut pairs, name, item)?,
-            _ => inserts_in_both(alloc, slots, &mut pairs, name, item)?,
+            _ => inserts_in_both(slots, &mut pairs, name, item)?,
         };
         if !is_right || !is_same(slots, &pairs) {
             return Ok(false);
@@ -234,7 +233,7 @@ fn copied(alloc: Global, slots: &Slots<u32>) -> Mem<Pairs> {
 /// Whether the item is put in, or given back and the slots are as they were.
 fn inserts_or_stays(alloc: Global, slots: &mut Slots<u32>, name: &str, item: u32) -> Mem<bool> {
     let before = copied(alloc, slots)?;
-    match slots.insert(alloc, name, item) {
+    match slots.insert(name, item) {
         Ok(_) => Ok(slots.get(name) == Some(&item)),
         Err(refused) => Ok(refused.0 == item && is_same(slots, &before)),
     }
@@ -326,7 +325,7 @@ fn changes_entry(slots: &mut Slots<u8>) -> bool {
 /// Whether the entry of `a` is taken out.
 fn removes_entry(slots: &mut Slots<u8>) -> bool {
     match slots.get_key_value_mut("a") {
-        Some(entry) => entry.key().get() == "a" && entry.remove() == 3,
+        Some(entry) => entry.key() == "a" && entry.remove() == 3,
         None => false,
     }
 }
@@ -343,7 +342,7 @@ fn fills(alloc: Global, slots: &mut Slots<u8>) -> Mem<bool> {
 
 /// Whether entries are filled, and one is changed and taken out. Where no memory was left there may be none.
 fn enters_all(alloc: Global, slots: &mut Slots<u8>) -> bool {
-    let is_filled = is_yes(fills(alloc, slots)) && inserts(alloc, slots, "a", 1);
+    let is_filled = is_yes(fills(alloc, slots)) && inserts(slots, "a", 1);
     if slots.find("a").is_none() {
         return is_filled;
     }

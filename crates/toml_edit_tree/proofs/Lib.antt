@@ -29,3 +29,4 @@ pub mod InlineSlotLaws
 pub mod SortLaws
 pub mod IndexedLaws
 pub mod SlotsInLaws
+pub mod LentLaws

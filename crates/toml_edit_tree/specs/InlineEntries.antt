@@ -3,7 +3,7 @@ use Rattle.std.specs.Prelude.{◌≡◌, ℕ, List, [], ◌∷◌, ◌++◌, len
 use Rattle.std.proofs.Common.{◌∙◌}
 use mir.Syntax.{named}
 use Rattle.std.specs.Option.{unwrap_or}
-use Rattle.std.specs.Borrow.{MutBor, Fml, follows, follows_if, name_if_ok, RestsIfErr, RestsIfNone}
+use Rattle.std.specs.Borrow.{MutBor, Fml, follows, follows_if, name_if_ok, RestsIfErr}
 use Rattle.toml_edit_model.specs.InlineCalls.{entered}
 use Rattle.toml_edit_model.specs.Slots as model
 use Rattle.toml_edit_model.specs.Tree.{Decor, Key}
@@ -89,9 +89,6 @@ InlineLendsOk e r = follows_if inline_row value_row (inline_ref e).ghost_name (n
 -- the inline table stays where there is no entry
 abbrev pub InlineRestsIfRefused : {E : Type 0} → MutBor InlineTable → Result InlineEntry E → Fml
 InlineRestsIfRefused s r = RestsIfErr inline_row s (λ e. (inline_ref e).ghost_name) r (λ n. n ≡ s.now)
-
-abbrev pub InlineRestsIfAbsent : MutBor InlineTable → Option InlineOccupiedEntry → Fml
-InlineRestsIfAbsent s r = RestsIfNone inline_row s (λ o. o.table.ghost_name) r (λ n. n ≡ s.now)
 
 -- the entry ends with the last value behind the reference in its slot, or with the last decor as one of its key's
 abbrev pub InlineOccupiedLends : MutBor InlineOccupiedEntry → MutBor Value → Fml

@@ -1,14 +1,12 @@
 -- The values that stand in an inline table by place.
 use Rattle.std.specs.Prelude.{◌≡◌, ℕ, zero, suc, Bool, true, List, [], ◌∷◌, Option, Some, is_some, slice_get, option_and_then, IfSome}
 use Rattle.std.proofs.Common.{refl, ap}
-use Rattle.std.specs.Borrow.{Bor}
 use Rattle.toml_edit_model.specs.Conversions.{made_value_or}
-use Rattle.toml_edit_model.specs.Slots as model
 use Rattle.toml_edit_model.specs.Tree.{Key, Node}
 use Rattle.toml_edit_slots.specs.Slots.{items_of, on_key, with_item}
 use Rattle.toml_edit_slots.specs.declared.slots.Slot.{Slot}
 use Rattle.toml_edit_tree.specs.ElementHolds.{value_held, value_open}
-use Rattle.toml_edit_tree.specs.View.{item_view, value_view}
+use Rattle.toml_edit_tree.specs.View.{item_view}
 use Rattle.toml_edit_tree.specs.declared.item.Item.{Item}
 use Rattle.toml_edit_tree.specs.declared.item.Item.TheVariants as items
 use Rattle.toml_edit_tree.specs.declared.item.Item.TheVariants.{outs-Value}
@@ -20,10 +18,6 @@ value_at at es = option_and_then value_held (slice_get (items_of es) at)
 
 abbrev pub has_value_at : ℕ → List (Slot Item) → Bool
 has_value_at at es = is_some (value_at at es)
-
--- a key with its value, behind two references
-abbrev pub value_read : Bor Key × Bor Value → model.Slot Node
-value_read p = record { key = p.0.now; item = value_view p.1.now }
 
 -- another item in the slot at a place: what stood there made a value, and d in a placeholder's stead
 abbrev pub MakesValueAt : Node → ℕ → List (Slot Item) → List (Slot Item) → Type 0

@@ -22,6 +22,13 @@ with_slot_at i x a = record a { values = with_item (out-Array a).values i x }
 abbrev pub with_element_at : ℕ → Item → ArrayOfTables → ArrayOfTables
 with_element_at i x a = record a { values = with_item (out-ArrayOfTables a).values i x }
 
+-- the same with another value, or another table
+abbrev pub with_value_at : ℕ → Value → Array → Array
+with_value_at i v a = with_slot_at i (items.Value v) a
+
+abbrev pub with_table_at : ℕ → Table → ArrayOfTables → ArrayOfTables
+with_table_at i t a = with_element_at i (items.Table t) a
+
 -- they end with the last item behind r at the place, where one is lent
 abbrev pub LendsArraySlot : MutBor Array → ℕ → Option (MutBor Item) → Fml
 LendsArraySlot s i r = LendsIf array_row item_row s r (λ w. with_slot_at i w s.now) s.now

@@ -38,6 +38,15 @@ pub enum Item {
     ArrayOfTables(ArrayOfTables),
 }
 
+/// Returns `Item::None`.
+impl Default for Item {
+    ghost is_default = { λ item. item_view item ≡ nothing };
+
+    fn default() -> Item {
+        Item::None
+    }
+}
+
 impl Item {
     /// The name of its type in TOML's words, as error messages have it.
     pub fn type_name(&self) -> &'static str

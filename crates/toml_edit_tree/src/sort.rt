@@ -1,7 +1,7 @@
 //! Slots sorted by a closure or by the names of their keys, and those of the dotted tables inside.
 ghost use Rattle.std.specs.Prelude.{◌≡◌, IsPermutation, OnErr, OnOk};
-ghost use Rattle.toml_edit_model.specs.Lists.{is_dotted_table};
-ghost use Rattle.toml_edit_model.specs.Sorting.{IsDeepReorder, IsDeepSort, ReordersItem, name_lt};
+ghost use Rattle.toml_edit_model.specs.Lists.{is_dotted_table, slots_from};
+ghost use Rattle.toml_edit_model.specs.Sorting.{IsDeepReorder, IsDeepSort, ReordersItem, name_lt, sorted_slots};
 ghost use Rattle.toml_edit_slots.specs.Seen.{seen, slot_seen};
 ghost use Rattle.toml_edit_tree.specs.Containers.{table_node};
 ghost use Rattle.toml_edit_tree.specs.SlotsOf.{slots_of};
@@ -21,6 +21,8 @@ impl Table {
     pub fn sort_values(&mut self) -> Mem<()>
         ensures reorders { IsDeepReorder is_dotted_table (slots_of self.old) (slots_of self.new) }
         ensures sorted { OnOk result (IsDeepSort is_dotted_table name_lt (slots_of self.old) (slots_of self.new)) }
+        // The order of names is lawful, so that there is one such list.
+        ensures in_order { OnOk result (slots_of self.new ≡ sorted_slots is_dotted_table (slots_from (slots_of self.old))) }
         ensures fields { fields_view self.new ≡ fields_view self.old }
     {
         sort_slots(

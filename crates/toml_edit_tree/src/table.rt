@@ -2,12 +2,14 @@
 ghost use Rattle.std.specs.Prelude.{◌≡◌, ◌<◌, List, None, Some, IfOk, IfSome, OnOk, length, option_and_then, option_map, slice_get};
 ghost use Rattle.std.specs.Borrow.{sem};
 ghost use Rattle.std.specs.Iterator.{YieldsFirstBy, item_count};
+ghost use Rattle.toml_edit_model.specs.Slots.{AreApart, changed, with_item};
 ghost use Rattle.toml_edit_model.specs.Tree.{no_slots, SlotsAreWellMade};
 ghost use Rattle.toml_edit_model.specs.TreeOf.{made_by_path, root_fields, spanned_form};
 ghost use Rattle.toml_edit_tree.specs.ContainerParts.{LendsTableDecor, LendsTableSlots, table_holding};
 ghost use Rattle.std.specs.Option.{option_copied};
 ghost use Rattle.toml_edit_slots.specs.Slots.{items_of, place};
-ghost use Rattle.toml_edit_tree.specs.TableLending.{LendsHeld, new_table};
+ghost use Rattle.toml_edit_tree.specs.SlotsOf.{slots_of};
+ghost use Rattle.toml_edit_tree.specs.TableLending.{LendsHeld, new_table, with_item_under};
 ghost use Rattle.toml_edit_tree.specs.declared.table.Table.{out-Table};
 ghost use Rattle.toml_edit_tree.specs.Containers.{key_under, range_in, headed, table_with_dotted, table_with_implicit, table_with_position};
 ghost use Rattle.toml_edit_tree.specs.Held.{held, held_left, held_at, pair_read};
@@ -262,6 +264,9 @@ impl Table {
     pub fn get_mut(&mut self, key: &str) -> Option<&mut Item>
         ensures* writes_back { sem 𝓛 (LendsHeld self.entry key.now result) }
         ensures item { option_map (λ x. item_view x.now) result ≡ held_at key.now (table_slots self.old) }
+        // What an item that is written leaves.
+        ensures leaves { (w : Item) → slots_of (with_item_under key.now w self.old) ≡ changed key.now (with_item (item_view w)) (slots_of self.old) }
+        ensures keeps { (w : Item) → fields_view (with_item_under key.now w self.old) ≡ fields_view self.old }
     {
         match self.held_place(key) {
             Some(at) => Some(self.slots.item_mut(at)),
@@ -275,9 +280,10 @@ impl Table {
             ≡ held_at key.now (table_slots self.now) }
         ensures place { IfSome result (λ at. place key.now (out-Table self.now).slots ≡ Some at) }
         ensures within { IfSome result (λ at. at < length (out-Table self.now).slots) }
+        ensures apart { AreApart (slots_of self.now) }
     {
-        let at = self.slots.find(key)?;
         let entries = self.slots.as_slice();
+        let at = self.slots.find(key)?;
         if entries[at].item.is_none() {
             None
         } else {

@@ -3,6 +3,7 @@
 //! endings, and an end without one; with `strict` it reads TOML 1.0.
 #![tactic(auto)]
 
+use std::env::{Env, FillError};
 use std::io::ErrorKind;
 use std::process::ExitCode;
 use std::{env, io};
@@ -33,8 +34,29 @@ fn main(rt: HostRuntime) -> ExitCode {
 // The arguments after the program's name.
 fn words_of(rt: &HostRuntime) -> io::Result<Vec<String>> {
     let mut words = Vec::new(rt.alloc());
-    for word in env::args(rt)?.skip(1) {
+    for word in env::args(&(AfterName(rt), rt.alloc()))? {
         words.push(word)?;
     }
     Ok(words)
+}
+
+// The environment of the host, whose arguments begin after the program's name: the name need not be UTF-8, and isn't read.
+#[derive(Drop)]
+struct AfterName<'a, R>(&'a R);
+
+impl<R: Env> Env for AfterName<'_, R> {
+    fn arg(&self, i: usize, buf: &mut [u8]) -> Result<usize, FillError> {
+        match i.checked_add(1) {
+            Some(i) => self.0.arg(i, buf),
+            None => Err(FillError::NotPresent),
+        }
+    }
+
+    fn var(&self, name: &str, buf: &mut [u8]) -> Result<usize, FillError> {
+        self.0.var(name, buf)
+    }
+
+    fn var_at(&self, i: usize, buf: &mut [u8]) -> Result<usize, FillError> {
+        self.0.var_at(i, buf)
+    }
 }

@@ -4,6 +4,7 @@ ghost use Rattle.std.specs.Cow.{cow_str_bytes, IsBorrowedStr};
 ghost use Rattle.toml_edit_model.specs.Tree.{owned, key_text};
 ghost use Rattle.toml_edit_model.specs.DefaultSpelling.{key_spelling};
 ghost use Rattle.toml_edit_model.specs.Keys.{new_key};
+ghost use Rattle.toml_edit_model.specs.Spelling.{SpellsKey};
 ghost use Rattle.toml_edit_repr.specs.Views.{text_of};
 
 use super::Key;
@@ -15,9 +16,11 @@ use toml_edit_repr::{Mem, RawString, Repr, spelling_text};
 use toml_edit_token::write_key;
 
 impl Key {
-    /// The spelling of the name that a key without one of its own has: a function of the name. The only error is want of memory.
+    /// The spelling of the name that a key without one of its own has: a function of the name, which it spells. The only error is want of
+    /// memory.
     pub fn default_repr(&self, alloc: Global) -> Mem<Repr>
-        ensures { IfOk result (λ repr. repr ≡ owned (key_spelling self.now.name)) }
+        ensures default { IfOk result (λ repr. repr ≡ owned (key_spelling self.now.name)) }
+        ensures spelled { SpellsKey self.now.name (key_spelling self.now.name) }
     {
         let spelling = DefaultSpelling { name: self.get() }.to_string(alloc)?;
         Ok(Repr::new(RawString::from(spelling)))

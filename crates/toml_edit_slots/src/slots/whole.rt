@@ -1,6 +1,7 @@
 //! Calls that go over all slots.
-ghost use Rattle.std.specs.Prelude.{◌≡◌, List, [], IsPermutation, IfOk, OnOk, OnErr};
+ghost use Rattle.std.specs.Prelude.{◌≡◌, not, List, [], IsPermutation, IfOk, OnOk, OnErr};
 ghost use Rattle.std.specs.Iterator.{Drains, ExtendsWithItems, IsFinite};
+ghost use Rattle.toml_edit_model.specs.Order.{sorted_by};
 ghost use Rattle.toml_edit_model.specs.Retaining.{RetainsBy};
 ghost use Rattle.toml_edit_model.specs.Sorting.{IsSortOf, name_lt};
 ghost use Rattle.toml_edit_slots.specs.Closures.{SaysOfSlot, SortsAs};
@@ -47,6 +48,8 @@ impl<T> Slots<T> {
     pub fn sort_by_name(&mut self) -> Result<(), AllocError>
         ensures permutation { IsPermutation (seen self.old) (seen self.new) }
         ensures sorted { OnOk result (IsSortOf name_lt (seen self.old) (seen self.new)) }
+        // The order of names is lawful, so that there is one such list.
+        ensures in_order { OnOk result (seen self.new ≡ sorted_by (λ s r. not (name_lt r s)) (seen self.old)) }
         ensures err { OnErr result (self.new ≡ self.old) }
     {
         self.sort_by(|one, other| one.key.cmp(&other.key))

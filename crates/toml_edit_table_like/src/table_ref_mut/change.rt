@@ -1,8 +1,9 @@
 //! What is changed of a table of either kind that an item is.
 ghost use Rattle.std.specs.Prelude.{◌≡◌, true, IfErr, IfOk, IsOk, IsTrue, OnErr, OnOk, is_some, option_map};
 ghost use Rattle.toml_edit_model.specs.Conversions.{formatted};
+ghost use Rattle.toml_edit_model.specs.Lists.{slots_from};
 ghost use Rattle.toml_edit_model.specs.Slots.{has_slot, without};
-ghost use Rattle.toml_edit_model.specs.Sorting.{IsDeepReorder};
+ghost use Rattle.toml_edit_model.specs.Sorting.{IsDeepReorder, sorted_slots};
 ghost use Rattle.toml_edit_model.specs.TableLike.{like_inserted, like_old, LikeSorted};
 ghost use Rattle.toml_edit_table_like.specs.InItems.{beside_in, entries_in, slots_seen};
 ghost use Rattle.toml_edit_table_like.specs.Kinds.{differences_of, with_dotted};
@@ -76,6 +77,7 @@ pub(crate) fn sort_in(table: &mut Item) -> Mem<()>
     requires { is_some (entries_in table.old) ≡ true }
     ensures reorders { IsDeepReorder (differences_of (beside_in table.old)).enters (slots_seen table.old) (slots_seen table.new) }
     ensures sorted { OnOk result (LikeSorted (differences_of (beside_in table.old)) (slots_seen table.old) (slots_seen table.new)) }
+    ensures in_order { OnOk result (slots_seen table.new ≡ sorted_slots (differences_of (beside_in table.old)).enters (slots_from (slots_seen table.old))) }
     ensures beside { beside_in table.new ≡ beside_in table.old }
     ensures stays { is_some (entries_in table.new) ≡ true }
 {

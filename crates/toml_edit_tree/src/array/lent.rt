@@ -1,11 +1,12 @@
 //! Slots and values of an array, to be changed in place.
 ghost use Rattle.std.specs.Prelude.{◌≡◌, ◌<◌, true, Some, is_some, length, option_map, slice_get};
-ghost use Rattle.toml_edit_model.specs.ArrayCalls.{value_at};
+ghost use Rattle.toml_edit_model.specs.ArrayCalls.{value_at, written_at};
 ghost use Rattle.std.specs.Borrow.{sem};
-ghost use Rattle.toml_edit_tree.specs.Elements.{items_of};
-ghost use Rattle.toml_edit_tree.specs.ItemPlaces.{LendsArraySlot, LendsArraySlotIn, LendsValueAt, LendsValueIn, value_in_at};
+ghost use Rattle.toml_edit_tree.specs.Elements.{array_fields, items_of};
+ghost use Rattle.toml_edit_tree.specs.ItemPlaces.{LendsArraySlot, LendsArraySlotIn, LendsValueAt, LendsValueIn, value_in_at, with_value_at};
 ghost use Rattle.toml_edit_tree.specs.View.{item_view, value_view};
 ghost use Rattle.toml_edit_tree.specs.declared.array.Array.{out-Array};
+ghost use Rattle.toml_edit_tree.specs.declared.value.Value.{Value};
 
 use super::Array;
 use crate::item::Item;
@@ -16,6 +17,9 @@ impl Array {
     pub fn get_mut(&mut self, at: usize) -> Option<&mut Value>
         ensures* writes_back { sem 𝓛 (LendsValueAt self.entry at result) }
         ensures value { option_map (λ value. value_view value.now) result ≡ value_at at (items_of self.old) }
+        // What a value that is written leaves.
+        ensures leaves { (w : Value) → items_of (with_value_at at w self.old) ≡ written_at at (value_view w) (items_of self.old) }
+        ensures keeps { (w : Value) → array_fields (with_value_at at w self.old) ≡ array_fields self.old }
     {
         if self.holds_value(at) {
             Some(self.value_in_mut(at))

@@ -1,12 +1,14 @@
 //! Slots and tables of an array of tables, to be changed in place.
 ghost use Rattle.std.specs.Prelude.{◌≡◌, ◌<◌, true, Some, is_some, length, option_map, slice_get};
 ghost use Rattle.std.specs.Borrow.{sem};
+ghost use Rattle.toml_edit_model.specs.ArrayCalls.{written_at};
 ghost use Rattle.toml_edit_model.specs.TablesCalls.{table_at};
 ghost use Rattle.toml_edit_tree.specs.Containers.{table_node};
-ghost use Rattle.toml_edit_tree.specs.Elements.{tables_of};
-ghost use Rattle.toml_edit_tree.specs.ItemPlaces.{LendsTableAt, LendsTableIn, LendsTablesSlot, LendsTablesSlotIn, table_in_at};
+ghost use Rattle.toml_edit_tree.specs.Elements.{extent_of, tables_of};
+ghost use Rattle.toml_edit_tree.specs.ItemPlaces.{LendsTableAt, LendsTableIn, LendsTablesSlot, LendsTablesSlotIn, table_in_at, with_table_at};
 ghost use Rattle.toml_edit_tree.specs.View.{item_view, table_view};
 ghost use Rattle.toml_edit_tree.specs.declared.array_of_tables.ArrayOfTables.{out-ArrayOfTables};
+ghost use Rattle.toml_edit_tree.specs.declared.table.Table.{Table};
 
 use super::ArrayOfTables;
 use crate::item::Item;
@@ -17,6 +19,9 @@ impl ArrayOfTables {
     pub fn get_mut(&mut self, at: usize) -> Option<&mut Table>
         ensures* writes_back { sem 𝓛 (LendsTableAt self.entry at result) }
         ensures table { option_map (λ table. table_node (table_view table.now)) result ≡ table_at at (tables_of self.old) }
+        // What a table that is written leaves.
+        ensures leaves { (w : Table) → tables_of (with_table_at at w self.old) ≡ written_at at (table_node (table_view w)) (tables_of self.old) }
+        ensures keeps { (w : Table) → extent_of (with_table_at at w self.old) ≡ extent_of self.old }
     {
         if self.holds_table(at) {
             Some(self.table_in_mut(at))

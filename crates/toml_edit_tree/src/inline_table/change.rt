@@ -26,10 +26,7 @@ impl InlineTable {
         ensures back { IfErr result (λ refused. refused.0 ≡ value) }
         ensures err { OnErr result (self.new ≡ self.old) }
     {
-        match self
-            .items
-            .insert(self.items.allocator(), key, Item::Value(value))
-        {
+        match self.items.insert(key, Item::Value(value)) {
             Ok(old) => Ok(old_as_value(old)),
             Err(NoMemory(Item::Value(value))) => Err(NoMemory(value)),
             Err(_) => unreachable!(),

@@ -1,15 +1,17 @@
 //! What stands in an inline table under a key, or at a place among its slots.
-ghost use Rattle.std.specs.Prelude.{◌≡◌, true, Some, IfSome, length, option_and_then, option_map, slice_get};
+ghost use Rattle.std.specs.Prelude.{◌≡◌, ◌<◌, true, Some, IfSome, length, option_and_then, option_map, slice_get};
 ghost use Rattle.std.specs.Borrow.{sem};
 ghost use Rattle.toml_edit_model.specs.InlineCalls.{get_value};
-ghost use Rattle.toml_edit_model.specs.Iterating.{valued};
-ghost use Rattle.toml_edit_model.specs.Slots.{lookup_slot};
-ghost use Rattle.toml_edit_slots.specs.Slots.{place};
-ghost use Rattle.toml_edit_tree.specs.InlineLending.{LendsValueUnder};
-ghost use Rattle.toml_edit_tree.specs.InlineValues.{has_value_at, value_at, value_read};
+ghost use Rattle.toml_edit_model.specs.Slots.{AreApart, changed, with_item};
+ghost use Rattle.toml_edit_model.specs.TableCalls.{get, get_slot};
+ghost use Rattle.toml_edit_slots.specs.Slots.{items_of, place};
+ghost use Rattle.toml_edit_tree.specs.InlineLending.{LendsValueUnder, with_value_under};
+ghost use Rattle.toml_edit_tree.specs.InlineSlots.{inline_fields};
+ghost use Rattle.toml_edit_tree.specs.InlineValues.{has_value_at, value_at};
 ghost use Rattle.toml_edit_tree.specs.SlotsOf.{inline_slots_of, slot_read};
-ghost use Rattle.toml_edit_tree.specs.View.{value_view};
+ghost use Rattle.toml_edit_tree.specs.View.{item_view, value_view};
 ghost use Rattle.toml_edit_tree.specs.declared.inline_table.InlineTable.{out-InlineTable};
+ghost use Rattle.toml_edit_tree.specs.declared.value.Value.{Value};
 
 use super::InlineTable;
 use crate::item::Item;
@@ -17,10 +19,12 @@ use crate::value::Value;
 use toml_edit_key::Key;
 
 impl InlineTable {
-    /// How many slots there are, placeholders and tables among them.
+    /// How many slots there are, placeholders and tables among them. No two keys have one text.
     pub fn slots(&self) -> usize
-        ensures { result ≡ length (inline_slots_of self.now) }
+        ensures count { result ≡ length (inline_slots_of self.now) }
+        ensures apart { AreApart (inline_slots_of self.now) }
     {
+        let _entries = self.items.as_slice();
         self.items.len()
     }
 
@@ -31,23 +35,47 @@ impl InlineTable {
         self.items.key_value_at(at)
     }
 
-    /// The key of this text and its value, or `None` where there is no slot or the slot holds no value.
-    pub fn get_key_value(&self, key: &str) -> Option<(&Key, &Value)>
-        ensures { option_map value_read result ≡ lookup_slot key.now (valued (inline_slots_of self.now)) }
+    /// Returns the key of this text and its item, which may be a table, or `None` where there is no slot or the slot is a placeholder.
+    pub fn get_key_value(&self, key: &str) -> Option<(&Key, &Item)>
+        ensures slot { option_map slot_read result ≡ get_slot key.now (inline_slots_of self.now) }
+        // No two keys have one text.
+        ensures apart { AreApart (inline_slots_of self.now) }
     {
         let (key, item) = self.items.get_key_value(key)?;
-        let value = item.as_value()?;
-        Some((key, value))
+        if item.is_none() {
+            None
+        } else {
+            Some((key, item))
+        }
     }
 
     /// The value under the key, to be changed, or `None` where there is no slot or the slot holds no value.
     pub fn get_mut(&mut self, key: &str) -> Option<&mut Value>
         ensures* writes_back { sem 𝓛 (LendsValueUnder self.entry key.now result) }
         ensures value { option_map (λ v. value_view v.now) result ≡ get_value key.now (inline_slots_of self.old) }
+        // What a value that is written leaves.
+        ensures leaves { (w : Value) → inline_slots_of (with_value_under key.now w self.old) ≡ changed key.now (with_item (value_view w)) (inline_slots_of self.old) }
+        ensures keeps { (w : Value) → inline_fields (with_value_under key.now w self.old) ≡ inline_fields self.old }
     {
         match self.value_place(key) {
             Some(at) => Some(self.value_at_mut(at)),
             None => None,
+        }
+    }
+
+    /// Returns the place of the key's slot, or `None` where there is no slot or the slot is a placeholder.
+    pub(crate) fn held_place(&self, key: &str) -> Option<usize>
+        ensures held { option_map item_view (option_and_then (slice_get (items_of (out-InlineTable self.now).items)) result)
+            ≡ get key.now (inline_slots_of self.now) }
+        ensures place { IfSome result (λ at. place key.now (out-InlineTable self.now).items ≡ Some at) }
+        ensures within { IfSome result (λ at. at < length (out-InlineTable self.now).items) }
+    {
+        let entries = self.items.as_slice();
+        let at = self.items.find(key)?;
+        if entries[at].item.is_none() {
+            None
+        } else {
+            Some(at)
         }
     }
 
@@ -57,6 +85,7 @@ impl InlineTable {
             ≡ get_value key.now (inline_slots_of self.now) }
         ensures place { IfSome result (λ at. place key.now (out-InlineTable self.now).items ≡ Some at) }
         ensures held { IfSome result (λ at. has_value_at at (out-InlineTable self.now).items ≡ true) }
+        ensures apart { AreApart (inline_slots_of self.now) }
     {
         let entries = self.items.as_slice();
         let at = self.items.find(key)?;

@@ -1,7 +1,7 @@
 //! Slots of an inline table sorted by a closure or by the names of their keys, and those of the dotted inline tables inside.
 ghost use Rattle.std.specs.Prelude.{◌≡◌, IsPermutation, OnOk};
-ghost use Rattle.toml_edit_model.specs.Lists.{is_dotted_inline};
-ghost use Rattle.toml_edit_model.specs.Sorting.{IsDeepReorder, IsDeepSort, ReordersItem, name_lt};
+ghost use Rattle.toml_edit_model.specs.Lists.{is_dotted_inline, slots_from};
+ghost use Rattle.toml_edit_model.specs.Sorting.{IsDeepReorder, IsDeepSort, ReordersItem, name_lt, sorted_slots};
 ghost use Rattle.toml_edit_tree.specs.Containers.{inline_node};
 ghost use Rattle.toml_edit_tree.specs.InlineSlots.{inline_fields};
 ghost use Rattle.toml_edit_tree.specs.SlotsOf.{inline_slots_of, slot_taken};
@@ -23,6 +23,8 @@ impl InlineTable {
     pub fn sort_values(&mut self) -> Mem<()>
         ensures reorders { IsDeepReorder is_dotted_inline (inline_slots_of self.old) (inline_slots_of self.new) }
         ensures sorted { OnOk result (IsDeepSort is_dotted_inline name_lt (inline_slots_of self.old) (inline_slots_of self.new)) }
+        // The order of names is lawful, so that there is one such list.
+        ensures in_order { OnOk result (inline_slots_of self.new ≡ sorted_slots is_dotted_inline (slots_from (inline_slots_of self.old))) }
         ensures fields { inline_fields self.new ≡ inline_fields self.old }
     {
         sort_slots(

@@ -31,7 +31,7 @@ impl Table {
         ensures back { IfErr result (λ refused. refused.0 ≡ item) }
         ensures err { OnErr result (self.new ≡ self.old) }
     {
-        self.slots.insert(self.slots.allocator(), key, item)
+        self.slots.insert(key, item)
     }
 
     /// Puts the item under a copy of the key: a key that is there becomes that copy and keeps its place, and the answer is its old item; a new

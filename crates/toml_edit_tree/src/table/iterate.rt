@@ -4,7 +4,7 @@ ghost use Rattle.std.specs.Iterator.{YieldsFirstBy, item_count};
 ghost use Rattle.toml_edit_model.specs.Conversions.{table_display};
 ghost use Rattle.toml_edit_model.specs.Iterating.{filled};
 ghost use Rattle.toml_edit_model.specs.Lists.{is_item};
-ghost use Rattle.toml_edit_model.specs.Slots.{pairs};
+ghost use Rattle.toml_edit_model.specs.Slots.{AreApart, pairs};
 ghost use Rattle.toml_edit_tree.specs.Held.{held, held_left};
 ghost use Rattle.toml_edit_tree.specs.SlotsOf.{all_left, pair_taken, slots_of};
 ghost use Rattle.toml_edit_tree.specs.View.{item_view, table_slots};
@@ -17,10 +17,12 @@ use toml_edit_repr::Mode;
 use toml_edit_slots::Slot;
 
 impl Table {
-    /// How many slots there are, placeholders too.
+    /// How many slots there are, placeholders too. No two keys have one text.
     pub fn slots(&self) -> usize
-        ensures { result ≡ length (slots_of self.now) }
+        ensures count { result ≡ length (slots_of self.now) }
+        ensures apart { AreApart (slots_of self.now) }
     {
+        let _entries = self.slots.as_slice();
         self.slots.len()
     }
 

@@ -1,11 +1,11 @@
 -- What a run has done, and what it tells of its end.
-use Rattle.std.proofs.Common.{sym, subst, ◌∙◌, map, IsUtf8, string_bytes}
+use Rattle.std.proofs.Common.{◌≡◌, ◌⊎◌, sym, subst, ◌∙◌, inl, inr, map, IsUtf8, string_bytes}
 use Rattle.std.specs.Prelude.{IfSome}
 use Rattle.toml_edit_command.specs.Run.{IsNotAccepted, TellsRefusal}
 use Rattle.toml_edit_command.specs.Steps.{action_of}
 use Rattle.toml_edit_command.specs.Words.{asked}
 use Rattle.toml_edit_parser.specs.Options.{mode_of, version_of}
-use Rattle.toml_edit_command.proofs.Ends.{begins-command, does-command, not-accepted, says-command, says-right, tells-mistake, tells-refusal, wrong-words}
+use Rattle.toml_edit_command.proofs.Ends.{begins-command, does-command, mistaken-at-end, not-accepted, refused-at-end, says-command, says-right, tells-mistake, tells-refusal, words-mistaken, words-refuse-none, wrong-words}
 use Rattle.toml_edit_command.proofs.command.run.Goals as goal
 
 pub returns-in-Err-clause-wrong_words : goal.returns-in-Err-clause-wrong_words
@@ -14,6 +14,16 @@ returns-in-Err-clause-wrong_words g c =
     let x = wrong-words (asked (map string_bytes c.args.words.now)) c.in-Err.stop (g.E.Output.contents c.args.errors.now)
     (g.E.Output.contents c.end.new.errors) (g.E.Output.has_failed c.end.new.errors) c.in-Err.ensures.stops wrong c.end.ensures.told in
     (c.end.ensures.status ∙ x.0, x.1)
+
+pub returns-in-Err-clause-end : goal.returns-in-Err-clause-end
+returns-in-Err-clause-end g c =
+    λ status.
+    words-refuse-none (g.I.Input.remaining c.args.input.now) (asked (map string_bytes c.args.words.now)) c.in-Err.stop c.in-Err.ensures.stops
+    (subst (λ n. (n ≡ 0) ⊎ (n ≡ 1)) c.end.ensures.status status)
+
+pub returns-in-Err-clause-mistaken_end : goal.returns-in-Err-clause-mistaken_end
+returns-in-Err-clause-mistaken_end g c =
+    λ two. inl (words-mistaken (asked (map string_bytes c.args.words.now)) c.in-Err.stop c.in-Err.ensures.stops (sym c.end.ensures.status ∙ two))
 
 pub returns-in-Ok-perform-clause-done : goal.returns-in-Ok-perform-clause-done
 returns-in-Ok-perform-clause-done g c =
@@ -57,6 +67,19 @@ returns-in-Err-perform-clause-mistaken g c =
     (version_of c.in-Ok.read.1) c.in-Ok.ensures.version (g.I.Input.remaining c.args.input.now) (g.I.Input.has_failed c.perform.new.input) _ c.in-Err-perform.stop (g.E.Output.contents c.args.errors.now)
     (g.E.Output.contents c.end-in-Err-perform.new.errors) (g.E.Output.has_failed c.end-in-Err-perform.new.errors) c.in-Err-perform.ensures.err
     (sym c.end-in-Err-perform.ensures.status ∙ two) c.end-in-Err-perform.ensures.told
+
+pub returns-in-Err-perform-clause-end : goal.returns-in-Err-perform-clause-end
+returns-in-Err-perform-clause-end g c =
+    λ status.
+    refused-at-end (g.I.Input.remaining c.perform.new.input) c.in-Err-perform.stop c.in-Err-perform.ensures.err_end
+    (subst (λ n. (n ≡ 0) ⊎ (n ≡ 1)) c.end-in-Err-perform.ensures.status status)
+
+pub returns-in-Err-perform-clause-mistaken_end : goal.returns-in-Err-perform-clause-mistaken_end
+returns-in-Err-perform-clause-mistaken_end g c =
+    λ two.
+    inr
+    (mistaken-at-end (g.I.Input.remaining c.perform.new.input) c.in-Err-perform.stop c.in-Err-perform.ensures.err_end
+    (sym c.end-in-Err-perform.ensures.status ∙ two))
 
 pub returns-in-Err-perform-clause-wrong_words : goal.returns-in-Err-perform-clause-wrong_words
 returns-in-Err-perform-clause-wrong_words g c =

@@ -78,11 +78,11 @@ impl<T> Slots<T> {
 }
 
 impl<'a, T> OccupiedEntry<'a, T> {
-    /// The key that is there.
-    pub fn key(&self) -> &Key
-        ensures { Some result.now ≡ entry_key (Occupied self.now) }
+    /// Returns the name of the key that is there.
+    pub fn key(&self) -> &str
+        ensures { Some result.now ≡ option_map (λ key. key.name) (entry_key (Occupied self.now)) }
     {
-        &self.slots.as_slice()[self.at].key
+        self.slots.as_slice()[self.at].key.get()
     }
 
     /// The item that is there.
@@ -159,11 +159,11 @@ impl<'a, T> OccupiedEntry<'a, T> {
 }
 
 impl<'a, T> VacantEntry<'a, T> {
-    /// The key that a slot would get.
-    pub fn key(&self) -> &Key
-        ensures { Some result.now ≡ entry_key (Vacant self.now) }
+    /// Returns the name of the key that a slot would get.
+    pub fn key(&self) -> &str
+        ensures { Some result.now ≡ option_map (λ key. key.name) (entry_key (Vacant self.now)) }
     {
-        &self.key
+        self.key.get()
     }
 
     /// Puts the key last with the item, which it lends. The only error is want of memory: the slots stay, and the error has the item.
@@ -182,9 +182,9 @@ impl<'a, T> VacantEntry<'a, T> {
 }
 
 impl<'a, T> Entry<'a, T> {
-    /// The key that is there, or that a slot would get.
-    pub fn key(&self) -> &Key
-        ensures { Some result.now ≡ entry_key self.now }
+    /// Returns the name of the key that is there, or that a slot would get.
+    pub fn key(&self) -> &str
+        ensures { Some result.now ≡ option_map (λ key. key.name) (entry_key self.now) }
     {
         match self {
             Entry::Occupied(entry) => entry.key(),

@@ -3,25 +3,27 @@ ghost use Rattle.std.specs.Prelude.{◌≡◌, None, Some, IsSome, IsOk, IfOk, I
 ghost use Rattle.std.specs.Borrow.{sem};
 ghost use Rattle.std.specs.Option.{unwrap_or, UnwrapsOrElse};
 ghost use Rattle.toml_edit_model.specs.Keys.{reset_key};
-ghost use Rattle.toml_edit_model.specs.Slots.{without};
-ghost use Rattle.toml_edit_tree.specs.InlineEntries.{inline_key, inline_place, inline_ref, inline_value, inline_with, with_inline_entry_key, InlineLends, InlineLendsOk, InlineOccupiedLends, InlineOccupiedLendsDotted, InlineOccupiedLendsLeaf};
+ghost use Rattle.toml_edit_model.specs.Slots.{changed_at, on_key, with_item, without};
+ghost use Rattle.toml_edit_model.specs.Tree.{Key};
+ghost use Rattle.toml_edit_tree.specs.InlineEntries.{inline_key, inline_place, inline_ref, inline_value, inline_with, with_entry_value, with_inline_entry_key, InlineLends, InlineLendsOk, InlineOccupiedLends, InlineOccupiedLendsDotted, InlineOccupiedLendsLeaf};
 ghost use Rattle.toml_edit_tree.specs.InlineSlots.{inline_fields};
 ghost use Rattle.toml_edit_tree.specs.SlotsOf.{inline_slots_of};
+ghost use Rattle.toml_edit_tree.specs.View.{value_view};
 ghost use Rattle.toml_edit_tree.specs.declared.inline_table.entry.InlineEntry.TheVariants.{Occupied, Vacant};
+ghost use Rattle.toml_edit_tree.specs.declared.value.Value.{Value};
 
 use super::{InlineEntry, InlineOccupiedEntry, InlineVacantEntry};
 use crate::item::Item;
 use crate::value::Value;
-use toml_edit_key::Key;
 use toml_edit_repr::Decor;
 use toml_edit_slots::{NoMemory, Slot};
 
 impl<'a> InlineOccupiedEntry<'a> {
-    /// The key that is there.
-    pub fn key(&self) -> &Key
-        ensures { Some result.now ≡ inline_key (Occupied self.now) }
+    /// Returns the text of the key that is there.
+    pub fn key(&self) -> &str
+        ensures { Some result.now ≡ option_map (λ key. key.name) (inline_key (Occupied self.now)) }
     {
-        self.table.key_at(self.at)
+        self.table.key_at(self.at).get()
     }
 
     /// The value that is there.
@@ -35,6 +37,10 @@ impl<'a> InlineOccupiedEntry<'a> {
     pub fn into_mut(self) -> &'a mut Value
         ensures* writes_back { sem 𝓛 (InlineLends (Occupied self.entry) result) }
         ensures value { Some result.now ≡ inline_value (Occupied self.entry) }
+        // What a value that is written leaves.
+        ensures leaves { (w : Value) → inline_slots_of (inline_with (Occupied self.entry) w)
+            ≡ changed_at (inline_place (Occupied self.entry)) (with_item (value_view w)) (inline_slots_of (inline_ref (Occupied self.entry)).now) }
+        ensures keeps { (w : Value) → inline_fields (inline_with (Occupied self.entry) w) ≡ inline_fields (inline_ref (Occupied self.entry)).now }
     {
         let InlineOccupiedEntry { table, at } = self;
         table.value_at_mut(at)
@@ -44,6 +50,10 @@ impl<'a> InlineOccupiedEntry<'a> {
     pub fn get_mut(&mut self) -> &mut Value
         ensures* writes_back { sem 𝓛 (InlineOccupiedLends self.entry result) }
         ensures value { Some result.now ≡ inline_value (Occupied self.old) }
+        // What a value that is written leaves.
+        ensures leaves { (w : Value) → inline_slots_of (with_entry_value self.old w).table.now
+            ≡ changed_at (inline_place (Occupied self.old)) (with_item (value_view w)) (inline_slots_of (inline_ref (Occupied self.old)).now) }
+        ensures keeps { (w : Value) → inline_fields (with_entry_value self.old w).table.now ≡ inline_fields (inline_ref (Occupied self.old)).now }
     {
         let at = self.at;
         self.table.value_at_mut(at)
@@ -53,6 +63,10 @@ impl<'a> InlineOccupiedEntry<'a> {
     pub fn leaf_decor_mut(&mut self) -> &mut Decor
         ensures* writes_back { sem 𝓛 (InlineOccupiedLendsLeaf self.entry result) }
         ensures decor { option_map (λ key. key.leaf) (inline_key (Occupied self.old)) ≡ Some result.now }
+        // What a change of the key leaves.
+        ensures leaves { (h : Key → Key) → inline_slots_of (with_inline_entry_key self.old h).table.now
+            ≡ changed_at (inline_place (Occupied self.old)) (on_key h) (inline_slots_of (inline_ref (Occupied self.old)).now) }
+        ensures keeps { (h : Key → Key) → inline_fields (with_inline_entry_key self.old h).table.now ≡ inline_fields (inline_ref (Occupied self.old)).now }
     {
         let at = self.at;
         self.table.leaf_decor_at_mut(at)
@@ -62,6 +76,10 @@ impl<'a> InlineOccupiedEntry<'a> {
     pub fn dotted_decor_mut(&mut self) -> &mut Decor
         ensures* writes_back { sem 𝓛 (InlineOccupiedLendsDotted self.entry result) }
         ensures decor { option_map (λ key. key.dotted) (inline_key (Occupied self.old)) ≡ Some result.now }
+        // What a change of the key leaves.
+        ensures leaves { (h : Key → Key) → inline_slots_of (with_inline_entry_key self.old h).table.now
+            ≡ changed_at (inline_place (Occupied self.old)) (on_key h) (inline_slots_of (inline_ref (Occupied self.old)).now) }
+        ensures keeps { (h : Key → Key) → inline_fields (with_inline_entry_key self.old h).table.now ≡ inline_fields (inline_ref (Occupied self.old)).now }
     {
         let at = self.at;
         self.table.dotted_decor_at_mut(at)
@@ -72,6 +90,9 @@ impl<'a> InlineOccupiedEntry<'a> {
         ensures same_table { (inline_ref (Occupied self.new)).ghost_name ≡ (inline_ref (Occupied self.old)).ghost_name }
         ensures same_place { inline_place (Occupied self.new) ≡ inline_place (Occupied self.old) }
         ensures table { (inline_ref (Occupied self.new)).now ≡ (with_inline_entry_key self.old reset_key).table.now }
+        ensures slots { inline_slots_of (inline_ref (Occupied self.new)).now
+            ≡ changed_at (inline_place (Occupied self.old)) (on_key reset_key) (inline_slots_of (inline_ref (Occupied self.old)).now) }
+        ensures fields { inline_fields (inline_ref (Occupied self.new)).now ≡ inline_fields (inline_ref (Occupied self.old)).now }
     {
         self.table.fmt_key_at(self.at);
     }
@@ -83,6 +104,9 @@ impl<'a> InlineOccupiedEntry<'a> {
         ensures value { Some result ≡ inline_value (Occupied self.old) }
         ensures table { (inline_ref (Occupied self.new)).now ≡ inline_with (Occupied self.old) value }
         ensures holds { inline_value (Occupied self.new) ≡ Some value }
+        ensures slots { inline_slots_of (inline_ref (Occupied self.new)).now
+            ≡ changed_at (inline_place (Occupied self.old)) (with_item (value_view value)) (inline_slots_of (inline_ref (Occupied self.old)).now) }
+        ensures fields { inline_fields (inline_ref (Occupied self.new)).now ≡ inline_fields (inline_ref (Occupied self.old)).now }
     {
         self.table.replace_value_at(self.at, value)
     }
@@ -99,11 +123,11 @@ impl<'a> InlineOccupiedEntry<'a> {
 }
 
 impl<'a> InlineVacantEntry<'a> {
-    /// The key that a slot would get.
-    pub fn key(&self) -> &Key
-        ensures { Some result.now ≡ inline_key (Vacant self.now) }
+    /// Returns the text of the key that a slot would get.
+    pub fn key(&self) -> &str
+        ensures { Some result.now ≡ option_map (λ key. key.name) (inline_key (Vacant self.now)) }
     {
-        &self.key
+        self.key.get()
     }
 
     /// Puts the key last with the value, which it lends. The only error is want of memory: the inline table stays as it was, and the error
@@ -124,9 +148,9 @@ impl<'a> InlineVacantEntry<'a> {
 }
 
 impl<'a> InlineEntry<'a> {
-    /// The key that is there, or that a slot would get.
-    pub fn key(&self) -> &Key
-        ensures { Some result.now ≡ inline_key self.now }
+    /// Returns the text of the key that is there, or that a slot would get.
+    pub fn key(&self) -> &str
+        ensures { Some result.now ≡ option_map (λ key. key.name) (inline_key self.now) }
     {
         match self {
             InlineEntry::Occupied(entry) => entry.key(),

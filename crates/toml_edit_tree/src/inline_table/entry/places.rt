@@ -1,15 +1,12 @@
-//! Entries of an inline table: of a key, or of a place.
-ghost use Rattle.std.specs.Prelude.{◌≡◌, ◌<◌, IfOk, IfSome, Some, length, option_and_then, option_map};
+//! Entries of an inline table.
+ghost use Rattle.std.specs.Prelude.{◌≡◌, ◌<◌, IfOk, IfSome, length};
 ghost use Rattle.std.specs.Borrow.{sem};
-ghost use Rattle.toml_edit_model.specs.InlineCalls.{get_value};
 ghost use Rattle.toml_edit_model.specs.Keys.{new_key};
 ghost use Rattle.toml_edit_model.specs.Slots.{AreApart, place as place_seen};
 ghost use Rattle.toml_edit_slots.specs.Slots.{place};
-ghost use Rattle.toml_edit_tree.specs.InlineEntries.{inline_place, inline_ref, inline_value, InlineRestsIfAbsent, InlineRestsIfRefused, IsInlineEntryOf};
+ghost use Rattle.toml_edit_tree.specs.InlineEntries.{inline_ref, InlineRestsIfRefused, IsInlineEntryOf};
 ghost use Rattle.toml_edit_tree.specs.SlotsOf.{inline_slots_of};
-ghost use Rattle.toml_edit_tree.specs.View.{value_view};
 ghost use Rattle.toml_edit_tree.specs.declared.inline_table.InlineTable.{out-InlineTable};
-ghost use Rattle.toml_edit_tree.specs.declared.inline_table.entry.InlineEntry.TheVariants.{Occupied};
 
 use super::{InlineEntry, InlineOccupiedEntry, InlineVacantEntry};
 use crate::inline_table::InlineTable;
@@ -51,20 +48,6 @@ impl InlineTable {
         match key.clone(alloc) {
             Ok(key) => Ok(InlineEntry::Vacant(InlineVacantEntry { table: self, key })),
             Err(refused) => Err(refused),
-        }
-    }
-
-    /// The entry of the key, if a value stands there, to change that or what stands around the key.
-    pub fn get_key_value_mut(&mut self, key: &str) -> Option<InlineOccupiedEntry<'_>>
-        ensures* absent { sem 𝓛 (InlineRestsIfAbsent self.entry result) }
-        ensures same_table { IfSome result (λ e. (inline_ref (Occupied e)).ghost_name ≡ self.entry.ghost_name) }
-        ensures table { IfSome result (λ e. (inline_ref (Occupied e)).now ≡ self.old) }
-        ensures value { option_and_then (λ e. option_map value_view (inline_value (Occupied e))) result ≡ get_value key.now (inline_slots_of self.old) }
-        ensures place { IfSome result (λ e. place_seen key.now (inline_slots_of self.old) ≡ Some (inline_place (Occupied e))) }
-    {
-        match self.value_place(key) {
-            Some(at) => Some(InlineOccupiedEntry { table: self, at }),
-            None => None,
         }
     }
 

@@ -2,7 +2,13 @@
 ghost use Rattle.std.specs.Prelude.{◌≡◌, Some, option_map};
 ghost use Rattle.std.specs.Borrow.{sem};
 ghost use Rattle.toml_edit_model.specs.Keys.{reset_key};
-ghost use Rattle.toml_edit_tree.specs.InlineSlotParts.{slot_item, slot_key, slot_place, slot_ref, with_slot_key, SlotLends, SlotLendsDotted, SlotLendsLeaf};
+ghost use Rattle.toml_edit_model.specs.Slots.{changed_at, on_key, with_item};
+ghost use Rattle.toml_edit_model.specs.Tree.{Key};
+ghost use Rattle.toml_edit_tree.specs.InlineSlotParts.{slot_item, slot_key, slot_place, slot_ref, with_slot_item, with_slot_key, SlotLends, SlotLendsDotted, SlotLendsLeaf};
+ghost use Rattle.toml_edit_tree.specs.InlineSlots.{inline_fields};
+ghost use Rattle.toml_edit_tree.specs.SlotsOf.{inline_slots_of};
+ghost use Rattle.toml_edit_tree.specs.View.{item_view};
+ghost use Rattle.toml_edit_tree.specs.declared.item.Item.{Item};
 
 use super::InlineSlotMut;
 use crate::item::Item;
@@ -28,6 +34,10 @@ impl<'a> InlineSlotMut<'a> {
     pub fn get_mut(&mut self) -> &mut Item
         ensures* writes_back { sem 𝓛 (SlotLends self.entry result) }
         ensures item { Some result.now ≡ slot_item self.old }
+        // What an item that is written leaves.
+        ensures leaves { (w : Item) → inline_slots_of (slot_ref (with_slot_item self.old w)).now
+            ≡ changed_at (slot_place self.old) (with_item (item_view w)) (inline_slots_of (slot_ref self.old).now) }
+        ensures keeps { (w : Item) → inline_fields (slot_ref (with_slot_item self.old w)).now ≡ inline_fields (slot_ref self.old).now }
     {
         let at = self.at;
         self.table.item_at_mut(at)
@@ -37,6 +47,10 @@ impl<'a> InlineSlotMut<'a> {
     pub fn leaf_decor_mut(&mut self) -> &mut Decor
         ensures* writes_back { sem 𝓛 (SlotLendsLeaf self.entry result) }
         ensures decor { option_map (λ key. key.leaf) (slot_key self.old) ≡ Some result.now }
+        // What a change of the key leaves.
+        ensures leaves { (h : Key → Key) → inline_slots_of (slot_ref (with_slot_key self.old h)).now
+            ≡ changed_at (slot_place self.old) (on_key h) (inline_slots_of (slot_ref self.old).now) }
+        ensures keeps { (h : Key → Key) → inline_fields (slot_ref (with_slot_key self.old h)).now ≡ inline_fields (slot_ref self.old).now }
     {
         let at = self.at;
         self.table.leaf_decor_in_mut(at)
@@ -46,6 +60,10 @@ impl<'a> InlineSlotMut<'a> {
     pub fn dotted_decor_mut(&mut self) -> &mut Decor
         ensures* writes_back { sem 𝓛 (SlotLendsDotted self.entry result) }
         ensures decor { option_map (λ key. key.dotted) (slot_key self.old) ≡ Some result.now }
+        // What a change of the key leaves.
+        ensures leaves { (h : Key → Key) → inline_slots_of (slot_ref (with_slot_key self.old h)).now
+            ≡ changed_at (slot_place self.old) (on_key h) (inline_slots_of (slot_ref self.old).now) }
+        ensures keeps { (h : Key → Key) → inline_fields (slot_ref (with_slot_key self.old h)).now ≡ inline_fields (slot_ref self.old).now }
     {
         let at = self.at;
         self.table.dotted_decor_in_mut(at)
@@ -56,6 +74,8 @@ impl<'a> InlineSlotMut<'a> {
         ensures same_table { (slot_ref self.new).ghost_name ≡ (slot_ref self.old).ghost_name }
         ensures same_place { slot_place self.new ≡ slot_place self.old }
         ensures table { (slot_ref self.new).now ≡ (slot_ref (with_slot_key self.old reset_key)).now }
+        ensures slots { inline_slots_of (slot_ref self.new).now ≡ changed_at (slot_place self.old) (on_key reset_key) (inline_slots_of (slot_ref self.old).now) }
+        ensures fields { inline_fields (slot_ref self.new).now ≡ inline_fields (slot_ref self.old).now }
     {
         self.table.fmt_key_in(self.at);
     }

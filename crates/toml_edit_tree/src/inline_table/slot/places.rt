@@ -1,12 +1,14 @@
 //! Slots of an inline table by place or by key, and what is written in one.
-ghost use Rattle.std.specs.Prelude.{◌≡◌, ◌<◌, IfSome, IsTrue, None, Some, if◌then◌else◌, length, nat_lt, option_map, slice_get};
+ghost use Rattle.std.specs.Prelude.{◌≡◌, ◌<◌, IfSome, IsTrue, None, Some, if◌then◌else◌, length, nat_lt, option_and_then, option_map, slice_get};
 ghost use Rattle.std.specs.Borrow.{sem};
 ghost use Rattle.toml_edit_model.specs.Keys.{reset_key};
 ghost use Rattle.toml_edit_model.specs.Slots.{place as place_seen};
+ghost use Rattle.toml_edit_model.specs.TableCalls.{get};
 ghost use Rattle.toml_edit_slots.specs.Slots.{items_of};
 ghost use Rattle.toml_edit_tree.specs.InlineLending.{with_inline_key, LendsInlineDottedAt, LendsInlineLeafAt};
-ghost use Rattle.toml_edit_tree.specs.InlineSlotParts.{slot_place, slot_ref, LendsInlineItemAt, SlotRestsIfAbsent};
+ghost use Rattle.toml_edit_tree.specs.InlineSlotParts.{slot_item, slot_place, slot_ref, LendsInlineItemAt, SlotRestsIfAbsent};
 ghost use Rattle.toml_edit_tree.specs.SlotsOf.{inline_slots_of};
+ghost use Rattle.toml_edit_tree.specs.View.{item_view};
 ghost use Rattle.toml_edit_tree.specs.declared.inline_table.InlineTable.{out-InlineTable};
 
 use super::InlineSlotMut;
@@ -37,6 +39,21 @@ impl InlineTable {
         ensures place { option_map slot_place result ≡ place_seen key.now (inline_slots_of self.old) }
     {
         match self.place_of(key) {
+            Some(at) => Some(InlineSlotMut { table: self, at }),
+            None => None,
+        }
+    }
+
+    /// Returns the key's slot, to change its item or what stands around the key, or `None` where there is no slot or the slot is a
+    /// placeholder.
+    pub fn get_key_value_mut(&mut self, key: &str) -> Option<InlineSlotMut<'_>>
+        ensures* absent { sem 𝓛 (SlotRestsIfAbsent self.entry result) }
+        ensures same_table { IfSome result (λ slot. (slot_ref slot).ghost_name ≡ self.entry.ghost_name) }
+        ensures table { IfSome result (λ slot. (slot_ref slot).now ≡ self.old) }
+        ensures item { option_and_then (λ slot. option_map item_view (slot_item slot)) result ≡ get key.now (inline_slots_of self.old) }
+        ensures place { IfSome result (λ slot. place_seen key.now (inline_slots_of self.old) ≡ Some (slot_place slot)) }
+    {
+        match self.held_place(key) {
             Some(at) => Some(InlineSlotMut { table: self, at }),
             None => None,
         }

@@ -3,24 +3,25 @@ ghost use Rattle.std.specs.Prelude.{◌≡◌, None, Some, IsSome, IsOk, IfOk, I
 ghost use Rattle.std.specs.Borrow.{sem};
 ghost use Rattle.std.specs.Option.{unwrap_or, UnwrapsOrElse};
 ghost use Rattle.toml_edit_model.specs.Keys.{reset_key};
-ghost use Rattle.toml_edit_model.specs.Slots.{without};
+ghost use Rattle.toml_edit_model.specs.Slots.{changed_at, on_key, with_item, without};
+ghost use Rattle.toml_edit_model.specs.Tree.{Key};
 ghost use Rattle.toml_edit_tree.specs.SlotsOf.{slots_of};
-ghost use Rattle.toml_edit_tree.specs.TableEntries.{entry_item, entry_key, entry_place, entry_ref, table_with, with_entry_key, EntryLends, EntryLendsOk, OccupiedLends, OccupiedLendsDotted, OccupiedLendsLeaf};
-ghost use Rattle.toml_edit_tree.specs.View.{fields_view};
+ghost use Rattle.toml_edit_tree.specs.TableEntries.{entry_item, entry_key, entry_place, entry_ref, table_with, with_entry_item, with_entry_key, EntryLends, EntryLendsOk, OccupiedLends, OccupiedLendsDotted, OccupiedLendsLeaf};
+ghost use Rattle.toml_edit_tree.specs.View.{fields_view, item_view};
+ghost use Rattle.toml_edit_tree.specs.declared.item.Item.{Item};
 ghost use Rattle.toml_edit_tree.specs.declared.table.entry.Entry.TheVariants.{Occupied, Vacant};
 
 use super::{Entry, OccupiedEntry, VacantEntry};
 use crate::item::Item;
-use toml_edit_key::Key;
 use toml_edit_repr::Decor;
 use toml_edit_slots::{NoMemory, Slot};
 
 impl<'a> OccupiedEntry<'a> {
-    /// The key that is there.
-    pub fn key(&self) -> &Key
-        ensures { Some result.now ≡ entry_key (Occupied self.now) }
+    /// Returns the text of the key that is there.
+    pub fn key(&self) -> &str
+        ensures { Some result.now ≡ option_map (λ key. key.name) (entry_key (Occupied self.now)) }
     {
-        &self.table.slots.as_slice()[self.at].key
+        self.table.slots.as_slice()[self.at].key.get()
     }
 
     /// The item that is there, which may be a placeholder.
@@ -34,6 +35,10 @@ impl<'a> OccupiedEntry<'a> {
     pub fn into_mut(self) -> &'a mut Item
         ensures* writes_back { sem 𝓛 (EntryLends (Occupied self.entry) result) }
         ensures item { Some result.now ≡ entry_item (Occupied self.entry) }
+        // What an item that is written leaves.
+        ensures leaves { (w : Item) → slots_of (table_with (Occupied self.entry) w)
+            ≡ changed_at (entry_place (Occupied self.entry)) (with_item (item_view w)) (slots_of (entry_ref (Occupied self.entry)).now) }
+        ensures keeps { (w : Item) → fields_view (table_with (Occupied self.entry) w) ≡ fields_view (entry_ref (Occupied self.entry)).now }
     {
         let OccupiedEntry { table, at } = self;
         table.slots.item_mut(at)
@@ -43,6 +48,10 @@ impl<'a> OccupiedEntry<'a> {
     pub fn get_mut(&mut self) -> &mut Item
         ensures* writes_back { sem 𝓛 (OccupiedLends self.entry result) }
         ensures item { Some result.now ≡ entry_item (Occupied self.old) }
+        // What an item that is written leaves.
+        ensures leaves { (w : Item) → slots_of (with_entry_item self.old w).table.now
+            ≡ changed_at (entry_place (Occupied self.old)) (with_item (item_view w)) (slots_of (entry_ref (Occupied self.old)).now) }
+        ensures keeps { (w : Item) → fields_view (with_entry_item self.old w).table.now ≡ fields_view (entry_ref (Occupied self.old)).now }
     {
         let at = self.at;
         self.table.item_at_mut(at)
@@ -52,6 +61,10 @@ impl<'a> OccupiedEntry<'a> {
     pub fn leaf_decor_mut(&mut self) -> &mut Decor
         ensures* writes_back { sem 𝓛 (OccupiedLendsLeaf self.entry result) }
         ensures decor { option_map (λ key. key.leaf) (entry_key (Occupied self.old)) ≡ Some result.now }
+        // What a change of the key leaves.
+        ensures leaves { (h : Key → Key) → slots_of (with_entry_key self.old h).table.now
+            ≡ changed_at (entry_place (Occupied self.old)) (on_key h) (slots_of (entry_ref (Occupied self.old)).now) }
+        ensures keeps { (h : Key → Key) → fields_view (with_entry_key self.old h).table.now ≡ fields_view (entry_ref (Occupied self.old)).now }
     {
         let at = self.at;
         self.table.leaf_decor_at_mut(at)
@@ -61,6 +74,10 @@ impl<'a> OccupiedEntry<'a> {
     pub fn dotted_decor_mut(&mut self) -> &mut Decor
         ensures* writes_back { sem 𝓛 (OccupiedLendsDotted self.entry result) }
         ensures decor { option_map (λ key. key.dotted) (entry_key (Occupied self.old)) ≡ Some result.now }
+        // What a change of the key leaves.
+        ensures leaves { (h : Key → Key) → slots_of (with_entry_key self.old h).table.now
+            ≡ changed_at (entry_place (Occupied self.old)) (on_key h) (slots_of (entry_ref (Occupied self.old)).now) }
+        ensures keeps { (h : Key → Key) → fields_view (with_entry_key self.old h).table.now ≡ fields_view (entry_ref (Occupied self.old)).now }
     {
         let at = self.at;
         self.table.dotted_decor_at_mut(at)
@@ -71,6 +88,9 @@ impl<'a> OccupiedEntry<'a> {
         ensures same_table { (entry_ref (Occupied self.new)).ghost_name ≡ (entry_ref (Occupied self.old)).ghost_name }
         ensures same_place { entry_place (Occupied self.new) ≡ entry_place (Occupied self.old) }
         ensures table { (entry_ref (Occupied self.new)).now ≡ (with_entry_key self.old reset_key).table.now }
+        ensures slots { slots_of (entry_ref (Occupied self.new)).now
+            ≡ changed_at (entry_place (Occupied self.old)) (on_key reset_key) (slots_of (entry_ref (Occupied self.old)).now) }
+        ensures fields { fields_view (entry_ref (Occupied self.new)).now ≡ fields_view (entry_ref (Occupied self.old)).now }
     {
         self.table.slots.fmt_key(self.at);
     }
@@ -82,6 +102,9 @@ impl<'a> OccupiedEntry<'a> {
         ensures item { Some result ≡ entry_item (Occupied self.old) }
         ensures table { (entry_ref (Occupied self.new)).now ≡ table_with (Occupied self.old) item }
         ensures holds { entry_item (Occupied self.new) ≡ Some item }
+        ensures slots { slots_of (entry_ref (Occupied self.new)).now
+            ≡ changed_at (entry_place (Occupied self.old)) (with_item (item_view item)) (slots_of (entry_ref (Occupied self.old)).now) }
+        ensures fields { fields_view (entry_ref (Occupied self.new)).now ≡ fields_view (entry_ref (Occupied self.old)).now }
     {
         self.table.slots.replace_item(self.at, item)
     }
@@ -98,11 +121,11 @@ impl<'a> OccupiedEntry<'a> {
 }
 
 impl<'a> VacantEntry<'a> {
-    /// The key that a slot would get.
-    pub fn key(&self) -> &Key
-        ensures { Some result.now ≡ entry_key (Vacant self.now) }
+    /// Returns the text of the key that a slot would get.
+    pub fn key(&self) -> &str
+        ensures { Some result.now ≡ option_map (λ key. key.name) (entry_key (Vacant self.now)) }
     {
-        &self.key
+        self.key.get()
     }
 
     /// Puts the key last with the item, which it lends. The only error is want of memory: the table stays as it was, and the error has the
@@ -122,9 +145,9 @@ impl<'a> VacantEntry<'a> {
 }
 
 impl<'a> Entry<'a> {
-    /// The key that is there, or that a slot would get.
-    pub fn key(&self) -> &Key
-        ensures { Some result.now ≡ entry_key self.now }
+    /// Returns the text of the key that is there, or that a slot would get.
+    pub fn key(&self) -> &str
+        ensures { Some result.now ≡ option_map (λ key. key.name) (entry_key self.now) }
     {
         match self {
             Entry::Occupied(entry) => entry.key(),

@@ -1,18 +1,33 @@
--- A document that was read and made to own its texts.
-use Rattle.std.proofs.Common.{◌∙◌}
-use Rattle.toml_edit_model.specs.Mode.{plain}
-use Rattle.toml_edit.specs.DocumentView.{mode_read, source, tree_read, tree_owned}
-use Rattle.toml_edit.proofs.OwnLaws.{own-reading}
+-- A text is read as it is by the options that ask for nothing else.
+use Rattle.std.proofs.Common.{subst, ◌∙◌}
+use Rattle.std.proofs.lemmas.Result.{IfOk-weaker}
+use Rattle.std.specs.Prelude.{IfErr}
+use Rattle.toml_edit_error.specs.Fault.{IfToml}
+use Rattle.toml_edit.specs.DocumentView.{open_owned, tree_owned}
+use Rattle.toml_edit.specs.Documents.{IsRefusalIn}
+use Rattle.toml_edit_parser.specs.Options.{mode_of, version_of}
+use Rattle.toml_edit.proofs.PlainReads.{latest-accepts, of-both, plain-owned, plain-owned-end}
 use Rattle.toml_edit.proofs.document.DocumentMut.from_str.Goals as goal
 
 pub returns-clause-accepted : goal.returns-clause-accepted
 returns-clause-accepted c =
-    let read = c.in_ok-document in
-    own-reading plain (mode_read read.document) read.ensures.plain.0 c.args.text.now (source read.document) read.ensures.source
-    (tree_read read.document) (tree_owned c.in_ok-owned.owned) c.in_ok-owned.ensures.normal read.ensures.accepted
+    IfOk-weaker c.from_str_with.result _ _
+    (λ m h. plain-owned (mode_of c.new.result) c.new.ensures.mode (version_of c.new.result) c.args.text.now (tree_owned m) (open_owned m) h)
+    c.from_str_with.ensures.accepted
 
 pub returns-clause-plain : goal.returns-clause-plain
 returns-clause-plain c =
-    let read = c.in_ok-document.ensures.plain in
-    let kept = c.in_ok-owned.ensures.kept in
-    (kept.0 ∙ read.0, kept.1 ∙ read.1)
+    of-both c.from_str_with.result _ _ _
+    (λ m mode h. (
+      mode ∙ c.new.ensures.mode,
+      plain-owned-end (mode_of c.new.result) c.new.ensures.mode (version_of c.new.result) c.args.text.now (tree_owned m) (open_owned m) h,
+    ))
+    c.from_str_with.ensures.mode c.from_str_with.ensures.accepted
+
+pub returns-clause-every : goal.returns-clause-every
+returns-clause-every c =
+    λ d accepted. c.from_str_with.ensures.every d (latest-accepts (version_of c.new.result) c.args.text.now d c.new.ensures.version accepted)
+
+pub returns-clause-refused : goal.returns-clause-refused
+returns-clause-refused c =
+    subst (λ v. IfErr c.from_str_with.result (λ e. IfToml e (IsRefusalIn v c.args.text.now))) c.new.ensures.version c.from_str_with.ensures.refused

@@ -1,4 +1,4 @@
--- The entry of a key that holds a value.
+-- The slot of a key, unless it is a placeholder.
 use Rattle.std.proofs.Common.{refl, ap, ◌∙◌}
 use Rattle.toml_edit_model.specs.Slots.{place}
 use Rattle.toml_edit_tree.specs.declared.inline_table.InlineTable.{out-InlineTable}
@@ -11,5 +11,5 @@ returns-in-Some c =
     let k = c.args.key.now in
     let t = c.args.self.now in (
       (refl, λ w. refl, tt),
-      (refl, (refl, (c.in-Some.ensures.value, ap (place k) (inline-shown t) ∙ place-shown k (out-InlineTable t).items ∙ c.in-Some.ensures.place))),
+      (refl, (refl, (c.in-Some.ensures.held, ap (place k) (inline-shown t) ∙ place-shown k (out-InlineTable t).items ∙ c.in-Some.ensures.place))),
     )

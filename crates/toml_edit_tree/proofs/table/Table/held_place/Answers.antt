@@ -1,6 +1,7 @@
--- The place of a key's slot, unless it is a placeholder.
-use Rattle.std.proofs.Common.{◌≡◌, Some, None, get_or, option_and_then, option_map, slice_get, sym, ap, ◌∙◌}
+-- The place of a key's slot, unless it is a placeholder, and the keys of a table, apart.
+use Rattle.std.proofs.Common.{◌≡◌, Some, None, get_or, option_and_then, option_map, slice_get, sym, ap, subst, ◌∙◌}
 use Rattle.std.proofs.lemmas.Option.{slice_get-get_or}
+use Rattle.toml_edit_model.specs.Slots.{AreApart}
 use Rattle.toml_edit_model.specs.Tree.{nothing}
 use Rattle.toml_edit_slots.specs.declared.slots.Slot.{Slot}
 use Rattle.toml_edit_slots.specs.Slots.{items_of}
@@ -8,6 +9,8 @@ use Rattle.toml_edit_tree.specs.Held.{held_at, held_item}
 use Rattle.toml_edit_tree.specs.View.{item_view}
 use Rattle.toml_edit_tree.specs.declared.table.Table.{out-Table}
 use Rattle.toml_edit_tree.proofs.HeldLaws.{held_at-found, held_item-filled, item-at}
+use Rattle.toml_edit_tree.proofs.SlotsLaws.{table-shown}
+use Rattle.toml_edit_tree.proofs.TableEntryLaws.{apart-first}
 use Rattle.toml_edit_tree.proofs.ViewLaws.{table_slots}
 use Rattle.toml_edit_tree.proofs.table.Table.held_place.Goals as goal
 
@@ -44,3 +47,18 @@ returns-else-is_none-clause-held c =
     ap (option_map item_view) (item-at es at s got)
     ∙ sym (ap (held_at k) (table_slots t) ∙ held_at-found k es (Some s) (sym got ∙ sym (ap (option_and_then (slice_get es)) c.in_ok-at.was) ∙ c.find.ensures.slot)
     ∙ held_item-filled (item_view s.item) full)
+
+pub returns-in_err-at-clause-apart : goal.returns-in_err-at-clause-apart
+returns-in_err-at-clause-apart c =
+    let t = c.args.self.now in
+    subst AreApart (sym (table-shown t)) (apart-first (out-Table t).slots c.as_slice-entries.ensures.apart)
+
+pub returns-then-is_none-clause-apart : goal.returns-then-is_none-clause-apart
+returns-then-is_none-clause-apart c =
+    let t = c.args.self.now in
+    subst AreApart (sym (table-shown t)) (apart-first (out-Table t).slots c.as_slice-entries.ensures.apart)
+
+pub returns-else-is_none-clause-apart : goal.returns-else-is_none-clause-apart
+returns-else-is_none-clause-apart c =
+    let t = c.args.self.now in
+    subst AreApart (sym (table-shown t)) (apart-first (out-Table t).slots c.as_slice-entries.ensures.apart)

@@ -2,6 +2,7 @@
 use Rattle.std.proofs.Common.{refl, arith, ◌∙◌, slice_get}
 use Rattle.toml_edit_slots.specs.Entries.{length-on_key}
 use Rattle.toml_edit_tree.specs.declared.inline_table.InlineTable.{out-InlineTable}
+use Rattle.toml_edit_tree.proofs.LentLaws.{inline_key-keeps, inline_key-leaves}
 use Rattle.toml_edit_tree.proofs.InlineSlotLaws.{slot_key_written}
 use Rattle.toml_edit_tree.proofs.TableEntryLaws.{part-of-key}
 use Rattle.toml_edit_tree.proofs.inline_table.slot.InlineSlotMut.dotted_decor_mut.Goals as goal
@@ -15,5 +16,5 @@ pub returns : goal.returns
 returns c =
     let o = c.args.self.now in (
       (refl, λ w. slot_key_written o (λ k. record k { dotted = w }) _),
-      record { writes_back = tt; decor = part-of-key (λ k. k.dotted) (slice_get (out-InlineTable o.table.now).items o.at) ∙ c.dotted_decor_in_mut.ensures.decor },
+      record { writes_back = tt; decor = part-of-key (λ k. k.dotted) (slice_get (out-InlineTable o.table.now).items o.at) ∙ c.dotted_decor_in_mut.ensures.decor; leaves = inline_key-leaves o.at o.table.now; keeps = inline_key-keeps o.at o.table.now },
     )

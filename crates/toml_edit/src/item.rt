@@ -1,0 +1,13 @@
+//! Items that are made from values.
+ghost use Rattle.std.specs.Prelude.{◌≡◌};
+ghost use Rattle.toml_edit_tree.specs.View.{item_view, value_view};
+ghost use Rattle.toml_edit_tree.specs.declared.value.Value.{Value};
+
+use toml_edit_tree::{Item, Value, item};
+
+/// Makes the item of a value, or of what converts into a value.
+pub fn value<V: Into<Value>>(value: V) -> Item
+    ensures { (made : Value) × V.converts value made × (item_view result ≡ value_view made) }
+{
+    item::value(value.into())
+}
