@@ -1,32 +1,37 @@
-//! The example of the README: reads a package manifest from standard input, and prints it with a word on its release profile.
+//! The program of the README: sets the version in a package manifest, and adds a dependency.
 #![tactic(auto)]
 
 use anyhow::Result;
-use std::io;
-use toml_edit::{Document, Item, Table, Value};
+use std::alloc::Global;
+use std::{io, mem};
+use toml_edit::{DocumentMut, Item, Value};
 
-// The table under this key.
-fn table_at<'a>(table: &'a Table, key: &str) -> Option<&'a Table> {
-    table.get(key).and_then(Item::as_table)
+/// Sets `package.version`, and keeps the spaces and the comment around it.
+fn set_version(alloc: Global, doc: &mut DocumentMut, version: &str) -> Result<()> {
+    let mut version = Value::string(alloc, version)?;
+    if let Some(Item::Table(package)) = doc.as_table_mut().get_mut("package") {
+        if let Some(Item::Value(old)) = package.get_mut("version") {
+            mem::swap(old.decor_mut(), version.decor_mut());
+            mem::swap(old, &mut version);
+        }
+    }
+    Ok(())
 }
 
-// What a manifest has under `profile.release.opt-level`, if that is an integer.
-fn opt_level(manifest: &Table) -> Option<i64> {
-    let release = table_at(table_at(manifest, "profile")?, "release")?;
-    release
-        .get("opt-level")
-        .and_then(Item::as_value)
-        .and_then(Value::as_integer)
+/// Adds a dependency after the others.
+fn add_dependency(alloc: Global, doc: &mut DocumentMut, name: &str, version: &str) -> Result<()> {
+    let version = Value::string(alloc, version)?;
+    if let Some(Item::Table(dependencies)) = doc.as_table_mut().get_mut("dependencies") {
+        dependencies.insert(name, Item::Value(version))?;
+    }
+    Ok(())
 }
 
 fn main(rt: HostRuntime) -> Result<()> {
     let text = io::read_to_string(rt.alloc(), rt.stdin())?;
-    let document = Document::parse(rt.alloc(), text.as_str())?; // spans of `text`
-    let level = opt_level(document.as_table());
-    let document = document.into_mut(rt.alloc())?; // owns its texts
-    print!(rt; "{document}")?;
-    if let Some(level) = level {
-        println!(rt; "# optimized at level {level}")?;
-    }
+    let mut doc = DocumentMut::from_str(rt.alloc(), text.as_str())?;
+    set_version(rt.alloc(), &mut doc, "0.4.0")?;
+    add_dependency(rt.alloc(), &mut doc, "rand", "0.9")?;
+    print!(rt; "{doc}")?;
     Ok(())
 }

@@ -1,0 +1,9 @@
+-- What an insertion leaves.
+use Rattle.std.specs.Prelude.{◌≡◌, List}
+use Rattle.toml_edit_model.specs.Slots.{Slot, inserted}
+use Rattle.toml_edit_model.specs.Text.{Text}
+use Rattle.toml_edit_model.specs.Tree.{Node}
+
+-- some item was inserted under the name, and the other slots stay
+abbrev pub OnlySets : Text → List (Slot Node) → List (Slot Node) → Type 0
+OnlySets t old new = (x : Node) × (new ≡ inserted t x old)

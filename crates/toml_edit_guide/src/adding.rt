@@ -1,0 +1,110 @@
+//! Adding values, tables and elements.
+ghost use Rattle.std.specs.Prelude.{◌≡◌, IfNone, IfSome, IsNone, IsTrue, OnErr, OnOk};
+ghost use Rattle.toml_edit_guide.specs.Adds.{OnlySets};
+ghost use Rattle.toml_edit_model.specs.Slots.{has_slot, inserted};
+ghost use Rattle.toml_edit_tree.specs.SlotsOf.{slots_of};
+ghost use Rattle.toml_edit_tree.specs.View.{array_view, item_view};
+
+use std::alloc::Global;
+use toml_edit::{Array, ArrayOfTables, InlineTable, Item, Mem, NoMemory, RawString, Table, Value};
+
+/// Adds a dependency with features, as `cargo add` writes it.
+pub fn add_dependency(
+    alloc: Global,
+    dependencies: &mut Table,
+    name: &str,
+    version: &str,
+    features: &[&str],
+) -> Mem<()>
+    ensures ok { OnOk result (OnlySets name.now (slots_of dependencies.old) (slots_of dependencies.new)) }
+    ensures err { OnErr result (dependencies.new ≡ dependencies.old) }
+{
+    let mut names = Array::new(alloc);
+    for feature in features {
+        names.push(Value::string(alloc, *feature)?)?;
+    }
+    let mut dependency = InlineTable::new(alloc);
+    drop(dependency.insert("version", Value::string(alloc, version)?)?);
+    drop(dependency.insert("features", Value::from(names))?);
+    drop(dependencies.insert(name, Item::Value(Value::from(dependency)))?);
+    Ok(())
+}
+
+/// Adds a table with one value, whose header comes after those that are there.
+pub fn add_table(alloc: Global, root: &mut Table, name: &str, key: &str, value: Value) -> Mem<()>
+    ensures ok { OnOk result (OnlySets name.now (slots_of root.old) (slots_of root.new)) }
+    ensures err { OnErr result (root.new ≡ root.old) }
+{
+    let mut table = Table::new(alloc);
+    drop(table.insert(key, Item::Value(value))?);
+    drop(root.insert(name, Item::Table(table))?);
+    Ok(())
+}
+
+/// Adds an element to the array of tables under the key, or makes one in place of anything else.
+pub fn add_element(alloc: Global, root: &mut Table, name: &str, element: Table) -> Mem<()> {
+    if let Some(Item::ArrayOfTables(tables)) = root.get_mut(name) {
+        tables.push(element)?;
+        return Ok(());
+    }
+    let mut tables = ArrayOfTables::new(alloc);
+    tables.push(element)?;
+    drop(root.insert(name, Item::ArrayOfTables(tables))?);
+    Ok(())
+}
+
+/// Inserts the item under a key that is new, and leaves one that is there.
+pub fn set_default(table: &mut Table, key: &str, item: Item) -> Mem<()>
+    ensures { OnErr result (table.new ≡ table.old) }
+{
+    table.entry(key)?.or_insert(item)?;
+    Ok(())
+}
+
+/// Inserts the item, and returns it if memory runs out.
+pub fn try_insert(table: &mut Table, key: &str, item: Item) -> Option<Item>
+    ensures present { IsTrue (has_slot key.now (slots_of table.old)) → IsNone result }
+    ensures done { IfNone result
+        (slots_of table.new ≡ inserted key.now (item_view item) (slots_of table.old)) }
+    ensures refused { IfSome result (λ back. (back ≡ item) × (table.new ≡ table.old)) }
+{
+    match table.insert(key, item) {
+        Ok(old) => {
+            drop(old);
+            None
+        }
+        Err(NoMemory(item)) => Some(item),
+    }
+}
+
+/// Returns the text of a side of a decor, which is empty if it is unset.
+fn text_of(side: Option<&RawString>) -> &str {
+    side.and_then(|raw| raw.as_str()).unwrap_or("")
+}
+
+/// Appends a string on a line of its own, indented as the last value, to an array that has one a line.
+pub fn push_line(alloc: Global, array: &mut Array, text: &str) -> Mem<()>
+    ensures { OnErr result (array_view array.new ≡ array_view array.old) }
+{
+    let last = array.iter().last().map(|value| value.decor());
+    let rest = match last {
+        Some(decor) if !array.trailing_comma() => decor.suffix(),
+        _ => Some(array.trailing()),
+    };
+    // A comment after the last value stays on its line.
+    let comment = text_of(rest).trim_end();
+    let before = text_of(last.and_then(|decor| decor.prefix()));
+    let (_, indent) = before.rsplit_once('\n').unwrap_or(("", "    "));
+    let prefix = RawString::from(format!(in alloc; "{comment}\n{indent}")?);
+    let end = RawString::from_text(alloc, "\n")?;
+    let count = array.len();
+    array.push(Value::string(alloc, text)?.decorated(prefix, RawString::default()))?;
+    if !array.trailing_comma() {
+        if let Some(last) = array.get_mut(count.saturating_sub(1)) {
+            last.decor_mut().set_suffix(RawString::default());
+        }
+    }
+    array.set_trailing_comma(true);
+    array.set_trailing(end);
+    Ok(())
+}

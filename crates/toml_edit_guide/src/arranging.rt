@@ -1,0 +1,61 @@
+//! The order and the names of keys, and the order of values.
+ghost use Rattle.std.specs.Prelude.{◌≡◌, IfOk, IsPermutation};
+ghost use Rattle.toml_edit_model.specs.Keys.{new_key};
+ghost use Rattle.toml_edit_tree.specs.Elements.{items_of};
+
+use std::alloc::Global;
+use toml_edit::{Array, Item, Key, Mem, Table};
+
+/// Takes out the first key with its item.
+fn take_first(alloc: Global, table: &mut Table) -> Mem<Option<(Key, Item)>> {
+    let name = match table.key_value_at(0) {
+        Some((key, _item)) => String::from_str(alloc, key.get())?,
+        None => return Ok(None),
+    };
+    Ok(table.remove_entry(name.as_str()))
+}
+
+/// Inserts an item under a key before all others. A key that is there goes.
+pub fn insert_first(alloc: Global, table: &mut Table, key: &str, item: Item) -> Mem<()> {
+    drop(table.remove(key));
+    drop(table.insert(key, item)?);
+    for _ in 1..table.slots() {
+        if let Some((key, item)) = take_first(alloc, table)? {
+            drop(table.insert_formatted(&key, item)?);
+        }
+    }
+    Ok(())
+}
+
+/// Returns a key of this name with the whitespace and the comments of another one.
+pub fn renamed(alloc: Global, key: &Key, name: &str) -> Mem<Key>
+    ensures { IfOk result (λ new.
+        new ≡ record (new_key name.now) { leaf = key.now.leaf; dotted = key.now.dotted }) }
+{
+    let leaf = key.leaf_decor().clone(alloc)?;
+    let dotted = key.dotted_decor().clone(alloc)?;
+    let key = Key::from_text(alloc, name)?;
+    Ok(key.with_leaf_decor(leaf).with_dotted_decor(dotted))
+}
+
+/// Renames a key, and keeps its place and comments. Returns `false` if `old` is missing or `new` taken.
+pub fn rename(alloc: Global, table: &mut Table, old: &str, new: &str) -> Mem<bool> {
+    let renamed = match table.key(old) {
+        Some(key) if table.key(new).is_none() => renamed(alloc, key, new)?,
+        _ => return Ok(false),
+    };
+    for _ in 0..table.slots() {
+        if let Some((key, item)) = take_first(alloc, table)? {
+            let key = if key.get() == old { &renamed } else { &key };
+            drop(table.insert_formatted(key, item)?);
+        }
+    }
+    Ok(true)
+}
+
+/// Sorts the strings of an array.
+pub fn sort_strings(array: &mut Array) -> Mem<()>
+    ensures { IsPermutation (items_of array.old) (items_of array.new) }
+{
+    array.sort_by(|a, b| a.as_str().cmp(&b.as_str()))
+}
