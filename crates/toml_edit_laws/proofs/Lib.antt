@@ -17,4 +17,5 @@ pub mod read_trees
 pub mod print_by_visits
 pub mod commands
 pub mod reading
+pub mod one_cut
 pub mod slots

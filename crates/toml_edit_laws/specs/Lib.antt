@@ -13,6 +13,7 @@ pub mod Building
 pub mod AddPath
 pub mod PlaceOrder
 pub mod InPlace
+pub mod OneCut
 pub mod AcceptedPrints
 pub mod Reparse
 pub mod PrintOfRead

@@ -13,6 +13,7 @@ ghost use Rattle.toml_edit_laws.specs.KeptKeys.{KeptKeys};
 ghost use Rattle.toml_edit_laws.specs.Locality.{Added, AddedStaysMade, CallsOnAbsent, CallsOnPresent, Entered, KeepsFrame, Reached, Removed, RemovedElement, RemovedElementStaysMade, RemovedStaysMade, Replaced, ReplacedStaysMade, TextsAreSteady};
 ghost use Rattle.toml_edit_laws.specs.NormalTexts.{NormalTexts};
 ghost use Rattle.toml_edit_laws.specs.OneByOne.{FaultsOfFirst, FirstFaulty, OneByOne};
+ghost use Rattle.toml_edit_laws.specs.OneCut.{OneCut};
 ghost use Rattle.toml_edit_laws.specs.OpenEnds.{OpenEnds, OpenPrints};
 ghost use Rattle.toml_edit_laws.specs.PrintByVisits.{PrintByVisits};
 ghost use Rattle.toml_edit_laws.specs.PrintOfRead.{PrintOfRead};
@@ -60,9 +61,10 @@ pub fn kept_keys()
     ensures { KeptKeys }
 {}
 
-/// What a tree that fits prints is cut into its printed statements, each within limits and ranges.
+/// What a tree that fits prints is cut into its printed statements, each within limits and ranges. A text has at most one cut.
 pub fn cut()
-    ensures { (mode : Mode) → PrintIsCut mode }
+    ensures print { (mode : Mode) → PrintIsCut mode }
+    ensures one { OneCut }
 {}
 
 /// Every two statements that a tree that fits prints agree, and every two pairs of each inline table in them.

@@ -23,4 +23,5 @@ pub mod LoneTexts
 pub mod KeyedSlots
 pub mod Containers
 pub mod Sorts
+pub mod Retained
 pub mod Calls

@@ -6,7 +6,7 @@ use Rattle.std.proofs.lemmas.Bool.Decides.{nat_tests}
 use Rattle.std.proofs.lemmas.List.{take-append-drop, length-append, nil_from_length, drop_all}
 use Rattle.toml_edit_model.specs.Text.{Text, joined}
 use Rattle.toml_edit_model.specs.Trivia.{comment, piece_text, IsWholeTrivia, IsNewline, IsFinalTrivia}
-use Rattle.toml_edit_model.specs.Syntax.{Statement, key_line, header, statement_text, IsStatement, AreStatements, nesting_limit}
+use Rattle.toml_edit_model.specs.Syntax.{Statement, key_line, header, statement_text, IsStatement, AreStatements}
 use Rattle.toml_edit_syntax.specs.Scanning.{scan}
 use Rattle.toml_edit_syntax.specs.ValueEvents.{shortened}
 use Rattle.toml_edit_syntax.specs.ValueReading.{Reading, got, deep, wrong, follow, changed, behind}
@@ -135,11 +135,6 @@ statements_take (suc n) at text ss final e =
 abbrev pub statements_fit : ℕ → List Statement → Bool
 statements_fit level [] = true
 statements_fit level (s ∷ ss) = has_room level (depth_of s) && statements_fit level ss
-
--- inside more brackets than may be open nothing is too deep
-pub all_fit : (ss : List Statement) → statements_fit (suc nesting_limit) ss ≡ true
-all_fit [] = refl
-all_fit (s ∷ ss) = rw (has_room_true (suc nesting_limit) (depth_of s) (λ below. absurd (omega arith)), all_fit ss) refl
 
 fits_from : (level d : ℕ) → has_room level d ≡ true → Fits level d
 fits_from level d e = elim (cases_fits level d) [ inl big ↦ absurd (false≢true (sym (has_room_false level d big) ∙ e)) | inr fits ↦ fits ]

@@ -1,9 +1,9 @@
--- Whole texts: what reads as a cut is one, a cut is read again, up to a bracket that is one too many, and a text has one cut at most.
+-- Whole texts: what reads as a cut is one, and a cut is read again, up to a bracket that is one too many.
 use Rattle.std.proofs.Common.{◌≡◌, ℕ, suc, ◌-◌, ◌<◌, Bool, true, false, cond, ◌==◌, ◌&&◌, List, [], ◌∷◌, ◌++◌, length, drop, Some, refl, sym, ap, subst, ◌∙◌, inl, inr, arith, eqb-true, slice_index}
 use Rattle.std.proofs.lemmas.Bool.{cases_Bool, and_parts, ne_eqb}
 use Rattle.toml_edit_model.specs.Text.{Text}
 use Rattle.toml_edit_model.specs.Trivia.{IsFinalTrivia}
-use Rattle.toml_edit_model.specs.Syntax.{Statement, Document, mark_text, document_text, AreStatements, IsCut, nesting_limit}
+use Rattle.toml_edit_model.specs.Syntax.{Statement, Document, mark_text, document_text, AreStatements, IsCut}
 use Rattle.toml_edit_syntax.specs.declared.event.EventKind.TheVariants.{Final}
 use Rattle.toml_edit_laws.specs.reading.Runs.{first}
 use Rattle.toml_edit_syntax.specs.ValueEvents.{event, shortened}
@@ -12,7 +12,7 @@ use Rattle.toml_edit_syntax.specs.Events.{events_from, events_of}
 use Rattle.toml_edit_syntax.specs.Reading.{statements_at, is_marked, document, cut_of, events_seen, text_read}
 use Rattle.toml_edit_syntax.proofs.ReadingSteps.{same_got, follow_got}
 use Rattle.toml_edit_syntax.proofs.ValueAgain.{outcome, outcome_same, follow_outcome}
-use Rattle.toml_edit_syntax.proofs.CutLaws.{statements_text, statements_take, statements_fit, all_fit, statements_stay, statements_stop, statements_read_again, ascii_statements}
+use Rattle.toml_edit_syntax.proofs.CutLaws.{statements_text, statements_take, statements_fit, statements_stay, statements_stop, statements_read_again, ascii_statements}
 
 -- ---- the byte order mark
 
@@ -82,10 +82,3 @@ text_reads t d is =
     seen : (fits : Bool) → (fits ≡ true → shortened 0 (events_of d) ≡ events_of d) → events_seen (λ (d : Document) (_ : Text). events_of d) (outcome fits d [] (shortened 0 (events_of d))) ≡ Some (shortened 0 (events_of d))
     seen true h = ap Some (sym (h refl))
     seen false h = refl
-
--- A text has one cut at most: inside more brackets than may be open reading never stops at one that is too many.
-pub one_cut : (t : Text) (a b : Document) → IsCut a t → IsCut b t → b ≡ a
-one_cut t a b is other =
-    let read : (d : Document) → IsCut d t → cut_of (suc nesting_limit) t ≡ got d [] = λ d cut.
-    cut_again (suc nesting_limit) t d cut ∙ ap (λ (fits : Bool). outcome fits d [] (shortened (suc nesting_limit) (events_from (length (mark_text d.has_mark)) d.statements))) (all_fit d.statements) in
-    (same_got b a [] [] (sym (read b other) ∙ read a is)).0

@@ -5,7 +5,6 @@ pub mod PathLaws
 pub mod ShortenedLaws
 pub mod ValueTakes
 pub mod ValueAgain
-pub mod ValueLaws
 pub mod CutLaws
 pub mod DocumentLaws
 pub mod SpanLaws

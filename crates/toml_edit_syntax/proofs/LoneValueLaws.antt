@@ -23,7 +23,7 @@ use Rattle.toml_edit_syntax.proofs.ReadingSteps.{same_got, follow_got}
 use Rattle.toml_edit_syntax.proofs.ShortenedLaws.{value_stays, cases_fits}
 use Rattle.toml_edit_syntax.proofs.ValueTakes.{value_takes}
 use Rattle.toml_edit_syntax.proofs.ValueAgain.{value_begins, value_begins_not, outcome, has_room, has_room_true, has_room_false, follow_outcome, value_reads}
-use Rattle.toml_edit_syntax.proofs.ValueLaws.{one_value}
+use Rattle.toml_edit_laws.proofs.one_cut.Values.{one_value}
 use Rattle.toml_edit_syntax.proofs.SpanLaws.{Cut, AreSpans, value_spans}
 use Rattle.toml_edit_syntax.proofs.DeepEvents.{value_is_deep}
 use Rattle.toml_edit_syntax.specs.Events.{exceeds_depth}

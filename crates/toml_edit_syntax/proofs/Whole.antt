@@ -12,7 +12,8 @@ use Rattle.toml_edit_syntax.specs.ValueReading.{Reading, got, deep, wrong, follo
 use Rattle.toml_edit_syntax.specs.Events.{events_from, events_of, AreEventsOf}
 use Rattle.toml_edit_syntax.specs.Reading.{statements_at, is_marked, document, cut_of, events_with_final, events_seen, statements_read, text_read}
 use Rattle.toml_edit_syntax.proofs.CutLaws.{statements_take}
-use Rattle.toml_edit_syntax.proofs.DocumentLaws.{marks, cut_takes, text_reads, one_cut}
+use Rattle.toml_edit_laws.proofs.one_cut.Documents.{one_cut}
+use Rattle.toml_edit_syntax.proofs.DocumentLaws.{marks, cut_takes, text_reads}
 use Rattle.toml_edit_syntax.proofs.SpanLaws.{AreSpans}
 use Rattle.toml_edit_syntax.proofs.StatementSpans.{cut_spans}
 use Rattle.toml_edit_syntax.proofs.StatementDeep.{cut_stops_in}
@@ -66,7 +67,7 @@ are_events source es utf8 h =
         | inl (d, rest, read, same) ↦ (d, cut_takes source rest d read)
         | inr stops ↦ absurd (false≢true (sym shallow ∙ (cut_stops_in source es utf8 stops).0))
       ];
-      only = λ d other is also. one_cut source d other is also;
+      only = λ d other is also. one_cut source other d also is;
       brackets = λ short. elim (cases_read (cut_of 0 source) es h) [
         | inl (d, rest, read, same) ↦ absurd (false≢true (sym (shallow_document d) ∙ ap are_deep same ∙ short))
         | inr stops ↦ text_opens source es stops

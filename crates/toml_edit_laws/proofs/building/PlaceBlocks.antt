@@ -1,11 +1,10 @@
 -- The slots of the table of a block, taken out of slots that are put in order, and put into them; and what stands in the way of a path there.
 use Rattle.std.proofs.Common.{◌≡◌, ℕ, Bool, true, false, refl, sym, ◌∙◌, ap, subst, List, [], ◌∷◌, Option, Some, None}
 use Rattle.std.specs.Prelude.{not, ◌&&◌, if◌then◌else◌, option_map, option_and_then}
-use Rattle.toml_edit_model.specs.Text.{Text, one}
-use Rattle.toml_edit_model.specs.Roles.{Role}
+use Rattle.toml_edit_model.specs.Text.{Text}
 use Rattle.toml_edit_model.specs.Paths.{Mention, Source}
 use Rattle.toml_edit_model.specs.Faults.{Fault}
-use Rattle.toml_edit_model.specs.Tree.{Node, nothing, leaf, list, inline, table, tables, Items, no_items, item, Slots, no_slots}
+use Rattle.toml_edit_model.specs.Tree.{Node, nothing, leaf, list, inline, table, tables, Items, no_items, item, Slots}
 use Rattle.toml_edit_laws.specs.InlineTree.{node_at, with_node}
 use Rattle.toml_edit_laws.specs.TableClash.{extend_clash, pass_clash, clash_in_last, line_clash, header_clash, table_way_fault}
 use Rattle.toml_edit_laws.specs.Building.{last_slots, slots_in, slots_along}

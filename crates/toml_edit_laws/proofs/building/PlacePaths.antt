@@ -4,7 +4,7 @@ use Rattle.std.specs.Prelude.{not, ◌&&◌, if◌then◌else◌, option_map}
 use Rattle.toml_edit_model.specs.Mode.{Mode}
 use Rattle.toml_edit_model.specs.Text.{Text, one, same_text}
 use Rattle.toml_edit_model.specs.Paths.{Mention, Source}
-use Rattle.toml_edit_model.specs.Tree.{Key, TableFields, Node, nothing, leaf, list, inline, table, tables, Items, no_items, item, Slots, no_slots, slot, is_value_node}
+use Rattle.toml_edit_model.specs.Tree.{TableFields, Node, nothing, leaf, list, inline, table, tables, Items, no_items, item, Slots, no_slots, slot, is_value_node}
 use Rattle.toml_edit_model.specs.TreeOf.{spanned_in, key_at, key_extent, made_by_path, brackets_from, brackets_to}
 use Rattle.toml_edit_laws.specs.FlatTree.{with_slot}
 use Rattle.toml_edit_laws.specs.InlineTree.{node_at, with_node}

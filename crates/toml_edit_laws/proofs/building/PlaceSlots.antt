@@ -1,6 +1,6 @@
 -- The slots of one table by where their keys begin: what stands there, and what is put there.
-use Rattle.std.proofs.Common.{◌≡◌, ℕ, ◌≤◌, ◌<◌, Bool, true, false, refl, sym, ◌∙◌, ap, inl, inr, subst, nat_lt, arith, Option, Some, None}
-use Rattle.std.specs.Prelude.{◌||◌, if◌then◌else◌, option_map}
+use Rattle.std.proofs.Common.{◌≡◌, ℕ, ◌≤◌, ◌<◌, Bool, true, false, refl, sym, ◌∙◌, ap, inl, inr, nat_lt, arith, Some}
+use Rattle.std.specs.Prelude.{◌||◌, option_map}
 use Rattle.std.proofs.lemmas.Bool.{cases_Bool}
 use Rattle.std.proofs.lemmas.Bool.Decides.{nat_tests}
 use Rattle.toml_edit_model.specs.Text.{Text, same_text}
@@ -8,7 +8,7 @@ use Rattle.toml_edit_model.specs.Tree.{Key, Node, Slots, no_slots, slot, has_key
 use Rattle.toml_edit_laws.specs.FlatTree.{with_slot}
 use Rattle.toml_edit_laws.specs.InlineTree.{node_at, with_node}
 use Rattle.toml_edit_laws.specs.TableTree.{without_slot}
-use Rattle.toml_edit_laws.specs.PlaceOrder.{key_place, slot_by_place, node_by_place, slots_by_place, NodeIsPlaced, ArePlaced}
+use Rattle.toml_edit_laws.specs.PlaceOrder.{key_place, slot_by_place, node_by_place, slots_by_place, ArePlaced}
 use Rattle.toml_edit_laws.specs.InPlace.{replace_slot}
 use Rattle.toml_edit_laws.proofs.common.Tests.{or-left, or-right, same_text-is, same_text-swap}
 

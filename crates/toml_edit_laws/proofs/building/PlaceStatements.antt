@@ -1,9 +1,9 @@
 -- The keys of a statement begin in the statement, and what a key line adds is a value.
-use Rattle.std.proofs.Common.{◌≡◌, ℕ, suc, ◌+◌, ◌≤◌, ◌<◌, Bool, true, false, refl, sym, ◌∙◌, ap, subst, arith, List, [], ◌∷◌, ◌++◌, length, codes, Some}
+use Rattle.std.proofs.Common.{◌≡◌, ℕ, suc, ◌+◌, ◌≤◌, ◌<◌, Bool, true, false, refl, ◌∙◌, ap, arith, List, [], ◌∷◌, ◌++◌, length, codes, Some}
 use Rattle.std.specs.Prelude.{if◌then◌else◌}
 use Rattle.std.proofs.lemmas.List.{length-append}
 use Rattle.std.specs.List.{AllByRecursion}
-use Rattle.toml_edit_model.specs.Mode.{Mode, plain, with_return}
+use Rattle.toml_edit_model.specs.Mode.{Mode, with_return}
 use Rattle.toml_edit_model.specs.Text.{Text}
 use Rattle.toml_edit_model.specs.Spelling.{SpellsKey}
 use Rattle.toml_edit_model.specs.Syntax.{Segment, Statement, key_line, header, Header, Frame, Value, IsStatement, IsSpelledSegment, segment_text, path_text, value_text, frame_text, statement_text, brackets_text, opening_brackets, closing_brackets}
@@ -11,7 +11,7 @@ use Rattle.toml_edit_model.specs.Paths.{Mention, Source, next_start, path_start}
 use Rattle.toml_edit_model.specs.Tree.{Node}
 use Rattle.toml_edit_model.specs.TreeOf.{spanned_in, key_at, span_of, value_start}
 use Rattle.toml_edit_laws.specs.Building.{Builder, source_at, mentions_at, IsStatementNode}
-use Rattle.toml_edit_laws.specs.AddPath.{Addition, a_table, an_element, addition_of, IsMentionOf, AreMentionsOf}
+use Rattle.toml_edit_laws.specs.AddPath.{a_table, an_element, addition_of, IsMentionOf, AreMentionsOf}
 use Rattle.toml_edit_laws.specs.PlaceOrder.{raw_place, key_place}
 use Rattle.toml_edit_laws.specs.InPlace.{StandWithin, IsRealAddition}
 use Rattle.toml_edit_laws.proofs.building.PathMentions.{line-mentions, header-mentions}

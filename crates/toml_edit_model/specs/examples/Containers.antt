@@ -54,6 +54,19 @@ values_retained = refl
 values_given : values of_each ≡ one decorated_one
 values_given = refl
 
+-- a place counts a placeholder, and what is given does not
+abbrev placeholder_between : List Node
+placeholder_between = plain_int 1 ∷ nothing ∷ plain_int 2 ∷ []
+
+no_value_at_placeholder : value_at 1 placeholder_between ≡ None
+no_value_at_placeholder = refl
+
+value_behind_placeholder : value_at 2 placeholder_between ≡ Some (plain_int 2)
+value_behind_placeholder = refl
+
+two_values_given : values placeholder_between ≡ plain_int 1 ∷ plain_int 2 ∷ []
+two_values_given = refl
+
 -- `fmt` counts values alone
 elements_formatted : formatted_items (nothing ∷ plain_list no_items ∷ some_table ∷ plain_list no_items ∷ [])
     ≡ nothing ∷ list (record new_array { decor = owned_decor [] [] }) no_items ∷ some_table ∷ list (record new_array { decor = owned_decor (codes " ") [] }) no_items ∷ []

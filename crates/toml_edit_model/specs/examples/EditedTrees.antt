@@ -98,6 +98,20 @@ placeholders : print (root_of (slot (plain_key (codes "a")) nothing (slot (plain
 unfolding digits print
 placeholders = refl
 
+-- `d = [1, 2]`, and a placeholder between the two: it is not printed, and it is not shown, nor numbered
+abbrev placeholder_between : Tree
+placeholder_between = root_of (slot (plain_key (codes "d")) (plain_list (item (plain_int 1) (item nothing (item (plain_int 2) no_items)))) no_slots)
+
+prints_no_placeholder : print placeholder_between ≡ codes "d = [1, 2]\n"
+unfolding digits print
+prints_no_placeholder = refl
+
+shows_no_placeholder : shown_meaning placeholder_between
+    ≡ fact [] a_table ∷ fact (at_key (codes "d") ∷ []) an_array
+    ∷ fact (at_key (codes "d") ∷ at_element 0 ∷ []) (a_scalar (integer (pos 1))) ∷ fact (at_key (codes "d") ∷ at_element 1 ∷ []) (a_scalar (integer (pos 2))) ∷ []
+unfolding shown_meaning
+shows_no_placeholder = refl
+
 -- an implicit table with no lines, an explicit one, and an element that is implicit and has no lines
 without_lines : print (root_of (slot (plain_key (codes "a")) (table (record { decor = unset; is_implicit = true; is_dotted = false; position = None; extent = None }) no_slots)
     (slot (plain_key (codes "b")) (table_placed 1 no_slots)

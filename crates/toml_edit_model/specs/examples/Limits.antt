@@ -1,7 +1,7 @@
 -- Worked texts at the limits and just past them: numbers, dates and times, segments of keys, brackets.
 use Rattle.std.specs.Prelude.{◌≡◌, refl, ℕ, zero, suc, pos, negsuc, ℤ, Bool, true, false, not, ◌&&◌, List, [], ◌∷◌, ◌++◌, codes, Option, Some, None}
 use Rattle.toml_edit_model.specs.Text.{Text, newline, same_text, byte_order_mark}
-use Rattle.toml_edit_model.specs.Scalars.{Scalar, integer, datetime, Time, zulu, shift}
+use Rattle.toml_edit_model.specs.Scalars.{Scalar, integer, datetime, Date, Time, zulu, shift, is_real_date}
 use Rattle.toml_edit_model.specs.Syntax.{Value, scalar, array, inline_table, no_elements, element, no_pairs, pair, key_line, Document, document_text, is_short}
 use Rattle.toml_edit_model.specs.Accepted.{is_accepted}
 use Rattle.std.specs.Fmt.{digits}
@@ -56,6 +56,7 @@ dates =
     is_in (datetime (date 2024 2 29)) (codes "2024-02-29") ∷ is_out (datetime (date 2023 2 29)) (codes "2023-02-29") invalid 14
     ∷ is_in (datetime (date 2000 2 29)) (codes "2000-02-29") ∷ is_in (datetime (date 2400 2 29)) (codes "2400-02-29") ∷ is_out (datetime (date 1900 2 29)) (codes "1900-02-29") invalid 14
     ∷ is_in (datetime (date 0 1 1)) (codes "0000-01-01") ∷ is_in (datetime (date 9999 12 31)) (codes "9999-12-31")
+    ∷ is_in (datetime (date 1979 4 30)) (codes "1979-04-30") ∷ is_out (datetime (date 1979 4 31)) (codes "1979-04-31") invalid 14
     ∷ is_in (datetime (date 2024 9 30)) (codes "2024-09-30") ∷ is_out (datetime (date 2024 9 31)) (codes "2024-09-31") invalid 14
     ∷ is_in (datetime (date 2024 8 31)) (codes "2024-08-31") ∷ is_out (datetime (date 2024 8 32)) (codes "2024-08-32") invalid 14
     ∷ is_out (datetime (date 2024 8 0)) (codes "2024-08-00") invalid 14
@@ -65,6 +66,16 @@ dates =
 dates_hold : all_true dates ≡ true
 unfolding is_accepted
 dates_hold = refl
+
+-- April has 30 days
+abbrev april : ℕ → Date
+april day = record { year = 1979; month = 4; day = day }
+
+last_of_april : is_real_date (april 30) ≡ true
+last_of_april = refl
+
+past_april : is_real_date (april 31) ≡ false
+past_april = refl
 
 abbrev clock : ℕ → ℕ → Option ℕ → Time
 clock hour minute second = record { hour = hour; minute = minute; second = second; nanosecond = None }

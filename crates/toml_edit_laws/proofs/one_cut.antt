@@ -1,0 +1,4 @@
+pub mod Parts
+pub mod Values
+pub mod Statements
+pub mod Documents
