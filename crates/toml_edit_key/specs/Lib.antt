@@ -1,4 +1,5 @@
 -- What the contracts of this crate cite.
+pub mod Kept
 pub mod Keys
 pub mod LendingParts
 pub mod KeyMutView

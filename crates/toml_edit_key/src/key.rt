@@ -15,28 +15,30 @@ mod shown;
 
 pub use key_mut::KeyMut;
 
-/// A key: its name, its spelling, and its decors where it ends a path and where dots stand beside it. A spelling that is a text
-/// spells the name.
+/// A key: its name, its spelling, and its decors where it ends a path and where dots stand beside
+/// it. A spelling that is a text spells the name.
 #[derive(Debug)]
 pub struct Key {
     text: String,
+    // Not read where the parts say that the spelling is the default one.
     repr: Option<Repr>,
+    parts: KeyParts,
+}
+
+/// What a `KeyMut` can change of a key.
+#[derive(Debug, Drop)]
+pub(crate) struct KeyParts {
     leaf: Decor,
     dotted: Decor,
+    is_default: bool,
 }
 
 impl Drop for Key {
     fn drop(self) {
-        let Key {
-            text,
-            repr,
-            leaf,
-            dotted,
-        } = self;
+        let Key { text, repr, parts } = self;
         drop(text);
         drop(repr);
-        drop(leaf);
-        drop(dotted);
+        drop(parts);
     }
 }
 
@@ -44,10 +46,11 @@ impl Model for Key {
     ghost use Rattle.std.specs.Prelude.{string_bytes};
     ghost use Rattle.toml_edit_model.specs.Tree.{Key as KeyView, HasTrueSpelling};
     ghost use Rattle.toml_edit_model.specs.Spelling.{SpellsKey};
+    ghost use Rattle.toml_edit_key.specs.Kept.{kept};
 
     ghost Value = { KeyView };
 
-    ghost view = { λ a. record { name = string_bytes a.text; spelling = a.repr; leaf = a.leaf; dotted = a.dotted } };
+    ghost view = { λ a. record { name = string_bytes a.text; spelling = kept a.parts.is_default a.repr; leaf = a.parts.leaf; dotted = a.parts.dotted } };
 
     ghost invariant = { λ a. ∥ HasTrueSpelling (SpellsKey (string_bytes a.text)) a.repr ∥₁ };
 }
@@ -65,38 +68,39 @@ impl Key {
     pub(crate) fn into_text(self) -> String
         ensures { string_bytes result ≡ self.name }
     {
-        let Key {
-            text,
-            repr,
-            leaf,
-            dotted,
-        } = self;
+        let Key { text, repr, parts } = self;
         drop(repr);
-        drop(leaf);
-        drop(dotted);
+        drop(parts);
         text
     }
 
-    /// A key of this name, with the default spelling and no decor.
+    /// Makes a key of this name, with the default spelling and no decor.
     pub fn new(text: String) -> Key
         ensures { result ≡ new_key (string_bytes text) }
     {
         Key {
             text,
             repr: None,
-            leaf: Decor::default(),
-            dotted: Decor::default(),
+            parts: KeyParts {
+                leaf: Decor::default(),
+                dotted: Decor::default(),
+                is_default: false,
+            },
         }
     }
 
-    /// A key of this name, which is copied, with the default spelling and no decor. The only error is want of memory.
+    /// Makes a key of a copy of this name, with the default spelling and no decor.
+    ///
+    /// # Errors
+    ///
+    /// The only error is out of memory.
     pub fn from_text(alloc: Global, text: &str) -> Mem<Key>
         ensures { IfOk result (λ key. key ≡ new_key text.now) }
     {
         Ok(Key::new(String::from_str(alloc, text)?))
     }
 
-    /// A key that was read: its spelling stands from the byte `start` of the source up to `end`.
+    /// Makes a key whose spelling stands in the source from the byte `start` up to the byte `end`.
     pub fn spanned(text: String, start: usize, end: usize, leaf: Decor, dotted: Decor) -> Key
         ensures { result ≡ record {
           name = string_bytes text;
@@ -108,12 +112,15 @@ impl Key {
         Key {
             text,
             repr: Some(Repr::new(RawString::from_span(start, end))),
-            leaf,
-            dotted,
+            parts: KeyParts {
+                leaf,
+                dotted,
+                is_default: false,
+            },
         }
     }
 
-    /// The name. A spelling that is a text spells it.
+    /// Returns the name. A spelling that is a text spells it.
     pub fn get(&self) -> &str
         ensures name { result.now ≡ self.now.name }
         ensures spelled { ∥ HasTrueSpelling (SpellsKey self.now.name) self.now.spelling ∥₁ }
@@ -121,41 +128,47 @@ impl Key {
         self.text.as_str()
     }
 
-    /// The spelling, if it isn't the default one.
+    /// Returns the spelling that the key has of its own, or `None` where it is the default one.
     pub fn as_repr(&self) -> Option<&Repr>
         ensures { option_copied result ≡ self.now.spelling }
     {
-        self.repr.as_ref()
+        if self.parts.is_default {
+            None
+        } else {
+            self.repr.as_ref()
+        }
     }
 
-    /// What stands around the key where it ends a path.
+    /// Returns what stands around the key where it ends a path.
     pub fn leaf_decor(&self) -> &Decor
         ensures { result.now ≡ self.now.leaf }
     {
-        &self.leaf
+        &self.parts.leaf
     }
 
-    /// What stands around the key, to be changed, where it ends a path.
+    /// Lends what stands around the key where it ends a path.
     pub fn leaf_decor_mut(&mut self) -> &mut Decor
         ensures* writes_back { sem 𝓛 (LendsLeaf self.entry result) }
         ensures decor { result.now ≡ self.old.leaf }
     {
-        &mut self.leaf
+        let parts = &mut self.parts;
+        &mut parts.leaf
     }
 
-    /// What stands around the key where it ends no path, between it and the dots beside it.
+    /// Returns what stands between the key and the dots beside it.
     pub fn dotted_decor(&self) -> &Decor
         ensures { result.now ≡ self.now.dotted }
     {
-        &self.dotted
+        &self.parts.dotted
     }
 
-    /// What stands around the key, to be changed, where it ends no path, between it and the dots beside it.
+    /// Lends what stands between the key and the dots beside it.
     pub fn dotted_decor_mut(&mut self) -> &mut Decor
         ensures* writes_back { sem 𝓛 (LendsDotted self.entry result) }
         ensures decor { result.now ≡ self.old.dotted }
     {
-        &mut self.dotted
+        let parts = &mut self.parts;
+        &mut parts.dotted
     }
 
     /// Gives the key its default spelling, and unsets its decors.
@@ -163,45 +176,53 @@ impl Key {
         ensures { self.new ≡ reset_key self.old }
     {
         self.repr = None;
-        self.leaf.clear();
-        self.dotted.clear();
+        self.parts.leaf.clear();
+        self.parts.dotted.clear();
     }
 
-    /// The bytes of the source that the spelling spans, or `None` at a text or at the default spelling.
+    /// Returns the bytes of the source that the spelling spans, or `None` where it is a text or the
+    /// default one.
     pub fn span(&self) -> Option<Range<usize>>
         ensures { result ≡ option_and_then range_of self.now.spelling }
     {
         self.as_repr()?.span()
     }
 
-    /// The key with this decor where it ends a path.
+    /// Returns the key with this decor where it ends a path.
     pub fn with_leaf_decor(self, decor: Decor) -> Key
         ensures { result ≡ record self { leaf = decor } }
     {
         let mut key = self;
-        key.leaf = decor;
+        key.parts.leaf = decor;
         key
     }
 
-    /// The key with this decor where it ends no path.
+    /// Returns the key with this decor beside dots.
     pub fn with_dotted_decor(self, decor: Decor) -> Key
         ensures { result ≡ record self { dotted = decor } }
     {
         let mut key = self;
-        key.dotted = decor;
+        key.parts.dotted = decor;
         key
     }
 
-    /// Turns spans of `source` into the texts that stand there. The only error is want of memory, and then spans may be left: the
-    /// document that the key is of is to be given up.
+    /// Replaces spans of `source` by the texts that stand there.
+    ///
+    /// # Errors
+    ///
+    /// The only error is out of memory. Spans may be left then: give up the document of the key.
+    #[doc(hidden)]
     pub fn despan(&mut self, alloc: Global, source: &str) -> Mem<()>
         requires fits { KeyFits source.now self.old }
         requires spelled { ∥ HasTrueSpelling (SpellsKey self.old.name) (option_map (owned_raw source.now) self.old.spelling) ∥₁ }
         ensures name { self.new.name ≡ self.old.name }
         ensures ok { OnOk result (self.new ≡ owned_key source.now self.old) }
     {
+        if self.parts.is_default {
+            self.repr = None;
+        }
         despan_spelling(alloc, &mut self.repr, source)?;
-        self.leaf.despan(alloc, source)?;
-        self.dotted.despan(alloc, source)
+        self.parts.leaf.despan(alloc, source)?;
+        self.parts.dotted.despan(alloc, source)
     }
 }

@@ -134,6 +134,7 @@ impl RawString {
     }
 
     /// Turns a span of `source` into the text that stands there. The only error is want of memory.
+    #[doc(hidden)]
     #[inline(always)]
     pub fn despan(&mut self, alloc: Global, source: &str) -> Mem<()>
         requires { RawFits source.now self.old }

@@ -206,6 +206,7 @@ impl Decor {
 
     /// Turns spans of `source` into the texts that stand there. The only error is want of memory, and then either side may be
     /// a span still: the document that the decor is of is to be given up.
+    #[doc(hidden)]
     pub fn despan(&mut self, alloc: Global, source: &str) -> Mem<()>
         requires { DecorFits source.now self.old }
         ensures { OnOk result (self.new ≡ owned_decor source.now self.old) }
@@ -280,6 +281,7 @@ impl Hash for Decor {
 }
 
 /// Turns a spelling that spans `source` into the text that stands there. The only error is want of memory, which leaves it as it was.
+#[doc(hidden)]
 pub fn despan_spelling(alloc: Global, repr: &mut Option<Repr>, source: &str) -> Mem<()>
     requires { OptionFits source.now repr.old }
     ensures ok { OnOk result (repr.new ≡ option_map (owned_raw source.now) repr.old) }
@@ -648,6 +650,7 @@ impl<T: ValueRepr> Formatted<T> {
 
     /// Turns spans of `source` into the texts that stand there. The only error is want of memory, and then spans may be left: the
     /// document that the value is of is to be given up.
+    #[doc(hidden)]
     pub fn despan(&mut self, alloc: Global, source: &str) -> Mem<()>
         requires spelling { OptionFits source.now self.old.repr }
         requires decor { DecorFits source.now self.old.decor }

@@ -12,6 +12,9 @@ use Rattle.toml_edit_slots.specs.declared.slots.entry.Entry.{Entry}
 use Rattle.toml_edit_slots.specs.declared.slots.entry.Entry.TheVariants.{Occupied, Vacant}
 use Rattle.toml_edit_slots.specs.declared.slots.entry.OccupiedEntry.{OccupiedEntry}
 use Rattle.toml_edit_slots.specs.contracts.slots.entry.OccupiedEntry as occupied
+use Rattle.toml_edit_key.specs.KeyMutView.{lent_parts, with_parts}
+use Rattle.toml_edit_key.specs.contracts.key.KeyParts as key_parts
+use Rattle.toml_edit_key.specs.declared.key.key_mut.KeyMut.{KeyMut}
 use Rattle.toml_edit_repr.specs.contracts.repr.Decor as decor
 use Rattle.toml_edit_slots.specs.contracts.slots.Slots.{the_row}
 use Rattle.toml_edit_slots.specs.Slots.{items_of, on_key, with_item}
@@ -93,6 +96,10 @@ RestsIfAbsent T s r = RestsIfNone (the_row T) s (λ o. o.slots.ghost_name) r (λ
 -- the entry ends with the last item behind the reference in its slot, or with the last decor as one of its key's
 abbrev pub OccupiedLends : (T : RattleType) → MutBor (OccupiedEntry T.Denot) → MutBor T.Denot → Fml
 OccupiedLends T o r = follows (occupied.the_row (record { mir = named 1; lft = [] }) T) T o.ghost_name r.ghost_name (with_entry_item o.now)
+
+-- the same with the last parts of its key behind those that are lent
+abbrev pub OccupiedLendsKey : (T : RattleType) → MutBor (OccupiedEntry T.Denot) → KeyMut → Fml
+OccupiedLendsKey T o r = follows (occupied.the_row (record { mir = named 1; lft = [] }) T) key_parts.the_row o.ghost_name (lent_parts r).ghost_name (λ w. with_entry_key o.now (with_parts w))
 
 abbrev pub OccupiedLendsLeaf : (T : RattleType) → MutBor (OccupiedEntry T.Denot) → MutBor Decor → Fml
 OccupiedLendsLeaf T o r = follows (occupied.the_row (record { mir = named 1; lft = [] }) T) decor.the_row o.ghost_name r.ghost_name (λ w. with_entry_key o.now (λ k. record k { leaf = w }))

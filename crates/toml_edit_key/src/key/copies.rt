@@ -1,7 +1,7 @@
 //! Copies of keys.
 ghost use Rattle.std.specs.Prelude.{◌≡◌, IfOk};
 
-use super::Key;
+use super::{Key, KeyParts};
 use std::alloc::Global;
 use toml_edit_repr::{Mem, clone_spelling};
 
@@ -13,8 +13,11 @@ impl Key {
         Ok(Key {
             text: String::from_str(alloc, self.text.as_str())?,
             repr: clone_spelling(alloc, &self.repr)?,
-            leaf: self.leaf.clone(alloc)?,
-            dotted: self.dotted.clone(alloc)?,
+            parts: KeyParts {
+                leaf: self.parts.leaf.clone(alloc)?,
+                dotted: self.parts.dotted.clone(alloc)?,
+                is_default: self.parts.is_default,
+            },
         })
     }
 }

@@ -6,109 +6,144 @@ ghost use Rattle.std.specs.Cow.{cow_str_bytes, IsBorrowedStr};
 ghost use Rattle.toml_edit_model.specs.Tree.{owned, key_text};
 ghost use Rattle.toml_edit_model.specs.DefaultSpelling.{key_spelling};
 ghost use Rattle.toml_edit_model.specs.Keys.{reset_key};
+ghost use Rattle.toml_edit_model.specs.Spelling.{SpellsKey};
 ghost use Rattle.toml_edit_repr.specs.Views.{text_of};
-ghost use Rattle.toml_edit_key.specs.KeyMutView.{lent_key, key_of};
+ghost use Rattle.toml_edit_key.specs.KeyMutView.{lent_parts, key_of};
 
-use super::Key;
+use super::shown::{default_spelling, displayed};
+use super::{Key, KeyParts};
 use std::alloc::Global;
 use std::borrow::CowStr;
 use std::fmt;
 use std::fmt::{Formatter, Write};
-use toml_edit_repr::{Decor, Mem, Repr};
+use toml_edit_repr::{Decor, Mem, Repr, spelling_text};
+use toml_edit_token::write_key;
 
-/// A key of which the decors can be changed, and the spelling dropped together with them by `fmt`. Its name stays.
-#[derive(Drop)]
+/// A key that is lent. Its decors can be changed, and `fmt` drops its spelling with them. Its name
+/// never changes.
+#[derive(Debug, Drop)]
 pub struct KeyMut<'k> {
-    key: &'k mut Key,
+    name: &'k str,
+    repr: Option<&'k Repr>,
+    parts: &'k mut KeyParts,
 }
 
 impl Key {
-    /// The key, to be changed in all but its name.
+    ghost use Rattle.toml_edit_key.specs.KeyLending.{LendsKeyMut};
+
+    /// Lends the key, to change all of it but its name.
     pub fn as_mut(&mut self) -> KeyMut<'_>
-        ensures same_reference { (lent_key result).ghost_name ≡ self.entry.ghost_name }
+        ensures* writes_back { sem 𝓛 (LendsKeyMut self.entry result) }
         ensures same { key_of result ≡ self.old }
     {
-        KeyMut { key: self }
+        if self.parts.is_default {
+            self.repr = None;
+        }
+        KeyMut {
+            name: self.text.as_str(),
+            repr: self.repr.as_ref(),
+            parts: &mut self.parts,
+        }
     }
 }
 
 impl<'k> KeyMut<'k> {
     ghost use Rattle.toml_edit_key.specs.KeyLending.{LendsLeafMut, LendsDottedMut};
 
-    /// The name.
+    /// Returns the name.
     pub fn get(&self) -> &str
         ensures { result.now ≡ (key_of self.now).name }
     {
-        self.key.get()
+        self.name
     }
 
-    /// The spelling, if it isn't the default one.
+    /// Returns the spelling that the key has of its own, or `None` where it is the default one.
     pub fn as_repr(&self) -> Option<&Repr>
         ensures { option_copied result ≡ (key_of self.now).spelling }
     {
-        self.key.as_repr()
+        if self.parts.is_default {
+            None
+        } else {
+            self.repr
+        }
     }
 
-    /// The spelling of the name that a key without one of its own has: a function of the name. The only error is want of memory.
+    /// Returns the spelling of a key of this name that has none of its own, which spells the name.
+    ///
+    /// # Errors
+    ///
+    /// The only error is out of memory.
     pub fn default_repr(&self, alloc: Global) -> Mem<Repr>
-        ensures { IfOk result (λ repr. repr ≡ owned (key_spelling (key_of self.now).name)) }
+        ensures default { IfOk result (λ repr. repr ≡ owned (key_spelling (key_of self.now).name)) }
+        ensures spelled { SpellsKey (key_of self.now).name (key_spelling (key_of self.now).name) }
     {
-        self.key.default_repr(alloc)
+        default_spelling(alloc, self.name)
     }
 
-    /// The spelling as it is printed: the key's own one if it is a text, else the default one. The only error is want of memory; a
-    /// spelling that is a text takes none.
+    /// Returns the spelling that is printed: the key's own one if it is a text, else the default
+    /// one.
+    ///
+    /// # Errors
+    ///
+    /// The only error is out of memory. There is none where the key's own spelling is a text.
     pub fn display_repr(&self, alloc: Global) -> Mem<CowStr<'_>>
         ensures free { IsSome (option_and_then text_of (key_of self.now).spelling) → IsOkAnd result IsBorrowedStr }
         ensures text { IfOk result (λ text. cow_str_bytes text ≡ key_text (key_of self.now)) }
     {
-        self.key.display_repr(alloc)
+        displayed(alloc, self.name, self.as_repr())
     }
 
-    /// What stands around the key where it ends a path.
+    /// Returns what stands around the key where it ends a path.
     pub fn leaf_decor(&self) -> &Decor
         ensures { result.now ≡ (key_of self.now).leaf }
     {
-        self.key.leaf_decor()
+        &self.parts.leaf
     }
 
-    /// What stands around the key, to be changed, where it ends a path.
+    /// Lends what stands around the key where it ends a path.
     pub fn leaf_decor_mut(&mut self) -> &mut Decor
         ensures* writes_back { sem 𝓛 (LendsLeafMut self.entry result) }
         ensures decor { result.now ≡ (key_of self.old).leaf }
     {
-        self.key.leaf_decor_mut()
+        let parts = &mut *self.parts;
+        &mut parts.leaf
     }
 
-    /// What stands around the key where it ends no path, between it and the dots beside it.
+    /// Returns what stands between the key and the dots beside it.
     pub fn dotted_decor(&self) -> &Decor
         ensures { result.now ≡ (key_of self.now).dotted }
     {
-        self.key.dotted_decor()
+        &self.parts.dotted
     }
 
-    /// What stands around the key, to be changed, where it ends no path, between it and the dots beside it.
+    /// Lends what stands between the key and the dots beside it.
     pub fn dotted_decor_mut(&mut self) -> &mut Decor
         ensures* writes_back { sem 𝓛 (LendsDottedMut self.entry result) }
         ensures decor { result.now ≡ (key_of self.old).dotted }
     {
-        self.key.dotted_decor_mut()
+        let parts = &mut *self.parts;
+        &mut parts.dotted
     }
 
     /// Gives the key its default spelling, and unsets its decors.
     pub fn fmt(&mut self)
-        ensures same_reference { (lent_key self.new).ghost_name ≡ (lent_key self.old).ghost_name }
+        ensures same_reference { (lent_parts self.new).ghost_name ≡ (lent_parts self.old).ghost_name }
         ensures key { key_of self.new ≡ reset_key (key_of self.old) }
     {
-        self.key.fmt();
+        self.parts.leaf.clear();
+        self.parts.dotted.clear();
+        self.parts.is_default = true;
     }
 }
 
-/// The spelling: the key's own one if it is a text, else the default one.
+/// Writes the spelling: the key's own one if it is a text, else the default one.
 impl fmt::Display for KeyMut<'_> {
     ghost output = { λ m. Some (key_text (key_of m)) };
 
     fn fmt<W: Write>(&self, f: &mut Formatter<W>) -> fmt::Result {
-        fmt::Display::fmt(&*self.key, f)
+        match spelling_text(self.as_repr()) {
+            Some(spelling) => f.write_str(spelling),
+            None => write_key(f, self.name),
+        }
     }
 }

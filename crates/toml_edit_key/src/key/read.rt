@@ -10,7 +10,7 @@ ghost use Rattle.toml_edit_key.specs.Keys.{lone_key};
 ghost use Rattle.toml_edit_key.specs.PathReading as spec;
 ghost use Rattle.toml_edit_key.specs.ReadKeys.{GivesValue, IsMisread, limit_fault, AreLoneKeys, IsPathFault, IsLongerFault};
 
-use super::Key;
+use super::{Key, KeyParts};
 use std::alloc::Global;
 use toml_edit_error::{ParseFault, refusal};
 use toml_edit_repr::{Decor, Mem, RawString, Repr};
@@ -98,8 +98,11 @@ fn spelled_key(alloc: Global, name: String, spelling: &str) -> Mem<Key>
     Ok(Key {
         text: name,
         repr: Some(Repr::new(spelling)),
-        leaf: Decor::default(),
-        dotted: Decor::default(),
+        parts: KeyParts {
+            leaf: Decor::default(),
+            dotted: Decor::default(),
+            is_default: false,
+        },
     })
 }
 

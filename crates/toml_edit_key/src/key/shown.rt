@@ -1,7 +1,8 @@
 //! Keys as texts.
 ghost use Rattle.std.specs.Prelude.{◌≡◌, Some, IsSome, IsOkAnd, IfOk, option_and_then, string_bytes};
+ghost use Rattle.std.specs.Option.{option_copied};
 ghost use Rattle.std.specs.Cow.{cow_str_bytes, IsBorrowedStr};
-ghost use Rattle.toml_edit_model.specs.Tree.{owned, key_text};
+ghost use Rattle.toml_edit_model.specs.Tree.{owned, key_text, shown_spelling};
 ghost use Rattle.toml_edit_model.specs.DefaultSpelling.{key_spelling};
 ghost use Rattle.toml_edit_model.specs.Keys.{new_key};
 ghost use Rattle.toml_edit_model.specs.Spelling.{SpellsKey};
@@ -16,30 +17,53 @@ use toml_edit_repr::{Mem, RawString, Repr, spelling_text};
 use toml_edit_token::write_key;
 
 impl Key {
-    /// The spelling of the name that a key without one of its own has: a function of the name, which it spells. The only error is want of
-    /// memory.
+    /// Returns the spelling of a key of this name that has none of its own, which spells the name.
+    ///
+    /// # Errors
+    ///
+    /// The only error is out of memory.
     pub fn default_repr(&self, alloc: Global) -> Mem<Repr>
         ensures default { IfOk result (λ repr. repr ≡ owned (key_spelling self.now.name)) }
         ensures spelled { SpellsKey self.now.name (key_spelling self.now.name) }
     {
-        let spelling = DefaultSpelling { name: self.get() }.to_string(alloc)?;
-        Ok(Repr::new(RawString::from(spelling)))
+        default_spelling(alloc, self.get())
     }
 
-    /// The spelling as it is printed: the key's own one if it is a text, else the default one. The only error is want of memory; a
-    /// spelling that is a text takes none.
+    /// Returns the spelling that is printed: the key's own one if it is a text, else the default
+    /// one.
+    ///
+    /// # Errors
+    ///
+    /// The only error is out of memory. There is none where the key's own spelling is a text.
     pub fn display_repr(&self, alloc: Global) -> Mem<CowStr<'_>>
         ensures text { IfOk result (λ text. cow_str_bytes text ≡ key_text self.now) }
         ensures free { IsSome (option_and_then text_of self.now.spelling) → IsOkAnd result IsBorrowedStr }
     {
-        match spelling_text(self.as_repr()) {
-            Some(spelling) => Ok(CowStr::Borrowed(spelling)),
-            None => Ok(CowStr::Owned(DefaultSpelling { name: self.get() }.to_string(alloc)?)),
-        }
+        displayed(alloc, self.get(), self.as_repr())
     }
 }
 
-/// The spelling: the key's own one if it is a text, else the default one.
+// The default spelling of the name.
+pub(crate) fn default_spelling(alloc: Global, name: &str) -> Mem<Repr>
+    ensures default { IfOk result (λ repr. repr ≡ owned (key_spelling name.now)) }
+    ensures spelled { SpellsKey name.now (key_spelling name.now) }
+{
+    let spelling = DefaultSpelling { name }.to_string(alloc)?;
+    Ok(Repr::new(RawString::from(spelling)))
+}
+
+// The spelling if it is a text, else the default one of the name.
+pub(crate) fn displayed<'a>(alloc: Global, name: &'a str, repr: Option<&'a Repr>) -> Mem<CowStr<'a>>
+    ensures text { IfOk result (λ text. cow_str_bytes text ≡ shown_spelling (key_spelling name.now) (option_copied repr.entry)) }
+    ensures free { IsSome (option_and_then text_of (option_copied repr.entry)) → IsOkAnd result IsBorrowedStr }
+{
+    match spelling_text(repr) {
+        Some(spelling) => Ok(CowStr::Borrowed(spelling)),
+        None => Ok(CowStr::Owned(DefaultSpelling { name }.to_string(alloc)?)),
+    }
+}
+
+/// Writes the spelling: the key's own one if it is a text, else the default one.
 impl fmt::Display for Key {
     ghost output = { λ key. Some (key_text key) };
 

@@ -1,14 +1,16 @@
 //! Slots by their places: what is written in a key, and a slot that is taken out.
 ghost use Rattle.std.specs.Prelude.{◌≡◌, ◌<◌, Some, length, option_map, remove, slice_get};
 ghost use Rattle.std.specs.Borrow.{sem};
+ghost use Rattle.toml_edit_key.specs.KeyMutView.{key_of};
 ghost use Rattle.toml_edit_model.specs.Keys.{reset_key};
 ghost use Rattle.toml_edit_model.specs.Slots.{without};
-ghost use Rattle.toml_edit_slots.specs.Lending.{LendsLeafAt, LendsDottedAt};
+ghost use Rattle.toml_edit_slots.specs.Lending.{LendsKeyAt, LendsLeafAt, LendsDottedAt};
 ghost use Rattle.toml_edit_slots.specs.Seen.{seen};
 ghost use Rattle.toml_edit_slots.specs.Slots.{on_key};
 
 use super::{Slot, Slots};
 use crate::index::close_gap;
+use toml_edit_key::KeyMut;
 use toml_edit_repr::Decor;
 
 impl<T> Slots<T> {
@@ -30,6 +32,16 @@ impl<T> Slots<T> {
     {
         let slot = &mut self.entries[at];
         slot.key.dotted_decor_mut()
+    }
+
+    /// Lends the key at the place, to change all of it but its name.
+    pub fn key_mut(&mut self, at: usize) -> KeyMut<'_>
+        requires { at < length self.old }
+        ensures* writes_back { sem 𝓛 (LendsKeyAt T.row self.entry at result) }
+        ensures key { option_map (λ slot. slot.key) (slice_get self.old at) ≡ Some (key_of result) }
+    {
+        let slot = &mut self.entries[at];
+        slot.key.as_mut()
     }
 
     /// Gives the key at the place its default spelling, and unsets its decors.

@@ -2,16 +2,17 @@
 ghost use Rattle.std.specs.Prelude.{◌≡◌, None, Some, IsSome, IsOk, IfOk, IfErr, IfSome, if◌then◌else◌, length, nat_lt, option_map};
 ghost use Rattle.std.specs.Borrow.{sem};
 ghost use Rattle.std.specs.Option.{unwrap_or, UnwrapsOrElse};
+ghost use Rattle.toml_edit_key.specs.KeyMutView.{key_of};
 ghost use Rattle.toml_edit_model.specs.Keys.{new_key, reset_key};
 ghost use Rattle.toml_edit_model.specs.Slots.{without};
-ghost use Rattle.toml_edit_slots.specs.Entries.{entry_item, entry_key, entry_place, entry_ref, slots_with, with_entry_key, EntryLends, EntryLendsOk, IsEntryOf, OccupiedLends, OccupiedLendsDotted, OccupiedLendsLeaf, RestsIfAbsent, RestsIfRefused};
+ghost use Rattle.toml_edit_slots.specs.Entries.{entry_item, entry_key, entry_place, entry_ref, slots_with, with_entry_key, EntryLends, EntryLendsOk, IsEntryOf, OccupiedLends, OccupiedLendsDotted, OccupiedLendsKey, OccupiedLendsLeaf, RestsIfAbsent, RestsIfRefused};
 ghost use Rattle.toml_edit_slots.specs.Seen.{seen};
 ghost use Rattle.toml_edit_slots.specs.Slots.{place};
 ghost use Rattle.toml_edit_slots.specs.declared.slots.entry.Entry.TheVariants.{Occupied, Vacant};
 
 use super::{Entry, OccupiedEntry, VacantEntry};
 use crate::slots::{NoMemory, Slot, Slots};
-use toml_edit_key::Key;
+use toml_edit_key::{Key, KeyMut};
 use toml_edit_repr::{Decor, Mem};
 
 impl<T> Slots<T> {
@@ -108,6 +109,15 @@ impl<'a, T> OccupiedEntry<'a, T> {
     {
         let at = self.at;
         self.slots.item_mut(at)
+    }
+
+    /// Lends the key that is there, to change all of it but its name.
+    pub fn key_mut(&mut self) -> KeyMut<'_>
+        ensures* writes_back { sem 𝓛 (OccupiedLendsKey T.row self.entry result) }
+        ensures key { entry_key (Occupied self.old) ≡ Some (key_of result) }
+    {
+        let at = self.at;
+        self.slots.key_mut(at)
     }
 
     /// What stands around the key where it ends a path, to be changed.
