@@ -8,7 +8,6 @@ use Rattle.std.specs.List.{AllByRecursion, IsDistinct}
 use Rattle.std.specs.Option.{option_map_or}
 use Rattle.std.specs.Prelude.{IsTrue}
 use Rattle.toml_edit_laws.proofs.slots.Places.{changed-at, changed-none, lookup-those, none_at}
-use Rattle.toml_edit_model.specs.Iterating.{filled_pairs}
 use Rattle.toml_edit_model.specs.Keys.{new_key}
 use Rattle.toml_edit_model.specs.Lists.{is_item, only, slot_list}
 use Rattle.toml_edit_model.specs.Slots as model
@@ -21,26 +20,9 @@ use Rattle.toml_edit_slots.specs.declared.slots.Slot.{Slot}
 use Rattle.toml_edit_slots.specs.Slots.{lookup_slot, place, with_item}
 use Rattle.toml_edit_table_like.specs.Shown.{shown}
 use Rattle.toml_edit_table_like.proofs.ShownLaws.{lookup_slot-of, lookup_slot-shown, place-shown, set-shown, shown-seen, slot_shown}
-use Rattle.toml_edit_tree.specs.Held.{held, is_placeholder}
 use Rattle.toml_edit_tree.specs.SlotsOf.{slot_read}
 use Rattle.toml_edit_tree.specs.View.{item_view}
 use Rattle.toml_edit_tree.specs.declared.item.Item.{Item}
-
-item-kind : (n : Node) → is_item n ≡ not (is_placeholder n)
-item-kind nothing = refl
-item-kind (leaf s spelling d) = refl
-item-kind (list f xs) = refl
-item-kind (inline f ss) = refl
-item-kind (table f ss) = refl
-item-kind (tables e xs) = refl
-
-pub held-pairs : (ss : Slots) → held ss ≡ filled_pairs (slot_list ss)
-held-pairs no_slots = refl
-held-pairs (slot k n ss) =
-    elim (cases_Bool (is_placeholder n)) [
-      | inl placed ↦ rw (placed, item-kind n, placed) (held-pairs ss)
-      | inr full ↦ rw (full, item-kind n, full) (ap (λ l. (k.name, n) ∷ l) (held-pairs ss))
-    ]
 
 full : (n : Node) → (n ≡ nothing → false ≡ true) → true ≡ is_item n
 full nothing e = absurd (false≢true (e refl))

@@ -1,19 +1,22 @@
 -- A slot of a table of either kind, and what is written in it.
 use native.Mathlib.Bridge.{le_prop}
 use Rattle.std.proofs.Common.{◌≡◌, ℕ, zero, suc, ◌<◌, List, [], ◌∷◌, Option, Some, None, IfSome, length, option_map, slice_get, refl, sym, ap, subst, ◌∙◌}
+use Rattle.std.proofs.lemmas.Option.{slice_get-get_or}
+use Rattle.toml_edit_laws.proofs.slots.Places.{lookup_slot-at, lookup_slot-none, none_at}
 use Rattle.toml_edit_laws.proofs.slots.Views as views
+use Rattle.toml_edit_model.specs.Keys.{new_key}
 use Rattle.toml_edit_model.specs.Slots as model
 use Rattle.toml_edit_model.specs.Text.{Text}
-use Rattle.toml_edit_model.specs.Tree.{Key, Node}
+use Rattle.toml_edit_model.specs.Tree.{Key, Node, nothing}
 use Rattle.toml_edit_slots.specs.Seen.{seen}
-use Rattle.toml_edit_slots.specs.Slots.{items_of, on_key, with_item}
+use Rattle.toml_edit_slots.specs.Slots.{items_of, on_key, place, with_item}
 use Rattle.toml_edit_slots.specs.declared.slots.Slot.{Slot}
 use Rattle.toml_edit_table_like.specs.Lending.{with_item_at, with_key_at}
 use Rattle.toml_edit_table_like.specs.Shown.{shown}
 use Rattle.toml_edit_table_like.specs.SlotParts.{IsSlotOf, with_slot_item, with_slot_key}
 use Rattle.toml_edit_table_like.specs.declared.has_slots.HasSlots.{Ghosts}
 use Rattle.toml_edit_table_like.specs.declared.slot.TableLikeSlot.{TableLikeSlot}
-use Rattle.toml_edit_table_like.proofs.ShownLaws.{shown-seen, slot_shown}
+use Rattle.toml_edit_table_like.proofs.ShownLaws.{length-shown, place-shown, shown-seen, slot_shown}
 use Rattle.toml_edit_tree.specs.View.{item_view}
 use Rattle.toml_edit_tree.specs.declared.item.Item.{Item}
 
@@ -42,6 +45,23 @@ key-shown (s ∷ es) (suc i) = key-shown es i
 pub part-of-key : {X : Type 0} (f : Key → X) (o : Option (Slot Item)) → option_map f (option_map (λ s. s.key) o) ≡ option_map (λ s. f s.key) o
 part-of-key f None = refl
 part-of-key f (Some s) = refl
+
+-- ---- the key of a text, as it stands
+
+no_seen : model.Slot Node
+no_seen = record { key = new_key []; item = nothing }
+
+pub key-at : (t : Text) (es : List (Slot Item)) (i : ℕ) → place t es ≡ Some i → i < length es
+    → option_map (λ (s : Slot Item). s.key) (slice_get es i) ≡ model.lookup_key t (shown es)
+key-at t es i at low =
+    key-shown es i
+    ∙ ap (option_map (λ (s : model.Slot Node). s.key))
+    (slice_get-get_or (shown es) i no_seen (subst (λ n. i < n) (sym (length-shown es)) low) ∙ sym (lookup_slot-at t (shown es) i no_seen (place-shown t es ∙ at)))
+
+pub key-none : (t : Text) (es : List (Slot Item)) → place t es ≡ None → None ≡ model.lookup_key t (shown es)
+key-none t es none = sym (ap (option_map (λ (s : model.Slot Node). s.key)) (lookup_slot-none t (shown es) (none_at t (shown es) (place-shown t es ∙ none))))
+
+-- ---- a slot by its place
 
 module _ {X : Type 0} {g : Ghosts X} (p : TableLikeSlot X g) where
   abbrev t : X

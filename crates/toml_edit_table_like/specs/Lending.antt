@@ -1,10 +1,13 @@
 -- What a table of either kind lends of its slots.
 use Rattle.std.specs.Prelude.{ℕ, List, Option}
-use Rattle.std.specs.Borrow.{Fml, Lends, LendsIf, MutBor}
+use Rattle.std.specs.Borrow.{Fml, Lends, LendsIf, MutBor, follows}
 use Rattle.std.specs.Option.{option_map_or}
 use denote.RattleType.{RattleType}
 use Rattle.toml_edit_model.specs.Text.{Text}
 use Rattle.toml_edit_model.specs.Tree.{Decor, Key}
+use Rattle.toml_edit_key.specs.KeyMutView.{lent_parts, with_parts}
+use Rattle.toml_edit_key.specs.contracts.key.KeyParts.{the_row as parts_row}
+use Rattle.toml_edit_key.specs.declared.key.key_mut.KeyMut.{KeyMut}
 use Rattle.toml_edit_repr.specs.contracts.repr.Decor.{the_row as decor_row}
 use Rattle.toml_edit_slots.specs.Slots.{on_key, place, with_item}
 use Rattle.toml_edit_slots.specs.contracts.slots.Slots.{the_row as slots_row}
@@ -36,6 +39,10 @@ module _ (R : RattleType) (entries : R.Denot → List (Slot Item)) (with_entries
   -- the same in the slot of the key, where an item is lent; it stays where none is
   abbrev pub LendsUnder : MutBor R.Denot → Text → Option (MutBor Item) → Fml
   LendsUnder s k r = LendsIf R item_row s r (λ w. with_item_under entries with_entries k w s.now) s.now
+
+  -- it ends with the last parts of the key at the place behind those that are lent
+  abbrev pub LendsKeyAt : MutBor R.Denot → ℕ → KeyMut → Fml
+  LendsKeyAt s at r = follows R parts_row s.ghost_name (lent_parts r).ghost_name (λ w. with_key_at entries with_entries at (with_parts w) s.now)
 
   -- it ends with the last decor behind r as one of the key's at the place
   abbrev pub LendsLeafAt : MutBor R.Denot → ℕ → MutBor Decor → Fml

@@ -6,6 +6,9 @@ use denote.RattleType.{RattleType}
 use Rattle.std.specs.Borrow.{Fml, MutBor, RestsIfNone, follows}
 use Rattle.toml_edit_model.specs.Tree.{Decor, Key}
 use Rattle.toml_edit_model.specs.Slots as model
+use Rattle.toml_edit_key.specs.KeyMutView.{lent_parts, with_parts}
+use Rattle.toml_edit_key.specs.contracts.key.KeyParts.{the_row as parts_row}
+use Rattle.toml_edit_key.specs.declared.key.key_mut.KeyMut.{KeyMut}
 use Rattle.toml_edit_repr.specs.contracts.repr.Decor.{the_row as decor_row}
 use Rattle.toml_edit_slots.specs.Entries.{length-on_key, length-with_item}
 use Rattle.toml_edit_slots.specs.Slots.{items_of, on_key, with_item}
@@ -61,9 +64,12 @@ module _ {X : Type 0} {g : Ghosts X} where
 abbrev pub RestsIfAbsent : (R : RattleType) {g : Ghosts R.Denot} → MutBor R.Denot → Option (TableLikeSlot R.Denot g) → Fml
 RestsIfAbsent R s r = RestsIfNone R s (λ p. p.table.ghost_name) r (λ n. n ≡ s.now)
 
--- the slot ends with the last item behind the reference, or with the last decor as one of its key's
+-- the slot ends with the last item behind the reference, with the last parts of its key, or with the last decor as one of its key's
 abbrev pub SlotLends : (R : RattleType) {g : Ghosts R.Denot} → MutBor (TableLikeSlot R.Denot g) → MutBor Item → Fml
 SlotLends R {g} o r = follows (lent.the_row (record { mir = named 1; lft = [] }) R g) item_row o.ghost_name r.ghost_name (with_slot_item o.now)
+
+abbrev pub SlotLendsKey : (R : RattleType) {g : Ghosts R.Denot} → MutBor (TableLikeSlot R.Denot g) → KeyMut → Fml
+SlotLendsKey R {g} o r = follows (lent.the_row (record { mir = named 1; lft = [] }) R g) parts_row o.ghost_name (lent_parts r).ghost_name (λ w. with_slot_key o.now (with_parts w))
 
 abbrev pub SlotLendsLeaf : (R : RattleType) {g : Ghosts R.Denot} → MutBor (TableLikeSlot R.Denot g) → MutBor Decor → Fml
 SlotLendsLeaf R {g} o r = follows (lent.the_row (record { mir = named 1; lft = [] }) R g) decor_row o.ghost_name r.ghost_name (λ w. with_slot_key o.now (λ k. record k { leaf = w }))

@@ -2,16 +2,18 @@
 ghost use Rattle.std.specs.Prelude.{◌≡◌, ◌<◌, IfSome, IsTrue, None, Some, length, nat_lt, option_and_then, option_map, slice_get};
 ghost use Rattle.std.proofs.Common.{refl};
 ghost use Rattle.std.specs.Borrow.{sem};
+ghost use Rattle.toml_edit_key.specs.KeyMutView.{key_of};
 ghost use Rattle.toml_edit_model.specs.Slots.{AreApart, place as place_seen};
 ghost use Rattle.toml_edit_model.specs.TableCalls.{get};
 ghost use Rattle.toml_edit_slots.specs.Slots.{items_of, place};
 ghost use Rattle.toml_edit_table_like.specs.Kinds.{inline_again, inline_beside, inline_entries, inline_keeps, inline_shows, inline_stays, inline_takes, table_again, table_beside, table_entries, table_keeps, table_shows, table_stays, table_takes};
-ghost use Rattle.toml_edit_table_like.specs.Lending.{LendsDottedAt, LendsItemAt, LendsLeafAt, LendsSlots};
+ghost use Rattle.toml_edit_table_like.specs.Lending.{LendsDottedAt, LendsItemAt, LendsKeyAt, LendsLeafAt, LendsSlots};
 ghost use Rattle.toml_edit_tree.specs.ContainerParts.{holding, table_holding};
 ghost use Rattle.toml_edit_tree.specs.SlotsOf.{inline_slots_of, slots_of as table_slots_of};
 ghost use Rattle.toml_edit_tree.specs.View.{item_view};
 
 use crate::find::filled_place;
+use toml_edit_key::KeyMut;
 use toml_edit_repr::Decor;
 use toml_edit_slots::Slots;
 use toml_edit_tree::{InlineTable, Item, Table};
@@ -71,6 +73,16 @@ pub trait HasSlots {
     {
         let slots = self.as_slots_mut();
         slots.item_mut(at)
+    }
+
+    /// Lends the key at the place, to change all of it but its text.
+    fn key_at_mut(&mut self, at: usize) -> KeyMut<'_>
+        requires { at < length (entries self.old) }
+        ensures* writes_back { sem 𝓛 (LendsKeyAt Self.row entries with_entries self.entry at result) }
+        ensures key { option_map (λ slot. slot.key) (slice_get (entries self.old) at) ≡ Some (key_of result) }
+    {
+        let slots = self.as_slots_mut();
+        slots.key_mut(at)
     }
 
     /// What stands around the key at the place where it ends a path, to be changed.

@@ -14,7 +14,6 @@ mod table_ref_mut;
 
 pub use as_table::AsTableLike;
 pub use entry::TableLikeEntry;
-#[doc(hidden)]
 pub use has_slots::HasSlots;
 pub use like::{AnyTable, TableLike};
 pub use slot::TableLikeSlot;

@@ -1,7 +1,8 @@
 //! Tables of either kind.
 ghost use Rattle.std.specs.Borrow.{sem};
 ghost use Rattle.std.specs.Option.{option_copied, unwrap_or};
-ghost use Rattle.std.specs.Prelude.{◌≡◌, ◌<◌, ◌↔◌, [], true, IfErr, IfOk, IfSome, IsOk, IsTrue, None, OnErr, OnOk, Some, if◌then◌else◌, length, nat_lt, option_and_then, option_map, slice_get};
+ghost use Rattle.std.specs.Prelude.{◌≡◌, ◌<◌, ◌↔◌, [], true, IfErr, IfOk, IfSome, IsOk, IsSome, IsTrue, None, OnErr, OnOk, Some, if◌then◌else◌, length, nat_lt, option_and_then, option_map, slice_get};
+ghost use Rattle.toml_edit_key.specs.KeyMutView.{key_of};
 ghost use Rattle.toml_edit_model.specs.Conversions.{formatted};
 ghost use Rattle.toml_edit_model.specs.Iterating.{filled, filled_pairs};
 ghost use Rattle.toml_edit_model.specs.Keys.{new_key};
@@ -27,7 +28,7 @@ use crate::inline::insert_item;
 use crate::put::{place_for, place_for_key};
 use crate::{HasSlots, TableLikeEntry, TableLikeSlot};
 use std::alloc::Global;
-use toml_edit_key::Key;
+use toml_edit_key::{Key, KeyMut};
 use toml_edit_repr::Mem;
 use toml_edit_slots::NoMemory;
 use toml_edit_tree::{InlineTable, Item, Iter, Table, Value};
@@ -120,9 +121,12 @@ pub trait AnyTable: HasSlots {
         TableLikeSlot { table: self, at }
     }
 
-    /// Whether an item stands under the key: in a table one that is no placeholder, in an inline table a value.
+    /// Returns whether an item stands under the key: in a table one that is no placeholder, in an
+    /// inline table a value.
     fn contains_key(&self, key: &str) -> bool
-        ensures { result ≡ like_contains_key (differences_of (Self.beside self.now)) key.now (Self.slots_of self.now) };
+        ensures found { result ≡ like_contains_key (differences_of (Self.beside self.now)) key.now (Self.slots_of self.now) }
+        // Then `get` finds it.
+        ensures there { IsTrue result → IsSome (get key.now (Self.slots_of self.now)) };
 
     /// The keys and the value of each line that is printed of it, in order. The only error is want of memory.
     fn get_values(&self, alloc: Global) -> Mem<Vec<(Vec<&Key>, &Value)>>
@@ -255,8 +259,19 @@ pub trait TableLike: AnyTable {
         ensures item { option_and_then (λ slot. option_map item_view (slot_item slot)) result ≡ get key.now (Self.slots_of self.old) }
         ensures place { IfSome result (λ slot. place key.now (Self.slots_of self.old) ≡ Some (slot_place slot)) };
 
-    /// The key's slot of any kind, if there is one, to change what stands around the key as it stands in the table.
-    fn key_mut(&mut self, key: &str) -> Option<TableLikeSlot<'_, Self>>
+    /// Lends the key as it stands in the table, whatever stands under it, to change all of it but its text. Returns `None` where the
+    /// key has no slot.
+    fn key_mut(&mut self, key: &str) -> Option<KeyMut<'_>>
+        ensures { option_map key_of result ≡ lookup_key key.now (Self.slots_of self.old) }
+    {
+        match self.place_of(key) {
+            Some(at) => Some(self.key_at_mut(at)),
+            None => None,
+        }
+    }
+
+    /// Returns the key's slot, a placeholder too, or `None` where the key has no slot.
+    fn slot_mut(&mut self, key: &str) -> Option<TableLikeSlot<'_, Self>>
         ensures* absent { sem 𝓛 (RestsIfAbsent Self.row self.entry result) }
         ensures same_table { IfSome result (λ slot. (slot_ref slot).ghost_name ≡ self.entry.ghost_name) }
         ensures slot { IfSome result (λ slot. IsSlotOf self.old slot) }
@@ -312,7 +327,7 @@ impl TableLike for Table {
         }
     }
 
-    fn key_mut(&mut self, key: &str) -> Option<TableLikeSlot<'_, Table>> {
+    fn slot_mut(&mut self, key: &str) -> Option<TableLikeSlot<'_, Table>> {
         match HasSlots::place_of(self, key) {
             Some(at) => Some(TableLikeSlot { table: self, at }),
             None => None,
@@ -376,7 +391,7 @@ impl TableLike for InlineTable {
         }
     }
 
-    fn key_mut(&mut self, key: &str) -> Option<TableLikeSlot<'_, InlineTable>> {
+    fn slot_mut(&mut self, key: &str) -> Option<TableLikeSlot<'_, InlineTable>> {
         match HasSlots::place_of(self, key) {
             Some(at) => Some(TableLikeSlot { table: self, at }),
             None => None,

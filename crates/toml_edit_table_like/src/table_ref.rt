@@ -1,6 +1,6 @@
 //! A table of either kind, to be read.
 ghost use Rattle.std.specs.Option.{option_copied};
-ghost use Rattle.std.specs.Prelude.{◌≡◌, ◌↔◌, [], IfOk, IsTrue, length, option_map, slice_get};
+ghost use Rattle.std.specs.Prelude.{◌≡◌, ◌↔◌, [], IfOk, IsSome, IsTrue, length, option_map, slice_get};
 ghost use Rattle.toml_edit_model.specs.Iterating.{filled, filled_pairs};
 ghost use Rattle.toml_edit_model.specs.Slots.{AreApart, lookup_key};
 ghost use Rattle.toml_edit_model.specs.TableCalls.{get, get_slot};
@@ -92,9 +92,12 @@ impl<'a> TableRef<'a> {
         self.as_slots().key_value_at(at)
     }
 
-    /// Whether an item stands under the key: in a table one that is no placeholder, in an inline table a value.
+    /// Returns whether an item stands under the key: in a table one that is no placeholder, in an
+    /// inline table a value.
     pub fn contains_key(&self, key: &str) -> bool
-        ensures { result ≡ like_contains_key (differences_of (ref_node self.now)) key.now (ref_slots self.now) }
+        ensures found { result ≡ like_contains_key (differences_of (ref_node self.now)) key.now (ref_slots self.now) }
+        // Then `get` finds it.
+        ensures there { IsTrue result → IsSome (get key.now (ref_slots self.now)) }
     {
         match *self {
             TableRef::Table(table) => Table::contains_key(table, key),

@@ -30,7 +30,7 @@ use Rattle.toml_edit_tree.specs.declared.table.Table.{Table, out-Table}
 use Rattle.toml_edit_tree.specs.declared.value.Value.TheVariants as values
 use Rattle.toml_edit_tree.proofs.HeldLaws.{item-at}
 use Rattle.toml_edit_tree.proofs.InlineLaws.{made_inline_fields}
-use Rattle.toml_edit_tree.proofs.SlotsLaws.{apart-shown, inline-shown, length-shown, made_inline-shown, has_slot-shown, lookup_slot-of, lookup_slot-shown, made-shown, made_fields, shown, slot_shown, table-shown}
+use Rattle.toml_edit_tree.proofs.SlotsLaws.{apart-shown, has-lookup, inline-shown, length-shown, made_inline-shown, has_slot-shown, lookup_slot-of, lookup_slot-shown, made-shown, made_fields, shown, slot_shown, table-shown}
 use Rattle.toml_edit_tree.proofs.TableEntryLaws.{get-shown, item-last, last-shown, place-shown, set-shown, with_item-last}
 use Rattle.toml_edit_tree.proofs.ViewLaws.{view-InlineTable, view-None, view-Value}
 
@@ -176,12 +176,7 @@ found-at k es i x at is =
     ∙ ap (λ y. Some (item_view y)) (same_Some _ _ (sym (item-at es i s got) ∙ sym is))
 
 pub has-found : (k : Text) (es : List (model.Slot Node)) → IsSome (model.lookup k es) → model.has_slot k es ≡ true
-has-found k [] h = absurd (false≢true h)
-has-found k (s ∷ es) h =
-    elim (cases_Bool (model.is_at k s)) [
-      | inl same ↦ rw same refl
-      | inr other ↦ rw other (has-found k es (rw other at h))
-    ]
+has-found k es h = sym (has-lookup k es) ∙ h
 
 -- ---- a table, and an item that has slots
 
@@ -206,9 +201,12 @@ module _ (k : Text) (t : Table) where
       ∙ ap (λ ss. Some (table f ss)) (slots_from-list (table_slots u))
       ∙ ap (λ g. Some (table g (table_slots u))) (sym (made_fields t (slots_put k w slots)))
 
--- a table with its own slots is itself
+-- a table, or an inline table, with its own slots is itself
 pub same-table : (t : Table) → record t { slots = (out-Table t).slots } ≡ t
 same-table t = search (rules, the_lemmas)
+
+pub same-inline : (t : InlineTable) → record t { items = (out-InlineTable t).items } ≡ t
+same-inline t = search (rules, the_lemmas)
 
 -- a new inline table with other slots, as an item
 module _ (k : Text) (t : InlineTable) (es : List (Slot Item)) where

@@ -1,5 +1,5 @@
 -- What is written through a loan of a container, as its list of slots shows it.
-use Rattle.std.proofs.Common.{◌≡◌, ℕ, zero, suc, List, [], ◌∷◌, Option, Some, None, set, refl, sym, ap, subst, ◌∙◌, rules}
+use Rattle.std.proofs.Common.{◌≡◌, ℕ, zero, suc, List, [], ◌∷◌, ◌++◌, Option, Some, None, set, refl, sym, ap, subst, ◌∙◌, rules}
 use Rattle.std.specs.Option.{option_map_or}
 use Rattle.toml_edit_laws.proofs.slots.Places.{changed-at, changed-none, none_at}
 use Rattle.toml_edit_model.specs.ArrayCalls.{written_at}
@@ -11,27 +11,33 @@ use Rattle.toml_edit_slots.specs.Slots.{on_key, place, with_item}
 use Rattle.toml_edit_slots.specs.declared.slots.Slot.{Slot}
 use Rattle.toml_edit_tree.specs.Containers.{table_node}
 use Rattle.toml_edit_tree.specs.Elements.{array_fields, extent_of, items_of, listed, tables_of}
+use Rattle.toml_edit_tree.specs.InlineEntries.{inline_ref, inline_slots_left, inline_with}
 use Rattle.toml_edit_tree.specs.InlineLending.{with_inline_key, with_value_under}
 use Rattle.toml_edit_tree.specs.InlineLending as inlines
 use Rattle.toml_edit_tree.specs.InlineSlotParts.{with_inline_item}
 use Rattle.toml_edit_tree.specs.InlineSlots.{inline_fields}
 use Rattle.toml_edit_tree.specs.ItemPlaces.{with_element_at, with_slot_at, with_table_at, with_value_at}
 use Rattle.toml_edit_tree.specs.SlotsOf.{inline_slots_of, slots_of}
+use Rattle.toml_edit_tree.specs.TableEntries.{entry_ref, slots_left, table_with}
 use Rattle.toml_edit_tree.specs.TableLending.{with_item_at, with_item_under, with_key_at}
 use Rattle.toml_edit_tree.specs.View.{array_view, fields_view, item_view, items_view, table_view, tables_view, value_view}
 use Rattle.toml_edit_tree.specs.declared.array.Array.{Array, out-Array}
 use Rattle.toml_edit_tree.specs.declared.array_of_tables.ArrayOfTables.{ArrayOfTables, out-ArrayOfTables}
 use Rattle.toml_edit_tree.specs.declared.inline_table.InlineTable.{InlineTable, out-InlineTable}
+use Rattle.toml_edit_tree.specs.declared.inline_table.entry.InlineEntry.{InlineEntry}
+use Rattle.toml_edit_tree.specs.declared.inline_table.entry.InlineEntry.TheVariants as inlined
 use Rattle.toml_edit_tree.specs.declared.item.Item.{Item, the_lemmas}
 use Rattle.toml_edit_tree.specs.declared.item.Item.TheOpen.{Array-F, ArrayOfTables-F}
 use Rattle.toml_edit_tree.specs.declared.item.Item.TheVariants as items
 use Rattle.toml_edit_tree.specs.declared.item.Item.TheViews.{roll-Array, roll-ArrayOfTables}
 use Rattle.toml_edit_tree.specs.declared.table.Table.{Table, out-Table}
+use Rattle.toml_edit_tree.specs.declared.table.entry.Entry.{Entry}
+use Rattle.toml_edit_tree.specs.declared.table.entry.Entry.TheVariants.{Occupied, Vacant}
 use Rattle.toml_edit_tree.specs.declared.value.Value.{Value}
 use Rattle.toml_edit_tree.proofs.DespanLaws.{no_slot}
 use Rattle.toml_edit_tree.proofs.InlineLaws.{made_inline_fields}
 use Rattle.toml_edit_tree.proofs.SlotsLaws.{inline-shown, made-shown, made_fields, made_inline-shown, shown, slot_shown, table-shown}
-use Rattle.toml_edit_tree.proofs.TableEntryLaws.{place-shown, set-shown}
+use Rattle.toml_edit_tree.proofs.TableEntryLaws.{last-shown, place-shown, set-shown}
 use Rattle.toml_edit_tree.proofs.ViewLaws.{array_items, tables_items, view-Table, view-Value}
 
 -- ---- arrays and arrays of tables
@@ -135,3 +141,25 @@ module _ (i : ℕ) (t : InlineTable) where
 
   pub inline_key-keeps : (h : Key → Key) → inline_fields (with_inline_key i h t) ≡ inline_fields t
   inline_key-keeps h = made_inline_fields t _
+
+-- ---- entries
+
+pub entry-leaves : (e : Entry) (w : Item) → slots_of (table_with e w) ≡ slots_left e (item_view w)
+entry-leaves (Occupied o) w = item-leaves o.at o.table.now w
+entry-leaves (Vacant v) w =
+    made-shown _ ∙ last-shown (out-Table v.table.now).slots v.key w
+    ∙ ap (λ l. l ++ record { key = v.key; item = item_view w } ∷ []) (sym (table-shown v.table.now))
+
+pub entry-keeps : (e : Entry) (w : Item) → fields_view (table_with e w) ≡ fields_view (entry_ref e).now
+entry-keeps e w = made_fields (entry_ref e).now _
+
+pub inline_entry-leaves : (e : InlineEntry) (w : Value) → inline_slots_of (inline_with e w) ≡ inline_slots_left e (value_view w)
+inline_entry-leaves (inlined.Occupied o) w = inline_value-leaves o.at o.table.now w
+inline_entry-leaves (inlined.Vacant v) w =
+    let es = (out-InlineTable v.table.now).items in
+    made_inline-shown _ ∙ last-shown es v.key (items.Value w)
+    ∙ ap (λ n. shown es ++ record { key = v.key; item = n } ∷ []) (view-Value w)
+    ∙ ap (λ l. l ++ record { key = v.key; item = value_view w } ∷ []) (sym (inline-shown v.table.now))
+
+pub inline_entry-keeps : (e : InlineEntry) (w : Value) → inline_fields (inline_with e w) ≡ inline_fields (inline_ref e).now
+inline_entry-keeps e w = made_inline_fields (inline_ref e).now _

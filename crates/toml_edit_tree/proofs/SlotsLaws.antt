@@ -99,6 +99,13 @@ item_of (Some s) = refl
 pub lookup-shown : (t : Text) (es : List (Slot Item)) → model.lookup t (shown es) ≡ option_map item_view (lookup t es)
 lookup-shown t es = ap (option_map (λ s. s.item)) (lookup_slot-shown t es) ∙ item_of (lookup_slot t es)
 
+key_of : (o : Option (Slot Item)) → option_map (λ s. s.key) (option_map slot_shown o) ≡ option_map (λ s. s.key) o
+key_of None = refl
+key_of (Some s) = refl
+
+pub lookup_key-shown : (t : Text) (es : List (Slot Item)) → model.lookup_key t (shown es) ≡ option_map (λ s. s.key) (lookup_slot t es)
+lookup_key-shown t es = ap (option_map (λ s. s.key)) (lookup_slot-shown t es) ∙ key_of (lookup_slot t es)
+
 -- the same by what is seen
 pub lookup_slot-of : (t : Text) (es : List (Slot Item)) → model.lookup_slot t (shown es) ≡ option_map (model.on_item item_view) (model.lookup_slot t (seen es))
 lookup_slot-of t es = ap (model.lookup_slot t) (shown-seen es) ∙ views.lookup_slot-seen item_view t (seen es)
@@ -116,6 +123,15 @@ length-shown [] = refl
 length-shown (s ∷ es) = ap suc (length-shown es)
 
 -- ---- the slots that pass a test
+
+-- a slot has the name where one is found
+pub has-lookup : (t : Text) (es : List (model.Slot Node)) → is_some (model.lookup t es) ≡ model.has_slot t es
+has-lookup t [] = refl
+has-lookup t (s ∷ es) =
+    elim (cases_Bool (model.is_at t s)) [
+      | inl same ↦ rw same refl
+      | inr other ↦ rw other (has-lookup t es)
+    ]
 
 pub has_slot-shown : (t : Text) (es : List (Slot Item)) → model.has_slot t (shown es) ≡ is_some (place t es)
 has_slot-shown t [] = refl

@@ -104,6 +104,19 @@ get-shown [] i s got = refl
 get-shown (r ∷ es) zero s got = ap slot_shown (same_Some r s got)
 get-shown (r ∷ es) (suc i) s got = get-shown es i s got
 
+-- ---- the key of a text, as it stands
+
+pub key-at : (t : Text) (es : List (Slot Item)) (i : ℕ) → place t es ≡ Some i → i < length es
+    → option_map (λ (s : Slot Item). s.key) (slice_get es i) ≡ model.lookup_key t (shown es)
+key-at t es i at low =
+    let s = get_or es i no_slot in
+    let got : slice_get es i ≡ Some s = slice_get-get_or es i no_slot low in
+    ap (option_map (λ (r : Slot Item). r.key)) got
+    ∙ sym (ap (option_map (λ (r : model.Slot Node). r.key)) (lookup_slot-at t (shown es) i (slot_shown s) (place-shown t es ∙ at) ∙ ap Some (get-shown es i s got)))
+
+pub key-none : (t : Text) (es : List (Slot Item)) → place t es ≡ None → None ≡ model.lookup_key t (shown es)
+key-none t es none = sym (ap (option_map (λ (r : model.Slot Node). r.key)) (lookup_slot-none t (shown es) (none_at t (shown es) (place-shown t es ∙ none))))
+
 -- ---- a key that is there
 
 module _ (k : Key) (t : Table) (i : ℕ) (at : place k.name (out-Table t).slots ≡ Some i) where

@@ -2,13 +2,16 @@
 use Rattle.std.specs.Prelude.{List, Option}
 use Rattle.std.specs.Borrow.{Bor, Lends, LendsIf, MutBor, Fml}
 use Rattle.std.specs.Slice.Iter.{iter_rest}
+use Rattle.toml_edit_model.specs.Iterating.{elements, value_pairs, values as values_seen}
+use Rattle.toml_edit_model.specs.Lists.{slot_list}
 use Rattle.toml_edit_model.specs.Text.{Text}
 use Rattle.toml_edit_model.specs.Tree.{Decor, Node}
 use Rattle.toml_edit_repr.specs.contracts.repr.Decor.{the_row as decor_row}
 use Rattle.toml_edit_slots.specs.declared.slots.Slot.{Slot}
 use Rattle.toml_edit_slots.specs.contracts.slots.Slots.{the_row as slots_row}
-use Rattle.toml_edit_tree.specs.Containers.{TableView, elements_in, values_in, pairs_in}
-use Rattle.toml_edit_tree.specs.View.{value_view, items_view, slots_view, table_view}
+use Rattle.toml_edit_tree.specs.Containers.{table_node}
+use Rattle.toml_edit_tree.specs.Elements.{listed}
+use Rattle.toml_edit_tree.specs.View.{value_view, slots_view, table_view}
 use Rattle.toml_edit_tree.specs.declared.array.Array.{Array}
 use Rattle.toml_edit_tree.specs.declared.array.ArrayIter.{ArrayIter}
 use Rattle.toml_edit_tree.specs.declared.array_of_tables.ArrayOfTables.{ArrayOfTables}
@@ -68,13 +71,13 @@ LendsTables s r = LendsIf item_row tables_row s r (λ w. items.ArrayOfTables w) 
 
 -- what an iterator has left
 abbrev pub values_left : ArrayIter → List Node
-values_left it = values_in (items_view (iter_rest it.items))
+values_left it = values_seen (listed (iter_rest it.items))
 
 abbrev pub pairs_left : InlineTableIter → List (Text × Node)
-pairs_left it = pairs_in (slots_view (iter_rest it.slots))
+pairs_left it = value_pairs (slot_list (slots_view (iter_rest it.slots)))
 
-abbrev pub tables_left : ArrayOfTablesIter → List TableView
-tables_left it = elements_in (items_view (iter_rest it.items))
+abbrev pub tables_left : ArrayOfTablesIter → List Node
+tables_left it = elements (listed (iter_rest it.items))
 
 -- a value, a pair, or a table, that was read
 abbrev pub value_read : Bor Value → Node
@@ -83,5 +86,5 @@ value_read v = value_view v.now
 abbrev pub pair_read : Bor Text × Bor Value → Text × Node
 pair_read p = (p.0.now, value_view p.1.now)
 
-abbrev pub table_read : Bor Table → TableView
-table_read t = table_view t.now
+abbrev pub table_read : Bor Table → Node
+table_read t = table_node (table_view t.now)

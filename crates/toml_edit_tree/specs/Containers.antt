@@ -1,7 +1,6 @@
 -- Arrays, inline tables, tables and arrays of tables as contracts see them, and what their calls answer.
 use Rattle.std.specs.Prelude.{ℕ, ℤ, Bool, false, List, [], ◌∷◌, Option, Some, None, if◌then◌else◌}
 use Rattle.std.specs.declared.ops.Range.{Range}
-use Rattle.toml_edit_model.specs.Text.{Text, same_text}
 use Rattle.toml_edit_model.specs.Tree.{Raw, Decor, Key, Extent, unset, ArrayFields, InlineFields, TableFields, Node, list, inline, table, tables, Items, no_items, item, Slots, no_slots, slot, is_value_node}
 use Rattle.toml_edit_slots.specs.declared.slots.Slot as repr
 
@@ -50,11 +49,6 @@ slots_from (s ∷ es) = slot s.key s.item (slots_from es)
 abbrev pub value_in : Node → Option Node
 value_in n = if is_value_node n then Some n else None
 
--- the values in order
-abbrev pub values_in : Items → List Node
-values_in no_items = []
-values_in (item n xs) = if is_value_node n then n ∷ values_in xs else values_in xs
-
 -- the array with another comma, trailing text or decor
 abbrev pub array_with_comma : Bool → ArrayView → ArrayView
 array_with_comma comma a = record a { fields = record a.fields { comma = comma } }
@@ -68,21 +62,6 @@ spanned_array comma trailing start end xs =
     record { fields = record { decor = unset; comma = comma; trailing = trailing; extent = Some (start, end) }; items = xs }
 
 -- ---- inline tables
-
--- the texts of the keys, and the values
-abbrev pub pairs_in : Slots → List (Text × Node)
-pairs_in no_slots = []
-pairs_in (slot k n ss) = if is_value_node n then (k.name, n) ∷ pairs_in ss else pairs_in ss
-
--- the value under a key
-abbrev pub value_under : Text → Slots → Option Node
-value_under t no_slots = None
-value_under t (slot k n ss) = if same_text t k.name then value_in n else value_under t ss
-
--- the key of a slot
-abbrev pub key_under : Text → Slots → Option Key
-key_under t no_slots = None
-key_under t (slot k n ss) = if same_text t k.name then Some k else key_under t ss
 
 -- the inline table with another comma, trailing text or role
 abbrev pub inline_with_comma : Bool → InlineView → InlineView
@@ -129,15 +108,6 @@ table_in n = None
 abbrev pub tables_in : Node → Option TablesView
 tables_in (tables e xs) = Some (record { extent = e; items = xs })
 tables_in n = None
-
-abbrev pub add_some : {A : Type 0} → Option A → List A → List A
-add_some None xs = xs
-add_some (Some x) xs = x ∷ xs
-
--- the tables in order
-abbrev pub elements_in : Items → List TableView
-elements_in no_items = []
-elements_in (item n xs) = add_some (table_in n) (elements_in xs)
 
 -- ---- places
 

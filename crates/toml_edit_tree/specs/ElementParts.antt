@@ -2,10 +2,11 @@
 use Rattle.std.specs.Prelude.{◌≡◌, List, ◌++◌, map, None}
 use Rattle.std.specs.Vec.Iter.{into_iter_items}
 use Rattle.toml_edit_model.specs.Conversions.{new_array}
+use Rattle.toml_edit_model.specs.Iterating.{elements, values as values_seen}
 use Rattle.toml_edit_model.specs.Tree.{Node}
-use Rattle.toml_edit_tree.specs.Containers.{TableView, elements_in, table_node, values_in}
-use Rattle.toml_edit_tree.specs.Elements.{array_fields, extent_of, items_of, tables_of}
-use Rattle.toml_edit_tree.specs.View.{items_view, table_view, value_view}
+use Rattle.toml_edit_tree.specs.Containers.{table_node}
+use Rattle.toml_edit_tree.specs.Elements.{array_fields, extent_of, items_of, listed, tables_of}
+use Rattle.toml_edit_tree.specs.View.{table_view, value_view}
 use Rattle.toml_edit_tree.specs.declared.array.Array.{Array}
 use Rattle.toml_edit_tree.specs.declared.array.iter.ArrayIntoIter.{ArrayIntoIter}
 use Rattle.toml_edit_tree.specs.declared.array_of_tables.ArrayOfTables.{ArrayOfTables}
@@ -13,12 +14,15 @@ use Rattle.toml_edit_tree.specs.declared.array_of_tables.iter.ArrayOfTablesIntoI
 use Rattle.toml_edit_tree.specs.declared.table.Table.{Table}
 use Rattle.toml_edit_tree.specs.declared.value.Value.{Value}
 
--- what an iterator has left
+-- what an iterator has left, and a table that it gave
 abbrev pub owned_values : ArrayIntoIter → List Node
-owned_values it = values_in (items_view (into_iter_items it.items))
+owned_values it = values_seen (listed (into_iter_items it.items))
 
-abbrev pub owned_tables : ArrayOfTablesIntoIter → List TableView
-owned_tables it = elements_in (items_view (into_iter_items it.items))
+abbrev pub owned_tables : ArrayOfTablesIntoIter → List Node
+owned_tables it = elements (listed (into_iter_items it.items))
+
+abbrev pub table_owned : Table → Node
+table_owned t = table_node (table_view t)
 
 -- an array with more values at its end
 abbrev pub AddsValues : Array → List Value → Array → Type 0

@@ -6,7 +6,10 @@ use Rattle.std.specs.Option.{unwrap_or}
 use Rattle.std.specs.Borrow.{MutBor, Fml, follows, follows_if, name_if_ok, RestsIfErr}
 use Rattle.toml_edit_model.specs.InlineCalls.{entered}
 use Rattle.toml_edit_model.specs.Slots as model
-use Rattle.toml_edit_model.specs.Tree.{Decor, Key}
+use Rattle.toml_edit_key.specs.KeyMutView.{lent_parts, with_parts}
+use Rattle.toml_edit_key.specs.contracts.key.KeyParts.{the_row as parts_row}
+use Rattle.toml_edit_key.specs.declared.key.key_mut.KeyMut.{KeyMut}
+use Rattle.toml_edit_model.specs.Tree.{Decor, Key, Node}
 use Rattle.toml_edit_repr.specs.contracts.repr.Decor.{the_row as decor_row}
 use Rattle.toml_edit_slots.specs.Slots.{with_item}
 use Rattle.toml_edit_slots.specs.declared.slots.Slot.{Slot}
@@ -53,6 +56,11 @@ values_with (Vacant v) x = (out-InlineTable v.table.now).items ++ record { key =
 abbrev pub inline_with : InlineEntry → Value → InlineTable
 inline_with e x = record (inline_ref e).now { items = values_with e x }
 
+-- the slots that this leaves, as the inline table shows them
+abbrev pub inline_slots_left : InlineEntry → Node → List (model.Slot Node)
+inline_slots_left (Occupied o) n = model.changed_at o.at (model.with_item n) (inline_slots_of o.table.now)
+inline_slots_left (Vacant v) n = inline_slots_of v.table.now ++ record { key = v.key; item = n } ∷ []
+
 -- the entry, with another value in its slot, or with its key changed
 abbrev pub with_entry_value : InlineOccupiedEntry → Value → InlineOccupiedEntry
 with_entry_value o x = record {
@@ -93,6 +101,9 @@ InlineRestsIfRefused s r = RestsIfErr inline_row s (λ e. (inline_ref e).ghost_n
 -- the entry ends with the last value behind the reference in its slot, or with the last decor as one of its key's
 abbrev pub InlineOccupiedLends : MutBor InlineOccupiedEntry → MutBor Value → Fml
 InlineOccupiedLends o r = follows (occupied.the_row (record { mir = named 1; lft = [] })) value_row o.ghost_name r.ghost_name (with_entry_value o.now)
+
+abbrev pub InlineOccupiedLendsKey : MutBor InlineOccupiedEntry → KeyMut → Fml
+InlineOccupiedLendsKey o r = follows (occupied.the_row (record { mir = named 1; lft = [] })) parts_row o.ghost_name (lent_parts r).ghost_name (λ w. with_inline_entry_key o.now (with_parts w))
 
 abbrev pub InlineOccupiedLendsLeaf : MutBor InlineOccupiedEntry → MutBor Decor → Fml
 InlineOccupiedLendsLeaf o r = follows (occupied.the_row (record { mir = named 1; lft = [] })) decor_row o.ghost_name r.ghost_name (λ w. with_inline_entry_key o.now (λ k. record k { leaf = w }))

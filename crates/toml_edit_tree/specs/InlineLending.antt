@@ -1,10 +1,13 @@
 -- What an inline table lends of its values and keys.
 use Rattle.std.specs.Prelude.{ℕ, [], ◌∷◌, ◌++◌, Option, Result}
-use Rattle.std.specs.Borrow.{Lends, LendsIf, LendsIfOk, MutBor, Fml}
+use Rattle.std.specs.Borrow.{Lends, LendsIf, LendsIfOk, MutBor, Fml, follows}
 use Rattle.std.specs.Option.{option_map_or}
 use Rattle.toml_edit_model.specs.Keys.{new_key}
 use Rattle.toml_edit_model.specs.Text.{Text}
 use Rattle.toml_edit_model.specs.Tree.{Decor, Key}
+use Rattle.toml_edit_key.specs.KeyMutView.{lent_parts, with_parts}
+use Rattle.toml_edit_key.specs.contracts.key.KeyParts.{the_row as parts_row}
+use Rattle.toml_edit_key.specs.declared.key.key_mut.KeyMut.{KeyMut}
 use Rattle.toml_edit_repr.specs.contracts.repr.Decor.{the_row as decor_row}
 use Rattle.toml_edit_slots.specs.Slots.{on_key, place, with_item}
 use Rattle.toml_edit_tree.specs.contracts.inline_table.InlineTable.{the_row as inline_row}
@@ -44,6 +47,10 @@ LendsValueUnder s k r = LendsIf inline_row value_row s r (λ w. with_value_under
 -- it ends with the last value behind r in the slot of the key, which may be new; it stays where none is lent
 abbrev pub LendsPut : {E : Type 0} → MutBor InlineTable → Text → Result (MutBor Value) E → Fml
 LendsPut s k r = LendsIfOk inline_row value_row s r (λ w. value_put k w s.now) s.now
+
+-- the inline table ends with the last parts of the key at the place behind those that are lent
+abbrev pub LendsInlineKeyAt : MutBor InlineTable → ℕ → KeyMut → Fml
+LendsInlineKeyAt s at r = follows inline_row parts_row s.ghost_name (lent_parts r).ghost_name (λ w. with_inline_key at (with_parts w) s.now)
 
 -- it ends with the last decor behind r as one of the key's at the place
 abbrev pub LendsInlineLeafAt : MutBor InlineTable → ℕ → MutBor Decor → Fml

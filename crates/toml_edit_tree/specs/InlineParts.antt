@@ -4,11 +4,12 @@ use Rattle.std.specs.Borrow.{Bor}
 use Rattle.std.specs.Fn.{Shared}
 use Rattle.std.specs.Vec.Iter.{into_iter_items}
 use Rattle.std.specs.declared.alloc.Global.{Global}
+use Rattle.toml_edit_model.specs.Iterating.{value_pairs}
+use Rattle.toml_edit_model.specs.Lists.{slot_list}
 use Rattle.toml_edit_model.specs.Slots.{Slot, extended}
 use Rattle.toml_edit_model.specs.Text.{Text}
 use Rattle.toml_edit_model.specs.Tree.{Key, Node}
 use Rattle.toml_edit_slots.specs.Closures.{FnReturnsAtTwo}
-use Rattle.toml_edit_tree.specs.Containers.{pairs_in}
 use Rattle.toml_edit_tree.specs.InlineSlots.{inline_fields, value_taken}
 use Rattle.toml_edit_tree.specs.SlotsOf.{inline_slots_of}
 use Rattle.toml_edit_tree.specs.View.{slots_view, value_view}
@@ -18,7 +19,7 @@ use Rattle.toml_edit_tree.specs.declared.value.Value.{Value}
 
 -- what an iterator has left, and a pair that it gave
 abbrev pub owned_pairs : InlineTableIntoIter → List (Text × Node)
-owned_pairs it = pairs_in (slots_view (into_iter_items it.slots))
+owned_pairs it = value_pairs (slot_list (slots_view (into_iter_items it.slots)))
 
 abbrev pub pair_owned : String Global × Value → Text × Node
 pair_owned p = (string_bytes p.0, value_view p.1)

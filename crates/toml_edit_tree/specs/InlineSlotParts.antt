@@ -4,6 +4,9 @@ use Rattle.std.proofs.Common.{sym, subst}
 use mir.Syntax.{named}
 use Rattle.std.specs.Borrow.{MutBor, Fml, Lends, follows, RestsIfNone}
 use Rattle.toml_edit_model.specs.Tree.{Decor, Key}
+use Rattle.toml_edit_key.specs.KeyMutView.{lent_parts, with_parts}
+use Rattle.toml_edit_key.specs.contracts.key.KeyParts.{the_row as parts_row}
+use Rattle.toml_edit_key.specs.declared.key.key_mut.KeyMut.{KeyMut}
 use Rattle.toml_edit_repr.specs.contracts.repr.Decor.{the_row as decor_row}
 use Rattle.toml_edit_slots.specs.Entries.{length-on_key, length-with_item}
 use Rattle.toml_edit_slots.specs.Slots.{items_of, with_item}
@@ -56,9 +59,12 @@ LendsInlineItemAt s at r = Lends inline_row item_row s r (λ w. with_inline_item
 abbrev pub SlotRestsIfAbsent : MutBor InlineTable → Option InlineSlotMut → Fml
 SlotRestsIfAbsent s r = RestsIfNone inline_row s (λ o. (slot_ref o).ghost_name) r (λ n. n ≡ s.now)
 
--- the slot ends with the last item behind the reference, or with the last decor as one of its key's
+-- the slot ends with the last item behind the reference, with the last parts of its key, or with the last decor as one of its key's
 abbrev pub SlotLends : MutBor InlineSlotMut → MutBor Item → Fml
 SlotLends o r = follows (lent.the_row (record { mir = named 1; lft = [] })) item_row o.ghost_name r.ghost_name (with_slot_item o.now)
+
+abbrev pub SlotLendsKey : MutBor InlineSlotMut → KeyMut → Fml
+SlotLendsKey o r = follows (lent.the_row (record { mir = named 1; lft = [] })) parts_row o.ghost_name (lent_parts r).ghost_name (λ w. with_slot_key o.now (with_parts w))
 
 abbrev pub SlotLendsLeaf : MutBor InlineSlotMut → MutBor Decor → Fml
 SlotLendsLeaf o r = follows (lent.the_row (record { mir = named 1; lft = [] })) decor_row o.ghost_name r.ghost_name (λ w. with_slot_key o.now (λ k. record k { leaf = w }))

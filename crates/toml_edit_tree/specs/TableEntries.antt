@@ -4,8 +4,11 @@ use Rattle.std.proofs.Common.{sym, subst}
 use mir.Syntax.{named}
 use Rattle.std.specs.Option.{unwrap_or}
 use Rattle.std.specs.Borrow.{MutBor, Fml, follows, follows_if, name_if_ok, RestsIfErr, RestsIfNone}
-use Rattle.toml_edit_model.specs.Tree.{Decor, Key}
+use Rattle.toml_edit_model.specs.Tree.{Decor, Key, Node}
 use Rattle.toml_edit_model.specs.Slots as model
+use Rattle.toml_edit_key.specs.KeyMutView.{lent_parts, with_parts}
+use Rattle.toml_edit_key.specs.contracts.key.KeyParts.{the_row as parts_row}
+use Rattle.toml_edit_key.specs.declared.key.key_mut.KeyMut.{KeyMut}
 use Rattle.toml_edit_repr.specs.contracts.repr.Decor.{the_row as decor_row}
 use Rattle.toml_edit_slots.specs.Entries.{length-on_key, length-with_item}
 use Rattle.toml_edit_slots.specs.Slots.{items_of, with_item}
@@ -49,6 +52,11 @@ slots_with (Vacant v) x = (out-Table v.table.now).slots ++ record { key = v.key;
 abbrev pub table_with : Entry → Item → Table
 table_with e x = record (entry_ref e).now { slots = slots_with e x }
 
+-- the slots that this leaves, as the table shows them
+abbrev pub slots_left : Entry → Node → List (model.Slot Node)
+slots_left (Occupied o) n = model.changed_at o.at (model.with_item n) (slots_of o.table.now)
+slots_left (Vacant v) n = slots_of v.table.now ++ record { key = v.key; item = n } ∷ []
+
 -- the entry, with another item in its slot, or with its key changed
 abbrev pub with_entry_item : OccupiedEntry → Item → OccupiedEntry
 with_entry_item o x = record {
@@ -90,6 +98,9 @@ RestsIfAbsent s r = RestsIfNone table_row s (λ o. o.table.ghost_name) r (λ n. 
 -- the entry ends with the last item behind the reference in its slot, or with the last decor as one of its key's
 abbrev pub OccupiedLends : MutBor OccupiedEntry → MutBor Item → Fml
 OccupiedLends o r = follows (occupied.the_row (record { mir = named 1; lft = [] })) item_row o.ghost_name r.ghost_name (with_entry_item o.now)
+
+abbrev pub OccupiedLendsKey : MutBor OccupiedEntry → KeyMut → Fml
+OccupiedLendsKey o r = follows (occupied.the_row (record { mir = named 1; lft = [] })) parts_row o.ghost_name (lent_parts r).ghost_name (λ w. with_entry_key o.now (with_parts w))
 
 abbrev pub OccupiedLendsLeaf : MutBor OccupiedEntry → MutBor Decor → Fml
 OccupiedLendsLeaf o r = follows (occupied.the_row (record { mir = named 1; lft = [] })) decor_row o.ghost_name r.ghost_name (λ w. with_entry_key o.now (λ k. record k { leaf = w }))

@@ -1,9 +1,12 @@
 -- A new table, and what a table lends of its slots.
 use Rattle.std.specs.Prelude.{ℕ, false, Option, None}
 use Rattle.std.specs.Option.{option_map_or}
-use Rattle.std.specs.Borrow.{Lends, LendsIf, MutBor, Fml}
+use Rattle.std.specs.Borrow.{Lends, LendsIf, MutBor, Fml, follows}
 use Rattle.toml_edit_model.specs.Text.{Text}
 use Rattle.toml_edit_model.specs.Tree.{Decor, Key, TableFields, unset}
+use Rattle.toml_edit_key.specs.KeyMutView.{lent_parts, with_parts}
+use Rattle.toml_edit_key.specs.contracts.key.KeyParts.{the_row as parts_row}
+use Rattle.toml_edit_key.specs.declared.key.key_mut.KeyMut.{KeyMut}
 use Rattle.toml_edit_repr.specs.contracts.repr.Decor.{the_row as decor_row}
 use Rattle.toml_edit_slots.specs.Slots.{on_key, place, with_item}
 use Rattle.toml_edit_tree.specs.declared.item.Item.{Item}
@@ -29,6 +32,10 @@ with_item_at at x t = record t { slots = with_item at x (out-Table t).slots }
 
 abbrev pub with_key_at : ℕ → (Key → Key) → Table → Table
 with_key_at at h t = record t { slots = on_key at h (out-Table t).slots }
+
+-- the table ends with the last parts of the key at the place behind those that are lent
+abbrev pub LendsKeyAt : MutBor Table → ℕ → KeyMut → Fml
+LendsKeyAt s at r = follows table_row parts_row s.ghost_name (lent_parts r).ghost_name (λ w. with_key_at at (with_parts w) s.now)
 
 -- the table ends with the last item behind r in the slot at the place, or with the last decor as one of the key's there
 abbrev pub LendsItemAt : MutBor Table → ℕ → MutBor Item → Fml

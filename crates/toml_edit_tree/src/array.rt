@@ -4,9 +4,10 @@ ghost use Rattle.std.specs.Borrow.{sem};
 ghost use Rattle.std.specs.Iterator.{YieldsFirstBy, item_count};
 ghost use Rattle.toml_edit_model.specs.ArrayCalls.{value_at};
 ghost use Rattle.toml_edit_model.specs.Conversions.{new_array};
+ghost use Rattle.toml_edit_model.specs.Iterating.{values as values_seen};
 ghost use Rattle.toml_edit_model.specs.Tree.{no_items};
 ghost use Rattle.toml_edit_tree.specs.ContainerParts.{value_read, values_left, LendsArrayDecor};
-ghost use Rattle.toml_edit_tree.specs.Containers.{array_node, array_with_comma, array_with_trailing, range_in, spanned_array, values_in};
+ghost use Rattle.toml_edit_tree.specs.Containers.{array_node, array_with_comma, array_with_trailing, range_in, spanned_array};
 ghost use Rattle.toml_edit_tree.specs.Elements.{items_of};
 ghost use Rattle.toml_edit_tree.specs.View.{array_view, items_view, value_view};
 
@@ -27,7 +28,8 @@ mod replace;
 mod sort;
 mod whole;
 
-/// An array: its values in order, with what stands around them (TOML, "Array"). A slot may be a placeholder, which isn't printed.
+/// An array: its values in order, with what stands around them (TOML, "Array"). A slot may be a
+/// placeholder, which isn't printed.
 #[cycle(tree)]
 #[derive(Debug)]
 pub struct Array {
@@ -85,8 +87,8 @@ impl Array {
         }
     }
 
-    /// An array that was read: these values, and the text and the comma behind the last. It stands from the byte `start` of the source
-    /// up to `end`.
+    /// An array that was read: these values, and the text and the comma behind the last. It stands
+    /// from the byte `start` of the source up to `end`.
     #[doc(hidden)]
     pub fn spanned(
         values: Vec<Item>,
@@ -129,7 +131,7 @@ impl Array {
 
     /// The values in order, without placeholders.
     pub fn iter(&self) -> ArrayIter<'_>
-        ensures { values_left result ≡ values_in (array_view self.now).items }
+        ensures { values_left result ≡ values_seen (items_of self.now) }
     {
         ArrayIter {
             items: self.values.as_slice().iter(),
@@ -179,7 +181,8 @@ impl Array {
         &mut self.decor
     }
 
-    /// The bytes of the source from the opening bracket to the closing one, if it was read and still is over its source.
+    /// The bytes of the source from the opening bracket to the closing one, if it was read and
+    /// still is over its source.
     pub fn span(&self) -> Option<Range<usize>>
         ensures { result ≡ range_in (array_view self.now).fields.extent }
     {

@@ -1,10 +1,11 @@
 //! Arrays of tables.
 ghost use Rattle.std.specs.Prelude.{◌≡◌, ◌↔◌, [], None, Some, IsTrue, IfOk, OnOk, length};
 ghost use Rattle.std.specs.Iterator.{YieldsFirstBy, item_count};
+ghost use Rattle.toml_edit_model.specs.Iterating.{elements};
 ghost use Rattle.toml_edit_model.specs.Tree.{no_items};
 ghost use Rattle.toml_edit_laws.specs.TableTree.{reaching, with_item};
 ghost use Rattle.toml_edit_tree.specs.ContainerParts.{table_read, tables_left};
-ghost use Rattle.toml_edit_tree.specs.Containers.{elements_in, range_in};
+ghost use Rattle.toml_edit_tree.specs.Containers.{range_in};
 ghost use Rattle.toml_edit_tree.specs.Elements.{tables_of};
 ghost use Rattle.toml_edit_tree.specs.View.{item_view, items_view, tables_view};
 
@@ -23,8 +24,8 @@ mod lent;
 mod shown;
 mod whole;
 
-/// An array of tables: its elements in order, each with a header in double brackets (TOML, "Array of Tables"). A slot may hold no table,
-/// and then isn't printed.
+/// An array of tables: its elements in order, each with a header in double brackets (TOML, "Array
+/// of Tables"). A slot may hold no table, and then isn't printed.
 #[cycle(tree)]
 #[derive(Debug)]
 pub struct ArrayOfTables {
@@ -60,8 +61,8 @@ impl ArrayOfTables {
         }
     }
 
-    /// No tables, as yet: what is to be read below headers in double brackets, the first of which stands from the byte `start` of the
-    /// source up to `end`.
+    /// No tables, as yet: what is to be read below headers in double brackets, the first of which
+    /// stands from the byte `start` of the source up to `end`.
     #[doc(hidden)]
     pub fn begun(alloc: Global, start: usize, end: usize) -> ArrayOfTables
         ensures { tables_view result ≡ record { extent = Some (start, end); items = no_items } }
@@ -72,7 +73,8 @@ impl ArrayOfTables {
         }
     }
 
-    /// One more element, the header of which ends before the byte `end` of the source. The only error is want of memory.
+    /// One more element, the header of which ends before the byte `end` of the source. The only
+    /// error is want of memory.
     #[doc(hidden)]
     pub fn add_element(&mut self, element: Item, end: usize) -> Mem<()>
         ensures { OnOk result (tables_view self.new ≡ record {
@@ -103,14 +105,15 @@ impl ArrayOfTables {
 
     /// The tables in order. Slots without one are left out.
     pub fn iter(&self) -> ArrayOfTablesIter<'_>
-        ensures { tables_left result ≡ elements_in (tables_view self.now).items }
+        ensures { tables_left result ≡ elements (tables_of self.now) }
     {
         ArrayOfTablesIter {
             items: self.values.as_slice().iter(),
         }
     }
 
-    /// The bytes of the source from the first header to the last, if it was read and still is over its source.
+    /// The bytes of the source from the first header to the last, if it was read and still is over
+    /// its source.
     pub fn span(&self) -> Option<Range<usize>>
         ensures { result ≡ range_in (tables_view self.now).extent }
     {

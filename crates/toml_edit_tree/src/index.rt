@@ -1,10 +1,10 @@
 //! What is found in an item by a number or a key.
 ghost use Rattle.std.specs.Prelude.{◌≡◌, IsSome, Some, option_map, string_bytes};
 ghost use Rattle.toml_edit_model.specs.Indexing as indexing;
+ghost use Rattle.toml_edit_model.specs.InlineCalls.{get_value};
 ghost use Rattle.toml_edit_model.specs.TableCalls.{get};
-ghost use Rattle.toml_edit_tree.specs.Containers.{value_under};
-ghost use Rattle.toml_edit_tree.specs.SlotsOf.{slots_of};
-ghost use Rattle.toml_edit_tree.specs.View.{inline_view, item_view, value_view};
+ghost use Rattle.toml_edit_tree.specs.SlotsOf.{inline_slots_of, slots_of};
+ghost use Rattle.toml_edit_tree.specs.View.{item_view, value_view};
 
 use crate::inline_table::InlineTable;
 use crate::item::Item;
@@ -13,6 +13,7 @@ use crate::value::Value;
 use std::alloc::AllocError;
 use std::error::Error;
 use std::{fmt, ops};
+use toml_edit_slots::NoMemory;
 
 mod lent;
 pub(crate) mod slots;
@@ -52,17 +53,29 @@ impl From<AllocError> for IndexFault {
     }
 }
 
-/// What finds an item in another one: a number, which is a place in an array or an array of tables, or the text of a key of a table or an
-/// inline table. Both calls find the same place.
+impl<T: Drop> From<NoMemory<T>> for IndexFault {
+    ghost use Rattle.toml_edit_tree.specs.declared.index.IndexFault.TheVariants.{Memory};
+
+    ghost from_gives = { λ _ fault. fault ≡ Memory };
+
+    fn from(_refused: NoMemory<T>) -> IndexFault {
+        IndexFault::Memory
+    }
+}
+
+/// What finds an item in another one: a number, which is a place in an array or an array of tables,
+/// or the text of a key of a table or an inline table. Both calls find the item that is seen there.
+/// What a change of the lent one leaves in the item that it was found in, no clause says.
 pub trait Index: Drop {
     /// The number or the text.
     ghost stands_for: { Self → indexing.Index };
 
-    /// The item that it finds: a slot of any kind by a number, and an item that is no placeholder by a text.
+    /// Returns the item that it finds, or `None`: by a number a slot of any kind, and by a text an
+    /// item that is no placeholder.
     fn index<'v>(&self, item: &'v Item) -> Option<&'v Item>
         ensures { option_map (λ x. item_view x.now) result ≡ indexing.indexed (stands_for self.now) (item_view item.now) };
 
-    /// The same, to be changed. Nothing is inserted.
+    /// Returns that item, or `None`, to be changed.
     fn index_mut<'v>(&self, item: &'v mut Item) -> Option<&'v mut Item>
         ensures { option_map (λ x. item_view x.now) result ≡ indexing.indexed (stands_for self.now) (item_view item.old) };
 }
@@ -137,7 +150,7 @@ impl ops::Index<&str> for Table {
     ghost index_gives = { λ table key found. get key.now (slots_of table) ≡ Some (item_view found) };
 
     fn index(&self, key: &str) -> &Item {
-        self.held_item(key).unwrap()
+        self.get(key).unwrap()
     }
 }
 
@@ -145,9 +158,9 @@ impl ops::Index<&str> for Table {
 impl ops::Index<&str> for InlineTable {
     type Output = Value;
 
-    ghost can_index = { λ table key. IsSome (value_under key.now (inline_view table).slots) };
+    ghost can_index = { λ table key. IsSome (get_value key.now (inline_slots_of table)) };
 
-    ghost index_gives = { λ table key found. value_under key.now (inline_view table).slots ≡ Some (value_view found) };
+    ghost index_gives = { λ table key found. get_value key.now (inline_slots_of table) ≡ Some (value_view found) };
 
     fn index(&self, key: &str) -> &Value {
         self.get(key).unwrap()

@@ -1,13 +1,17 @@
 //! Inline tables.
-ghost use Rattle.std.specs.Prelude.{◌≡◌, ◌↔◌, List, [], Some, IsTrue, IfOk, is_some, length, option_map};
+ghost use Rattle.std.specs.Prelude.{◌≡◌, ◌↔◌, List, [], Some, IsSome, IsTrue, IfOk, length, option_map};
 ghost use Rattle.std.specs.Borrow.{sem};
 ghost use Rattle.std.specs.Iterator.{YieldsFirstBy, item_count};
 ghost use Rattle.std.specs.Option.{option_copied};
 ghost use Rattle.toml_edit_model.specs.Conversions.{new_inline};
+ghost use Rattle.toml_edit_model.specs.InlineCalls.{contains_value_key, get_value};
+ghost use Rattle.toml_edit_model.specs.Iterating.{value_pairs, valued};
+ghost use Rattle.toml_edit_model.specs.Slots.{lookup_key};
 ghost use Rattle.toml_edit_model.specs.Tree.{no_slots};
 ghost use Rattle.toml_edit_laws.specs.InlineTree.{path_fields};
 ghost use Rattle.toml_edit_tree.specs.ContainerParts.{pair_read, pairs_left, holding, LendsInlineDecor, LendsInlineSlots};
-ghost use Rattle.toml_edit_tree.specs.Containers.{inline_node, inline_with_comma, inline_with_dotted, inline_with_trailing, key_under, pairs_in, range_in, spanned_inline, value_under};
+ghost use Rattle.toml_edit_tree.specs.Containers.{inline_node, inline_with_comma, inline_with_dotted, inline_with_trailing, range_in, spanned_inline};
+ghost use Rattle.toml_edit_tree.specs.SlotsOf.{inline_slots_of};
 ghost use Rattle.toml_edit_tree.specs.View.{inline_view, slots_view, value_view};
 
 use crate::copy::copy_inline;
@@ -34,8 +38,8 @@ mod slot;
 mod sort;
 mod whole;
 
-/// An inline table: its slots in order, with what stands around them (TOML, "Inline Table"). A slot may be a placeholder, which
-/// isn't printed.
+/// An inline table: its slots in order, with what stands around them (TOML, "Inline Table"). A slot
+/// may be a placeholder, which isn't printed.
 #[cycle(tree)]
 #[derive(Debug)]
 pub struct InlineTable {
@@ -43,8 +47,8 @@ pub struct InlineTable {
     pub items: Slots<Item>,
     pub(crate) decor: Decor,
     pub(crate) trailing: RawString,
-    // The flags stand together, and the span, which is one if the table was read, isn't an option: each would take a word more, and no
-    // value is larger than this one.
+    // The flags stand together, and the span, which is one if the table was read, isn't an option:
+    // each would take a word more, and no value is larger than this one.
     pub(crate) dotted: bool,
     pub(crate) trailing_comma: bool,
     pub(crate) is_read: bool,
@@ -103,8 +107,8 @@ impl InlineTable {
         }
     }
 
-    /// An inline table that was read: these slots, and the text and the comma behind the last. It stands from the byte `start` of the
-    /// source up to `end`.
+    /// An inline table that was read: these slots, and the text and the comma behind the last. It
+    /// stands from the byte `start` of the source up to `end`.
     #[doc(hidden)]
     pub fn spanned(
         items: Slots<Item>,
@@ -126,7 +130,8 @@ impl InlineTable {
         }
     }
 
-    /// The dotted inline table of these slots that was read below a key, which stands from the byte `start` of the source up to `end`.
+    /// The dotted inline table of these slots that was read below a key, which stands from the byte
+    /// `start` of the source up to `end`.
     #[doc(hidden)]
     pub fn below_key(items: Slots<Item>, start: usize, end: usize) -> InlineTable
         ensures { inline_view result ≡ record { fields = path_fields (Some (start, end)); slots = slots_view items } }
@@ -156,7 +161,7 @@ impl InlineTable {
 
     /// How many values there are, which is how many pairs `iter` gives.
     pub fn len(&self) -> usize
-        ensures { result ≡ length (pairs_in (inline_view self.now).slots) }
+        ensures { result ≡ length (valued (inline_slots_of self.now)) }
     {
         let mut count = 0;
         for slot in self.items.as_slice() {
@@ -169,28 +174,32 @@ impl InlineTable {
 
     /// Whether there are no values.
     pub fn is_empty(&self) -> bool
-        ensures { IsTrue result ↔ (pairs_in (inline_view self.now).slots ≡ []) }
+        ensures { IsTrue result ↔ (valued (inline_slots_of self.now) ≡ []) }
     {
         self.len() == 0
     }
 
     /// The value under the key, or `None` where there is no slot or the slot holds no value.
     pub fn get(&self, key: &str) -> Option<&Value>
-        ensures { option_map (λ v. value_view v.now) result ≡ value_under key.now (inline_view self.now).slots }
+        ensures { option_map (λ v. value_view v.now) result ≡ get_value key.now (inline_slots_of self.now) }
     {
-        self.items.get(key)?.as_value()
+        let (_, item) = self.items.get_key_value(key)?;
+        item.as_value()
     }
 
     /// Whether a value stands under the key.
     pub fn contains_key(&self, key: &str) -> bool
-        ensures { result ≡ is_some (value_under key.now (inline_view self.now).slots) }
+        ensures found { result ≡ contains_value_key key.now (inline_slots_of self.now) }
+        // Then `[..]` finds it.
+        ensures there { IsTrue result → IsSome (get_value key.now (inline_slots_of self.now)) }
     {
         self.get(key).is_some()
     }
 
-    /// The key of this text as it stands in the inline table, with its spelling and decors, if it has a slot of any kind.
+    /// The key of this text as it stands in the inline table, with its spelling and decors, if it
+    /// has a slot of any kind.
     pub fn key(&self, key: &str) -> Option<&Key>
-        ensures { option_copied result ≡ key_under key.now (inline_view self.now).slots }
+        ensures { option_copied result ≡ lookup_key key.now (inline_slots_of self.now) }
     {
         let at = self.items.find(key)?;
         Some(&self.items.as_slice()[at].key)
@@ -198,15 +207,15 @@ impl InlineTable {
 
     /// The keys' texts and the values in order, without placeholders.
     pub fn iter(&self) -> InlineTableIter<'_>
-        ensures { pairs_left result ≡ pairs_in (inline_view self.now).slots }
+        ensures { pairs_left result ≡ value_pairs (inline_slots_of self.now) }
     {
         InlineTableIter {
             slots: self.items.as_slice().iter(),
         }
     }
 
-    /// Whether it stands for a dotted key (TOML, "Keys"): it has no braces, and its pairs are printed in those of the inline table
-    /// around it, after its key and a dot.
+    /// Whether it stands for a dotted key (TOML, "Keys"): it has no braces, and its pairs are
+    /// printed in those of the inline table around it, after its key and a dot.
     pub fn is_dotted(&self) -> bool
         ensures { result ≡ (inline_view self.now).fields.is_dotted }
     {
@@ -227,7 +236,8 @@ impl InlineTable {
         self.trailing_comma
     }
 
-    /// Says whether a comma is to stand after the last pair. An inline table without pairs has none.
+    /// Says whether a comma is to stand after the last pair. An inline table without pairs has
+    /// none.
     pub fn set_trailing_comma(&mut self, trailing_comma: bool)
         ensures { inline_view self.new ≡ inline_with_comma trailing_comma (inline_view self.old) }
     {
@@ -263,8 +273,8 @@ impl InlineTable {
         &mut self.decor
     }
 
-    /// The bytes of the source from the opening brace to the closing one, if it was read and still is over its source. A dotted
-    /// one has the place of its key.
+    /// The bytes of the source from the opening brace to the closing one, if it was read and still
+    /// is over its source. A dotted one has the place of its key.
     pub fn span(&self) -> Option<Range<usize>>
         ensures { result ≡ range_in (inline_view self.now).fields.extent }
     {
@@ -283,8 +293,8 @@ impl InlineTable {
     }
 }
 
-/// The inline table between the sides of its decor, which are empty where they are unset. One that stands for a dotted key is
-/// written in braces too.
+/// The inline table between the sides of its decor, which are empty where they are unset. One that
+/// stands for a dotted key is written in braces too.
 impl fmt::Display for InlineTable {
     ghost use Rattle.std.specs.Prelude.{Some};
     ghost use Rattle.toml_edit_model.specs.Conversions.{value_display};

@@ -2,7 +2,10 @@
 ghost use Rattle.std.specs.Prelude.{◌≡◌, ◌<◌, List, None, Some, IfOk, IfSome, OnOk, length, option_and_then, option_map, slice_get};
 ghost use Rattle.std.specs.Borrow.{sem};
 ghost use Rattle.std.specs.Iterator.{YieldsFirstBy, item_count};
-ghost use Rattle.toml_edit_model.specs.Slots.{AreApart, changed, with_item};
+ghost use Rattle.toml_edit_model.specs.Iterating.{filled_pairs};
+ghost use Rattle.toml_edit_model.specs.Lists.{slot_list};
+ghost use Rattle.toml_edit_model.specs.Slots.{AreApart, changed, lookup_key, with_item};
+ghost use Rattle.toml_edit_model.specs.TableCalls.{get};
 ghost use Rattle.toml_edit_model.specs.Tree.{no_slots, SlotsAreWellMade};
 ghost use Rattle.toml_edit_model.specs.TreeOf.{made_by_path, root_fields, spanned_form};
 ghost use Rattle.toml_edit_tree.specs.ContainerParts.{LendsTableDecor, LendsTableSlots, table_holding};
@@ -11,13 +14,14 @@ ghost use Rattle.toml_edit_slots.specs.Slots.{items_of, place};
 ghost use Rattle.toml_edit_tree.specs.SlotsOf.{slots_of};
 ghost use Rattle.toml_edit_tree.specs.TableLending.{LendsHeld, new_table, with_item_under};
 ghost use Rattle.toml_edit_tree.specs.declared.table.Table.{out-Table};
-ghost use Rattle.toml_edit_tree.specs.Containers.{key_under, range_in, headed, table_with_dotted, table_with_implicit, table_with_position};
-ghost use Rattle.toml_edit_tree.specs.Held.{held, held_left, held_at, pair_read};
+ghost use Rattle.toml_edit_tree.specs.Containers.{range_in, headed, table_with_dotted, table_with_implicit, table_with_position};
+ghost use Rattle.toml_edit_tree.specs.Held.{held_left, pair_read};
 ghost use Rattle.toml_edit_tree.specs.View.{item_view, slots_view, table_slots, table_view, fields_view};
 ghost use Rattle.toml_edit_model.specs.OwnedForm.{DecorFits, SlotsFit, owned_slots, owned_fields};
 
 use crate::copy::copy_table;
 use crate::despan::despan_table;
+use crate::index::slots::filled_item;
 use crate::item::Item;
 use std::alloc::Global;
 use std::ops::Range;
@@ -38,7 +42,8 @@ pub use iterate::IntoIter;
 #[doc(hidden)]
 pub use iterate::is_filled;
 
-/// A table: its slots in order, and what is kept of its header (TOML, "Table"). A slot may be a placeholder, which isn't printed.
+/// A table: its slots in order, and what is kept of its header (TOML, "Table"). A slot may be a
+/// placeholder, which isn't printed.
 #[cycle(tree)]
 #[derive(Debug)]
 pub struct Table {
@@ -105,8 +110,8 @@ impl Table {
         }
     }
 
-    /// The table of these slots that was read below a key of a path, which stands from the byte `start` of the source up to `end`: of a
-    /// dotted key, or of a header's key before the last.
+    /// The table of these slots that was read below a key of a path, which stands from the byte
+    /// `start` of the source up to `end`: of a dotted key, or of a header's key before the last.
     #[doc(hidden)]
     pub fn passed(slots: Slots<Item>, dotted: bool, start: usize, end: usize) -> Table
         ensures { table_view result ≡ record { fields = made_by_path spanned_form dotted (Some (start, end)); slots = slots_view slots } }
@@ -121,8 +126,8 @@ impl Table {
         }
     }
 
-    /// The table of these slots that was read with its header, the one of this number in the source, whose brackets stand from the byte
-    /// `start` up to `end`.
+    /// The table of these slots that was read with its header, the one of this number in the
+    /// source, whose brackets stand from the byte `start` up to `end`.
     #[doc(hidden)]
     pub fn headed(
         slots: Slots<Item>,
@@ -172,8 +177,8 @@ impl Table {
         slots
     }
 
-    /// Turns spans of `source` into the texts that stand there. The only error is want of memory, and then spans may be left: the
-    /// document is to be given up.
+    /// Turns spans of `source` into the texts that stand there. The only error is want of memory,
+    /// and then spans may be left: the document is to be given up.
     #[doc(hidden)]
     pub fn despan(&mut self, alloc: Global, source: &str) -> Mem<()>
         requires decor { DecorFits source.now (fields_view self.old).decor }
@@ -185,7 +190,8 @@ impl Table {
         despan_table(self, alloc, source)
     }
 
-    /// Whether it stands there only for the tables below it (TOML, "Table", on super-tables): it has no header where it has no lines.
+    /// Whether it stands there only for the tables below it (TOML, "Table", on super-tables): it
+    /// has no header where it has no lines.
     pub fn is_implicit(&self) -> bool
         ensures { result ≡ (fields_view self.now).is_implicit }
     {
@@ -199,8 +205,8 @@ impl Table {
         self.implicit = implicit;
     }
 
-    /// Whether it stands for a dotted key (TOML, "Keys"): it has no header, and its lines are printed among those of the table around
-    /// it, after its key and a dot.
+    /// Whether it stands for a dotted key (TOML, "Keys"): it has no header, and its lines are
+    /// printed among those of the table around it, after its key and a dot.
     pub fn is_dotted(&self) -> bool
         ensures { result ≡ (fields_view self.now).is_dotted }
     {
@@ -214,14 +220,16 @@ impl Table {
         self.dotted = dotted;
     }
 
-    /// Its place among the headers of the document, where it was given one. Headers are printed by ascending position.
+    /// Its place among the headers of the document, where it was given one. Headers are printed by
+    /// ascending position.
     pub fn position(&self) -> Option<isize>
         ensures { result ≡ (fields_view self.now).position }
     {
         self.position
     }
 
-    /// Gives it a place among the headers, or takes it away. A table without one is printed behind the one before it in the tree.
+    /// Gives it a place among the headers, or takes it away. A table without one is printed behind
+    /// the one before it in the tree.
     pub fn set_position(&mut self, position: Option<isize>)
         ensures { table_view self.new ≡ table_with_position position (table_view self.old) }
     {
@@ -243,8 +251,8 @@ impl Table {
         &mut self.decor
     }
 
-    /// The bytes of the source from the opening bracket of its header to the closing one, if it was read and still is over its source. A
-    /// table without a header has the place of its key.
+    /// The bytes of the source from the opening bracket of its header to the closing one, if it was
+    /// read and still is over its source. A table without a header has the place of its key.
     pub fn span(&self) -> Option<Range<usize>>
         ensures { result ≡ range_in (fields_view self.now).extent }
     {
@@ -254,16 +262,15 @@ impl Table {
 
     /// The item under the key, which is no placeholder.
     pub fn get(&self, key: &str) -> Option<&Item>
-        ensures { option_map (λ x. item_view x.now) result ≡ held_at key.now (table_slots self.now) }
+        ensures { option_map (λ x. item_view x.now) result ≡ get key.now (slots_of self.now) }
     {
-        let item = self.slots.get(key)?;
-        if item.is_none() { None } else { Some(item) }
+        filled_item(&self.slots, key)
     }
 
     /// The item under the key, which is no placeholder, to be changed.
     pub fn get_mut(&mut self, key: &str) -> Option<&mut Item>
         ensures* writes_back { sem 𝓛 (LendsHeld self.entry key.now result) }
-        ensures item { option_map (λ x. item_view x.now) result ≡ held_at key.now (table_slots self.old) }
+        ensures item { option_map (λ x. item_view x.now) result ≡ get key.now (slots_of self.old) }
         // What an item that is written leaves.
         ensures leaves { (w : Item) → slots_of (with_item_under key.now w self.old) ≡ changed key.now (with_item (item_view w)) (slots_of self.old) }
         ensures keeps { (w : Item) → fields_view (with_item_under key.now w self.old) ≡ fields_view self.old }
@@ -277,7 +284,7 @@ impl Table {
     /// The place of the key's slot, unless it is a placeholder.
     fn held_place(&self, key: &str) -> Option<usize>
         ensures held { option_map item_view (option_and_then (slice_get (items_of (out-Table self.now).slots)) result)
-            ≡ held_at key.now (table_slots self.now) }
+            ≡ get key.now (slots_of self.now) }
         ensures place { IfSome result (λ at. place key.now (out-Table self.now).slots ≡ Some at) }
         ensures within { IfSome result (λ at. at < length (out-Table self.now).slots) }
         ensures apart { AreApart (slots_of self.now) }
@@ -291,9 +298,10 @@ impl Table {
         }
     }
 
-    /// The key of this text as it stands in the table, with its spelling and decors, if it has a slot of any kind.
+    /// The key of this text as it stands in the table, with its spelling and decors, if it has a
+    /// slot of any kind.
     pub fn key(&self, key: &str) -> Option<&Key>
-        ensures { option_copied result ≡ key_under key.now (table_slots self.now) }
+        ensures { option_copied result ≡ lookup_key key.now (slots_of self.now) }
     {
         let at = self.slots.find(key)?;
         Some(&self.slots.as_slice()[at].key)
@@ -301,7 +309,7 @@ impl Table {
 
     /// The keys' texts and the items in order, without placeholders.
     pub fn iter(&self) -> Iter<'_>
-        ensures { held_left result ≡ held (table_slots self.now) }
+        ensures { held_left result ≡ filled_pairs (slots_of self.now) }
     {
         Iter {
             slots: self.slots.as_slice().iter(),
@@ -326,7 +334,7 @@ impl<'a> Iter<'a> {
     /// Those of these slots that hold an item.
     #[doc(hidden)]
     pub fn over(slots: &'a [Slot<Item>]) -> Iter<'a>
-        ensures { held_left result ≡ held (slots_view slots.now) }
+        ensures { held_left result ≡ filled_pairs (slot_list (slots_view slots.now)) }
     {
         Iter {
             slots: slots.iter(),
@@ -343,7 +351,7 @@ impl<'a> Iterator for Iter<'a> {
 
     fn next(&mut self) -> Option<(&'a str, &'a Item)> {
         while let Some(slot) = self.slots.next() {
-            if !slot.item.is_none() {
+            if is_filled(slot) {
                 return Some((slot.key.get(), &slot.item));
             }
         }

@@ -1,14 +1,18 @@
 //! What is done with a slot of a table of either kind.
 ghost use Rattle.std.specs.Prelude.{◌≡◌, IfSome, Some, option_map};
 ghost use Rattle.std.specs.Borrow.{sem};
+ghost use Rattle.toml_edit_key.specs.KeyMutView.{key_of};
 ghost use Rattle.toml_edit_model.specs.Keys.{reset_key};
-ghost use Rattle.toml_edit_model.specs.Slots.{without};
+ghost use Rattle.toml_edit_model.specs.Slots.{changed_at, on_key, with_item, without};
+ghost use Rattle.toml_edit_model.specs.Tree.{Key};
 ghost use Rattle.toml_edit_table_like.specs.Lending.{with_item_at, with_key_at};
-ghost use Rattle.toml_edit_table_like.specs.SlotParts.{slot_item, slot_key, slot_place, slot_ref, SlotLends, SlotLendsDotted, SlotLendsLeaf};
+ghost use Rattle.toml_edit_table_like.specs.SlotParts.{slot_item, slot_key, slot_place, slot_ref, with_slot_item, with_slot_key, SlotLends, SlotLendsDotted, SlotLendsLeaf, SlotLendsKey};
+ghost use Rattle.toml_edit_tree.specs.View.{item_view};
+ghost use Rattle.toml_edit_tree.specs.declared.item.Item.{Item};
 
 use super::TableLikeSlot;
 use crate::HasSlots;
-use toml_edit_key::Key;
+use toml_edit_key::{Key, KeyMut};
 use toml_edit_repr::Decor;
 use toml_edit_tree::Item;
 
@@ -31,15 +35,32 @@ impl<'a, T: HasSlots> TableLikeSlot<'a, T> {
     pub fn get_mut(&mut self) -> &mut Item
         ensures* writes_back { sem 𝓛 (SlotLends T.row self.entry result) }
         ensures item { Some result.now ≡ slot_item self.old }
+        // What an item that is written leaves.
+        ensures leaves { (w : Item) → T.slots_of (slot_ref (with_slot_item self.old w)).now
+            ≡ changed_at (slot_place self.old) (with_item (item_view w)) (T.slots_of (slot_ref self.old).now) }
+        ensures keeps { (w : Item) → T.beside (slot_ref (with_slot_item self.old w)).now ≡ T.beside (slot_ref self.old).now }
     {
         let at = self.at;
         self.table.item_at_mut(at)
+    }
+
+    /// Lends the key that is there, to change all of it but its text.
+    pub fn key_mut(&mut self) -> KeyMut<'_>
+        ensures* writes_back { sem 𝓛 (SlotLendsKey T.row self.entry result) }
+        ensures key { slot_key self.old ≡ Some (key_of result) }
+    {
+        let at = self.at;
+        self.table.key_at_mut(at)
     }
 
     /// What stands around the key where it ends a path, to be changed.
     pub fn leaf_decor_mut(&mut self) -> &mut Decor
         ensures* writes_back { sem 𝓛 (SlotLendsLeaf T.row self.entry result) }
         ensures decor { option_map (λ key. key.leaf) (slot_key self.old) ≡ Some result.now }
+        // What a change of the key leaves.
+        ensures leaves { (h : Key → Key) → T.slots_of (slot_ref (with_slot_key self.old h)).now
+            ≡ changed_at (slot_place self.old) (on_key h) (T.slots_of (slot_ref self.old).now) }
+        ensures keeps { (h : Key → Key) → T.beside (slot_ref (with_slot_key self.old h)).now ≡ T.beside (slot_ref self.old).now }
     {
         let at = self.at;
         self.table.leaf_decor_at_mut(at)
@@ -49,6 +70,10 @@ impl<'a, T: HasSlots> TableLikeSlot<'a, T> {
     pub fn dotted_decor_mut(&mut self) -> &mut Decor
         ensures* writes_back { sem 𝓛 (SlotLendsDotted T.row self.entry result) }
         ensures decor { option_map (λ key. key.dotted) (slot_key self.old) ≡ Some result.now }
+        // What a change of the key leaves.
+        ensures leaves { (h : Key → Key) → T.slots_of (slot_ref (with_slot_key self.old h)).now
+            ≡ changed_at (slot_place self.old) (on_key h) (T.slots_of (slot_ref self.old).now) }
+        ensures keeps { (h : Key → Key) → T.beside (slot_ref (with_slot_key self.old h)).now ≡ T.beside (slot_ref self.old).now }
     {
         let at = self.at;
         self.table.dotted_decor_at_mut(at)

@@ -7,6 +7,7 @@ ghost use Rattle.toml_edit_tree.specs.declared.value.Value.{out-Value};
 
 use super::TableRefMut;
 use crate::HasSlots;
+use toml_edit_key::KeyMut;
 use toml_edit_repr::Decor;
 use toml_edit_slots::Slots;
 use toml_edit_tree::{Item, Value};
@@ -82,6 +83,11 @@ impl<'a> HasSlots for TableRefMut<'a> {
     fn item_at_mut(&mut self, at: usize) -> &mut Item {
         let slots = own_slots_mut(self.item);
         slots.item_mut(at)
+    }
+
+    fn key_at_mut(&mut self, at: usize) -> KeyMut<'_> {
+        let slots = own_slots_mut(self.item);
+        slots.key_mut(at)
     }
 
     fn leaf_decor_at_mut(&mut self, at: usize) -> &mut Decor {

@@ -1,10 +1,11 @@
 //! Arrays as sequences of values.
 ghost use Rattle.std.specs.Prelude.{◌≡◌, IfOk, List};
 ghost use Rattle.std.specs.Iterator.{Drains, ExtendsWithItems, IsFinite, YieldsFirstBy, item_count};
+ghost use Rattle.toml_edit_model.specs.Iterating.{values as values_seen};
 ghost use Rattle.toml_edit_tree.specs.ContainerParts.{values_left};
-ghost use Rattle.toml_edit_tree.specs.Containers.{values_in};
 ghost use Rattle.toml_edit_tree.specs.ElementParts.{AddsValues, HasValues, owned_values};
-ghost use Rattle.toml_edit_tree.specs.View.{array_view, value_view};
+ghost use Rattle.toml_edit_tree.specs.Elements.{items_of};
+ghost use Rattle.toml_edit_tree.specs.View.{value_view};
 
 use super::{Array, ArrayIter};
 use crate::item::Item;
@@ -14,7 +15,8 @@ use std::vec;
 use toml_edit_repr::Mem;
 
 impl Array {
-    /// Puts values last, one after another. The only error is want of memory: then some first ones are there, and the others are gone.
+    /// Puts values last, one after another. The only error is want of memory: then some first ones
+    /// are there, and the others are gone.
     #[tactic(auto, using(crate::proofs::ElementLaws::value_last))]
     pub fn extend<U: IntoIterator<Item = Value>>(&mut self, values: U) -> Mem<()>
         requires { (it : U.IntoIter) → U.into_iter_gives values it → U.IntoIter.can_next it × IsFinite (U.IntoIter.remaining it) }
@@ -44,7 +46,7 @@ impl<'a> IntoIterator for &'a Array {
 
     type IntoIter = ArrayIter<'a>;
 
-    ghost into_iter_gives = { λ array it. values_left it ≡ values_in (array_view array.now).items };
+    ghost into_iter_gives = { λ array it. values_left it ≡ values_seen (items_of array.now) };
 
     fn into_iter(self) -> ArrayIter<'a> {
         self.iter()
@@ -62,7 +64,7 @@ impl IntoIterator for Array {
 
     type IntoIter = ArrayIntoIter;
 
-    ghost into_iter_gives = { λ array it. owned_values it ≡ values_in (array_view array).items };
+    ghost into_iter_gives = { λ array it. owned_values it ≡ values_seen (items_of array) };
 
     fn into_iter(self) -> ArrayIntoIter {
         ArrayIntoIter {

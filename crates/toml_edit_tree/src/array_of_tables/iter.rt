@@ -1,10 +1,10 @@
 //! Arrays of tables as sequences of tables.
 ghost use Rattle.std.specs.Prelude.{◌≡◌, IfOk, List};
 ghost use Rattle.std.specs.Iterator.{Drains, ExtendsWithItems, IsFinite, YieldsFirstBy, item_count};
+ghost use Rattle.toml_edit_model.specs.Iterating.{elements};
 ghost use Rattle.toml_edit_tree.specs.ContainerParts.{tables_left};
-ghost use Rattle.toml_edit_tree.specs.Containers.{elements_in};
-ghost use Rattle.toml_edit_tree.specs.ElementParts.{AddsTables, HasTables, owned_tables};
-ghost use Rattle.toml_edit_tree.specs.View.{tables_view, table_view};
+ghost use Rattle.toml_edit_tree.specs.ElementParts.{AddsTables, HasTables, owned_tables, table_owned};
+ghost use Rattle.toml_edit_tree.specs.Elements.{tables_of};
 
 use super::{ArrayOfTables, ArrayOfTablesIter};
 use crate::item::Item;
@@ -14,7 +14,8 @@ use std::vec;
 use toml_edit_repr::Mem;
 
 impl ArrayOfTables {
-    /// Puts tables last, one after another. The only error is want of memory: then some first ones are there, and the others are gone.
+    /// Puts tables last, one after another. The only error is want of memory: then some first ones
+    /// are there, and the others are gone.
     #[tactic(auto, using(crate::proofs::ElementLaws::table_last))]
     pub fn extend<U: IntoIterator<Item = Table>>(&mut self, tables: U) -> Mem<()>
         requires { (it : U.IntoIter) → U.into_iter_gives tables it → U.IntoIter.can_next it × IsFinite (U.IntoIter.remaining it) }
@@ -44,7 +45,7 @@ impl<'a> IntoIterator for &'a ArrayOfTables {
 
     type IntoIter = ArrayOfTablesIter<'a>;
 
-    ghost into_iter_gives = { λ array it. tables_left it ≡ elements_in (tables_view array.now).items };
+    ghost into_iter_gives = { λ array it. tables_left it ≡ elements (tables_of array.now) };
 
     fn into_iter(self) -> ArrayOfTablesIter<'a> {
         self.iter()
@@ -62,7 +63,7 @@ impl IntoIterator for ArrayOfTables {
 
     type IntoIter = ArrayOfTablesIntoIter;
 
-    ghost into_iter_gives = { λ array it. owned_tables it ≡ elements_in (tables_view array).items };
+    ghost into_iter_gives = { λ array it. owned_tables it ≡ elements (tables_of array) };
 
     fn into_iter(self) -> ArrayOfTablesIntoIter {
         ArrayOfTablesIntoIter {
@@ -74,7 +75,7 @@ impl IntoIterator for ArrayOfTables {
 impl Iterator for ArrayOfTablesIntoIter {
     type Item = Table;
 
-    ghost next_gives = { YieldsFirstBy table_view owned_tables };
+    ghost next_gives = { YieldsFirstBy table_owned owned_tables };
 
     ghost remaining = { item_count owned_tables };
 

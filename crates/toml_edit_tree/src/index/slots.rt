@@ -1,4 +1,5 @@
-//! What is found in slots or a list of items, and the slot of a key that is made where there is none.
+//! What is found in slots or a list of items, and the slot of a key that is made where there is
+//! none.
 ghost use Rattle.std.specs.Prelude.{◌≡◌, ◌<◌, IfOk, IfSome, IsOk, IsTrue, OnErr, OnOk, Some, length, option_and_then, option_map, slice_get};
 ghost use Rattle.toml_edit_model.specs.Slots.{changed, has_slot, lookup, place, with_item as with_item_seen};
 ghost use Rattle.toml_edit_model.specs.TableCalls.{get, with_place};
@@ -47,8 +48,8 @@ pub(crate) fn filled_place(slots: &Slots<Item>, key: &str) -> Option<usize>
     }
 }
 
-/// The place of the key's slot. A new key goes last, with a key of the text alone and a placeholder. The only error is want of memory, at a
-/// new key: the slots stay.
+/// The place of the key's slot. A new key goes last, with a key of the text alone and a
+/// placeholder. The only error is want of memory, at a new key: the slots stay.
 pub(crate) fn place_under(slots: &mut Slots<Item>, key: &str) -> Mem<usize>
     ensures within { IfOk result (λ at. at < length slots.new) }
     ensures made { OnOk result (shown_slots slots.new ≡ with_place key.now (shown_slots slots.old)) }

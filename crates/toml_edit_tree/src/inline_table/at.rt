@@ -1,12 +1,13 @@
 //! Slots of an inline table by their places: the values and keys there, a slot that is taken out, and one that is made a value.
 ghost use Rattle.std.specs.Prelude.{◌≡◌, ◌<◌, true, Some, IfSome, is_some, length, option_map, slice_get};
 ghost use Rattle.std.specs.Borrow.{sem};
+ghost use Rattle.toml_edit_key.specs.KeyMutView.{key_of};
 ghost use Rattle.toml_edit_model.specs.Conversions.{made_value_or};
 ghost use Rattle.toml_edit_model.specs.Keys.{reset_key};
 ghost use Rattle.toml_edit_model.specs.Slots.{without};
 ghost use Rattle.toml_edit_tree.specs.ContainerParts.{holding};
 ghost use Rattle.toml_edit_tree.specs.ElementHolds.{value_held};
-ghost use Rattle.toml_edit_tree.specs.InlineLending.{with_inline_key, with_value_at, LendsInlineDottedAt, LendsInlineLeafAt, LendsValueAt};
+ghost use Rattle.toml_edit_tree.specs.InlineLending.{with_inline_key, with_value_at, LendsInlineDottedAt, LendsInlineKeyAt, LendsInlineLeafAt, LendsValueAt};
 ghost use Rattle.toml_edit_tree.specs.InlineSlots.{inline_fields};
 ghost use Rattle.toml_edit_tree.specs.InlineValues.{has_value_at, value_at, MakesValueAt};
 ghost use Rattle.toml_edit_tree.specs.SlotsOf.{inline_slots_of};
@@ -18,7 +19,7 @@ use super::InlineTable;
 use crate::item::Item;
 use crate::value::Value;
 use std::mem;
-use toml_edit_key::Key;
+use toml_edit_key::{Key, KeyMut};
 use toml_edit_repr::Decor;
 
 impl InlineTable {
@@ -49,6 +50,15 @@ impl InlineTable {
     {
         let item = self.items.item_mut(at);
         item.own_value_mut()
+    }
+
+    /// Lends the key at the place, to change all of it but its text.
+    pub(crate) fn key_at_mut(&mut self, at: usize) -> KeyMut<'_>
+        requires { has_value_at at (out-InlineTable self.old).items ≡ true }
+        ensures* writes_back { sem 𝓛 (LendsInlineKeyAt self.entry at result) }
+        ensures key { option_map (λ slot. slot.key) (slice_get (out-InlineTable self.old).items at) ≡ Some (key_of result) }
+    {
+        self.items.key_mut(at)
     }
 
     /// What stands around the key at the place where it ends a path, to be changed.

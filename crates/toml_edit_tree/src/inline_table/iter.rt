@@ -2,14 +2,14 @@
 ghost use Rattle.std.specs.Prelude.{◌≡◌, List, [], map, IfOk, OnErr, OnOk};
 ghost use Rattle.std.specs.Iterator.{Drains, ExtendsWithItems, IsFinite, YieldsFirstBy, item_count};
 ghost use Rattle.toml_edit_model.specs.Conversions.{new_inline};
+ghost use Rattle.toml_edit_model.specs.Iterating.{value_pairs};
 ghost use Rattle.toml_edit_model.specs.Slots.{extended, put, with_item};
 ghost use Rattle.toml_edit_model.specs.Tree.{Key};
 ghost use Rattle.toml_edit_tree.specs.ContainerParts.{pairs_left};
-ghost use Rattle.toml_edit_tree.specs.Containers.{pairs_in};
 ghost use Rattle.toml_edit_tree.specs.InlineParts.{AddsValues, owned_pairs, pair_owned};
 ghost use Rattle.toml_edit_tree.specs.InlineSlots.{inline_fields, value_taken};
 ghost use Rattle.toml_edit_tree.specs.SlotsOf.{inline_slots_of};
-ghost use Rattle.toml_edit_tree.specs.View.{inline_view, value_view};
+ghost use Rattle.toml_edit_tree.specs.View.{value_view};
 ghost use Rattle.toml_edit_tree.specs.declared.value.Value.{Value};
 
 use super::{InlineTable, InlineTableIter};
@@ -22,8 +22,9 @@ use toml_edit_repr::Mem;
 use toml_edit_slots::Slot;
 
 impl InlineTable {
-    /// Puts pairs in, one after another: a key that is there stays with its spelling, decors and place, and gets the value; a new one goes last.
-    /// The only error is want of memory: then some first pairs are there, and the others are gone.
+    /// Puts pairs in, one after another: a key that is there stays with its spelling, decors and
+    /// place, and gets the value; a new one goes last. The only error is want of memory: then some
+    /// first pairs are there, and the others are gone.
     #[tactic(auto, using(crate::proofs::InlineLaws::extended_last))]
     pub fn extend<U: IntoIterator<Item = (Key, Value)>>(&mut self, pairs: U) -> Mem<()>
         requires { (it : U.IntoIter) → U.into_iter_gives pairs it → U.IntoIter.can_next it × IsFinite (U.IntoIter.remaining it) }
@@ -51,7 +52,8 @@ impl InlineTable {
         }
     }
 
-    /// Puts one pair in so. The only error is want of memory: the inline table stays, and the pair is gone.
+    /// Puts one pair in so. The only error is want of memory: the inline table stays, and the pair
+    /// is gone.
     fn extend_one(&mut self, key: Key, value: Value) -> Mem<()>
         ensures slots { OnOk result (inline_slots_of self.new ≡ put (with_item (value_view value)) (value_taken (key, value)) (inline_slots_of self.old)) }
         ensures fields { inline_fields self.new ≡ inline_fields self.old }
@@ -66,14 +68,15 @@ impl<'a> IntoIterator for &'a InlineTable {
 
     type IntoIter = InlineTableIter<'a>;
 
-    ghost into_iter_gives = { λ table it. pairs_left it ≡ pairs_in (inline_view table.now).slots };
+    ghost into_iter_gives = { λ table it. pairs_left it ≡ value_pairs (inline_slots_of table.now) };
 
     fn into_iter(self) -> InlineTableIter<'a> {
         self.iter()
     }
 }
 
-/// The pairs of an inline table that was given up, in order: the texts of their keys, and their values.
+/// The pairs of an inline table that was given up, in order: the texts of their keys, and their
+/// values.
 #[derive(Drop)]
 pub struct InlineTableIntoIter {
     slots: vec::IntoIter<Slot<Item>>,
@@ -84,7 +87,7 @@ impl IntoIterator for InlineTable {
 
     type IntoIter = InlineTableIntoIter;
 
-    ghost into_iter_gives = { λ table it. owned_pairs it ≡ pairs_in (inline_view table).slots };
+    ghost into_iter_gives = { λ table it. owned_pairs it ≡ value_pairs (inline_slots_of table) };
 
     fn into_iter(self) -> InlineTableIntoIter {
         InlineTableIntoIter {

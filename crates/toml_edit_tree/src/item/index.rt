@@ -22,15 +22,17 @@ use toml_edit_repr::Mem;
 use toml_edit_slots::Slots;
 
 impl Item {
-    /// The item that the index finds: by a number a slot of any kind of an array or an array of tables, by a text an item of a table or an
-    /// inline table that is no placeholder.
+    /// Returns the item that the index finds, or `None`: by a number a slot of any kind of an array
+    /// or an array of tables, by a text an item of a table or an inline table that is no
+    /// placeholder.
     pub fn get<I: Index>(&self, index: I) -> Option<&Item>
         ensures { option_map (λ x. item_view x.now) result ≡ indexed (I.stands_for index) (item_view self.now) }
     {
         index.index(self)
     }
 
-    /// The same, to be changed. Nothing is inserted.
+    /// Returns the item that the index finds, as `get` does, to be changed. No clause says what
+    /// this item is once the lent one is changed.
     pub fn get_mut<I: Index>(&mut self, index: I) -> Option<&mut Item>
         ensures { option_map (λ x. item_view x.now) result ≡ indexed (I.stands_for index) (item_view self.old) }
     {
@@ -50,9 +52,16 @@ impl Item {
         self
     }
 
-    /// The item under the key of a table or an inline table, a placeholder too, to be changed. A new key goes last, with a key of the text
-    /// alone and a placeholder; a placeholder first becomes an inline table, which is made by the allocator. The errors are `WrongKind` for
-    /// any other item, and want of memory, at a new key. Either leaves the item as it was.
+    /// Returns the item under the key of a table or an inline table, a placeholder too, to be
+    /// changed. A new key goes last, with a key of the text alone and a placeholder; a placeholder
+    /// first becomes an inline table, which is made by the allocator.
+    ///
+    /// No clause says what this item is after an error, or once the lent one is changed.
+    /// `make_place` says what it is before the loan.
+    ///
+    /// # Errors
+    ///
+    /// `WrongKind` if it is any other item, and `Memory` if memory runs out, at a new key.
     pub fn index_or_insert(&mut self, alloc: Global, key: &str) -> Result<&mut Item, IndexFault>
         ensures item { IfOk result (λ lent. lent_under key.now (item_view self.old) ≡ Some (item_view lent.now)) }
         ensures kind { IfErr result (λ fault. (fault ≡ WrongKind) ↔ (index_or_inserted key.now (item_view self.old) ≡ None)) }
@@ -67,7 +76,12 @@ impl Item {
         }
     }
 
-    /// What `index_or_insert` does before it lends: finds the key's slot or makes it, and answers its place among the slots.
+    /// Finds the slot of the key, or makes it as `index_or_insert` does, and returns its place
+    /// among the slots. The item that is there stays, and so does each other one.
+    ///
+    /// # Errors
+    ///
+    /// Those of `index_or_insert`. The item is as it was.
     #[doc(hidden)]
     pub fn make_place(&mut self, alloc: Global, key: &str) -> Result<usize, IndexFault>
         ensures made { OnOk result (index_or_inserted key.now (item_view self.old) ≡ Some (item_view self.new)) }
@@ -91,8 +105,8 @@ impl Item {
         }
     }
 
-    /// Makes a placeholder an inline table with a placeholder under the key, and answers its place. The only error is want of memory: the item
-    /// stays as it was.
+    /// Makes a placeholder an inline table with a placeholder under the key, and answers its place.
+    /// The only error is want of memory: the item stays as it was.
     fn make_inline(&mut self, alloc: Global, key: &str) -> Mem<usize>
         requires { item_view self.old ≡ nothing }
         ensures made { OnOk result (index_or_inserted key.now nothing ≡ Some (item_view self.new)) }

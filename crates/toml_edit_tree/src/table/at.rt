@@ -1,15 +1,17 @@
 //! Slots of a table by their places: what is written in one, and one that is taken out.
 ghost use Rattle.std.specs.Prelude.{◌≡◌, ◌<◌, Some, IfSome, length, option_map, slice_get};
 ghost use Rattle.std.specs.Borrow.{sem};
+ghost use Rattle.toml_edit_key.specs.KeyMutView.{key_of};
 ghost use Rattle.toml_edit_model.specs.Slots.{without};
 ghost use Rattle.toml_edit_slots.specs.Slots.{items_of};
 ghost use Rattle.toml_edit_tree.specs.SlotsOf.{slots_of};
-ghost use Rattle.toml_edit_tree.specs.TableLending.{LendsDottedAt, LendsItemAt, LendsLeafAt};
+ghost use Rattle.toml_edit_tree.specs.TableLending.{LendsDottedAt, LendsItemAt, LendsKeyAt, LendsLeafAt};
 ghost use Rattle.toml_edit_tree.specs.View.{fields_view};
 ghost use Rattle.toml_edit_tree.specs.declared.table.Table.{out-Table};
 
 use super::Table;
 use crate::item::Item;
+use toml_edit_key::KeyMut;
 use toml_edit_repr::Decor;
 
 impl Table {
@@ -20,6 +22,15 @@ impl Table {
         ensures item { Some result.now ≡ slice_get (items_of (out-Table self.old).slots) at }
     {
         self.slots.item_mut(at)
+    }
+
+    /// Lends the key at the place, to change all of it but its text.
+    pub(crate) fn key_at_mut(&mut self, at: usize) -> KeyMut<'_>
+        requires { at < length (out-Table self.old).slots }
+        ensures* writes_back { sem 𝓛 (LendsKeyAt self.entry at result) }
+        ensures key { option_map (λ slot. slot.key) (slice_get (out-Table self.old).slots at) ≡ Some (key_of result) }
+    {
+        self.slots.key_mut(at)
     }
 
     /// What stands around the key at the place where it ends a path, to be changed.

@@ -1,8 +1,7 @@
 //! The item of a key in a table, which may be new.
-ghost use Rattle.std.specs.Prelude.{◌≡◌, Some, IfErr, IfOk, IsOk, IsTrue, option_map};
+ghost use Rattle.std.specs.Prelude.{◌≡◌, Some, IfErr, IfOk, IsOk, IsTrue};
 ghost use Rattle.std.specs.Borrow.{sem};
 ghost use Rattle.toml_edit_model.specs.Slots.{has_slot};
-ghost use Rattle.toml_edit_model.specs.TableCalls.{get};
 ghost use Rattle.toml_edit_tree.specs.Containers.{table_node};
 ghost use Rattle.toml_edit_tree.specs.Indexed.{item_put, lent_under, written_under, LendsMade};
 ghost use Rattle.toml_edit_tree.specs.SlotsOf.{slots_of};
@@ -12,20 +11,14 @@ ghost use Rattle.toml_edit_tree.specs.declared.item.Item.{Item};
 
 use super::Table;
 use crate::index::IndexFault;
-use crate::index::slots::{filled_item, place_under};
+use crate::index::slots::place_under;
 use crate::item::Item;
 use std::alloc::Global;
 
 impl Table {
-    /// The item under the key, which is no placeholder.
-    pub(crate) fn held_item(&self, key: &str) -> Option<&Item>
-        ensures { option_map (λ x. item_view x.now) result ≡ get key.now (slots_of self.now) }
-    {
-        filled_item(&self.slots, key)
-    }
-
-    /// The item under the key, a placeholder too, to be changed. A new key goes last, with a key of the text alone and a placeholder, by the
-    /// allocator that the table was made with. The only error is `IndexFault::Memory`, at a new key: the table stays as it was.
+    /// The item under the key, a placeholder too, to be changed. A new key goes last, with a key of
+    /// the text alone and a placeholder, by the allocator that the table was made with. The only
+    /// error is `IndexFault::Memory`, at a new key: the table stays as it was.
     pub fn index_or_insert(&mut self, _alloc: Global, key: &str) -> Result<&mut Item, IndexFault>
         ensures* writes_back { sem 𝓛 (LendsMade self.entry key.now result) }
         ensures item { IfOk result (λ lent. lent_under key.now (table_node (table_view self.old)) ≡ Some (item_view lent.now)) }

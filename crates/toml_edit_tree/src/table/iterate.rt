@@ -2,10 +2,10 @@
 ghost use Rattle.std.specs.Prelude.{◌≡◌, ◌↔◌, [], IsTrue, Some, length};
 ghost use Rattle.std.specs.Iterator.{YieldsFirstBy, item_count};
 ghost use Rattle.toml_edit_model.specs.Conversions.{table_display};
-ghost use Rattle.toml_edit_model.specs.Iterating.{filled};
+ghost use Rattle.toml_edit_model.specs.Iterating.{filled, filled_pairs};
 ghost use Rattle.toml_edit_model.specs.Lists.{is_item};
 ghost use Rattle.toml_edit_model.specs.Slots.{AreApart, pairs};
-ghost use Rattle.toml_edit_tree.specs.Held.{held, held_left};
+ghost use Rattle.toml_edit_tree.specs.Held.{held_left};
 ghost use Rattle.toml_edit_tree.specs.SlotsOf.{all_left, pair_taken, slots_of};
 ghost use Rattle.toml_edit_tree.specs.View.{item_view, table_slots};
 
@@ -69,7 +69,7 @@ impl<'a> IntoIterator for &'a Table {
 
     type IntoIter = Iter<'a>;
 
-    ghost into_iter_gives = { λ table it. held_left it ≡ held (table_slots table.now) };
+    ghost into_iter_gives = { λ table it. held_left it ≡ filled_pairs (slots_of table.now) };
 
     fn into_iter(self) -> Iter<'a> {
         self.iter()

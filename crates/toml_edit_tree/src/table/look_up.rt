@@ -1,8 +1,8 @@
 //! What stands in a table under a key, or at a place among its slots.
-ghost use Rattle.std.specs.Prelude.{◌≡◌, Bool, false, option_map, slice_get};
+ghost use Rattle.std.specs.Prelude.{◌≡◌, Bool, IsSome, IsTrue, false, option_map, slice_get};
 ghost use Rattle.std.specs.Option.{option_map_or};
 ghost use Rattle.toml_edit_model.specs.Slots.{has_slot, those};
-ghost use Rattle.toml_edit_model.specs.TableCalls.{contains_key, contains_table, contains_tables, contains_value, get_slot};
+ghost use Rattle.toml_edit_model.specs.TableCalls.{contains_key, contains_table, contains_tables, contains_value, get, get_slot};
 ghost use Rattle.toml_edit_model.specs.Tree.{Node};
 ghost use Rattle.toml_edit_tree.specs.SlotsOf.{slot_read, slots_of};
 ghost use Rattle.toml_edit_tree.specs.View.{item_view};
@@ -24,7 +24,8 @@ impl Table {
         }
     }
 
-    /// The key and the item of the slot at the place, a placeholder too, or `None` where there is no slot.
+    /// The key and the item of the slot at the place, a placeholder too, or `None` where there is
+    /// no slot.
     pub fn key_value_at(&self, at: usize) -> Option<(&Key, &Item)>
         ensures { option_map slot_read result ≡ slice_get (slots_of self.now) at }
     {
@@ -33,7 +34,9 @@ impl Table {
 
     /// Whether an item stands under the key, which is no placeholder.
     pub fn contains_key(&self, key: &str) -> bool
-        ensures { result ≡ contains_key key.now (slots_of self.now) }
+        ensures found { result ≡ contains_key key.now (slots_of self.now) }
+        // Then `[..]` finds it.
+        ensures there { IsTrue result → IsSome (get key.now (slots_of self.now)) }
     {
         match self.item_under(key) {
             Some(item) => !item.is_none(),

@@ -2,10 +2,11 @@
 ghost use Rattle.std.specs.Prelude.{◌≡◌, None, Some, IsSome, IsOk, IfOk, IfErr, IfSome, option_map};
 ghost use Rattle.std.specs.Borrow.{sem};
 ghost use Rattle.std.specs.Option.{unwrap_or, UnwrapsOrElse};
+ghost use Rattle.toml_edit_key.specs.KeyMutView.{key_of};
 ghost use Rattle.toml_edit_model.specs.Keys.{reset_key};
 ghost use Rattle.toml_edit_model.specs.Slots.{changed_at, on_key, with_item, without};
 ghost use Rattle.toml_edit_model.specs.Tree.{Key};
-ghost use Rattle.toml_edit_tree.specs.InlineEntries.{inline_key, inline_place, inline_ref, inline_value, inline_with, with_entry_value, with_inline_entry_key, InlineLends, InlineLendsOk, InlineOccupiedLends, InlineOccupiedLendsDotted, InlineOccupiedLendsLeaf};
+ghost use Rattle.toml_edit_tree.specs.InlineEntries.{inline_key, inline_place, inline_ref, inline_slots_left, inline_value, inline_with, with_entry_value, with_inline_entry_key, InlineLends, InlineLendsOk, InlineOccupiedLends, InlineOccupiedLendsDotted, InlineOccupiedLendsLeaf, InlineOccupiedLendsKey};
 ghost use Rattle.toml_edit_tree.specs.InlineSlots.{inline_fields};
 ghost use Rattle.toml_edit_tree.specs.SlotsOf.{inline_slots_of};
 ghost use Rattle.toml_edit_tree.specs.View.{value_view};
@@ -15,6 +16,7 @@ ghost use Rattle.toml_edit_tree.specs.declared.value.Value.{Value};
 use super::{InlineEntry, InlineOccupiedEntry, InlineVacantEntry};
 use crate::item::Item;
 use crate::value::Value;
+use toml_edit_key::KeyMut;
 use toml_edit_repr::Decor;
 use toml_edit_slots::{NoMemory, Slot};
 
@@ -57,6 +59,19 @@ impl<'a> InlineOccupiedEntry<'a> {
     {
         let at = self.at;
         self.table.value_at_mut(at)
+    }
+
+    /// Lends the key that is there, to change all of it but its text.
+    pub fn key_mut(&mut self) -> KeyMut<'_>
+        ensures* writes_back { sem 𝓛 (InlineOccupiedLendsKey self.entry result) }
+        ensures key { inline_key (Occupied self.old) ≡ Some (key_of result) }
+        // What a change of the key leaves.
+        ensures leaves { (h : Key → Key) → inline_slots_of (with_inline_entry_key self.old h).table.now
+            ≡ changed_at (inline_place (Occupied self.old)) (on_key h) (inline_slots_of (inline_ref (Occupied self.old)).now) }
+        ensures keeps { (h : Key → Key) → inline_fields (with_inline_entry_key self.old h).table.now ≡ inline_fields (inline_ref (Occupied self.old)).now }
+    {
+        let at = self.at;
+        self.table.key_at_mut(at)
     }
 
     /// What stands around the key where it ends a path, to be changed.
@@ -135,6 +150,9 @@ impl<'a> InlineVacantEntry<'a> {
     pub fn insert(self, value: Value) -> Result<&'a mut Value, NoMemory<Value>>
         ensures* writes_back { sem 𝓛 (InlineLendsOk (Vacant self.entry) result) }
         ensures value { IfOk result (λ x. x.now ≡ value) }
+        // What a value that is written leaves.
+        ensures leaves { (w : Value) → inline_slots_of (inline_with (Vacant self.entry) w) ≡ inline_slots_left (Vacant self.entry) (value_view w) }
+        ensures keeps { (w : Value) → inline_fields (inline_with (Vacant self.entry) w) ≡ inline_fields (inline_ref (Vacant self.entry)).now }
         ensures back { IfErr result (λ refused. refused.0 ≡ value) }
     {
         let InlineVacantEntry { table, key } = self;
@@ -163,6 +181,9 @@ impl<'a> InlineEntry<'a> {
     pub fn or_insert(self, value: Value) -> Result<&'a mut Value, NoMemory<Value>>
         ensures* writes_back { sem 𝓛 (InlineLendsOk self.entry result) }
         ensures value { IfOk result (λ x. x.now ≡ unwrap_or (inline_value self.entry) value) }
+        // What a value that is written leaves.
+        ensures leaves { (w : Value) → inline_slots_of (inline_with self.entry w) ≡ inline_slots_left self.entry (value_view w) }
+        ensures keeps { (w : Value) → inline_fields (inline_with self.entry w) ≡ inline_fields (inline_ref self.entry).now }
         ensures present { IsSome (inline_value self.entry) → IsOk result }
         ensures back { IfErr result (λ refused. refused.0 ≡ value) }
     {
@@ -186,6 +207,9 @@ impl<'a> InlineEntry<'a> {
         requires { inline_value self ≡ None → F.pre default }
         ensures* writes_back { sem 𝓛 (InlineLendsOk self.entry result) }
         ensures value { IfOk result (λ x. UnwrapsOrElse (inline_value self.entry) (F.post default) x.now) }
+        // What a value that is written leaves.
+        ensures leaves { (w : Value) → inline_slots_of (inline_with self.entry w) ≡ inline_slots_left self.entry (value_view w) }
+        ensures keeps { (w : Value) → inline_fields (inline_with self.entry w) ≡ inline_fields (inline_ref self.entry).now }
         ensures present { IsSome (inline_value self.entry) → IsOk result }
         ensures back { IfErr result (λ refused. F.post default refused.0) }
     {

@@ -1,10 +1,11 @@
 //! What is done with a slot of an inline table.
 ghost use Rattle.std.specs.Prelude.{◌≡◌, Some, option_map};
 ghost use Rattle.std.specs.Borrow.{sem};
+ghost use Rattle.toml_edit_key.specs.KeyMutView.{key_of};
 ghost use Rattle.toml_edit_model.specs.Keys.{reset_key};
 ghost use Rattle.toml_edit_model.specs.Slots.{changed_at, on_key, with_item};
 ghost use Rattle.toml_edit_model.specs.Tree.{Key};
-ghost use Rattle.toml_edit_tree.specs.InlineSlotParts.{slot_item, slot_key, slot_place, slot_ref, with_slot_item, with_slot_key, SlotLends, SlotLendsDotted, SlotLendsLeaf};
+ghost use Rattle.toml_edit_tree.specs.InlineSlotParts.{slot_item, slot_key, slot_place, slot_ref, with_slot_item, with_slot_key, SlotLends, SlotLendsDotted, SlotLendsKey, SlotLendsLeaf};
 ghost use Rattle.toml_edit_tree.specs.InlineSlots.{inline_fields};
 ghost use Rattle.toml_edit_tree.specs.SlotsOf.{inline_slots_of};
 ghost use Rattle.toml_edit_tree.specs.View.{item_view};
@@ -12,7 +13,7 @@ ghost use Rattle.toml_edit_tree.specs.declared.item.Item.{Item};
 
 use super::InlineSlotMut;
 use crate::item::Item;
-use toml_edit_key::Key;
+use toml_edit_key::{Key, KeyMut};
 use toml_edit_repr::Decor;
 
 impl<'a> InlineSlotMut<'a> {
@@ -41,6 +42,19 @@ impl<'a> InlineSlotMut<'a> {
     {
         let at = self.at;
         self.table.item_at_mut(at)
+    }
+
+    /// Lends the key that is there, to change all of it but its text.
+    pub fn key_mut(&mut self) -> KeyMut<'_>
+        ensures* writes_back { sem 𝓛 (SlotLendsKey self.entry result) }
+        ensures key { slot_key self.old ≡ Some (key_of result) }
+        // What a change of the key leaves.
+        ensures leaves { (h : Key → Key) → inline_slots_of (slot_ref (with_slot_key self.old h)).now
+            ≡ changed_at (slot_place self.old) (on_key h) (inline_slots_of (slot_ref self.old).now) }
+        ensures keeps { (h : Key → Key) → inline_fields (slot_ref (with_slot_key self.old h)).now ≡ inline_fields (slot_ref self.old).now }
+    {
+        let at = self.at;
+        self.table.key_in_mut(at)
     }
 
     /// What stands around the key where it ends a path, to be changed.

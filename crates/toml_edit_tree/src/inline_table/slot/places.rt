@@ -1,11 +1,12 @@
 //! Slots of an inline table by place or by key, and what is written in one.
 ghost use Rattle.std.specs.Prelude.{◌≡◌, ◌<◌, IfSome, IsTrue, None, Some, if◌then◌else◌, length, nat_lt, option_and_then, option_map, slice_get};
 ghost use Rattle.std.specs.Borrow.{sem};
+ghost use Rattle.toml_edit_key.specs.KeyMutView.{key_of};
 ghost use Rattle.toml_edit_model.specs.Keys.{reset_key};
-ghost use Rattle.toml_edit_model.specs.Slots.{place as place_seen};
+ghost use Rattle.toml_edit_model.specs.Slots.{lookup_key, place as place_seen};
 ghost use Rattle.toml_edit_model.specs.TableCalls.{get};
 ghost use Rattle.toml_edit_slots.specs.Slots.{items_of};
-ghost use Rattle.toml_edit_tree.specs.InlineLending.{with_inline_key, LendsInlineDottedAt, LendsInlineLeafAt};
+ghost use Rattle.toml_edit_tree.specs.InlineLending.{with_inline_key, LendsInlineDottedAt, LendsInlineKeyAt, LendsInlineLeafAt};
 ghost use Rattle.toml_edit_tree.specs.InlineSlotParts.{slot_item, slot_place, slot_ref, LendsInlineItemAt, SlotRestsIfAbsent};
 ghost use Rattle.toml_edit_tree.specs.SlotsOf.{inline_slots_of};
 ghost use Rattle.toml_edit_tree.specs.View.{item_view};
@@ -14,6 +15,7 @@ ghost use Rattle.toml_edit_tree.specs.declared.inline_table.InlineTable.{out-Inl
 use super::InlineSlotMut;
 use crate::inline_table::InlineTable;
 use crate::item::Item;
+use toml_edit_key::KeyMut;
 use toml_edit_repr::Decor;
 
 impl InlineTable {
@@ -31,8 +33,19 @@ impl InlineTable {
         }
     }
 
-    /// The key's slot of any kind, if there is one, to change what stands around the key as it stands in the inline table.
-    pub fn key_mut(&mut self, key: &str) -> Option<InlineSlotMut<'_>>
+    /// Lends the key as it stands in the inline table, whatever stands under it, to change all of it but its text. Returns `None`
+    /// where the key has no slot.
+    pub fn key_mut(&mut self, key: &str) -> Option<KeyMut<'_>>
+        ensures { option_map key_of result ≡ lookup_key key.now (inline_slots_of self.old) }
+    {
+        match self.place_of(key) {
+            Some(at) => Some(self.key_in_mut(at)),
+            None => None,
+        }
+    }
+
+    /// Returns the key's slot, a placeholder too, or `None` where the key has no slot.
+    pub fn slot_mut(&mut self, key: &str) -> Option<InlineSlotMut<'_>>
         ensures* absent { sem 𝓛 (SlotRestsIfAbsent self.entry result) }
         ensures same_table { IfSome result (λ slot. (slot_ref slot).ghost_name ≡ self.entry.ghost_name) }
         ensures table { IfSome result (λ slot. (slot_ref slot).now ≡ self.old) }
@@ -74,6 +87,15 @@ impl InlineTable {
         ensures item { Some result.now ≡ slice_get (items_of (out-InlineTable self.old).items) at }
     {
         self.items.item_mut(at)
+    }
+
+    /// Lends the key at the place, to change all of it but its text.
+    pub(crate) fn key_in_mut(&mut self, at: usize) -> KeyMut<'_>
+        requires { at < length (out-InlineTable self.old).items }
+        ensures* writes_back { sem 𝓛 (LendsInlineKeyAt self.entry at result) }
+        ensures key { option_map (λ slot. slot.key) (slice_get (out-InlineTable self.old).items at) ≡ Some (key_of result) }
+    {
+        self.items.key_mut(at)
     }
 
     /// What stands around the key at the place where it ends a path, to be changed.

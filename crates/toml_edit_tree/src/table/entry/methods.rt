@@ -2,17 +2,19 @@
 ghost use Rattle.std.specs.Prelude.{◌≡◌, None, Some, IsSome, IsOk, IfOk, IfErr, IfSome, option_map};
 ghost use Rattle.std.specs.Borrow.{sem};
 ghost use Rattle.std.specs.Option.{unwrap_or, UnwrapsOrElse};
+ghost use Rattle.toml_edit_key.specs.KeyMutView.{key_of};
 ghost use Rattle.toml_edit_model.specs.Keys.{reset_key};
 ghost use Rattle.toml_edit_model.specs.Slots.{changed_at, on_key, with_item, without};
 ghost use Rattle.toml_edit_model.specs.Tree.{Key};
 ghost use Rattle.toml_edit_tree.specs.SlotsOf.{slots_of};
-ghost use Rattle.toml_edit_tree.specs.TableEntries.{entry_item, entry_key, entry_place, entry_ref, table_with, with_entry_item, with_entry_key, EntryLends, EntryLendsOk, OccupiedLends, OccupiedLendsDotted, OccupiedLendsLeaf};
+ghost use Rattle.toml_edit_tree.specs.TableEntries.{entry_item, entry_key, entry_place, entry_ref, slots_left, table_with, with_entry_item, with_entry_key, EntryLends, EntryLendsOk, OccupiedLends, OccupiedLendsDotted, OccupiedLendsLeaf, OccupiedLendsKey};
 ghost use Rattle.toml_edit_tree.specs.View.{fields_view, item_view};
 ghost use Rattle.toml_edit_tree.specs.declared.item.Item.{Item};
 ghost use Rattle.toml_edit_tree.specs.declared.table.entry.Entry.TheVariants.{Occupied, Vacant};
 
 use super::{Entry, OccupiedEntry, VacantEntry};
 use crate::item::Item;
+use toml_edit_key::KeyMut;
 use toml_edit_repr::Decor;
 use toml_edit_slots::{NoMemory, Slot};
 
@@ -55,6 +57,19 @@ impl<'a> OccupiedEntry<'a> {
     {
         let at = self.at;
         self.table.item_at_mut(at)
+    }
+
+    /// Lends the key that is there, to change all of it but its text.
+    pub fn key_mut(&mut self) -> KeyMut<'_>
+        ensures* writes_back { sem 𝓛 (OccupiedLendsKey self.entry result) }
+        ensures key { entry_key (Occupied self.old) ≡ Some (key_of result) }
+        // What a change of the key leaves.
+        ensures leaves { (h : Key → Key) → slots_of (with_entry_key self.old h).table.now
+            ≡ changed_at (entry_place (Occupied self.old)) (on_key h) (slots_of (entry_ref (Occupied self.old)).now) }
+        ensures keeps { (h : Key → Key) → fields_view (with_entry_key self.old h).table.now ≡ fields_view (entry_ref (Occupied self.old)).now }
+    {
+        let at = self.at;
+        self.table.key_at_mut(at)
     }
 
     /// What stands around the key where it ends a path, to be changed.
@@ -133,6 +148,9 @@ impl<'a> VacantEntry<'a> {
     pub fn insert(self, item: Item) -> Result<&'a mut Item, NoMemory<Item>>
         ensures* writes_back { sem 𝓛 (EntryLendsOk (Vacant self.entry) result) }
         ensures item { IfOk result (λ x. x.now ≡ item) }
+        // What an item that is written leaves.
+        ensures leaves { (w : Item) → slots_of (table_with (Vacant self.entry) w) ≡ slots_left (Vacant self.entry) (item_view w) }
+        ensures keeps { (w : Item) → fields_view (table_with (Vacant self.entry) w) ≡ fields_view (entry_ref (Vacant self.entry)).now }
         ensures back { IfErr result (λ refused. refused.0 ≡ item) }
     {
         let VacantEntry { table, key } = self;
@@ -160,6 +178,9 @@ impl<'a> Entry<'a> {
     pub fn or_insert(self, item: Item) -> Result<&'a mut Item, NoMemory<Item>>
         ensures* writes_back { sem 𝓛 (EntryLendsOk self.entry result) }
         ensures item { IfOk result (λ x. x.now ≡ unwrap_or (entry_item self.entry) item) }
+        // What an item that is written leaves.
+        ensures leaves { (w : Item) → slots_of (table_with self.entry w) ≡ slots_left self.entry (item_view w) }
+        ensures keeps { (w : Item) → fields_view (table_with self.entry w) ≡ fields_view (entry_ref self.entry).now }
         ensures present { IsSome (entry_item self.entry) → IsOk result }
         ensures back { IfErr result (λ refused. refused.0 ≡ item) }
     {
@@ -183,6 +204,9 @@ impl<'a> Entry<'a> {
         requires { entry_item self ≡ None → F.pre default }
         ensures* writes_back { sem 𝓛 (EntryLendsOk self.entry result) }
         ensures item { IfOk result (λ x. UnwrapsOrElse (entry_item self.entry) (F.post default) x.now) }
+        // What an item that is written leaves.
+        ensures leaves { (w : Item) → slots_of (table_with self.entry w) ≡ slots_left self.entry (item_view w) }
+        ensures keeps { (w : Item) → fields_view (table_with self.entry w) ≡ fields_view (entry_ref self.entry).now }
         ensures present { IsSome (entry_item self.entry) → IsOk result }
         ensures back { IfErr result (λ refused. F.post default refused.0) }
     {

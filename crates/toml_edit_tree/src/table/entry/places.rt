@@ -1,19 +1,20 @@
 //! Entries of a table: of a key, or of a place.
 ghost use Rattle.std.specs.Prelude.{◌≡◌, ◌<◌, IfOk, IfSome, IsTrue, None, Some, if◌then◌else◌, length, nat_lt, option_and_then, option_map};
 ghost use Rattle.std.specs.Borrow.{sem};
+ghost use Rattle.toml_edit_key.specs.KeyMutView.{key_of};
 ghost use Rattle.toml_edit_model.specs.Keys.{new_key};
-ghost use Rattle.toml_edit_model.specs.Slots.{AreApart, place as place_seen};
+ghost use Rattle.toml_edit_model.specs.Slots.{AreApart, place as place_seen, lookup_key};
+ghost use Rattle.toml_edit_model.specs.TableCalls.{get};
 ghost use Rattle.toml_edit_slots.specs.Slots.{place};
-ghost use Rattle.toml_edit_tree.specs.Held.{held_at};
 ghost use Rattle.toml_edit_tree.specs.SlotsOf.{slots_of};
 ghost use Rattle.toml_edit_tree.specs.TableEntries.{entry_item, entry_place, entry_ref, IsEntryOf, RestsIfAbsent, RestsIfRefused};
-ghost use Rattle.toml_edit_tree.specs.View.{item_view, table_slots};
+ghost use Rattle.toml_edit_tree.specs.View.{item_view};
 ghost use Rattle.toml_edit_tree.specs.declared.table.Table.{out-Table};
 ghost use Rattle.toml_edit_tree.specs.declared.table.entry.Entry.TheVariants.{Occupied};
 
 use super::{Entry, OccupiedEntry, VacantEntry};
 use crate::table::Table;
-use toml_edit_key::Key;
+use toml_edit_key::{Key, KeyMut};
 use toml_edit_repr::Mem;
 
 impl Table {
@@ -65,8 +66,19 @@ impl Table {
         }
     }
 
-    /// The entry of the key's slot of any kind, if there is one, to change what stands around the key as it stands in the table.
-    pub fn key_mut(&mut self, key: &str) -> Option<OccupiedEntry<'_>>
+    /// Lends the key as it stands in the table, whatever stands under it, to change all of it but its text. Returns `None` where the
+    /// key has no slot.
+    pub fn key_mut(&mut self, key: &str) -> Option<KeyMut<'_>>
+        ensures { option_map key_of result ≡ lookup_key key.now (slots_of self.old) }
+    {
+        match self.place_of(key) {
+            Some(at) => Some(self.key_at_mut(at)),
+            None => None,
+        }
+    }
+
+    /// Returns the entry of the key's slot, a placeholder too, or `None` where the key has no slot.
+    pub fn slot_mut(&mut self, key: &str) -> Option<OccupiedEntry<'_>>
         ensures* absent { sem 𝓛 (RestsIfAbsent self.entry result) }
         ensures same_table { IfSome result (λ e. (entry_ref (Occupied e)).ghost_name ≡ self.entry.ghost_name) }
         ensures table { IfSome result (λ e. (entry_ref (Occupied e)).now ≡ self.old) }
@@ -83,7 +95,7 @@ impl Table {
         ensures* absent { sem 𝓛 (RestsIfAbsent self.entry result) }
         ensures same_table { IfSome result (λ e. (entry_ref (Occupied e)).ghost_name ≡ self.entry.ghost_name) }
         ensures table { IfSome result (λ e. (entry_ref (Occupied e)).now ≡ self.old) }
-        ensures item { option_and_then (λ e. option_map item_view (entry_item (Occupied e))) result ≡ held_at key.now (table_slots self.old) }
+        ensures item { option_and_then (λ e. option_map item_view (entry_item (Occupied e))) result ≡ get key.now (slots_of self.old) }
         ensures place { IfSome result (λ e. place_seen key.now (slots_of self.old) ≡ Some (entry_place (Occupied e))) }
     {
         match self.held_place(key) {

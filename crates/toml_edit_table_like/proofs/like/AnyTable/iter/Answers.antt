@@ -1,13 +1,10 @@
 -- The items of a table as a list of pairs.
 use Rattle.std.proofs.Common.{sym, ap, ◌∙◌}
 use Rattle.toml_edit_model.specs.Iterating.{filled_pairs}
-use Rattle.toml_edit_tree.specs.Held.{held}
-use Rattle.toml_edit_tree.specs.View.{slots_view}
-use Rattle.toml_edit_table_like.proofs.FoundLaws.{held-pairs}
+use Rattle.toml_edit_table_like.specs.Shown.{shown}
 use Rattle.toml_edit_table_like.proofs.like.AnyTable.iter.Goals as goal
 
 pub returns : goal.returns
 returns g c =
     let t = c.args.self.now in
-    c.over.ensures ∙ ap (λ es. held (slots_view es)) (c.as_slice.ensures.slots ∙ c.as_slots.ensures) ∙ held-pairs (slots_view (g.Self.HasSlots.entries t))
-    ∙ sym (ap filled_pairs (g.Self.HasSlots.shows t))
+    c.over.ensures ∙ ap (λ es. filled_pairs (shown es)) (c.as_slice.ensures.slots ∙ c.as_slots.ensures) ∙ sym (ap filled_pairs (g.Self.HasSlots.shows t))

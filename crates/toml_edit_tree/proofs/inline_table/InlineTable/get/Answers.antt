@@ -1,21 +1,15 @@
 -- The value under a key.
 use Rattle.std.proofs.Common.{option_map, sym, ap, ◌∙◌}
-use Rattle.std.specs.Option.{option_copied}
-use Rattle.toml_edit_tree.specs.Containers.{value_under}
-use Rattle.toml_edit_tree.specs.declared.inline_table.InlineTable.{out-InlineTable}
 use Rattle.toml_edit_tree.specs.View.{value_view}
-use Rattle.toml_edit_tree.proofs.ContainerLaws.{value_found, value_under-slots}
-use Rattle.toml_edit_tree.proofs.ViewLaws.{inline_slots}
+use Rattle.toml_edit_tree.proofs.InlineEntryLaws.{value-read, value_behind}
 use Rattle.toml_edit_tree.proofs.inline_table.InlineTable.get.Goals as goal
 
-pub returns-in_err-get : goal.returns-in_err-get
-returns-in_err-get c =
+pub returns-in_err-item : goal.returns-in_err-item
+returns-in_err-item c =
     ap (option_map (λ v. value_view v.now)) c.from_residual.ensures
-    ∙ sym (ap (value_under c.args.key.now) (inline_slots c.args.self.now)
-    ∙ value_under-slots c.args.key.now (out-InlineTable c.args.self.now).items ∙ ap value_found (sym c.get.ensures ∙ ap option_copied c.in_err-get.was))
+    ∙ sym (value-read c.args.key.now c.args.self.now c.get_key_value.result c.get_key_value.ensures.apart c.get_key_value.ensures.slot ∙ ap value_behind c.in_err-item.was)
 
 pub returns : goal.returns
 returns c =
     c.as_value.ensures
-    ∙ sym (ap (value_under c.args.key.now) (inline_slots c.args.self.now)
-    ∙ value_under-slots c.args.key.now (out-InlineTable c.args.self.now).items ∙ ap value_found (sym c.get.ensures ∙ ap option_copied c.in_ok-get.was))
+    ∙ sym (value-read c.args.key.now c.args.self.now c.get_key_value.result c.get_key_value.ensures.apart c.get_key_value.ensures.slot ∙ ap value_behind c.in_ok-item.was)

@@ -1,6 +1,7 @@
 -- The values so far are counted.
 use Rattle.std.proofs.Common.{◌≡◌, ◌≤◌, ◌+◌, drop, length}
-use Rattle.toml_edit_tree.specs.Containers.{pairs_in}
+use Rattle.toml_edit_model.specs.Iterating.{valued}
+use Rattle.toml_edit_model.specs.Lists.{slot_list}
 use Rattle.toml_edit_tree.specs.View.{slots_view}
 use Rattle.toml_edit_tree.proofs.inline_table.InlineTable.len.Given as goal
 
@@ -8,5 +9,5 @@ abbrev pub invariant-loop-slot : goal.invariant-loop-slot
 invariant-loop-slot l =
     record {
       below : l.count ≤ l.slot-index;
-      counted : l.count + length (pairs_in (slots_view (drop l.slot-index l.slot-items))) ≡ length (pairs_in (slots_view l.slot-items));
+      counted : l.count + length (valued (slot_list (slots_view (drop l.slot-index l.slot-items)))) ≡ length (valued (slot_list (slots_view l.slot-items)));
     }

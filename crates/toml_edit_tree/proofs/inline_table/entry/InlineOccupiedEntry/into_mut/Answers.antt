@@ -1,4 +1,4 @@
--- The value of an entry, to be changed, and what it leaves.
+-- The value of an entry that is lent, and what the inline table is once it is written.
 use Rattle.std.proofs.Common.{refl, sym}
 use Rattle.toml_edit_tree.specs.declared.item.Item.TheVariants as items
 use Rattle.toml_edit_tree.proofs.LentLaws.{inline_item-keeps, inline_value-leaves}

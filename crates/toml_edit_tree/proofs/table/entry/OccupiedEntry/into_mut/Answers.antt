@@ -1,4 +1,4 @@
--- The item of an entry, to be changed, and what it leaves.
+-- The item of an entry that is lent, and what the table is once it is written.
 use Rattle.std.proofs.Common.{refl}
 use Rattle.toml_edit_tree.proofs.LentLaws.{item-keeps, item-leaves}
 use Rattle.toml_edit_tree.proofs.table.entry.OccupiedEntry.into_mut.Goals as goal
