@@ -89,11 +89,19 @@ impl<S: SourceText> Document<S> {
     ghost use Rattle.toml_edit.specs.Documents.{IsOwnedTreeWith, IsReading, IsReadingIn, IsRefusal, IsRefusalIn, PrintsMeaningOf};
     ghost use Rattle.toml_edit_parser.specs.Options.{mode_of, version_of};
     ghost use Rattle.toml_edit.specs.Roots.{root_node};
-    ghost use Rattle.toml_edit_tree.specs.Held.{held, held_left};
+    ghost use Rattle.toml_edit_tree.specs.Held.{held_left};
+    ghost use Rattle.toml_edit_model.specs.Iterating.{filled_pairs};
+    ghost use Rattle.toml_edit_model.specs.Lists.{slot_list};
     ghost use Rattle.toml_edit_tree.specs.View.{item_view, table_slots, tree_view, fields_view};
 
-    /// Reads a text, whose line endings are not kept. The errors are a `TomlError` for a text that is refused, which names a fault of its
-    /// first faulty statement, or of a text outside the grammar what is wrong with its syntax; and want of memory.
+    /// Reads a text, whose line endings are not kept.
+    ///
+    /// # Errors
+    ///
+    /// Returns a `TomlError` for a text that is refused, and an error where there is not enough
+    /// memory. The `TomlError` names a fault of the first faulty statement, or what is wrong with the
+    /// syntax of a text outside the grammar. Its message is one of a fixed list. Its span lies in the
+    /// text; a message about a limit may have none.
     pub fn parse(alloc: Global, raw: S) -> Result<Document<S>, ParseFault>
         ensures accepted { IfOk result (λ x. IsReading (S.content raw) (tree_read x)) }
         ensures source { IfOk result (λ x. source x ≡ S.content raw) }
@@ -152,7 +160,7 @@ impl<S: SourceText> Document<S> {
 
     /// The keys' texts and the items of the root in order, without placeholders.
     pub fn iter(&self) -> Iter<'_>
-        ensures { held_left result ≡ held (tree_read self.now).slots }
+        ensures { held_left result ≡ filled_pairs (slot_list (tree_read self.now).slots) }
     {
         self.as_table().iter()
     }
@@ -332,7 +340,9 @@ impl DocumentMut {
     ghost use Rattle.toml_edit.specs.Documents.{IsOwnedReading, IsOwnedReadingIn, IsRefusal, IsRefusalIn, MeansWhatIsShown, new_tree};
     ghost use Rattle.toml_edit_parser.specs.Options.{mode_of, version_of};
     ghost use Rattle.toml_edit.specs.Roots.{root_node};
-    ghost use Rattle.toml_edit_tree.specs.Held.{held, held_left};
+    ghost use Rattle.toml_edit_tree.specs.Held.{held_left};
+    ghost use Rattle.toml_edit_model.specs.Iterating.{filled_pairs};
+    ghost use Rattle.toml_edit_model.specs.Lists.{slot_list};
     ghost use Rattle.toml_edit_tree.specs.View.{item_view, table_slots, fields_view};
 
     /// A root without slots, which is the first of all headers, and nothing behind it.
@@ -434,7 +444,7 @@ impl DocumentMut {
 
     /// The keys' texts and the items of the root in order, without placeholders.
     pub fn iter(&self) -> Iter<'_>
-        ensures { held_left result ≡ held (tree_owned self.now).slots }
+        ensures { held_left result ≡ filled_pairs (slot_list (tree_owned self.now).slots) }
     {
         self.as_table().iter()
     }

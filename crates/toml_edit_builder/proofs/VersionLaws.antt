@@ -1,12 +1,13 @@
 -- Whether the statement that comes first is one of the version.
-use Rattle.std.proofs.Common.{◌≡◌, ℕ, ◌+◌, ◌-◌, Option, None, Some, Result, Ok, Err, ap, sym, subst, ◌∙◌, true, false, List, [], ◌++◌, arith}
-use Rattle.std.specs.Prelude.{Contains, IfSome}
+use Rattle.std.proofs.Common.{◌≡◌, ℕ, ◌+◌, ◌-◌, Option, None, Some, Result, Ok, Err, ap, sym, subst, ◌∙◌, true, false, List, [], ◌∷◌, ◌++◌, inl, inr, refl, lit<, arith}
+use Rattle.std.specs.Prelude.{Contains, IfErr, IfSome}
 use Rattle.std.specs.Borrow.{Bor}
 use Rattle.std.proofs.lemmas.List.Elements.{Contains-append_left, Contains-append_right}
+use Rattle.toml_edit_model.specs.Messages.{fault_messages, fault_messages_in}
 use Rattle.toml_edit_model.specs.Mode.{Mode}
 use Rattle.toml_edit_model.specs.Text.{Text}
 use Rattle.toml_edit_model.specs.Syntax.{Statement}
-use Rattle.toml_edit_model.specs.Version.{Version, v1_0, is_of_version, late_places}
+use Rattle.toml_edit_model.specs.Version.{Version, v1_0, v1_1, is_of_version, late_places}
 use Rattle.toml_edit_model.specs.Faults.{Fault, fault, needs_message, late_faults}
 use Rattle.toml_edit_laws.specs.Building.{Builder, faults_at}
 use Rattle.toml_edit_laws.proofs.building.Places.{sound-of-none}
@@ -18,6 +19,7 @@ use Rattle.toml_edit_syntax.specs.declared.event.Event.{Event}
 use Rattle.toml_edit_syntax.specs.declared.event.Span.{Span}
 use Rattle.toml_edit_syntax.specs.Events.{IsSpanOf, has_deep_value}
 use Rattle.toml_edit_version.specs.LateEvents.{NamesLate}
+use Rattle.toml_edit_parser.specs.Listed.{IsListed, IsListedIn, IsMessageIn}
 use Rattle.toml_edit_parser.specs.ValueRead.{NamesOne}
 use Rattle.toml_edit_builder.specs.declared.parser.Building.{Building}
 use Rattle.toml_edit_builder.specs.StatementRead.{ReadsStatement, ReadsInVersion}
@@ -60,3 +62,26 @@ pub reads_in_version : (mode : Mode) (version : Version) (t : Text) (b : Builder
 reads_in_version mode version t b s more new (Ok rest) early h = (early (sound-shallow s (sound-of-none b.start s h.faultless)), h)
 reads_in_version mode version t b s more new (Err e) early h =
     of_report e _ _ (λ r is. (is.0, Contains-append_right (late_faults version b.start s) (faults_at b s) (fault_of r) is.1)) h
+
+-- ---- the messages
+
+-- TOML 1.0 has a message for what it lacks
+pub late-message : (version : Version) → version ≡ v1_0 → IsMessageIn version needs_message
+late-message version is = subst (λ v. IsMessageIn v needs_message) (sym is) (inr (0, lit< tt, refl))
+
+listed-later : (version : Version) (m : Text) → Contains fault_messages m → Contains (fault_messages_in version) m
+listed-later v1_0 m h = Contains-append_right (needs_message ∷ []) fault_messages m h
+listed-later v1_1 m h = h
+
+-- what is said in TOML 1.1 may be said in each version
+pub listed-in : {A : Type 0} (version : Version) (r : Result A ParseFault) → IfErr r (λ e. IfToml e IsListed) → IfErr r (λ e. IfToml e (IsListedIn version))
+listed-in version (Ok x) h = tt
+listed-in version (Err e) h =
+    of_report e _ _
+    (λ r told.
+    record {
+      allowed = elim told.allowed [ inl syntax ↦ inl syntax | inr m ↦ inr (listed-later version r.message m) ];
+      marks = told.marks;
+      within = told.within;
+    })
+    h

@@ -32,6 +32,7 @@ use Rattle.toml_edit_syntax.specs.Faults.{syntax_message}
 use Rattle.toml_edit_syntax.specs.Events.{IsSpanOf, AreEventsOf, events_of, exceeds_depth, has_deep_value, OpensTooMany}
 use Rattle.toml_edit_syntax.specs.ValueEvents.{are_deep, shortened}
 use Rattle.toml_edit_builder.specs.StatementRead.{tree_of}
+use Rattle.toml_edit_parser.specs.Listed.{IsListedIn}
 use Rattle.toml_edit_builder.specs.DocumentRead.{IsParsedWith, IsRefusalIn}
 use Rattle.toml_edit_builder.proofs.OpenEndLaws.{uncut}
 
@@ -102,14 +103,17 @@ module _ (mode : Mode) (version : Version) (t : Text) (es : List Event) (h : Are
       ]
 
   -- what is told of a refused text
-  pub refusal_is : (e : ParseFault) → IsRefusedSo e → IfToml e (λ r. r.input ≡ t) → IfToml e (IsRefusalIn version t)
-  refusal_is (Toml r) told input = record { input = input; names = λ d cut. (told d cut (h.every d cut)).1; syntax = λ none. inr (opens none) }
-  refusal_is Memory told input = tt
+  pub refusal_is : (e : ParseFault) → IsRefusedSo e → IfToml e (λ r. r.input ≡ t) → IfToml e (IsListedIn version) → IfToml e (IsRefusalIn version t)
+  refusal_is (Toml r) told input listed =
+      record { input = input; listed = listed; names = λ d cut. (told d cut (h.every d cut)).1; syntax = λ none. inr (opens none) }
+  refusal_is Memory told input listed = tt
 
   -- and of one that has no cut, and whose events are cut short
-  pub short_refusal : (m : Text) (r : Report) → are_deep es ≡ true → ((d : Document) → IsCut d t → ⊥) → r ≡ record { message = m; span = None; input = t } → IsRefusalIn version t r
-  short_refusal m r short none same =
-      record { input = ap (λ x. x.input) same; names = λ d cut. absurd (none d cut); syntax = λ _. inr (h.brackets short) }
+  pub short_refusal : (m : Text) (e : ParseFault) → are_deep es ≡ true → ((d : Document) → IsCut d t → ⊥)
+      → IfToml e (λ r. r ≡ record { message = m; span = None; input = t }) → IfToml e (IsListedIn version) → IfToml e (IsRefusalIn version t)
+  short_refusal m (Toml r) short none same listed =
+      record { input = ap (λ x. x.input) same; listed = listed; names = λ d cut. absurd (none d cut); syntax = λ _. inr (h.brackets short) }
+  short_refusal m Memory short none same listed = tt
 
 -- ---- a text with none
 
@@ -120,14 +124,16 @@ not_text (Err fault) f mistake span e g (inl h) = absurd cc
 not_text (Err fault) f mistake span e g (inr h) = absurd cc
 
 -- a text outside the grammar
-pub wrong_syntax : (version : Version) (t m : Text) (mistake : Mistake) (s : Span) (r : Report) → ((d : Document) → IsCut d t → ⊥) → m ≡ syntax_message mistake → IsSpanOf t s
-    → r ≡ record { message = m; span = Some (s.start, s.end); input = t } → IsRefusalIn version t r
-wrong_syntax version t m mistake s r none is within same =
+pub wrong_syntax : (version : Version) (t m : Text) (mistake : Mistake) (s : Span) (e : ParseFault) → ((d : Document) → IsCut d t → ⊥) → m ≡ syntax_message mistake → IsSpanOf t s
+    → IfToml e (λ r. r ≡ record { message = m; span = Some (s.start, s.end); input = t }) → IfToml e (IsListedIn version) → IfToml e (IsRefusalIn version t)
+wrong_syntax version t m mistake s (Toml r) none is within same listed =
     record {
       input = ap (λ x. x.input) same;
+      listed = listed;
       names = λ d cut. absurd (none d cut);
       syntax = λ _. inl (record { mistake = mistake; message = ap (λ x. x.message) same ∙ is; span = s; marks = ap (λ x. x.span) same; within = within });
     }
+wrong_syntax version t m mistake s Memory none is within same listed = tt
 
 -- what holds of a report
 pub of_report : (e : ParseFault) (P Q : Report → Type 0) → ((r : Report) → P r → Q r) → IfToml e P → IfToml e Q

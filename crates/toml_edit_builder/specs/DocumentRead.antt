@@ -14,6 +14,7 @@ use Rattle.toml_edit_syntax.specs.declared.event.Span.{Span}
 use Rattle.toml_edit_syntax.specs.declared.mistake.Mistake.{Mistake}
 use Rattle.toml_edit_syntax.specs.Events.{IsSpanOf, OpensTooMany}
 use Rattle.toml_edit_syntax.specs.Faults.{syntax_message}
+use Rattle.toml_edit_parser.specs.Listed.{IsListedIn}
 use Rattle.toml_edit_builder.specs.StatementRead.{tree_of}
 
 -- the report says what is wrong with the syntax of the text, and marks a place in it
@@ -24,10 +25,12 @@ pub record MarksMistake (t : Text) (r : Report) : Type 0 where
   pub marks : r.span ≡ Some (span.start, span.end)
   pub within : IsSpanOf t span
 
--- The report is of the text. Of a text of the grammar it names a fault of the first faulty statement, which may be what the statement has
--- that the version hasn't. Of another it says what is wrong with its syntax, unless too many brackets are open before that.
+-- The report is of the text, with one of the messages that there are. Of a text of the grammar it names a fault of the first faulty
+-- statement, which may be what the statement has that the version hasn't. Of another it says what is wrong with its syntax, unless too
+-- many brackets are open before that.
 pub record IsRefusalIn (version : Version) (t : Text) (r : Report) : Type 0 where
   pub input : r.input ≡ t
+  pub listed : IsListedIn version r
   pub names : (d : Document) → IsCut d t → IsRefusedIn version d (fault_of r)
   pub syntax : ((d : Document) → IsCut d t → ⊥) → MarksMistake t r ⊎ OpensTooMany t
 

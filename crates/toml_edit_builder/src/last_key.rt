@@ -10,18 +10,20 @@ ghost use Rattle.toml_edit_laws.specs.TableClash.{element_clash, table_clash};
 ghost use Rattle.toml_edit_error.specs.Fault.{IfToml};
 ghost use Rattle.toml_edit_slots.specs.Slots.{place};
 ghost use Rattle.toml_edit_syntax.specs.Events.{IsSpanOf};
+ghost use Rattle.toml_edit_parser.specs.Listed.{IsListed};
 ghost use Rattle.toml_edit_tree.specs.Containers.{table_node};
 ghost use Rattle.toml_edit_tree.specs.View.{fields_view, item_view, slots_view, table_view};
 ghost use Rattle.toml_edit_builder.specs.TableRead as spec;
 ghost use Rattle.toml_edit_builder.specs.TableRead.{Goes, IsHeaded, IsItemFor, IsKeyOf, PutsLast, addition_for, opened, with_element};
 ghost use Rattle.toml_edit_builder.specs.declared.path.Kind.TheVariants as kinds;
 
+use crate::duplicate::duplicate_key;
 use crate::path::Kind;
 use std::alloc::Global;
 use std::mem;
 use toml_edit_error::ParseFault;
 use toml_edit_key::Key;
-use toml_edit_parser::{add_last, push_item, refusal};
+use toml_edit_parser::{add_last, push_item};
 use toml_edit_repr::Mem;
 use toml_edit_slots::{Slot, Slots};
 use toml_edit_syntax::Span;
@@ -42,6 +44,7 @@ pub(crate) fn put_last(
     ensures put { (mode : Mode) (s : Source) (m : Mention Source) → IsItemFor mode kind s (item_view item.old) → IsKeyOf mode s false m key at
         → PutsLast mode source.now (addition_for kind (item_view item.old)) m (slots_view slots.old) (slots_view slots.new) result }
     ensures input { IfErr result (λ e. IfToml e (λ r. r.input ≡ source.now)) }
+    ensures listed { IfErr result (λ e. IfToml e IsListed) }
 {
     match kind {
         Kind::Line => add_last(alloc, source, key, at, item, slots),
@@ -65,6 +68,7 @@ fn put_table(
     ensures put { (mode : Mode) (s : Source) (m : Mention Source) → IsHeaded mode s (item_view item.old) → IsKeyOf mode s false m key at
         → PutsLast mode source.now a_table m (slots_view slots.old) (slots_view slots.new) result }
     ensures input { IfErr result (λ e. IfToml e (λ r. r.input ≡ source.now)) }
+    ensures listed { IfErr result (λ e. IfToml e IsListed) }
 {
     match slots.find(key.get()) {
         None => {
@@ -92,6 +96,7 @@ fn put_opened(
     ensures put { (mode : Mode) (s : Source) (m : Mention Source) → IsHeaded mode s (item_view item.old) → IsKeyOf mode s false m key at
         → PutsLast mode source.now a_table m (slots_view slots.old) (slots_view slots.new) result }
     ensures input { IfErr result (λ e. IfToml e (λ r. r.input ≡ source.now)) }
+    ensures listed { IfErr result (λ e. IfToml e IsListed) }
 {
     open_item(alloc, source, at, slots.item_mut(there), item)?;
     put_slot(key, there, mem::replace(item, Item::None), slots);
@@ -119,10 +124,11 @@ fn open_item(
     ensures opened { (mode : Mode) (g : TableFields) (s : Source) (m : Mention Source) (k : Key) → item_view item.old ≡ table_of g no_slots → IsKeyOf mode s false m k at
         → Goes source.now (opened g (item_view there.old)) (table_clash m (Some (item_view there.old))) (item_view item.new) result }
     ensures input { IfErr result (λ e. IfToml e (λ r. r.input ≡ source.now)) }
+    ensures listed { IfErr result (λ e. IfToml e IsListed) }
 {
     match there {
         Item::Table(table) => open_table(alloc, source, at, table, item),
-        _ => Err(refusal(alloc, source, "duplicate key", at)),
+        _ => Err(duplicate_key(alloc, source, at)),
     }
 }
 
@@ -138,12 +144,13 @@ fn open_table(
     ensures opened { (mode : Mode) (g : TableFields) (s : Source) (m : Mention Source) (k : Key) → item_view item.old ≡ table_of g no_slots → IsKeyOf mode s false m k at
         → Goes source.now (opened g (table_node (table_view there.old))) (table_clash m (Some (table_node (table_view there.old)))) (item_view item.new) result }
     ensures input { IfErr result (λ e. IfToml e (λ r. r.input ≡ source.now)) }
+    ensures listed { IfErr result (λ e. IfToml e IsListed) }
 {
     if there.is_implicit() && !there.is_dotted() {
         fill(item, taken_slots(alloc, there));
         Ok(())
     } else {
-        Err(refusal(alloc, source, "duplicate key", at))
+        Err(duplicate_key(alloc, source, at))
     }
 }
 
@@ -186,6 +193,7 @@ fn put_element(
     ensures put { (mode : Mode) (s : Source) (m : Mention Source) → IsItemFor mode (kinds.Element brackets) s (item_view item.old) → IsKeyOf mode s false m key at
         → PutsLast mode source.now an_element m (slots_view slots.old) (slots_view slots.new) result }
     ensures input { IfErr result (λ e. IfToml e (λ r. r.input ≡ source.now)) }
+    ensures listed { IfErr result (λ e. IfToml e IsListed) }
 {
     match slots.find(key.get()) {
         Some(place) => add_element(alloc, source, brackets, at, item, slots.item_mut(place)),
@@ -227,12 +235,13 @@ fn add_element(
         → Goes source.now (with_element brackets.end (item_view item.old) (item_view holder.old)) (element_clash m (Some (item_view holder.old)))
         (item_view holder.new) result }
     ensures input { IfErr result (λ e. IfToml e (λ r. r.input ≡ source.now)) }
+    ensures listed { IfErr result (λ e. IfToml e IsListed) }
 {
     match holder {
         Item::ArrayOfTables(tables) => {
             tables.add_element(mem::replace(item, Item::None), brackets.end)?;
             Ok(())
         }
-        _ => Err(refusal(alloc, source, "duplicate key", at)),
+        _ => Err(duplicate_key(alloc, source, at)),
     }
 }

@@ -3,6 +3,7 @@
 
 mod block;
 mod document;
+mod duplicate;
 mod last_key;
 mod parser;
 mod path;

@@ -13,6 +13,7 @@ ghost use Rattle.toml_edit_syntax.specs.declared.event.EventKind.TheVariants.{Fi
 ghost use Rattle.toml_edit_version.specs.Grammar.{grammar};
 ghost use Rattle.toml_edit_tree.specs.View.{slots_view};
 ghost use Rattle.toml_edit_repr.specs.Modes.{mode_of};
+ghost use Rattle.toml_edit_parser.specs.Listed.{IsListedIn};
 ghost use Rattle.toml_edit_parser.specs.ValueRead.{AreIn, split_leading};
 ghost use Rattle.toml_edit_builder.specs.StatementRead.{Builds, IsHeld, IsWhole, ReadsStatement};
 
@@ -112,6 +113,7 @@ pub(crate) fn build(
     ensures built { (d : Document) → IsCut d source.now → events.now ≡ shortened 0 (events_of d)
         → Builds (mode_of mode) (grammar version) slots_view source.now d result }
     ensures input { IfErr result (λ e. IfToml e (λ r. r.input ≡ source.now)) }
+    ensures listed { IfErr result (λ e. IfToml e (IsListedIn (grammar version))) }
 {
     let mut building = Building {
         root: Slots::new(alloc),

@@ -1,5 +1,6 @@
 //! What a statement adds at the end of its path: down the path, key by key.
-ghost use Rattle.std.specs.Prelude.{◌≡◌, true, List, None, Some, IfErr, option_map};
+ghost use Rattle.std.specs.Prelude.{◌≡◌, true, List, None, Some, Contains, IfErr, option_map};
+ghost use Rattle.toml_edit_model.specs.Messages.{fault_messages};
 ghost use Rattle.toml_edit_model.specs.Mode.{Mode};
 ghost use Rattle.toml_edit_model.specs.Paths.{Mention, Source};
 ghost use Rattle.toml_edit_model.specs.Roles.{Role, extends};
@@ -13,17 +14,19 @@ ghost use Rattle.toml_edit_laws.specs.TableTree.{change_table};
 ghost use Rattle.toml_edit_error.specs.Fault.{IfToml};
 ghost use Rattle.toml_edit_slots.specs.Slots.{place};
 ghost use Rattle.toml_edit_syntax.specs.Events.{IsSpanOf};
+ghost use Rattle.toml_edit_parser.specs.Listed.{IsListed};
 ghost use Rattle.toml_edit_parser.specs.ValueRead.{AreIn};
 ghost use Rattle.toml_edit_tree.specs.Containers.{table_node, tables_node};
 ghost use Rattle.toml_edit_tree.specs.View.{item_view, slots_view, table_view, tables_view, value_view};
 ghost use Rattle.toml_edit_builder.specs.TableRead as spec;
 ghost use Rattle.toml_edit_builder.specs.TableRead.{AddsInside, AddsPath, Goes, IsItemFor, IsKeyOf, IsPathOf, addition_for};
 
+use crate::duplicate::duplicate_key;
 use crate::last_key::put_last;
 use std::alloc::Global;
 use toml_edit_error::ParseFault;
 use toml_edit_key::Key;
-use toml_edit_parser::{KeyPath, PathKey, add_last, next_key, push_item, refusal, refusal_of_all};
+use toml_edit_parser::{KeyPath, PathKey, add_last, next_key, push_item, refusal, refusal_at_end};
 use toml_edit_slots::Slots;
 use toml_edit_syntax::Span;
 use toml_edit_tree::{ArrayOfTables, Item, Table, Value};
@@ -61,6 +64,7 @@ pub fn add_path(
     ensures added { (mode : Mode) (s : Source) (ms : List (Mention Source)) → IsItemFor mode kind s (item_view item.old) → IsPathOf mode source.now s ms path.entry
         → AddsPath mode source.now (addition_for kind (item_view item.old)) ms (slots_view slots.old) (slots_view slots.new) result }
     ensures input { IfErr result (λ e. IfToml e (λ r. r.input ≡ source.now)) }
+    ensures listed { IfErr result (λ e. IfToml e IsListed) }
 {
     let PathKey { key, span, rest } = next_key(alloc, source, path)?;
     match rest {
@@ -86,6 +90,7 @@ pub(crate) fn add_value(
     ensures added { (mode : Mode) (s : Source) (ms : List (Mention Source)) → IsPathOf mode source.now s ms path.entry
         → AddsPath mode source.now (a_value (item_view item.old)) ms (slots_view slots.old) (slots_view slots.new) result }
     ensures input { IfErr result (λ e. IfToml e (λ r. r.input ≡ source.now)) }
+    ensures listed { IfErr result (λ e. IfToml e IsListed) }
 {
     if path.events.len() != 1 {
         return add_path(alloc, source, Kind::Line, path, item, slots);
@@ -93,7 +98,7 @@ pub(crate) fn add_value(
     let PathKey { key, span, rest } = next_key(alloc, source, path)?;
     match rest {
         None => add_last(alloc, source, key, span, item, slots),
-        Some(_) => Err(refusal_of_all(alloc, source, "expected a key")),
+        Some(_) => Err(refusal_at_end(alloc, source, "expected a key")),
     }
 }
 
@@ -118,6 +123,7 @@ fn add_below(
         (table_of (made_by_path spanned_form (makes_dotted (addition_for kind (item_view item.old))) (Some (span.start, span.end))) inner))
         (model.add_in_place mode (addition_for kind (item_view item.old)) ms no_slots)) None (slots_view slots.new) result }
     ensures input { IfErr result (λ e. IfToml e (λ r. r.input ≡ source.now)) }
+    ensures listed { IfErr result (λ e. IfToml e IsListed) }
 {
     let mut inner = Slots::new(alloc);
     add_path(alloc, source, kind, path, item, &mut inner)?;
@@ -151,6 +157,7 @@ fn add_in_item(
         → IsPathOf mode source.now s ms path.entry
         → AddsInside mode source.now (addition_for kind (item_view item.old)) m ms (item_view holder.old) (item_view holder.new) result }
     ensures input { IfErr result (λ e. IfToml e (λ r. r.input ≡ source.now)) }
+    ensures listed { IfErr result (λ e. IfToml e IsListed) }
 {
     match holder {
         Item::Table(table) => add_in_table(alloc, source, kind, span, path, item, table),
@@ -158,13 +165,15 @@ fn add_in_item(
             add_in_tables(alloc, source, kind, span, path, item, tables)
         }
         Item::Value(value) => Err(refusal(alloc, source, extend_message(value), span)),
-        Item::None => Err(refusal(alloc, source, "duplicate key", span)),
+        Item::None => Err(duplicate_key(alloc, source, span)),
     }
 }
 
 /// What to say of a key of a path that goes on, where this value stands.
 fn extend_message(value: &Value) -> &'static str
-    ensures { (later : Role) → extends later ≡ true → result.now ≡ table_way_message later (value_view value.now) }
+    ensures message { (later : Role) → extends later ≡ true → result.now ≡ table_way_message later (value_view value.now) }
+    // It is one of those that there are.
+    ensures listed { Contains fault_messages result.now }
 {
     match value {
         Value::String(_) => "cannot extend value of type string with a dotted key",
@@ -194,10 +203,11 @@ fn add_in_table(
         → IsPathOf mode source.now s ms path.entry
         → AddsInside mode source.now (addition_for kind (item_view item.old)) m ms (table_node (table_view table.old)) (table_node (table_view table.new)) result }
     ensures input { IfErr result (λ e. IfToml e (λ r. r.input ≡ source.now)) }
+    ensures listed { IfErr result (λ e. IfToml e IsListed) }
 {
     if is_line(kind) {
         if !table.is_implicit() {
-            return Err(refusal(alloc, source, "duplicate key", span));
+            return Err(duplicate_key(alloc, source, span));
         }
         table.set_dotted(true);
     }
@@ -221,12 +231,13 @@ fn add_in_tables(
         → IsPathOf mode source.now s ms path.entry
         → AddsInside mode source.now (addition_for kind (item_view item.old)) m ms (tables_node (tables_view tables.old)) (tables_node (tables_view tables.new)) result }
     ensures input { IfErr result (λ e. IfToml e (λ r. r.input ≡ source.now)) }
+    ensures listed { IfErr result (λ e. IfToml e IsListed) }
 {
     if is_line(kind) {
-        return Err(refusal(alloc, source, "duplicate key", span));
+        return Err(duplicate_key(alloc, source, span));
     }
     match tables.values.last_mut() {
-        None => Err(refusal(alloc, source, "duplicate key", span)),
+        None => Err(duplicate_key(alloc, source, span)),
         Some(last) => add_in_element(alloc, source, kind, span, path, item, last),
     }
 }
@@ -249,10 +260,11 @@ fn add_in_element(
         → Goes source.now (change_table (model.add_in_place mode (addition_for kind (item_view item.old)) ms) (item_view holder.old))
         (clash_in_last (m, way) (path_clash (addition_for kind (item_view item.old)) ms) (item_of (item_view holder.old) no_items)) (item_view holder.new) result }
     ensures input { IfErr result (λ e. IfToml e (λ r. r.input ≡ source.now)) }
+    ensures listed { IfErr result (λ e. IfToml e IsListed) }
 {
     match holder {
         Item::Table(table) => add_in_slots(alloc, source, kind, path, item, table),
-        _ => Err(refusal(alloc, source, "duplicate key", span)),
+        _ => Err(duplicate_key(alloc, source, span)),
     }
 }
 
@@ -271,6 +283,7 @@ fn add_in_slots(
         → Goes source.now (change_table (model.add_in_place mode (addition_for kind (item_view item.old)) ms) (table_node (table_view table.old)))
         (path_clash (addition_for kind (item_view item.old)) ms (table_view table.old).slots) (table_node (table_view table.new)) result }
     ensures input { IfErr result (λ e. IfToml e (λ r. r.input ≡ source.now)) }
+    ensures listed { IfErr result (λ e. IfToml e IsListed) }
 {
     add_path(alloc, source, kind, path, item, table.slots_mut())
 }

@@ -1,10 +1,10 @@
 //! One statement after another, from its events into the tables of a document.
-ghost use Rattle.std.specs.Prelude.{◌≡◌, ◌+◌, ◌-◌, ◌<◌, ◌≤◌, ◌^◌, ◌++◌, ◌∷◌, Bool, true, false, List, ℕ, suc, pos, length, Contains, IfErr, IfOk, IfSome, IsNone, OnOk, option_map};
+ghost use Rattle.std.specs.Prelude.{◌≡◌, ◌+◌, ◌-◌, ◌<◌, ◌≤◌, ◌^◌, ◌++◌, ◌∷◌, Bool, true, false, List, ℕ, suc, pos, length, Contains, IfErr, IfOk, IfSome, IsNone, IsSome, OnOk, option_map};
 ghost use Rattle.toml_edit_model.specs.Syntax as syntax;
 ghost use Rattle.toml_edit_model.specs.Syntax.{Frame, Header, Segment, Statement, brackets_text, key_line, opening_brackets, path_text, statement_text};
 ghost use Rattle.toml_edit_model.specs.Mode as modes;
 ghost use Rattle.toml_edit_model.specs.Text.{Text};
-ghost use Rattle.toml_edit_model.specs.Version.{is_of_version};
+ghost use Rattle.toml_edit_model.specs.Version.{is_of_version, v1_0};
 ghost use Rattle.toml_edit_model.specs.Faults.{fault, late_faults, needs_message};
 ghost use Rattle.toml_edit_model.specs.Tree.{Decor};
 ghost use Rattle.toml_edit_laws.specs.Building.{Builder, source_at};
@@ -18,6 +18,7 @@ ghost use Rattle.toml_edit_repr.specs.Modes.{mode_of};
 ghost use Rattle.toml_edit_parser.specs.PairRead.{IsEndOfPath};
 ghost use Rattle.toml_edit_parser.specs.PathRead.{IsPathFrom};
 ghost use Rattle.toml_edit_parser.specs.StatementParts.{IsEnded, header_behind, line_behind};
+ghost use Rattle.toml_edit_parser.specs.Listed.{IsListed, IsListedIn};
 ghost use Rattle.toml_edit_parser.specs.ValueRead.{AreIn, span_at};
 ghost use Rattle.toml_edit_builder.specs.StatementRead.{AreHeaderParts, IsHeld, IsWhole, OpensBlock, ReadsInVersion, ReadsNames, ReadsStatement, kind_of};
 ghost use Rattle.toml_edit_builder.specs.TableRead.{IsHeaded};
@@ -28,7 +29,7 @@ use crate::path::{Kind, add_path, add_value};
 use std::alloc::Global;
 use toml_edit_error::ParseFault;
 use toml_edit_parser::{
-    KeyPath, PathKey, next_key, put, raw, read_header, read_key_line, refusal, refusal_of_all,
+    KeyPath, PathKey, next_key, put, raw, read_header, read_key_line, refusal, refusal_at_end,
     split_first,
 };
 use toml_edit_repr::{Decor, Mode};
@@ -58,6 +59,8 @@ fn late_part(source: &str, version: Version, events: &[Event]) -> Option<Span>
         → events.now ≡ shortened 0 (statement_events start s ++ more) → has_deep_value s ≡ false → IsNone result
         → is_of_version (grammar version) s ≡ true }
     ensures span { IfSome result (λ span. IsSpanOf source.now span) }
+    // TOML 1.1 lacks none.
+    ensures early { IsSome result → grammar version ≡ v1_0 }
 {
     match version {
         Version::V1_0 => late_part_of_statement(source, events),
@@ -81,6 +84,7 @@ pub(crate) fn read_in_version<'a>(
         → IsEnded source.now b.start s → IsHeld b building.old → events.now ≡ shortened 0 (statement_events b.start s ++ more)
         → ReadsInVersion (mode_of mode) (grammar version) source.now b s more building.new result }
     ensures input { IfErr result (λ e. IfToml e (λ r. r.input ≡ source.now)) }
+    ensures listed { IfErr result (λ e. IfToml e (IsListedIn (grammar version))) }
     ensures rest { IfOk result (λ r. AreIn source.now r.now × (length r.now < length events.now)) }
     ensures count { IfOk result (λ r. building.new.headers + length r.now ≤ building.old.headers + length events.now) }
 {
@@ -104,14 +108,15 @@ fn read_statement<'a>(
         → IsEnded source.now b.start s → IsHeld b building.old → events.now ≡ shortened 0 (statement_events b.start s ++ more)
         → ReadsStatement (mode_of mode) source.now b s more building.new result }
     ensures input { IfErr result (λ e. IfToml e (λ r. r.input ≡ source.now)) }
+    ensures listed { IfErr result (λ e. IfToml e IsListed) }
     ensures rest { IfOk result (λ r. AreIn source.now r.now × (length r.now < length events.now)) }
     ensures count { IfOk result (λ r. building.new.headers + length r.now ≤ building.old.headers + length events.now) }
 {
     let Some((leading, behind)) = split_first(events) else {
-        return Err(refusal_of_all(alloc, source, "expected a key"));
+        return Err(refusal_at_end(alloc, source, "expected a key"));
     };
     let Some((opening, inside)) = split_first(behind) else {
-        return Err(refusal_of_all(alloc, source, "expected a key"));
+        return Err(refusal_at_end(alloc, source, "expected a key"));
     };
     match opening.kind {
         EventKind::HeaderOpen => add_header(
@@ -154,6 +159,7 @@ fn add_line<'a>(
         → leading ≡ span_at b.start f.leading → events.now ≡ shortened 0 (line_behind b.start f v more)
         → ReadsStatement (mode_of mode) source.now b (key_line f v end) more building.new result }
     ensures input { IfErr result (λ e. IfToml e (λ r. r.input ≡ source.now)) }
+    ensures listed { IfErr result (λ e. IfToml e IsListed) }
     ensures rest { IfOk result (λ r. AreIn source.now r.now × (length r.now < length events.now)) }
     ensures count { OnOk result (building.new.headers ≡ building.old.headers) }
 {
@@ -184,6 +190,7 @@ fn add_header<'a>(
         → opening ≡ span_at (b.start + length h.leading) (opening_brackets h.is_array) → events.now ≡ shortened 0 (header_behind b.start h more)
         → ReadsStatement (mode_of mode) source.now b (syntax.header h end) more building.new result }
     ensures input { IfErr result (λ e. IfToml e (λ r. r.input ≡ source.now)) }
+    ensures listed { IfErr result (λ e. IfToml e IsListed) }
     ensures rest { IfOk result (λ r. AreIn source.now r.now × (length r.now < length events.now)) }
     ensures count { OnOk result (building.new.headers ≡ building.old.headers + 1) }
 {
@@ -218,6 +225,7 @@ fn open_block(
         → Stands source.now b.start (statement_text (syntax.header h end)) → IsHeld b building.old → AreHeaderParts mode h end b.start header.entry
         → OpensBlock mode source.now b (syntax.header h end) building.new result }
     ensures input { IfErr result (λ e. IfToml e (λ r. r.input ≡ source.now)) }
+    ensures listed { IfErr result (λ e. IfToml e IsListed) }
     ensures count { OnOk result (building.new.headers ≡ building.old.headers + 1) }
 {
     swap_block(
@@ -286,6 +294,7 @@ fn read_names(alloc: Global, source: &str, path: KeyPath<'_>) -> Result<Vec<Stri
     ensures names { (own : Decor) (p : List Segment) (start : ℕ) → IsEndOfPath p → Stands source.now start (path_text p)
         → IsPathFrom own start p path.entry → ReadsNames p result }
     ensures input { IfErr result (λ e. IfToml e (λ r. r.input ≡ source.now)) }
+    ensures listed { IfErr result (λ e. IfToml e IsListed) }
 {
     let mut names = Vec::new(alloc);
     let mut left = path;

@@ -1,5 +1,5 @@
 -- The first key of a path, by its events.
-use Rattle.std.proofs.Common.{◌≡◌, ℕ, ◌+◌, ◌-◌, List, [], ◌∷◌, length, sym, ap, ◌∙◌, arith, Option, Some, None}
+use Rattle.std.proofs.Common.{◌≡◌, ◌<◌, ℕ, ◌+◌, ◌-◌, List, [], ◌∷◌, length, sym, ap, subst, ◌∙◌, arith, Option, Some, None}
 use Rattle.toml_edit_model.specs.Text.{Text}
 use Rattle.toml_edit_model.specs.Spelling.{SpellsKey}
 use Rattle.toml_edit_model.specs.Syntax.{Segment, segment_text, path_text}
@@ -17,7 +17,7 @@ use Rattle.toml_edit_syntax.specs.ValueEvents.{event, path_events}
 use Rattle.toml_edit_parser.specs.declared.pairs.KeyPath.{KeyPath}
 use Rattle.toml_edit_parser.specs.PairRead.{IsEndOfPath, PathView, key_with, leaf_of, path_of, split_dot}
 use Rattle.toml_edit_parser.specs.PathRead.{IsFirstKey, IsPathFrom, segment_key}
-use Rattle.toml_edit_parser.specs.ValueRead.{span_at, spanned_raw, split_first}
+use Rattle.toml_edit_parser.specs.ValueRead.{AreIn, span_at, spanned_raw, split_first}
 use Rattle.toml_edit_parser.proofs.ArrayLaws.{spanned_raw-is}
 use Rattle.toml_edit_parser.proofs.EntryLaws.{key-spelled, same_dots}
 use Rattle.toml_edit_parser.proofs.ReadLaws.{same_parts}
@@ -96,6 +96,18 @@ last-read source own (s ∷ []) start path first rest name k f told none is =
 last-read source own (s ∷ r ∷ more) start path first rest name k f told none is =
     let e = more_events source own start s r more path first rest f in
     absurd (let g = none ∙ ap (split_dot path) e.1 in cc)
+
+-- the events behind a dot lie in the text where those before it do, and are fewer
+pub behind-dot-in : (t : Text) (path : KeyPath) (after : Span) (inside : KeyPath) (rest : List Event)
+    → ◌≡◌ {A = Option (Span × PathView)} (Some (after, path_of inside)) (split_dot path rest) → AreIn t rest
+    → AreIn t inside.events.now × (length inside.events.now < length rest)
+behind-dot-in t path after inside [] dot h = absurd cc
+behind-dot-in t path after inside (a ∷ []) dot h = absurd cc
+behind-dot-in t path after inside (a ∷ b ∷ es) dot h =
+    let dots = same_dots after a.span (path_of inside) _ dot in (
+      subst (AreIn t) (sym (ap (λ (v : PathView). v.events) dots.1)) h.1.1,
+      let n = ap (λ (v : PathView). length v.events) dots.1 in omega arith,
+    )
 
 abbrev decor_in : PathView → Decor
 decor_in p = record { prefix = Some (spanned_raw p.prefix); suffix = Some (spanned_raw p.suffix) }

@@ -1,14 +1,13 @@
 -- A lone value in a version of TOML.
-use Rattle.std.proofs.Common.{◌≡◌, inl, inr, refl, sym, ap, ◌∙◌, subst, ◌-◌, ◌≤◌, arith, lit<, true, false, Bool, List, [], ◌∷◌, length, Some}
+use Rattle.std.proofs.Common.{◌≡◌, inl, inr, refl, sym, ap, ◌∙◌, subst, ◌-◌, ◌≤◌, arith, true, false, Bool, List, length, Some}
 use Rattle.std.specs.Prelude.{◌&&◌, nat_le, Contains, Result, Ok, Err, IfErr, IfOk}
 use Rattle.std.proofs.lemmas.Bool.Decides.{nat_tests}
 use Rattle.std.proofs.lemmas.List.Elements.{Contains-append_left, Contains-append_right}
 use Rattle.toml_edit_model.specs.Text.{Text}
 use Rattle.toml_edit_model.specs.Syntax.{Value, depth, nesting_limit, has_short_keys, keeps_ranges}
-use Rattle.toml_edit_model.specs.Version.{Version, v1_0, v1_1, is_value_of, late_value}
+use Rattle.toml_edit_model.specs.Version.{Version, v1_0, is_value_of, late_value}
 use Rattle.toml_edit_model.specs.Accepted.{has_agreeing_pairs}
 use Rattle.toml_edit_model.specs.Faults.{needs_message, late_value_faults, value_faults}
-use Rattle.toml_edit_model.specs.Messages.{fault_messages, fault_messages_in}
 use Rattle.toml_edit_model.specs.Lone.{IsLoneValue, is_accepted_value, is_accepted_value_in}
 use Rattle.toml_edit_model.specs.Tree.{Node}
 use Rattle.toml_edit_laws.proofs.common.Tests.{and_left, and_right}
@@ -26,7 +25,9 @@ use Rattle.toml_edit_tree.specs.declared.value.Value as code
 use Rattle.toml_edit_tree.specs.View.{value_view}
 use Rattle.toml_edit_parser.proofs.LoneValueLaws.{either}
 use Rattle.toml_edit_parser.proofs.ReadLaws.{within_depth}
+use Rattle.toml_edit_parser.proofs.ListedLaws.{report_in}
 use Rattle.toml_edit_parser.specs.LoneValue.{IsLoneReading, IsLoneReadingIn, IsLoneRefusal, IsLoneRefusalIn}
+use Rattle.toml_edit_parser.specs.Listed.{IsListedIn}
 
 -- ---- accepted in a version
 
@@ -67,20 +68,17 @@ module _ (version : Version) (t : Text) where
         item = h.item;
       }
 
-  listed_in : (version : Version) (m : Text) → Contains fault_messages m → Contains (fault_messages_in version) m
-  listed_in v1_0 m h = Contains-append_right (needs_message ∷ []) fault_messages m h
-  listed_in v1_1 m h = h
-
   refusal_in : (r : Report) → IsLoneRefusal t r → IsLoneRefusalIn version t r
   refusal_in r h =
       record {
         input = h.input;
+        listed = report_in version r h.listed;
         names =
             record {
               names = λ v lone.
                   Contains-append_right (late_value_faults version (length lone.before) v) (value_faults v (length lone.before) 0) (fault_of r)
                   (h.names.names v lone);
-              allowed = elim h.names.allowed [ inl s ↦ inl s | inr m ↦ inr (listed_in version r.message m) ];
+              allowed = (report_in version r h.listed).allowed;
             };
         syntax = h.syntax;
         refused = λ v lone. wrong_in version v (h.refused v lone);
@@ -108,10 +106,12 @@ module _ (t : Text) (s : Span) (told : (v : Value) (lone : IsLoneValue t v) → 
   not_early v lone = not_value_of v (length lone.before) (s.start, s.end - s.start) (told v lone)
 
   pub late_refused : (es : List Event) (e : ParseFault) → AreLoneEvents t es → IsSpanOf t s
-      → IfToml e (λ r. r ≡ record { message = needs_message; span = Some (s.start, s.end); input = t }) → IfToml e (IsLoneRefusalIn v1_0 t)
-  late_refused es (Toml r) are there is =
+      → IfToml e (λ r. r ≡ record { message = needs_message; span = Some (s.start, s.end); input = t }) → IfToml e (IsListedIn v1_0)
+      → IfToml e (IsLoneRefusalIn v1_0 t)
+  late_refused es (Toml r) are there is listed =
       record {
         input = ap (λ x. x.input) is;
+        listed = listed;
         names =
             record {
               names = λ v lone.
@@ -119,7 +119,7 @@ module _ (t : Text) (s : Span) (told : (v : Value) (lone : IsLoneValue t v) → 
                   Contains-append_left (late_value_faults v1_0 i v) (value_faults v i 0) (fault_of r)
                   (subst (λ (x : Report). Contains (late_value_faults v1_0 i v) (fault_of x)) (sym is)
                   (late_value_fault v i s.start s.end there.order (told v lone)));
-              allowed = inr (subst (λ (x : Report). Contains (fault_messages_in v1_0) x.message) (sym is) (0, lit< tt, refl));
+              allowed = listed.allowed;
             };
         syntax = λ none. elim (either (are_deep es)) [
           | inl short ↦ inr (are.brackets short)
@@ -127,4 +127,4 @@ module _ (t : Text) (s : Span) (told : (v : Value) (lone : IsLoneValue t v) → 
         ];
         refused = λ v lone. ap (λ b. b && is_accepted_value v) (not_early v lone);
       }
-  late_refused es Memory are there is = tt
+  late_refused es Memory are there is listed = tt

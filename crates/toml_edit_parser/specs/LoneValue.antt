@@ -12,6 +12,7 @@ use Rattle.toml_edit_error.specs.Fault.{IfToml}
 use Rattle.toml_edit_error.specs.declared.toml_error.ParseFault.{ParseFault}
 use Rattle.toml_edit_parser.specs.declared.options.ParseOptions.{ParseOptions}
 use Rattle.toml_edit_parser.specs.Options.{version_of}
+use Rattle.toml_edit_parser.specs.Listed.{IsListedIn}
 use Rattle.toml_edit_tree.specs.declared.item.Item.{Item}
 use Rattle.toml_edit_tree.specs.declared.value.Value as code
 use Rattle.toml_edit_tree.specs.View.{item_view, value_view}
@@ -24,10 +25,12 @@ pub record IsLoneReadingIn (version : Version) (t : Text) (n : Node) : Type 0 wh
   pub only : (other : Value) → IsLoneValue t other → other ≡ value
   pub item : IsLoneItem value n
 
--- The report is of the text, and names what a text may be refused with that was to be one value: if it is one, that isn't accepted in the
--- version; if it is none, what is wrong with its syntax, unless too many brackets are open before that.
+-- The report is of the text, with one of the messages that there are, and names what a text may be refused with that was to be one
+-- value: if it is one, that isn't accepted in the version; if it is none, what is wrong with its syntax, unless too many brackets are
+-- open before that.
 pub record IsLoneRefusalIn (version : Version) (t : Text) (r : Report) : Type 0 where
   pub input : r.input ≡ t
+  pub listed : IsListedIn version r
   pub names : MayRefuseValueIn version t (fault_of r)
   pub syntax : ((v : Value) → IsLoneValue t v → ⊥) → IsSyntaxFault (fault_of r) ⊎ ValueOpensTooMany t
   pub refused : (v : Value) → IsLoneValue t v → is_accepted_value_in version v ≡ false

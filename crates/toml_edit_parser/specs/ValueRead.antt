@@ -1,11 +1,10 @@
 -- What reading a value, the elements of an array or one of them does, by the events of the text.
-use Rattle.std.specs.Prelude.{◌≡◌, ◌⊎◌, ℕ, ◌+◌, Bool, true, false, List, [], ◌∷◌, ◌++◌, length, Contains, Option, Some, None, if◌then◌else◌, ◌==◌, Result, Ok, Err}
+use Rattle.std.specs.Prelude.{◌≡◌, ℕ, ◌+◌, Bool, true, false, List, [], ◌∷◌, ◌++◌, length, Contains, Option, Some, None, if◌then◌else◌, ◌==◌, Result, Ok, Err}
 use Rattle.std.specs.List.{AllByRecursion}
 use Rattle.std.specs.Borrow.{Bor}
 use Rattle.toml_edit_model.specs.Text.{Text}
 use Rattle.toml_edit_model.specs.Syntax.{Around, Value, Elements, no_elements, element, value_text, elements_text}
 use Rattle.toml_edit_model.specs.Faults.{Fault, value_faults, elements_faults}
-use Rattle.toml_edit_model.specs.Messages.{IsSyntaxFault, fault_messages}
 use Rattle.toml_edit_model.specs.Tree.{Raw, owned, span, unset, Node, Items}
 use Rattle.toml_edit_model.specs.TreeOf.{spanned_form, decor_at, IsValueNode, AreElementNodes}
 use Rattle.toml_edit_model.specs.Conversions.{with_decor}
@@ -36,10 +35,6 @@ AreIn t es = AllByRecursion (λ e. IsSpanOf t e.span) es
 -- the span, or the empty text where nothing stands there
 abbrev pub spanned_raw : Span → Raw
 spanned_raw s = if s.start == s.end then owned [] else span s.start s.end
-
--- the message is one of those for a text outside the grammar, with a place, or one of those of faults
-pub record IsListed (r : Report) : Type 0 where
-  pub listed : IsSyntaxFault (fault_of r) ⊎ Contains fault_messages r.message
 
 -- ---- parts of a list of events
 

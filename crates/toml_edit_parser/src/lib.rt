@@ -15,7 +15,7 @@ pub use options::ParseOptions;
 #[doc(hidden)]
 pub use pairs::{KeyPath, add_last, push_item};
 #[doc(hidden)]
-pub use reader::{are_cut_short, raw, refusal, refusal_of_all, split_first};
+pub use reader::{are_cut_short, raw, refusal, refusal_at_end, refusal_of_all, split_first};
 #[doc(hidden)]
 pub use statement::{HeaderSpans, put, read_header, read_key_line};
 pub use toml_edit_version::Version;

@@ -1,6 +1,8 @@
 //! Values from their events.
 ghost use Rattle.std.specs.Prelude.{◌≡◌, ◌+◌, ◌≤◌, ◌<◌, ◌++◌, ◌∷◌, ◌-◌, List, ℕ, suc, [], Bool, codes, length, None, Some, OnOk, IfErr, IfOk, option_map};
 ghost use Rattle.toml_edit_model.specs.Text.{Text};
+ghost use Rattle.toml_edit_model.specs.Faults.{recursion_limit};
+ghost use Rattle.toml_edit_model.specs.Version.{Version};
 ghost use Rattle.toml_edit_model.specs.Scalars.{Scalar};
 ghost use Rattle.toml_edit_model.specs.Spelling.{Spells};
 ghost use Rattle.toml_edit_model.specs.Syntax as syntax;
@@ -15,7 +17,8 @@ ghost use Rattle.toml_edit_parser.specs.ScalarRead.{ReadsScalar};
 ghost use Rattle.toml_edit_syntax.specs.declared.event.EventKind.TheVariants.{After, ArrayClose};
 ghost use Rattle.toml_edit_tree.specs.Containers.{array_node};
 ghost use Rattle.toml_edit_parser.specs.ValueRead as spec;
-ghost use Rattle.toml_edit_parser.specs.ValueRead.{ElementsStand, span_at, AreIn, IsListed, ReadsElement, ReadsElements, ReadsValue};
+ghost use Rattle.toml_edit_parser.specs.Listed.{IsListed, IsListedIn, IsMessageIn};
+ghost use Rattle.toml_edit_parser.specs.ValueRead.{ElementsStand, span_at, AreIn, ReadsElement, ReadsElements, ReadsValue};
 ghost use Rattle.toml_edit_tree.specs.View.{array_view, items_view, value_view};
 ghost use Rattle.toml_edit_model.specs.OwnedForm.{ItemsFit, RawFits, NodeFits, cut_out};
 
@@ -73,7 +76,9 @@ pub fn raw(span: Span) -> RawString
 #[inline(never)]
 pub fn refusal(alloc: Global, source: &str, message: &str, span: Span) -> ParseFault
     requires { IsSpanOf source.now span }
-    ensures { IfToml result (λ r. r ≡ record { message = message.now; span = Some (span.start, span.end); input = source.now }) }
+    ensures report { IfToml result (λ r. r ≡ record { message = message.now; span = Some (span.start, span.end); input = source.now }) }
+    // It is an error of each version that has the message.
+    ensures listed { (version : Version) → IsMessageIn version message.now → IfToml result (IsListedIn version) }
 {
     toml_edit_error::refusal(alloc, source, message, Some((span.start, span.end)))
 }
@@ -83,16 +88,19 @@ pub fn refusal(alloc: Global, source: &str, message: &str, span: Span) -> ParseF
 #[cold]
 #[inline(never)]
 pub fn refusal_of_all(alloc: Global, source: &str, message: &str) -> ParseFault
-    ensures { IfToml result (λ r. r ≡ record { message = message.now; span = None; input = source.now }) }
+    ensures report { IfToml result (λ r. r ≡ record { message = message.now; span = None; input = source.now }) }
+    ensures listed { (version : Version) → message.now ≡ recursion_limit → IfToml result (IsListedIn version) }
 {
     toml_edit_error::refusal(alloc, source, message, None)
 }
 
 /// The error with this message about the end of the text.
+#[doc(hidden)]
 #[cold]
 #[inline(never)]
-pub(crate) fn refusal_at_end(alloc: Global, source: &str, message: &str) -> ParseFault
-    ensures { IfToml result (λ r. r ≡ record { message = message.now; span = Some (length source.now, length source.now); input = source.now }) }
+pub fn refusal_at_end(alloc: Global, source: &str, message: &str) -> ParseFault
+    ensures report { IfToml result (λ r. r ≡ record { message = message.now; span = Some (length source.now, length source.now); input = source.now }) }
+    ensures listed { (version : Version) → IsMessageIn version message.now → IfToml result (IsListedIn version) }
 {
     let end = source.len();
     toml_edit_error::refusal(alloc, source, message, Some((end, end)))

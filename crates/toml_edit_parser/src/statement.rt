@@ -15,11 +15,14 @@ ghost use Rattle.toml_edit_syntax.specs.declared.event.EventKind.TheVariants.{Li
 ghost use Rattle.toml_edit_repr.specs.Modes.{mode_of};
 ghost use Rattle.toml_edit_parser.specs.PairRead.{path_of};
 ghost use Rattle.toml_edit_parser.specs.StatementParts.{IsEnded, ReadsHeader, ReadsLineParts, ReadsLineValue, header_behind, line_behind, suffix_span};
+ghost use Rattle.toml_edit_parser.specs.Listed.{IsListed};
 ghost use Rattle.toml_edit_parser.specs.ValueRead.{span_at, AreIn};
 ghost use Rattle.toml_edit_tree.specs.View.{item_view};
 
 use crate::pairs::{KeyPath, MOST_PATH_EVENTS, path_end, split_frame};
-use crate::reader::{cut, raw, read_value, refusal, refusal_of_all, split_first, split_scalar};
+use crate::reader::{
+    cut, raw, read_value, refusal, refusal_at_end, refusal_of_all, split_first, split_scalar,
+};
 use std::alloc::Global;
 use toml_edit_error::ParseFault;
 use toml_edit_repr::{Decor, Mode};
@@ -68,11 +71,12 @@ pub fn read_key_line<'a>(
         → leading ≡ span_at start f.leading → events.now ≡ shortened 0 (line_behind start f v more)
         → ReadsLineParts (mode_of mode) source.now f v end start more (item_view item.new) result }
     ensures input { IfErr result (λ e. IfToml e (λ r. r.input ≡ source.now)) }
+    ensures listed { IfErr result (λ e. IfToml e IsListed) }
     ensures path { IfOk result (λ r. AreIn source.now r.0.events.now) }
     ensures rest { IfOk result (λ r. AreIn source.now r.1.now × (length r.1.now < length events.now)) }
 {
     let Some((frame, rest)) = split_frame(leading, events) else {
-        return Err(refusal_of_all(alloc, source, "expected a key"));
+        return Err(refusal_at_end(alloc, source, "expected a key"));
     };
     if MOST_PATH_EVENTS < frame.path.len() {
         return Err(refusal_of_all(alloc, source, "recursion limit"));
@@ -126,6 +130,7 @@ fn read_line_value<'a>(
         → suffix_span (mode_of mode) source.now (span_at (start + length (value_text v)) after) ≡ span_at (start + length (value_text v)) suffix
         → ReadsLineValue (mode_of mode) source.now v start before suffix more (item_view item.new) result }
     ensures input { IfErr result (λ e. IfToml e (λ r. r.input ≡ source.now)) }
+    ensures listed { IfErr result (λ e. IfToml e IsListed) }
     ensures rest { IfOk result (λ r. AreIn source.now r.now × (length r.now < length events.now)) }
 {
     match split_scalar(events) {
@@ -151,10 +156,11 @@ fn read_line_scalar<'a>(
         → suffix_span (mode_of mode) source.now (span_at (start + length t) after) ≡ span_at (start + length t) suffix
         → ReadsLineValue (mode_of mode) source.now (syntax.scalar s t) start before suffix more (item_view item.new) result }
     ensures input { IfErr result (λ e. IfToml e (λ r. r.input ≡ source.now)) }
+    ensures listed { IfErr result (λ e. IfToml e IsListed) }
     ensures rest { IfOk result (λ r. AreIn source.now r.now × (length r.now < length events.now)) }
 {
     let Some((end, rest)) = split_first(events) else {
-        return Err(refusal_of_all(alloc, source, "expected a newline"));
+        return Err(refusal_at_end(alloc, source, "expected a newline"));
     };
     let text = cut(source, span);
     match decode_scalar(alloc, text)? {
@@ -185,12 +191,13 @@ fn read_line_list<'a>(
         → suffix_span (mode_of mode) source.now (span_at (start + length (value_text v)) after) ≡ span_at (start + length (value_text v)) suffix
         → ReadsLineValue (mode_of mode) source.now v start before suffix more (item_view item.new) result }
     ensures input { IfErr result (λ e. IfToml e (λ r. r.input ≡ source.now)) }
+    ensures listed { IfErr result (λ e. IfToml e IsListed) }
     ensures rest { IfOk result (λ r. AreIn source.now r.now × (length r.now < length events.now)) }
 {
     let (value, rest) = read_value(alloc, source, events)?;
     put(item, Item::Value(value));
     let Some((end, rest)) = split_first(rest) else {
-        return Err(refusal_of_all(alloc, source, "expected a newline"));
+        return Err(refusal_at_end(alloc, source, "expected a newline"));
     };
     item.decorate(raw(before), raw(suffix(source, mode, end.span)));
     Ok(rest)
@@ -218,18 +225,19 @@ pub fn read_header<'a>(
         → Stands source.now start (statement_text (syntax.header h end)) → IsEnded source.now start (syntax.header h end)
         → events.now ≡ shortened 0 (header_behind start h more) → ReadsHeader (mode_of mode) source.now h end start more result }
     ensures input { IfErr result (λ e. IfToml e (λ r. r.input ≡ source.now)) }
+    ensures listed { IfErr result (λ e. IfToml e IsListed) }
     ensures path { IfOk result (λ r. AreIn source.now r.0.path.events.now) }
     ensures rest { IfOk result (λ r. AreIn source.now r.1.now × (length r.1.now < length events.now)) }
 {
     let Some((opening, inside)) = split_first(events) else {
-        return Err(refusal_of_all(alloc, source, "expected a key"));
+        return Err(refusal_at_end(alloc, source, "expected a key"));
     };
     let Some(end_of_path) = path_end(inside) else {
-        return Err(refusal_of_all(alloc, source, "expected a key"));
+        return Err(refusal_at_end(alloc, source, "expected a key"));
     };
     let (path, behind) = inside.split_at(end_of_path);
     let [closing, brackets, end, rest @ ..] = behind else {
-        return Err(refusal_of_all(alloc, source, "expected a key"));
+        return Err(refusal_at_end(alloc, source, "expected a key"));
     };
     if MOST_PATH_EVENTS < path.len() {
         return Err(refusal_of_all(alloc, source, "recursion limit"));

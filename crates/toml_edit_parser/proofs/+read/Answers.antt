@@ -1,6 +1,7 @@
 -- Each exit of the functions that read values.
-use Rattle.std.proofs.Common.{suc, ◌+◌, ◌*◌, ◌-◌, ◌∷◌, ◌++◌, length, ap, subst, ◌∙◌, arith, codes, ◌≡◌, ◌<◌, ◌≤◌, sym, lit<, refl}
+use Rattle.std.proofs.Common.{suc, ◌+◌, ◌*◌, ◌-◌, ◌∷◌, ◌++◌, length, ap, subst, ◌∙◌, arith, codes, ◌≡◌, ◌<◌, ◌≤◌, sym, lit<, refl, inl, inr}
 use Rattle.std.proofs.lemmas.Result.{err_from_is_err_and}
+use Rattle.toml_edit_model.specs.Version.{v1_1}
 use Rattle.toml_edit_model.specs.Syntax.{array, value_text, inline_table}
 use Rattle.toml_edit_model.specs.Faults.{value_faults, elements_faults}
 use Rattle.toml_edit_error.specs.Fault.{IfToml}
@@ -22,7 +23,6 @@ use Rattle.toml_edit_parser.proofs.PairLaws.{fewer-still, frame-in, leading-in, 
 use Rattle.toml_edit_parser.proofs.ElementsLaws as elements
 use Rattle.toml_edit_parser.proofs.PairsLaws as pairs
 use Rattle.toml_edit_parser.proofs.ViewLaws.{view-Value}
-use Rattle.toml_edit_parser.proofs.ListedLaws.{listed_fault, listed_syntax}
 use Rattle.toml_edit_parser.proofs.+read.Goals as goal
 use Rattle.toml_edit_model.specs.OwnedForm.{NodeFits, SlotsFit}
 
@@ -81,9 +81,9 @@ reader::read_value-returns-in_default-kind t c =
           let head = head_of v start level more c.args.events.now first rest below e c.in-Some.ensures in
           let other = c.in_default-kind in
           too_deep c.args.source.now v start level more first rest c.refusal.result other.not-Scalar other.not-ArrayOpen other.not-InlineTableOpen
-          head c.refusal.ensures;
-      input = mapped c.refusal.result _ _ (λ r is. ap (λ (x : Report). x.input) is) c.refusal.ensures;
-      listed = listed_fault _ _ _ c.refusal.result (3, lit< tt, refl) c.refusal.ensures;
+          head c.refusal.ensures.report;
+      input = mapped c.refusal.result _ _ (λ r is. ap (λ (x : Report). x.input) is) c.refusal.ensures.report;
+      listed = c.refusal.ensures.listed v1_1 (inr (3, lit< tt, refl));
       fits = tt;
       rest = tt;
     }
@@ -304,7 +304,7 @@ pairs::read_pair-returns-then-frame-gt-MOST_PATH_EVENTS-clause-pair t c =
     λ f v start level more is value stands below same e.
     let parts = the-frame start f v level _ c.args.leading c.args.events.now (parts_of c.in-Some.frame) c.in-Some.rest.now is.1 same e c.in-Some.ensures in
     too-long c.args.source.now f v start level (slots_view c.args.slots.now) c.refusal_of_all.result is.1
-    (subst (λ (q : FrameParts). 238 < length q.path) parts.0 c.if-frame-gt-MOST_PATH_EVENTS.true) c.refusal_of_all.ensures
+    (subst (λ (q : FrameParts). 238 < length q.path) parts.0 c.if-frame-gt-MOST_PATH_EVENTS.true) c.refusal_of_all.ensures.report
 
 pub pairs::read_pair-returns-clause-pair : goal.pairs::read_pair-returns-clause-pair
 pairs::read_pair-returns-clause-pair t c =
@@ -349,10 +349,10 @@ pairs::read_pair-returns-clause-rest t c =
     fewer-still s c.in-Some.rest.now c.in_ok-value.rest.now c.args.events.now c.end_pair-ended.result parts.fewer c.in_ok-value.ensures.rest.1 c.end_pair-ended.ensures.rest
 
 pub reader::read_value-returns-in_default-clause-listed : goal.reader::read_value-returns-in_default-clause-listed
-reader::read_value-returns-in_default-clause-listed t c = listed_syntax _ _ _ c.refusal_at_end.result (3, lit< tt, refl) c.refusal_at_end.ensures
+reader::read_value-returns-in_default-clause-listed t c = c.refusal_at_end.ensures.listed v1_1 (inl (3, lit< tt, refl))
 
 pub pairs::read_pair-returns-in_default-clause-listed : goal.pairs::read_pair-returns-in_default-clause-listed
-pairs::read_pair-returns-in_default-clause-listed t c = listed_syntax _ _ _ c.refusal_at_end.result (1, lit< tt, refl) c.refusal_at_end.ensures
+pairs::read_pair-returns-in_default-clause-listed t c = c.refusal_at_end.ensures.listed v1_1 (inl (1, lit< tt, refl))
 
 pub pairs::read_pair-returns-then-frame-gt-MOST_PATH_EVENTS-clause-listed : goal.pairs::read_pair-returns-then-frame-gt-MOST_PATH_EVENTS-clause-listed
-pairs::read_pair-returns-then-frame-gt-MOST_PATH_EVENTS-clause-listed t c = listed_fault _ _ _ c.refusal_of_all.result (3, lit< tt, refl) c.refusal_of_all.ensures
+pairs::read_pair-returns-then-frame-gt-MOST_PATH_EVENTS-clause-listed t c = c.refusal_of_all.ensures.listed v1_1 refl

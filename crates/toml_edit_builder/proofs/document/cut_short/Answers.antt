@@ -1,8 +1,9 @@
 -- A text whose events are cut short.
+use Rattle.std.proofs.Common.{refl}
 use Rattle.toml_edit_tree.specs.View.{slots_view}
 use Rattle.toml_edit_version.specs.Grammar.{grammar}
 use Rattle.toml_edit_repr.specs.Modes.{mode_of}
-use Rattle.toml_edit_builder.proofs.WholeLaws.{no_cut, not_refused, refusal_is, short_refusal, of_report}
+use Rattle.toml_edit_builder.proofs.WholeLaws.{no_cut, not_refused, refusal_is, short_refusal}
 use Rattle.toml_edit_builder.proofs.document.cut_short.Goals as goal
 
 pub returns-in-Ok-clause-every : goal.returns-in-Ok-clause-every
@@ -12,9 +13,9 @@ returns-in-Ok-clause-every c =
 
 pub returns-in-Ok-clause-refused : goal.returns-in-Ok-clause-refused
 returns-in-Ok-clause-refused c =
-    of_report c.refusal_of_all.result _ _
-    (λ r same. short_refusal (mode_of c.args.mode) (grammar c.args.version) c.args.source.now c.args.events.now c.requires.cut _ r c.requires.short
-    (no_cut (mode_of c.args.mode) (grammar c.args.version) c.args.source.now c.args.events.now c.requires.cut (slots_view c.in-Ok.field-0.0) c.in-Ok.field-0.1 c.in-Ok.ensures.built c.requires.short) same) c.refusal_of_all.ensures
+    short_refusal (mode_of c.args.mode) (grammar c.args.version) c.args.source.now c.args.events.now c.requires.cut _ c.refusal_of_all.result c.requires.short
+    (no_cut (mode_of c.args.mode) (grammar c.args.version) c.args.source.now c.args.events.now c.requires.cut (slots_view c.in-Ok.field-0.0) c.in-Ok.field-0.1 c.in-Ok.ensures.built c.requires.short)
+    c.refusal_of_all.ensures.report (c.refusal_of_all.ensures.listed (grammar c.args.version) refl)
 
 pub returns-clause-every : goal.returns-clause-every
 returns-clause-every c =
@@ -22,4 +23,4 @@ returns-clause-every c =
 
 pub returns-clause-refused : goal.returns-clause-refused
 returns-clause-refused c =
-    refusal_is (mode_of c.args.mode) (grammar c.args.version) c.args.source.now c.args.events.now c.requires.cut c.in-Err.fault c.in-Err.ensures.built c.in-Err.ensures.input
+    refusal_is (mode_of c.args.mode) (grammar c.args.version) c.args.source.now c.args.events.now c.requires.cut c.in-Err.fault c.in-Err.ensures.built c.in-Err.ensures.input c.in-Err.ensures.listed

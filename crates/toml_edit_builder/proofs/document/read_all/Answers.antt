@@ -18,7 +18,7 @@ pub returns-in_err-slots-clause-refused : goal.returns-in_err-slots-clause-refus
 returns-in_err-slots-clause-refused c =
     let p = err_from_is_err_and c.from_residual.result c.from_residual.ensures.1 in
     rw (p.1, p.2)
-    (refusal_is (mode_of c.args.mode) (grammar c.args.version) c.args.source.now c.args.events.now c.requires.cut c.in_err-slots.field-0.0 c.in_err-slots.ensures.built c.in_err-slots.ensures.input)
+    (refusal_is (mode_of c.args.mode) (grammar c.args.version) c.args.source.now c.args.events.now c.requires.cut c.in_err-slots.field-0.0 c.in_err-slots.ensures.built c.in_err-slots.ensures.input c.in_err-slots.ensures.listed)
 
 pub returns-clause-parsed : goal.returns-clause-parsed
 returns-clause-parsed c =

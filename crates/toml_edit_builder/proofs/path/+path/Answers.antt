@@ -1,6 +1,7 @@
 -- Each exit of the descent along a path.
-use Rattle.std.proofs.Common.{ℕ, ◌≡◌, ◌-◌, length, refl, ap, sym, ◌∙◌, arith, rules, Some, get_or, set, vec_len}
+use Rattle.std.proofs.Common.{ℕ, ◌≡◌, ◌-◌, length, refl, ap, sym, ◌∙◌, arith, rules, Some, get_or, set, vec_len, inr}
 use Rattle.std.proofs.lemmas.Result.{err_from_is_err_and}
+use Rattle.toml_edit_model.specs.Version.{v1_1}
 use Rattle.toml_edit_model.specs.Faults.{duplicate_key}
 use Rattle.toml_edit_model.specs.Text.{Text}
 use Rattle.toml_edit_laws.specs.AddPath.{last_item, path_clash}
@@ -93,24 +94,24 @@ add_in_item-returns-in-Value-clause-added t c =
     let seen = ap item_view c.in-Value.is ∙ view-Value c.in-Value.value in
     stopped mode c.args.source.now c.extend_message.result.now c.refusal.result s _ m (item_view c.args.holder.now) k c.args.span _
     (rw seen (value-stops a m (path_clash a ms) _ (value-node c.in-Value.value))) is
-    (c.extend_message.ensures m.role is.role ∙ ap (λ (x : Value). table_way_message m.role (value_view x)) c.in-Value.value-is ∙ ap (table_way_message m.role) (sym seen)) c.refusal.ensures
+    (c.extend_message.ensures.message m.role is.role ∙ ap (λ (x : Value). table_way_message m.role (value_view x)) c.in-Value.value-is ∙ ap (table_way_message m.role) (sym seen)) c.refusal.ensures.report
 
 pub add_in_item-returns-in-None-clause-added : goal.add_in_item-returns-in-None-clause-added
 add_in_item-returns-in-None-clause-added t c =
     λ mode s m ms k head is at.
     let a = addition_for c.args.kind (item_view c.args.item.now) in
     let seen = ap item_view c.in-None.is ∙ view-None in
-    stopped mode c.args.source.now duplicate_key c.refusal-in-None.result s _ m (item_view c.args.holder.now) k c.args.span _
-    (rw seen (nothing-stops a m (path_clash a ms))) is (sym (ap (table_way_message m.role) seen)) c.refusal-in-None.ensures
+    stopped mode c.args.source.now duplicate_key c.duplicate_key.result s _ m (item_view c.args.holder.now) k c.args.span _
+    (rw seen (nothing-stops a m (path_clash a ms))) is (sym (ap (table_way_message m.role) seen)) c.duplicate_key.ensures.report
 
 pub add_in_table-returns-then-not-is_implicit-clause-added : goal.add_in_table-returns-then-not-is_implicit-clause-added
 add_in_table-returns-then-not-is_implicit-clause-added t c =
     λ mode s m ms k head is at.
     let n = item_view c.args.item.now in
     let held = table_view c.args.table.now in
-    stopped mode c.args.source.now duplicate_key c.refusal.result s _ m (table_node held) k c.args.span _
+    stopped mode c.args.source.now duplicate_key c.duplicate_key.result s _ m (table_node held) k c.args.span _
     (header-stops c.args.kind n m (path_clash (addition_for c.args.kind n) ms) held (sym c.is_line.ensures ∙ c.if-is_line.true)
-    (sym c.is_implicit.ensures ∙ c.if-not-is_implicit.true)) is refl c.refusal.ensures
+    (sym c.is_implicit.ensures ∙ c.if-not-is_implicit.true)) is refl c.duplicate_key.ensures.report
 
 pub add_in_table-returns-clause-added : goal.add_in_table-returns-clause-added
 add_in_table-returns-clause-added t c =
@@ -134,8 +135,8 @@ add_in_tables-returns-then-is_line-clause-added t c =
     λ mode s m ms k head is at.
     let n = item_view c.args.item.now in
     let held = tables_view c.args.tables.now in
-    stopped mode c.args.source.now duplicate_key c.refusal.result s _ m (tables_node held) k c.args.span _
-    (tables-stop c.args.kind n m (path_clash (addition_for c.args.kind n) ms) held (sym c.is_line.ensures ∙ c.if-is_line.true)) is refl c.refusal.ensures
+    stopped mode c.args.source.now duplicate_key c.duplicate_key.result s _ m (tables_node held) k c.args.span _
+    (tables-stop c.args.kind n m (path_clash (addition_for c.args.kind n) ms) held (sym c.is_line.ensures ∙ c.if-is_line.true)) is refl c.duplicate_key.ensures.report
 
 pub add_in_tables-returns-in-None-clause-added : goal.add_in_tables-returns-in-None-clause-added
 add_in_tables-returns-in-None-clause-added t c =
@@ -144,9 +145,9 @@ add_in_tables-returns-in-None-clause-added t c =
     let held = tables_view c.args.tables.now in
     let v = c.args.tables.now.values in
     let len : vec_len v ≡ length v.items = omega (arith, v.ok.0) in
-    stopped mode c.args.source.now duplicate_key c.refusal-in-None.result s _ m (tables_node held) k c.args.span _
+    stopped mode c.args.source.now duplicate_key c.duplicate_key-in-None.result s _ m (tables_node held) k c.args.span _
     (empty-stops c.args.kind n m (path_clash (addition_for c.args.kind n) ms) held (sym c.is_line.ensures ∙ c.if-is_line.false)
-    (tables-is c.args.tables.now ∙ ap items_view (no-items v.items (λ h. absurd (let e = c.in-None.ensures.variant.1 (omega (arith, len, h)) in cc))))) is refl c.refusal-in-None.ensures
+    (tables-is c.args.tables.now ∙ ap items_view (no-items v.items (λ h. absurd (let e = c.in-None.ensures.variant.1 (omega (arith, len, h)) in cc))))) is refl c.duplicate_key-in-None.ensures.report
 
 pub add_in_tables-returns-in-Some-clause-added : goal.add_in_tables-returns-in-Some-clause-added
 add_in_tables-returns-in-Some-clause-added t c =
@@ -174,3 +175,6 @@ add_in_slots-returns-clause-added t c =
     in-slots mode c.args.source.now c.add_path.result (addition_for c.args.kind (item_view c.args.item.now)) ms (table_view c.args.table.now) _
     (slots_view c.slots_mut.result.now) (slots_view c.add_path.new.slots) c.slots_mut.ensures.slots (c.slots_mut.ensures.others c.add_path.new.slots)
     (c.add_path.ensures.added mode s ms head at)
+
+pub add_in_item-returns-in-Value-clause-listed : goal.add_in_item-returns-in-Value-clause-listed
+add_in_item-returns-in-Value-clause-listed t c = c.refusal.ensures.listed v1_1 (inr c.extend_message.ensures.listed)

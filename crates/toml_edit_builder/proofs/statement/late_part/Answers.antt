@@ -19,3 +19,6 @@ returns-in-V1_0-clause-none c =
 
 pub returns-in-V1_1-clause-none : goal.returns-in-V1_1-clause-none
 returns-in-V1_1-clause-none c = λ s start more whole stands e shallow none. ap (λ v. is_of_version (grammar v) s) c.in-V1_1.is
+
+pub returns-in-V1_0-clause-early : goal.returns-in-V1_0-clause-early
+returns-in-V1_0-clause-early c = λ _. ap grammar c.in-V1_0.is

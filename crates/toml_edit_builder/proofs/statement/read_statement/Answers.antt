@@ -1,5 +1,6 @@
 -- A statement, by its first events.
-use Rattle.std.proofs.Common.{true, false}
+use Rattle.std.proofs.Common.{true, false, lit<, refl, inl}
+use Rattle.toml_edit_model.specs.Version.{v1_1}
 use Rattle.toml_edit_model.specs.Syntax.{Statement, statement_text}
 use Rattle.toml_edit_laws.specs.Standing.{Stands}
 use Rattle.toml_edit_repr.specs.Modes.{mode_of}
@@ -41,3 +42,10 @@ returns-in_default-kind-clause-statement c =
     whole e c.in_default-kind.not-HeaderOpen c.in_default-kind.not-ArrayHeaderOpen
     (λ f v end leading behind is standing here. c.add_line.ensures.line b f v end more is standing here held leading behind)
     whole stands ended
+
+pub returns-in_default-clause-listed : goal.returns-in_default-clause-listed
+returns-in_default-clause-listed c = c.refusal_at_end.ensures.listed v1_1 (inl (1, lit< tt, refl))
+
+pub returns-in_default-split_first-clause-listed : goal.returns-in_default-split_first-clause-listed
+returns-in_default-split_first-clause-listed c =
+    c.refusal_at_end-in_default-split_first.ensures.listed v1_1 (inl (1, lit< tt, refl))

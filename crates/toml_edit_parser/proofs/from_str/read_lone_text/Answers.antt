@@ -1,10 +1,10 @@
 -- Reading a lone value in a version.
-use Rattle.std.proofs.Common.{refl}
+use Rattle.std.proofs.Common.{refl, inl}
+use Rattle.toml_edit_model.specs.Version.{v1_1}
 use Rattle.toml_edit_syntax.specs.LoneEvents.{AreLoneEvents}
 use Rattle.toml_edit_version.specs.Grammar.{grammar}
 use Rattle.toml_edit_parser.proofs.LoneValueLaws.{not_text, refused_whole, syntax_refused}
-use Rattle.toml_edit_parser.proofs.ListedLaws.{listed_syntax}
-use Rattle.toml_edit_parser.proofs.VersionLaws.{fault_in, read_in, refused_in}
+use Rattle.toml_edit_parser.proofs.VersionLaws.{accepted_of_all, fault_in, read_in, refused_in}
 use Rattle.toml_edit_parser.proofs.from_str.read_lone_text.Goals as goal
 
 pub returns-in-Err-Text-clause-every : goal.returns-in-Err-Text-clause-every
@@ -15,9 +15,9 @@ pub returns-in-Err-Text-clause-refused : goal.returns-in-Err-Text-clause-refused
 returns-in-Err-Text-clause-refused c =
     fault_in (grammar c.args.version) c.args.text.now c.refusal.result
     (refused_whole c.args.text.now _ _ c.refusal.result
-    (λ v lone. not_text _ c.in-Err-Text.field-0 c.in-Err-Text.mistake c.in-Err-Text.span refl c.in-Err-Text.field-0-is (c.in-Err-Text.ensures.every v lone)) c.refusal.ensures
-    (listed_syntax _ _ _ c.refusal.result c.message.ensures.listed c.refusal.ensures)
-    (syntax_refused _ _ _ c.refusal.result c.message.ensures.listed c.refusal.ensures))
+    (λ v lone. not_text _ c.in-Err-Text.field-0 c.in-Err-Text.mistake c.in-Err-Text.span refl c.in-Err-Text.field-0-is (c.in-Err-Text.ensures.every v lone)) c.refusal.ensures.report
+    (c.refusal.ensures.listed v1_1 (inl c.message.ensures.listed))
+    (syntax_refused _ _ _ c.refusal.result c.message.ensures.listed c.refusal.ensures.report))
 
 pub returns-in_ok-refuse_late-in-Ok-clause-read : goal.returns-in_ok-refuse_late-in-Ok-clause-read
 returns-in_ok-refuse_late-in-Ok-clause-read c =
@@ -28,3 +28,7 @@ returns-in_ok-refuse_late-in-Ok-clause-read c =
 pub returns-in_ok-refuse_late-in-Ok-clause-refused :
     goal.returns-in_ok-refuse_late-in-Ok-clause-refused
 returns-in_ok-refuse_late-in-Ok-clause-refused c = refused_in (grammar c.args.version) c.args.text.now c.read_lone.result c.read_lone.ensures.refused
+
+pub returns-in_ok-refuse_late-in-Ok-clause-every :
+    goal.returns-in_ok-refuse_late-in-Ok-clause-every
+returns-in_ok-refuse_late-in-Ok-clause-every c = λ v lone ok. c.read_lone.ensures.every v lone (accepted_of_all (grammar c.args.version) v ok)

@@ -1,7 +1,7 @@
 -- A late part is refused, and where there is none the value is of the version.
-use Rattle.std.proofs.Common.{◌≡◌, refl, sym, ap, ◌∙◌, subst, true, length}
+use Rattle.std.proofs.Common.{◌≡◌, refl, sym, ap, ◌∙◌, subst, true, length, inr, lit<}
 use Rattle.std.proofs.lemmas.Bool.{false≢true}
-use Rattle.toml_edit_model.specs.Version.{is_value_of}
+use Rattle.toml_edit_model.specs.Version.{is_value_of, v1_0}
 use Rattle.toml_edit_laws.proofs.versions.LateValues.{value_of_none}
 use Rattle.toml_edit_error.specs.Fault.{IfToml}
 use Rattle.toml_edit_version.specs.declared.grammar.Version.{Version}
@@ -23,7 +23,8 @@ returns-in-Some-clause-refused c =
     subst (λ (x : Version). IfToml c.refusal.result (IsLoneRefusalIn (grammar x) c.args.text.now)) (sym c.in-V1_0.is)
     (late_refused c.args.text.now c.in-Some.span
     (λ v lone. c.in-Some.ensures.found v (length lone.before) lone.value (stands c.args.text.now v lone) (c.requires.cut.every v lone))
-    c.args.events.now c.refusal.result c.requires.cut c.in-Some.ensures.span c.refusal.ensures)
+    c.args.events.now c.refusal.result c.requires.cut c.in-Some.ensures.span c.refusal.ensures.report
+    (c.refusal.ensures.listed v1_0 (inr (0, lit< tt, refl))))
 
 pub returns-in-None-clause-passed : goal.returns-in-None-clause-passed
 returns-in-None-clause-passed c =

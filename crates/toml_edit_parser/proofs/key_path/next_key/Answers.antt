@@ -1,6 +1,8 @@
-use Rattle.std.proofs.Common.{string_bytes}
+use Rattle.std.proofs.Common.{string_bytes, lit<, refl, inl, arith}
 use Rattle.std.proofs.lemmas.Result.{err_from_is_err_and}
-use Rattle.toml_edit_parser.proofs.KeyPathLaws.{last-read, name-refused, passed-read}
+use Rattle.toml_edit_model.specs.Version.{v1_1}
+use Rattle.toml_edit_parser.proofs.KeyPathLaws.{behind-dot-in, last-read, name-refused, passed-read}
+use Rattle.toml_edit_parser.proofs.SplitLaws.{first_in}
 use Rattle.toml_edit_parser.proofs.key_path.next_key.Goals as goal
 
 pub returns-in_err-name-clause-key : goal.returns-in_err-name-clause-key
@@ -22,3 +24,17 @@ returns-in-Some-split_dot-clause-key c =
     passed-read c.args.source.now own p start c.args.path c.in-Some.first c.in-Some.rest.now (string_bytes c.in_ok-name.name) c.passed_key-key.result
     c.in-Some-split_dot.after c.in-Some-split_dot.inside
     (record { are = are; stands = stands; at = at; split = c.in-Some.ensures }) c.in_ok-name.ensures.name c.in-Some-split_dot.ensures c.passed_key-key.ensures.key
+
+pub returns-in_default-clause-listed : goal.returns-in_default-clause-listed
+returns-in_default-clause-listed c = c.refusal_at_end.ensures.listed v1_1 (inl (1, lit< tt, refl))
+
+pub returns-in-Some-split_dot-clause-span : goal.returns-in-Some-split_dot-clause-span
+returns-in-Some-split_dot-clause-span c =
+    (first_in c.args.source.now c.args.path.events.now c.in-Some.first c.in-Some.rest.now c.in-Some.ensures c.requires).0
+
+pub returns-in-Some-split_dot-clause-rest : goal.returns-in-Some-split_dot-clause-rest
+returns-in-Some-split_dot-clause-rest c =
+    let first = first_in c.args.source.now c.args.path.events.now c.in-Some.first c.in-Some.rest.now c.in-Some.ensures c.requires in
+    let dot = behind-dot-in c.args.source.now c.args.path c.in-Some-split_dot.after c.in-Some-split_dot.inside c.in-Some.rest.now
+    c.in-Some-split_dot.ensures first.1 in
+    (dot.0, omega (arith, first.2, dot.1))

@@ -1,6 +1,7 @@
 -- Each exit of the descent along a path.
-use Rattle.std.proofs.Common.{List, refl, ap, sym, subst, ◌∙◌, arith, rules, Some, string_bytes, lit<}
+use Rattle.std.proofs.Common.{List, refl, ap, sym, subst, ◌∙◌, arith, rules, Some, string_bytes, lit<, inl, inr}
 use Rattle.std.proofs.lemmas.Result.{err_from_is_err_and}
+use Rattle.toml_edit_model.specs.Version.{v1_1}
 use Rattle.toml_edit_model.specs.Faults.{duplicate_key}
 use Rattle.toml_edit_model.specs.Paths.{line_mentions}
 use Rattle.toml_edit_model.specs.Text.{Text}
@@ -13,7 +14,6 @@ use Rattle.toml_edit_tree.specs.View.{inline_view, item_view, slots_view, value_
 use Rattle.toml_edit_parser.proofs.DescentLaws.{below-refused, dot_in, fits-below, fits-found, fits-in, fits-put, name-refused, no-value, on_ok, stops-empty, stops-other, went-in}
 use Rattle.toml_edit_parser.proofs.EntryLaws.{below-added, inside-added, last-added, some-key, stopped}
 use Rattle.toml_edit_parser.proofs.SplitLaws.{first_in}
-use Rattle.toml_edit_parser.proofs.ListedLaws.{listed_fault, listed_syntax}
 use Rattle.toml_edit_parser.proofs.pairs.+add.Goals as goal
 use Rattle.toml_edit_model.specs.OwnedForm.{SlotsFit}
 
@@ -140,7 +140,7 @@ pub add_in_table-returns-else-is_dotted-clause-entry : goal.add_in_table-returns
 add_in_table-returns-else-is_dotted-clause-entry t c =
     λ m e p start above passed are stands at.
     stopped c.args.source.now c.args.key m (line_mentions e start above p) (inline_node (inline_view c.args.table.now)) duplicate_key c.refusal.result passed
-    (sym c.is_dotted.ensures ∙ c.if-is_dotted.false) refl c.refusal.ensures
+    (sym c.is_dotted.ensures ∙ c.if-is_dotted.false) refl c.refusal.ensures.report
 
 pub add_in_value-returns-in-InlineTable-clause-entry : goal.add_in_value-returns-in-InlineTable-clause-entry
 add_in_value-returns-in-InlineTable-clause-entry t c =
@@ -152,14 +152,14 @@ pub add_in_value-returns-in_default-clause-entry : goal.add_in_value-returns-in_
 add_in_value-returns-in_default-clause-entry t c =
     λ m e p start above passed are stands at.
     stopped c.args.source.now c.args.key m (line_mentions e start above p) (value_view c.args.holder.now) c.extend_message-message.result.now c.refusal.result passed
-    (stops-other c.args.holder.now c.in_default.not-InlineTable) c.extend_message-message.ensures.message c.refusal.ensures
+    (stops-other c.args.holder.now c.in_default.not-InlineTable) c.extend_message-message.ensures.message c.refusal.ensures.report
 
 pub add_inside-returns-in_default-clause-entry : goal.add_inside-returns-in_default-clause-entry
 add_inside-returns-in_default-clause-entry t c =
     λ m e p start above passed are stands at.
     let n = item_view c.args.holder.now in
     let stops = stops-empty n (no-value c.args.holder.now c.in_default.not-Value) in
-    stopped c.args.source.now c.args.key m (line_mentions e start above p) n duplicate_key c.refusal.result passed stops.0 stops.1 c.refusal.ensures
+    stopped c.args.source.now c.args.key m (line_mentions e start above p) n duplicate_key c.refusal.result passed stops.0 stops.1 c.refusal.ensures.report
 
 pub add_inside-returns-in-Value-clause-entry : goal.add_inside-returns-in-Value-clause-entry
 add_inside-returns-in-Value-clause-entry t c =
@@ -168,13 +168,13 @@ add_inside-returns-in-Value-clause-entry t c =
     search (rules, the_lemmas)
 
 pub add_entry-returns-in_default-clause-listed : goal.add_entry-returns-in_default-clause-listed
-add_entry-returns-in_default-clause-listed t c = listed_syntax _ _ _ c.refusal_at_end.result (1, lit< tt, refl) c.refusal_at_end.ensures
+add_entry-returns-in_default-clause-listed t c = c.refusal_at_end.ensures.listed v1_1 (inl (1, lit< tt, refl))
 
 pub add_inside-returns-in_default-clause-listed : goal.add_inside-returns-in_default-clause-listed
-add_inside-returns-in_default-clause-listed t c = listed_fault _ _ _ c.refusal.result (0, lit< tt, refl) c.refusal.ensures
+add_inside-returns-in_default-clause-listed t c = c.refusal.ensures.listed v1_1 (inr (0, lit< tt, refl))
 
 pub add_in_value-returns-in_default-clause-listed : goal.add_in_value-returns-in_default-clause-listed
-add_in_value-returns-in_default-clause-listed t c = listed_fault _ _ _ c.refusal.result c.extend_message-message.ensures.listed c.refusal.ensures
+add_in_value-returns-in_default-clause-listed t c = c.refusal.ensures.listed v1_1 (inr c.extend_message-message.ensures.listed)
 
 pub add_in_table-returns-else-is_dotted-clause-listed : goal.add_in_table-returns-else-is_dotted-clause-listed
-add_in_table-returns-else-is_dotted-clause-listed t c = listed_fault _ _ _ c.refusal.result (0, lit< tt, refl) c.refusal.ensures
+add_in_table-returns-else-is_dotted-clause-listed t c = c.refusal.ensures.listed v1_1 (inr (0, lit< tt, refl))

@@ -1,9 +1,9 @@
-use Rattle.std.proofs.Common.{◌∙◌, lit<, refl}
+use Rattle.std.proofs.Common.{◌∙◌, lit<, refl, inl}
+use Rattle.toml_edit_model.specs.Version.{v1_1}
 use Rattle.toml_edit_tree.specs.View.{slots_view, value_view}
 use Rattle.toml_edit_parser.proofs.ReadLaws.{same_closes}
 use Rattle.toml_edit_parser.proofs.ReadFits.{close_in}
 use Rattle.toml_edit_parser.proofs.InlineLaws.{fits-inline, made_inline}
-use Rattle.toml_edit_parser.proofs.ListedLaws.{listed_syntax}
 use Rattle.toml_edit_parser.proofs.pairs.close_inline.Goals as goal
 
 pub returns-clause-value : goal.returns-clause-value
@@ -18,4 +18,4 @@ returns-clause-fits c =
     (close_in c.args.source.now c.args.events.now c.in-Some.close c.in-Some.rest.now c.in-Some.ensures c.requires).0 fits
 
 pub returns-in_default-clause-listed : goal.returns-in_default-clause-listed
-returns-in_default-clause-listed c = listed_syntax _ _ _ c.refusal_at_end.result (7, lit< tt, refl) c.refusal_at_end.ensures
+returns-in_default-clause-listed c = c.refusal_at_end.ensures.listed v1_1 (inl (7, lit< tt, refl))

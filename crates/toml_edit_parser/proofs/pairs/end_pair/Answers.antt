@@ -1,5 +1,6 @@
-use Rattle.std.proofs.Common.{◌≡◌, ◌+◌, [], length, Some, sym, ap, subst, ◌∙◌, lit<, refl}
+use Rattle.std.proofs.Common.{◌≡◌, ◌+◌, [], length, Some, sym, ap, subst, ◌∙◌, lit<, refl, inl}
 use Rattle.std.proofs.lemmas.Result.{err_from_is_err_and}
+use Rattle.toml_edit_model.specs.Version.{v1_1}
 use Rattle.toml_edit_model.specs.Conversions.{with_decor}
 use Rattle.toml_edit_model.specs.Tree.{Node}
 use Rattle.toml_edit_model.specs.TreeOf.{spanned_form, entry_of}
@@ -12,7 +13,6 @@ use Rattle.toml_edit_parser.proofs.PairLaws.{key-decor, path-begins, path-ends, 
 use Rattle.toml_edit_parser.proofs.ReadFits.{fits-with_decor}
 use Rattle.toml_edit_parser.proofs.ReadLaws.{same_parts}
 use Rattle.toml_edit_parser.proofs.SplitLaws.{first_in}
-use Rattle.toml_edit_parser.proofs.ListedLaws.{listed_syntax}
 use Rattle.toml_edit_parser.proofs.pairs.end_pair.Goals as goal
 use Rattle.toml_edit_model.specs.OwnedForm.{NodeFits}
 
@@ -55,4 +55,4 @@ returns-clause-rest c =
     (behind.1, behind.2)
 
 pub returns-in_default-clause-listed : goal.returns-in_default-clause-listed
-returns-in_default-clause-listed c = listed_syntax _ _ _ c.refusal_at_end.result (7, lit< tt, refl) c.refusal_at_end.ensures
+returns-in_default-clause-listed c = c.refusal_at_end.ensures.listed v1_1 (inl (7, lit< tt, refl))

@@ -1,6 +1,6 @@
-use Rattle.std.proofs.Common.{◌≡◌, IsSomeAnd, string_bytes, sym, subst, lit<, refl}
+use Rattle.std.proofs.Common.{◌≡◌, IsSomeAnd, string_bytes, sym, subst, lit<, refl, inl}
+use Rattle.toml_edit_model.specs.Version.{v1_1}
 use Rattle.toml_edit_model.specs.Spelling.{SpellsKey}
-use Rattle.toml_edit_parser.proofs.ListedLaws.{listed_syntax}
 use Rattle.toml_edit_parser.proofs.pairs.read_name.Goals as goal
 
 pub returns-in-Some-clause-name : goal.returns-in-Some-clause-name
@@ -14,4 +14,4 @@ returns-in-None-clause-name c =
     absurd (subst (λ o. IsSomeAnd o (λ s. k ≡ string_bytes s)) c.in-None.is told)
 
 pub returns-in-None-clause-listed : goal.returns-in-None-clause-listed
-returns-in-None-clause-listed c = listed_syntax _ _ _ c.refusal.result (1, lit< tt, refl) c.refusal.ensures
+returns-in-None-clause-listed c = c.refusal.ensures.listed v1_1 (inl (1, lit< tt, refl))

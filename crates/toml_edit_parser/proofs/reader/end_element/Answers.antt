@@ -1,11 +1,11 @@
-use Rattle.std.proofs.Common.{List, sym, subst, ◌∙◌, lit<, refl}
+use Rattle.std.proofs.Common.{List, sym, subst, ◌∙◌, lit<, refl, inl}
+use Rattle.toml_edit_model.specs.Version.{v1_1}
 use Rattle.toml_edit_model.specs.Tree.{Node}
 use Rattle.toml_edit_tree.specs.declared.item.Item.{Item}
 use Rattle.toml_edit_tree.specs.View.{items_view, value_view}
 use Rattle.toml_edit_parser.proofs.ReadFits.{fits-item, fits-with_decor}
 use Rattle.toml_edit_parser.proofs.SplitLaws.{first_in}
 use Rattle.toml_edit_parser.proofs.ViewLaws.{view-Value}
-use Rattle.toml_edit_parser.proofs.ListedLaws.{listed_syntax}
 use Rattle.toml_edit_parser.proofs.reader.end_element.Goals as goal
 use Rattle.toml_edit_model.specs.OwnedForm.{ItemsFit, NodeFits}
 
@@ -20,4 +20,4 @@ returns-clause-fits c =
     subst Q (sym c.in_ok-put_value.ensures) (fits-item t c.args.values.now.items _ items (subst P (sym (view-Value c.decorated.result ∙ c.decorated.ensures)) put))
 
 pub returns-in_default-clause-listed : goal.returns-in_default-clause-listed
-returns-in_default-clause-listed c = listed_syntax _ _ _ c.refusal_at_end.result (6, lit< tt, refl) c.refusal_at_end.ensures
+returns-in_default-clause-listed c = c.refusal_at_end.ensures.listed v1_1 (inl (6, lit< tt, refl))

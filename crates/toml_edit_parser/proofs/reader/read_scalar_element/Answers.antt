@@ -1,6 +1,7 @@
 -- The scalar that is put, and what its text is refused with.
-use Rattle.std.proofs.Common.{rules, w64, to_z, of_z, ◌≡◌, ℤ, ◌+◌, false, true, length, Option, Some, sym, ap, subst, ◌∙◌, lit<, refl}
+use Rattle.std.proofs.Common.{rules, w64, to_z, of_z, ◌≡◌, ℤ, ◌+◌, false, true, length, Option, Some, sym, ap, subst, ◌∙◌, lit<, refl, inl, inr}
 use Rattle.std.specs.Prelude.{IfSome, MatchOption}
+use Rattle.toml_edit_model.specs.Version.{v1_1}
 use Rattle.toml_edit_model.specs.Text.{Text}
 use Rattle.toml_edit_model.specs.Scalars as scalars
 use Rattle.toml_edit_model.specs.Spelling.{Spells, is_in_range}
@@ -13,7 +14,6 @@ use Rattle.toml_edit_parser.specs.ValueRead.{spanned_raw}
 use Rattle.toml_edit_parser.proofs.ScalarElements.{place_cut, scalar_refusal, scalar_added, scalar_fits}
 use Rattle.toml_edit_parser.proofs.SplitLaws.{first_in}
 use Rattle.toml_edit_parser.proofs.ViewLaws.{view-Integer}
-use Rattle.toml_edit_parser.proofs.ListedLaws.{listed_fault, listed_syntax}
 use Rattle.toml_edit_parser.proofs.reader.read_scalar_element.Goals as goal
 
 pub returns-in-Some-decode_integer-clause-element : goal.returns-in-Some-decode_integer-clause-element
@@ -102,10 +102,10 @@ returns-in-None-clause-element c =
     let past : is_in_range s text ≡ false =
     subst (λ (o : Option code.Scalar). MatchOption o (is_in_range s text ≡ false) (λ x. s ≡ scalar_view x)) c.in-None.is (c.in_ok-scalar.ensures.only s own) in
     scalar_refusal c.args.source.now s t at place c.range_message.result.now c.refusal.result place_is
-    (ap (is_in_range s) (sym text_is) ∙ past) (c.range_message.ensures.message s own past) c.refusal.ensures
+    (ap (is_in_range s) (sym text_is) ∙ past) (c.range_message.ensures.message s own past) c.refusal.ensures.report
 
 pub returns-in_default-clause-listed : goal.returns-in_default-clause-listed
-returns-in_default-clause-listed c = listed_syntax _ _ _ c.refusal_at_end.result (6, lit< tt, refl) c.refusal_at_end.ensures
+returns-in_default-clause-listed c = c.refusal_at_end.ensures.listed v1_1 (inl (6, lit< tt, refl))
 
 pub returns-in-None-clause-listed : goal.returns-in-None-clause-listed
-returns-in-None-clause-listed c = listed_fault _ _ _ c.refusal.result c.range_message.ensures.listed c.refusal.ensures
+returns-in-None-clause-listed c = c.refusal.ensures.listed v1_1 (inr c.range_message.ensures.listed)

@@ -1,6 +1,7 @@
 -- A header, by its parts.
-use Rattle.std.proofs.Common.{◌≡◌, ◌<◌, List, length, drop, sym, ap, subst, ◌∙◌, refl, arith}
+use Rattle.std.proofs.Common.{◌≡◌, ◌<◌, List, length, drop, sym, ap, subst, ◌∙◌, refl, arith, lit<, inl}
 use Rattle.std.proofs.lemmas.List.{take_rest}
+use Rattle.toml_edit_model.specs.Version.{v1_1}
 use Rattle.toml_edit_syntax.specs.declared.event.Event.{Event}
 use Rattle.toml_edit_syntax.specs.ValueEvents.{shortened}
 use Rattle.toml_edit_repr.specs.Modes.{mode_of}
@@ -35,9 +36,9 @@ returns-then-path-gt-MOST_PATH_EVENTS-clause-header c =
     λ h end start more is stands ended e.
     let first = header-first start h more c.args.events.now c.in-Some.opening c.in-Some.inside.now e c.in-Some.ensures in
     let parts = header-path start h (shortened 0 more) c.in-Some.inside.now c.in-Some-path_end.end_of_path first.1 c.in-Some-path_end.ensures.place in
-    path-too-long c.args.source.now h.path (key_at start h) c.refusal_of_all-then-path-gt-MOST_PATH_EVENTS.result is.1
+    path-too-long c.args.source.now h.path (key_at start h) c.refusal_of_all.result is.1
     (subst (λ (es : List Event). 238 < length es) (c.split_at.ensures.front ∙ parts.0) c.if-path-gt-MOST_PATH_EVENTS.true)
-    c.refusal_of_all-then-path-gt-MOST_PATH_EVENTS.ensures
+    c.refusal_of_all.ensures.report
 
 pub returns-clause-header : goal.returns-clause-header
 returns-clause-header c =
@@ -74,3 +75,15 @@ suffix-requires c =
     let inside = first_in s c.args.events.now c.in-Some.opening c.in-Some.inside.now c.in-Some.ensures c.requires.spans in
     let behind : AreIn s c.split_at.result.1.now = subst (AreIn s) (sym c.split_at.ensures.back) (in_drop s c.in-Some-path_end.end_of_path c.in-Some.inside.now inside.1) in
     third-in s c.split_at.result.1.now _ c.in-len3-up.len_at_least behind
+
+pub returns-in_default-clause-listed : goal.returns-in_default-clause-listed
+returns-in_default-clause-listed c = c.refusal_at_end.ensures.listed v1_1 (inl (1, lit< tt, refl))
+
+pub returns-in_default-path_end-clause-listed : goal.returns-in_default-path_end-clause-listed
+returns-in_default-path_end-clause-listed c = c.refusal_at_end-in_default-path_end.ensures.listed v1_1 (inl (1, lit< tt, refl))
+
+pub returns-in_default-behind-clause-listed : goal.returns-in_default-behind-clause-listed
+returns-in_default-behind-clause-listed c = c.refusal_at_end-in_default-behind.ensures.listed v1_1 (inl (1, lit< tt, refl))
+
+pub returns-then-path-gt-MOST_PATH_EVENTS-clause-listed : goal.returns-then-path-gt-MOST_PATH_EVENTS-clause-listed
+returns-then-path-gt-MOST_PATH_EVENTS-clause-listed c = c.refusal_of_all.ensures.listed v1_1 refl

@@ -1,6 +1,7 @@
 -- A key line, by its parts and its value.
-use Rattle.std.proofs.Common.{◌+◌, ◌<◌, ◌≤◌, length, sym, ap, subst, ◌∙◌, arith}
+use Rattle.std.proofs.Common.{◌+◌, ◌<◌, ◌≤◌, length, sym, ap, subst, ◌∙◌, arith, lit<, refl, inl}
 use Rattle.std.proofs.lemmas.Result.{err_from_is_err_and}
+use Rattle.toml_edit_model.specs.Version.{v1_1}
 use Rattle.toml_edit_model.specs.Mode.{with_return}
 use Rattle.toml_edit_model.specs.Syntax.{frame_text, value_text}
 use Rattle.toml_edit_model.specs.TreeOf.{spanned_form, frame_leaf}
@@ -23,8 +24,8 @@ pub returns-then-frame-gt-MOST_PATH_EVENTS-clause-line : goal.returns-then-frame
 returns-then-frame-gt-MOST_PATH_EVENTS-clause-line c =
     λ f v end start more is value stands ended same e.
     let parts = the-frame start f v 0 _ c.args.leading c.args.events.now (parts_of c.in-Some.frame) c.in-Some.rest.now is.1 same (e ∙ key-whole 0 start f _) c.in-Some.ensures in
-    line-too-long c.args.source.now f v end start c.refusal_of_all-then-frame-gt-MOST_PATH_EVENTS.result is.1
-    (subst (λ (q : FrameParts). 238 < length q.path) parts.0 c.if-frame-gt-MOST_PATH_EVENTS.true) c.refusal_of_all-then-frame-gt-MOST_PATH_EVENTS.ensures
+    line-too-long c.args.source.now f v end start c.refusal_of_all.result is.1
+    (subst (λ (q : FrameParts). 238 < length q.path) parts.0 c.if-frame-gt-MOST_PATH_EVENTS.true) c.refusal_of_all.ensures.report
 
 pub returns-in_err-rest-clause-line : goal.returns-in_err-rest-clause-line
 returns-in_err-rest-clause-line c =
@@ -63,3 +64,9 @@ returns-clause-rest c =
     let one = (frame-in c.args.source.now c.args.leading c.args.events.now (parts_of c.in-Some.frame) c.in-Some.rest.now c.in-Some.ensures c.requires.spans).fewer in
     let two = c.in_ok-rest.ensures.rest.1 in
     (c.in_ok-rest.ensures.rest.0, omega (arith, one, two))
+
+pub returns-in_default-clause-listed : goal.returns-in_default-clause-listed
+returns-in_default-clause-listed c = c.refusal_at_end.ensures.listed v1_1 (inl (1, lit< tt, refl))
+
+pub returns-then-frame-gt-MOST_PATH_EVENTS-clause-listed : goal.returns-then-frame-gt-MOST_PATH_EVENTS-clause-listed
+returns-then-frame-gt-MOST_PATH_EVENTS-clause-listed c = c.refusal_of_all.ensures.listed v1_1 refl

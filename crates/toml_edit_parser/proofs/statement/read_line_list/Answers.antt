@@ -1,6 +1,7 @@
 -- A value of any kind, between the texts around it.
-use Rattle.std.proofs.Common.{◌+◌, List, ◌∷◌, length, sym, ap, subst, ◌∙◌, arith}
+use Rattle.std.proofs.Common.{◌+◌, List, ◌∷◌, length, sym, ap, subst, ◌∙◌, arith, lit<, refl, inl}
 use Rattle.std.proofs.lemmas.Result.{err_from_is_err_and}
+use Rattle.toml_edit_model.specs.Version.{v1_1}
 use Rattle.toml_edit_model.specs.Conversions.{with_decor}
 use Rattle.toml_edit_model.specs.Syntax.{value_text}
 use Rattle.toml_edit_model.specs.Tree.{Node}
@@ -49,3 +50,6 @@ returns-clause-rest c =
     let two = c.in_ok-value.ensures.rest.1 in
     let three = behind.2 in
     (behind.1, omega (arith, two, three))
+
+pub returns-in_default-clause-listed : goal.returns-in_default-clause-listed
+returns-in_default-clause-listed c = c.refusal_at_end.ensures.listed v1_1 (inl (4, lit< tt, refl))

@@ -1,6 +1,7 @@
 -- The scalar that is put, and what its text is refused with.
-use Rattle.std.proofs.Common.{◌≡◌, false, true, Option, Some, sym, ap, subst, ◌∙◌}
+use Rattle.std.proofs.Common.{◌≡◌, false, true, Option, Some, sym, ap, subst, ◌∙◌, lit<, refl, inl, inr}
 use Rattle.std.specs.Prelude.{IfSome, MatchOption}
+use Rattle.toml_edit_model.specs.Version.{v1_1}
 use Rattle.toml_edit_model.specs.Text.{Text}
 use Rattle.toml_edit_model.specs.Scalars as scalars
 use Rattle.toml_edit_model.specs.Spelling.{Spells, is_in_range}
@@ -61,4 +62,10 @@ returns-in-None-clause-value c =
     let past : is_in_range s text ≡ false =
     subst (λ (o : Option code.Scalar). MatchOption o (is_in_range s text ≡ false) (λ x. s ≡ scalar_view x)) c.in-None.is (c.in_ok-scalar.ensures.only s own) in
     scalar_refusal c.args.source.now s t start place c.range_message.result.now c.refusal.result place_is
-    (ap (is_in_range s) (sym text_is) ∙ past) (c.range_message.ensures.message s own past) c.refusal.ensures
+    (ap (is_in_range s) (sym text_is) ∙ past) (c.range_message.ensures.message s own past) c.refusal.ensures.report
+
+pub returns-in_default-clause-listed : goal.returns-in_default-clause-listed
+returns-in_default-clause-listed c = c.refusal_at_end.ensures.listed v1_1 (inl (4, lit< tt, refl))
+
+pub returns-in-None-clause-listed : goal.returns-in-None-clause-listed
+returns-in-None-clause-listed c = c.refusal.ensures.listed v1_1 (inr c.range_message.ensures.listed)

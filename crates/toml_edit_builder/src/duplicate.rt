@@ -1,0 +1,22 @@
+//! What is refused because its key is there already.
+ghost use Rattle.std.specs.Prelude.{◌≡◌, Some};
+ghost use Rattle.toml_edit_model.specs.Faults as faults;
+ghost use Rattle.toml_edit_error.specs.Fault.{IfToml};
+ghost use Rattle.toml_edit_syntax.specs.Events.{IsSpanOf};
+ghost use Rattle.toml_edit_parser.specs.Listed.{IsListed};
+
+use std::alloc::Global;
+use toml_edit_error::ParseFault;
+use toml_edit_parser::refusal;
+use toml_edit_syntax::Span;
+
+/// Returns the error about a key at this span that is there already.
+#[cold]
+#[inline(never)]
+pub(crate) fn duplicate_key(alloc: Global, source: &str, span: Span) -> ParseFault
+    requires { IsSpanOf source.now span }
+    ensures report { IfToml result (λ r. r ≡ record { message = faults.duplicate_key; span = Some (span.start, span.end); input = source.now }) }
+    ensures listed { IfToml result IsListed }
+{
+    refusal(alloc, source, "duplicate key", span)
+}
