@@ -17,10 +17,11 @@ pub use toml_edit_error::{ParseFault, TomlError};
 pub use toml_edit_key::{Key, KeyMut};
 pub use toml_edit_parser::{FromStr, FromStrWith, ParseOptions, Version};
 pub use toml_edit_repr::{Decor, Formatted, Mem, RawString, Repr, ScalarValue, ValueRepr};
-pub use toml_edit_slots::NoMemory;
+pub use toml_edit_slots::{NoMemory, Slot, Slots};
 pub use toml_edit_stream::{Broken, Input, Output, Watched};
 pub use toml_edit_table_like::{
-    AnyTable, AsTableLike, TableLike, TableLikeEntry, TableLikeSlot, TableRef, TableRefMut,
+    AnyTable, AsTableLike, HasSlots, TableLike, TableLikeEntry, TableLikeSlot, TableRef,
+    TableRefMut,
 };
 pub use toml_edit_tree::item::{array, table};
 pub use toml_edit_tree::{

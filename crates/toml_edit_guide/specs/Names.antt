@@ -1,7 +1,7 @@
 -- The names of a table.
 use Rattle.std.specs.Prelude.{List, ◌++◌, flat_map}
-use Rattle.toml_edit_model.specs.Text.{Text, newline}
-use Rattle.toml_edit_model.specs.Tree.{Node}
+use Rattle.toml_edit.specs.model.Text.{Text, newline}
+use Rattle.toml_edit.specs.model.Tree.{Node}
 
 -- each name with a newline after it
 abbrev pub name_lines : List (Text × Node) → Text

@@ -1,12 +1,17 @@
 //! Adding values, tables and elements.
 ghost use Rattle.std.specs.Prelude.{◌≡◌, IfNone, IfSome, IsNone, IsTrue, OnErr, OnOk};
 ghost use Rattle.toml_edit_guide.specs.Adds.{OnlySets};
-ghost use Rattle.toml_edit_model.specs.Slots.{has_slot, inserted};
-ghost use Rattle.toml_edit_tree.specs.SlotsOf.{slots_of};
-ghost use Rattle.toml_edit_tree.specs.View.{array_view, item_view};
+ghost use Rattle.toml_edit.specs.model.Slots.{has_slot, inserted};
+ghost use Rattle.toml_edit.specs.tree.SlotsOf.{slots_of};
+ghost use Rattle.toml_edit.specs.tree.View.{array_view, item_view};
 
-use std::alloc::Global;
+use std::alloc::{AllocError, Global};
 use toml_edit::{Array, ArrayOfTables, InlineTable, Item, Mem, NoMemory, RawString, Table, Value};
+
+/// Drops what no memory was left for, and keeps the error.
+pub fn no_memory<T: Drop>(_refused: NoMemory<T>) -> AllocError {
+    AllocError
+}
 
 /// Adds a dependency with features, as `cargo add` writes it.
 pub fn add_dependency(
@@ -21,12 +26,16 @@ pub fn add_dependency(
 {
     let mut names = Array::new(alloc);
     for feature in features {
-        names.push(Value::string(alloc, *feature)?)?;
+        let name = Value::string(alloc, *feature)?;
+        names.push(name).map_err(no_memory)?;
     }
     let mut dependency = InlineTable::new(alloc);
-    drop(dependency.insert("version", Value::string(alloc, version)?)?);
-    drop(dependency.insert("features", Value::from(names))?);
-    drop(dependencies.insert(name, Item::Value(Value::from(dependency)))?);
+    let version = Value::string(alloc, version)?;
+    drop(dependency.insert("version", version).map_err(no_memory)?);
+    let features = Value::from(names);
+    drop(dependency.insert("features", features).map_err(no_memory)?);
+    let item = Item::Value(Value::from(dependency));
+    drop(dependencies.insert(name, item).map_err(no_memory)?);
     Ok(())
 }
 
@@ -36,20 +45,21 @@ pub fn add_table(alloc: Global, root: &mut Table, name: &str, key: &str, value: 
     ensures err { OnErr result (root.new ≡ root.old) }
 {
     let mut table = Table::new(alloc);
-    drop(table.insert(key, Item::Value(value))?);
-    drop(root.insert(name, Item::Table(table))?);
+    drop(table.insert(key, Item::Value(value)).map_err(no_memory)?);
+    drop(root.insert(name, Item::Table(table)).map_err(no_memory)?);
     Ok(())
 }
 
 /// Adds an element to the array of tables under the key, or makes one in place of anything else.
 pub fn add_element(alloc: Global, root: &mut Table, name: &str, element: Table) -> Mem<()> {
     if let Some(Item::ArrayOfTables(tables)) = root.get_mut(name) {
-        tables.push(element)?;
+        tables.push(element).map_err(no_memory)?;
         return Ok(());
     }
     let mut tables = ArrayOfTables::new(alloc);
-    tables.push(element)?;
-    drop(root.insert(name, Item::ArrayOfTables(tables))?);
+    tables.push(element).map_err(no_memory)?;
+    let item = Item::ArrayOfTables(tables);
+    drop(root.insert(name, item).map_err(no_memory)?);
     Ok(())
 }
 
@@ -98,7 +108,8 @@ pub fn push_line(alloc: Global, array: &mut Array, text: &str) -> Mem<()>
     let prefix = RawString::from(format!(in alloc; "{comment}\n{indent}")?);
     let end = RawString::from_text(alloc, "\n")?;
     let count = array.len();
-    array.push(Value::string(alloc, text)?.decorated(prefix, RawString::default()))?;
+    let value = Value::string(alloc, text)?.decorated(prefix, RawString::default());
+    array.push(value).map_err(no_memory)?;
     if !array.trailing_comma() {
         if let Some(last) = array.get_mut(count.saturating_sub(1)) {
             last.decor_mut().set_suffix(RawString::default());

@@ -1,8 +1,9 @@
 //! The order and the names of keys, and the order of values.
 ghost use Rattle.std.specs.Prelude.{◌≡◌, IfOk, IsPermutation};
-ghost use Rattle.toml_edit_model.specs.Keys.{new_key};
-ghost use Rattle.toml_edit_tree.specs.Elements.{items_of};
+ghost use Rattle.toml_edit.specs.model.Keys.{new_key};
+ghost use Rattle.toml_edit.specs.tree.Elements.{items_of};
 
+use crate::adding::no_memory;
 use std::alloc::Global;
 use toml_edit::{Array, Item, Key, Mem, Table};
 
@@ -18,10 +19,10 @@ fn take_first(alloc: Global, table: &mut Table) -> Mem<Option<(Key, Item)>> {
 /// Inserts an item under a key before all others. A key that is there goes.
 pub fn insert_first(alloc: Global, table: &mut Table, key: &str, item: Item) -> Mem<()> {
     drop(table.remove(key));
-    drop(table.insert(key, item)?);
+    drop(table.insert(key, item).map_err(no_memory)?);
     for _ in 1..table.slots() {
         if let Some((key, item)) = take_first(alloc, table)? {
-            drop(table.insert_formatted(&key, item)?);
+            drop(table.insert_formatted(&key, item).map_err(no_memory)?);
         }
     }
     Ok(())
@@ -47,7 +48,7 @@ pub fn rename(alloc: Global, table: &mut Table, old: &str, new: &str) -> Mem<boo
     for _ in 0..table.slots() {
         if let Some((key, item)) = take_first(alloc, table)? {
             let key = if key.get() == old { &renamed } else { &key };
-            drop(table.insert_formatted(key, item)?);
+            drop(table.insert_formatted(key, item).map_err(no_memory)?);
         }
     }
     Ok(true)

@@ -1,9 +1,9 @@
 //! Changing what is there.
 ghost use Rattle.std.specs.Prelude.{◌≡◌, is_some};
 ghost use Rattle.toml_edit_guide.specs.Paths.{value_at};
-ghost use Rattle.toml_edit_model.specs.Tree.{node_decor};
-ghost use Rattle.toml_edit_tree.specs.Casts.{decorated};
-ghost use Rattle.toml_edit_tree.specs.View.{value_view};
+ghost use Rattle.toml_edit.specs.model.Tree.{node_decor};
+ghost use Rattle.toml_edit.specs.tree.Casts.{decorated};
+ghost use Rattle.toml_edit.specs.tree.View.{value_view};
 
 use std::mem;
 use toml_edit::{Table, Value};

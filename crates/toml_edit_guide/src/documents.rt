@@ -2,11 +2,11 @@
 ghost use Rattle.std.specs.Prelude.{◌≡◌, ◌⊎◌, ◌↔◌, IfOk, IfSome, IsErrOf, IsOk, IsSome, string_bytes};
 ghost use Rattle.toml_edit.specs.DocumentView.{mode_owned, open_owned, print_of, tree_owned};
 ghost use Rattle.toml_edit.specs.Documents.{IsOwnedReadingIn};
-ghost use Rattle.toml_edit_model.specs.Accepted.{AcceptedIn};
-ghost use Rattle.toml_edit_model.specs.Fits.{FitsIn};
-ghost use Rattle.toml_edit_model.specs.Mode.{exact, plain};
-ghost use Rattle.toml_edit_model.specs.Syntax.{Document as Cut};
-ghost use Rattle.toml_edit_model.specs.Version.{v1_0};
+ghost use Rattle.toml_edit.specs.model.Accepted.{AcceptedIn};
+ghost use Rattle.toml_edit.specs.model.Fits.{FitsIn};
+ghost use Rattle.toml_edit.specs.model.Mode.{exact, plain};
+ghost use Rattle.toml_edit.specs.model.Syntax.{Document as Cut};
+ghost use Rattle.toml_edit.specs.model.Version.{v1_0};
 
 use std::alloc::Global;
 use toml_edit::{DocumentMut, Mem, ParseFault, ParseOptions, Version};

@@ -6,5 +6,3 @@ pub mod arranging;
 pub mod changing;
 pub mod documents;
 pub mod reading;
-#[cfg(test)]
-mod tests;

@@ -1,11 +1,12 @@
 //! Reading values.
 ghost use Rattle.std.specs.Prelude.{◌≡◌, IfOk, option_and_then, string_bytes};
 ghost use Rattle.toml_edit_guide.specs.Names.{name_lines};
-ghost use Rattle.toml_edit_model.specs.Indexing.{indexed, text};
-ghost use Rattle.toml_edit_tree.specs.Casts.{integer_in};
-ghost use Rattle.toml_edit_tree.specs.Held.{held};
-ghost use Rattle.toml_edit_tree.specs.ItemParts.{item_span};
-ghost use Rattle.toml_edit_tree.specs.View.{item_view, table_slots};
+ghost use Rattle.toml_edit.specs.model.Indexing.{indexed, text};
+ghost use Rattle.toml_edit.specs.model.Iterating.{filled_pairs};
+ghost use Rattle.toml_edit.specs.tree.Casts.{integer_in};
+ghost use Rattle.toml_edit.specs.tree.ItemParts.{item_span};
+ghost use Rattle.toml_edit.specs.tree.SlotsOf.{slots_of};
+ghost use Rattle.toml_edit.specs.tree.View.{item_view};
 
 use std::alloc::Global;
 use std::ops::Range;
@@ -28,7 +29,7 @@ pub fn span_at(root: &Item, key: &str) -> Option<Range<usize>>
 
 /// Returns the keys of the table in order, each with a newline after it.
 pub fn names(alloc: Global, table: &Table) -> Mem<String>
-    ensures { IfOk result (λ s. string_bytes s ≡ name_lines (held (table_slots table.now))) }
+    ensures { IfOk result (λ s. string_bytes s ≡ name_lines (filled_pairs (slots_of table.now))) }
 {
     let mut names = String::new(alloc);
     for (name, _item) in table.iter() {

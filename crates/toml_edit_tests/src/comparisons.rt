@@ -3,7 +3,10 @@ use crate::hash_of;
 use std::alloc::Global;
 use std::cmp::Ordering;
 use std::hash::Hash;
-use toml_edit::{Datetime, Decor, FloatText, Formatted, Key, Mem, RawString, Repr, ValueRepr};
+use toml_edit::{
+    Datetime, Decor, FloatText, Formatted, FromStr, Key, Mem, ParseFault, RawString, Repr,
+    TomlError, Value, ValueRepr,
+};
 
 fn are_alike<T: Hash + Eq>(one: &T, other: &T) -> bool {
     one == other && hash_of(one) == hash_of(other)
@@ -135,6 +138,38 @@ fn compares_dates(rt: HostRuntime) {
 #[test]
 fn copies_spellings(rt: HostRuntime) {
     assert!(rt; copies(rt.alloc(), 42i64.to_repr(rt.alloc()).ok(), Repr::clone));
+}
+
+fn error_in<T: Drop>(read: Result<T, ParseFault>) -> Option<TomlError> {
+    match read {
+        Err(ParseFault::Toml(error)) => Some(error),
+        _ => None,
+    }
+}
+
+/// Returns why the text is no value.
+fn error(alloc: Global, text: &str) -> Option<TomlError> {
+    error_in(Value::from_str(alloc, text))
+}
+
+fn errors_are_alike(alloc: Global, one: &str, other: &str) -> Option<bool> {
+    alike(error(alloc, one), error(alloc, other))
+}
+
+#[test]
+fn compares_errors(rt: HostRuntime) {
+    let alloc = rt.alloc();
+    assert!(rt; errors_are_alike(alloc, "24:00:61", "24:00:61") == Some(true));
+    // Only the text is another one.
+    assert!(rt; errors_are_alike(alloc, "[24:00]", "[01:60]") == Some(false));
+    assert!(rt; errors_are_alike(alloc, "[24:00]", "[ 24:00]") == Some(false));
+}
+
+#[test]
+fn copies_errors(rt: HostRuntime) {
+    let alloc = rt.alloc();
+    assert!(rt; copies(alloc, error(alloc, "24:00"), TomlError::clone));
+    assert!(rt; copies(alloc, error_in(Key::parse(alloc, "")), TomlError::clone));
 }
 
 /// How the two stand to each other, where equality and hash agree with that.

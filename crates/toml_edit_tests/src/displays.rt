@@ -1,12 +1,12 @@
-//! What each `Display` writes, into a text. That one fails only where its writer does no contract can say, and a text fails where memory
-//! runs out alone.
-use crate::holding::{holds_changed, holds_moved, shows};
+//! What each `Display` writes, into a text and to writers that fail. That one fails only where its writer does no contract can say, and a
+//! text fails where memory runs out alone.
+use crate::holding::{holds_changed, holds_moved, shows, writes};
 use std::alloc::Global;
 use std::fmt::Display;
 use std::str::FromStr;
 use toml_edit::{
-    Broken, Date, Datetime, DatetimeFault, Document, FloatText, Formatted, Key, NoMemory,
-    ParseFault, PrintFault, Time, Value,
+    Broken, Date, Datetime, DatetimeFault, Document, DocumentMut, FloatText, Formatted, Item, Key,
+    NoMemory, ParseFault, PrintFault, Time, Value,
 };
 use toml_edit_stream::ReadFault;
 
@@ -19,14 +19,6 @@ fn shows_made<T: Display + Drop>(alloc: Global, made: Option<T>, shown: &str) ->
     match made {
         Some(made) => shows(alloc, made, shown),
         None => false,
-    }
-}
-
-/// Whether the thing is shown so.
-fn writes<T: Display>(alloc: Global, thing: &T, shown: &str) -> bool {
-    match thing.to_string(alloc) {
-        Ok(text) => text.as_str() == shown,
-        Err(_) => false,
     }
 }
 
@@ -97,14 +89,41 @@ fn read_value(alloc: Global, text: &str) -> Option<Value> {
     <Value as toml_edit::FromStr>::from_str(alloc, text).ok()
 }
 
+const DOCUMENT: &str = "a = 1 # c\n[[b]]\nx = 1\n[[b]]\n";
+
 fn shows_document(alloc: Global, document: Document<&str>) -> bool {
-    shows_made(alloc, document.into_mut(alloc).ok(), "a = 1 # c\n")
+    shows_made(alloc, document.into_mut(alloc).ok(), DOCUMENT)
+}
+
+/// Whether the lines of the root are shown, and its array of tables as an array.
+fn shows_parts(alloc: Global, document: DocumentMut) -> bool {
+    let root = document.as_table();
+    writes(alloc, root, "a = 1 # c\n")
+        && match root.get("b") {
+            Some(item) => shows_tables(alloc, item),
+            None => false,
+        }
+}
+
+fn shows_tables(alloc: Global, item: &Item) -> bool {
+    writes(alloc, item, "[{ x = 1 }, {}]")
+        && match item.as_array_of_tables() {
+            Some(tables) => writes(alloc, tables, "[{ x = 1 }, {}]"),
+            None => false,
+        }
 }
 
 #[test]
 fn shows_documents(rt: HostRuntime) {
-    let document = Document::parse(rt.alloc(), "a = 1 # c\n").ok();
-    assert!(rt; holds_moved(rt.alloc(), document, shows_document));
+    let alloc = rt.alloc();
+    assert!(rt; holds_moved(alloc, Document::parse(alloc, DOCUMENT).ok(), shows_document));
+    assert!(rt;
+        holds_moved(
+            alloc,
+            DocumentMut::from_str(alloc, DOCUMENT).ok(),
+            shows_parts
+        )
+    );
 }
 
 fn shows_error(alloc: Global, fault: &ParseFault) -> bool {

@@ -1,6 +1,12 @@
 //! What owns the things that tests make.
-use std::alloc::Global;
-use std::fmt::Display;
+use std::alloc::{AllocError, Global};
+use std::fmt::{self, Display, Write};
+use toml_edit::{Mem, NoMemory};
+
+/// Drops what no memory was left for, and keeps the error.
+pub fn no_memory<T: Drop>(_refused: NoMemory<T>) -> AllocError {
+    AllocError
+}
 
 /// Whether it was made, and this holds of it.
 pub fn holds<T: Drop, F: Fn(&T) -> bool>(made: Option<T>, test: F) -> bool
@@ -38,10 +44,59 @@ pub fn holds_changed<T: Drop, F: Fn(Global, &mut T) -> bool>(
     test(alloc, &mut made)
 }
 
-/// Whether it is shown so.
-pub fn shows<T: Display + Drop>(alloc: Global, made: T, shown: &str) -> bool {
+/// Takes so many bytes, and then fails. It compares them with what is wanted.
+#[derive(Drop)]
+struct Narrow<'a> {
+    wanted: &'a [u8],
+    room: usize,
+    agrees: bool,
+}
+
+impl Write for Narrow<'_> {
+    fn write_str(&mut self, piece: &str) -> fmt::Result {
+        let count = self.room.min(piece.len());
+        let taken = &piece.as_bytes()[..count];
+        self.agrees = self.agrees && self.wanted.starts_with(taken);
+        self.wanted = self.wanted.get(count..).unwrap_or(&[]);
+        self.room -= count;
+        if count < piece.len() {
+            return Err(fmt::Error);
+        }
+        Ok(())
+    }
+}
+
+/// Whether a writer that has so much room is filled by a beginning of the text, and its fault is told.
+fn fills<T: Display>(made: &T, shown: &str, room: usize) -> bool {
+    let mut narrow = Narrow {
+        wanted: shown.as_bytes(),
+        room,
+        agrees: true,
+    };
+    write!(narrow, "{made}").is_err() && narrow.agrees && narrow.room == 0
+}
+
+/// Whether it is written so, and a beginning of that to a writer that has less room.
+pub fn writes<T: Display>(alloc: Global, made: &T, shown: &str) -> bool {
+    let mut is_filled = true;
+    for room in 0..shown.len() {
+        is_filled = is_filled && fills(made, shown, room);
+    }
     match made.to_string(alloc) {
-        Ok(text) => text.as_str() == shown,
+        Ok(text) => is_filled && text.as_str() == shown,
         Err(_) => false,
     }
+}
+
+/// Whether this is the text.
+pub fn is_text(made: Mem<String>, wanted: &str) -> bool {
+    match made {
+        Ok(text) => text.as_str() == wanted,
+        Err(_) => false,
+    }
+}
+
+/// Whether it is shown so.
+pub fn shows<T: Display + Drop>(alloc: Global, made: T, shown: &str) -> bool {
+    writes(alloc, &made, shown)
 }

@@ -7,9 +7,17 @@ mod comparisons;
 #[cfg(test)]
 mod displays;
 #[cfg(test)]
+mod examples;
+#[cfg(test)]
+mod guide;
+#[cfg(test)]
 mod holding;
 #[cfg(test)]
+mod labelled;
+#[cfg(test)]
 mod makers;
+#[cfg(test)]
+mod mixed;
 #[cfg(test)]
 mod prints;
 #[cfg(test)]

@@ -1,11 +1,11 @@
-//! The container of keyed slots at a concrete type: each call once. Those that take memory hold whichever allocation fails.
-use crate::holding::{holds_changed, holds_moved};
-use crate::spans::is_yes;
+//! The container of keyed slots at a concrete type: each call once. Those that take memory hold whichever allocation fails, but for
+//! `mixes_slots` and `does_all_with_memory`, which want theirs.
+use crate::holding::{holds_changed, holds_moved, no_memory};
+use crate::spans::{is_done, is_yes};
 use std::alloc::{AllocError, Global};
 use std::fmt::Write;
 use std::mem;
-use toml_edit::{Decor, Key, Mem};
-use toml_edit_slots::{Entry, Slot, Slots};
+use toml_edit::{Decor, Key, Mem, Slot, Slots};
 
 fn is_next(slots: &Slots<u8>, name: &str, before: usize) -> bool {
     slots.find(name) == Some(before) && slots.len().checked_sub(before) == Some(1)
@@ -137,7 +137,7 @@ fn inserts_in_both(
     name: String,
     item: u32,
 ) -> Mem<bool> {
-    let old = slots.insert(name.as_str(), item)?;
+    let old = slots.insert(name.as_str(), item).map_err(no_memory)?;
     match place_of(pairs, name.as_str()) {
         Some(at) => match pairs.get_mut(at) {
             Some(pair) => Ok(old == Some(mem::replace(&mut pair.1, item))),
@@ -166,7 +166,8 @@ fn gets_from_both(slots: &Slots<u32>, pairs: &Pairs, name: &str) -> bool {
 
 /// The item of the name is lent, or put in where there is none.
 fn enters_in_both(slots: &mut Slots<u32>, pairs: &mut Pairs, name: String, item: u32) -> Mem<bool> {
-    let lent = *slots.entry(name.as_str())?.or_insert(item)?;
+    let entry = slots.entry(name.as_str())?;
+    let lent = *entry.or_insert(item).map_err(no_memory)?;
     match place_of(pairs, name.as_str()) {
         Some(at) => Ok(pairs.get(at).map(|pair| pair.1) == Some(lent)),
         None => {
@@ -316,7 +317,11 @@ fn changes_entry(slots: &mut Slots<u8>) -> bool {
             entry.leaf_decor_mut().clear();
             entry.dotted_decor_mut().clear();
             entry.fmt_key();
-            is_replaced && *entry.get() == 3
+            let mut key = entry.key_mut();
+            key.leaf_decor_mut().clear();
+            key.fmt();
+            let is_lent = key.get() == "a";
+            is_replaced && is_lent && *entry.get() == 3
         }
         None => false,
     }
@@ -332,12 +337,11 @@ fn removes_entry(slots: &mut Slots<u8>) -> bool {
 
 /// Whether an entry of a name of its own, and one with a key's formatting, are filled.
 fn fills(alloc: Global, slots: &mut Slots<u8>) -> Mem<bool> {
-    let made = *slots.entry("b")?.or_insert_with(|| 2)?;
+    let entry = slots.entry("b")?;
+    let made = *entry.or_insert_with(|| 2).map_err(no_memory)?;
     let key = Key::from_text(alloc, "c")?;
-    match slots.entry_format(&key)? {
-        Entry::Vacant(entry) => Ok(made == 2 && *entry.insert(4)? == 4),
-        Entry::Occupied(_) => Ok(false),
-    }
+    let entry = slots.entry_format(&key)?;
+    Ok(made == 2 && *entry.or_insert(4).map_err(no_memory)? == 4)
 }
 
 /// Whether entries are filled, and one is changed and taken out. Where no memory was left there may be none.
@@ -362,14 +366,52 @@ fn cuts_key(alloc: Global) -> Mem<bool> {
     let name = String::from_str(alloc, "k")?;
     let key = Key::spanned(name, 0, 1, Decor::default(), Decor::default());
     let mut slots: Slots<u8> = Slots::new(alloc);
-    slots.push(Slot { key, item: 7 })?;
+    slots.push(Slot { key, item: 7 }).map_err(no_memory)?;
     match slots.despan_key(0, alloc, "k = 1") {
         Ok(()) => Ok(spelled(&slots) == Some("k")),
-        Err(_) => Ok(slots.get("k") == Some(&7)),
+        Err(refused) if slots.get("k") == Some(&7) => Err(refused),
+        Err(_) => Ok(false),
     }
 }
 
 #[test]
 fn cuts_keys(rt: HostRuntime) {
     assert!(rt; is_yes(cuts_key(rt.alloc())));
+}
+
+fn inserts_each(alloc: Global, slots: &mut Slots<u8>) -> bool {
+    inserts_all(alloc, slots) && slots.len() == NAMES.len()
+}
+
+fn pushes_each(alloc: Global, slots: &mut Slots<u8>) -> bool {
+    pushes_all(alloc, slots) && slots.len() == 5
+}
+
+fn changes_each(alloc: Global, slots: &mut Slots<u8>) -> bool {
+    changes_all(alloc, slots) && slots.len() == 1 && slots.get("b") == Some(&4)
+}
+
+fn stays_each(alloc: Global, slots: &mut Slots<u32>) -> bool {
+    stays_all(alloc, slots) && slots.len() == NAMES.len()
+}
+
+fn enters_each(alloc: Global, slots: &mut Slots<u8>) -> bool {
+    is_done(fills(alloc, slots))
+        && matches!(slots.insert("a", 1), Ok(None))
+        && changes_entry(slots)
+        && removes_entry(slots)
+        && slots.get("b") == Some(&2)
+        && slots.get("c") == Some(&4)
+        && slots.len() == 2
+}
+
+#[test]
+fn does_all_with_memory(rt: HostRuntime) {
+    let alloc = rt.alloc();
+    assert!(rt; holds_changed(alloc, Slots::new(alloc), inserts_each));
+    assert!(rt; holds_changed(alloc, Slots::new(alloc), pushes_each));
+    assert!(rt; holds_changed(alloc, Slots::new(alloc), changes_each));
+    assert!(rt; holds_changed(alloc, Slots::new(alloc), stays_each));
+    assert!(rt; holds_changed(alloc, Slots::new(alloc), enters_each));
+    assert!(rt; is_done(cuts_key(alloc)));
 }

@@ -115,6 +115,7 @@ fn remembers_a_failed_read(rt: HostRuntime) {
     for calls in 0..5 {
         assert!(rt; stays_broken(rt.alloc(), Drip::of(b"four", calls)));
     }
+    assert!(rt; stays_broken(rt.alloc(), Drip::of(b"", 0)));
 }
 
 fn writes_twice<W: Write + Drop>(writer: W) -> bool {

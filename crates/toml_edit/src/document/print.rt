@@ -8,6 +8,7 @@ use super::DocumentMut;
 use std::alloc::{AllocError, Global};
 use std::error::Error;
 use std::fmt;
+use toml_edit_slots::NoMemory;
 use toml_edit_stream::{Broken, Output, write_all};
 
 /// Why a document is not printed whole.
@@ -45,6 +46,16 @@ impl From<AllocError> for PrintFault {
     }
 }
 
+impl<T: Drop> From<NoMemory<T>> for PrintFault {
+    ghost use Rattle.toml_edit.specs.declared.document.print.PrintFault.TheVariants.{Memory};
+
+    ghost from_gives = { λ _ fault. fault ≡ Memory };
+
+    fn from(_refused: NoMemory<T>) -> PrintFault {
+        PrintFault::Memory
+    }
+}
+
 impl From<Broken> for PrintFault {
     ghost use Rattle.toml_edit.specs.declared.document.print.PrintFault.TheVariants.{Device};
 
@@ -56,8 +67,9 @@ impl From<Broken> for PrintFault {
 }
 
 impl DocumentMut {
-    /// Writes the text of the document, as `print` makes it, to an output that has not failed. The errors are want of memory, found
-    /// before anything is written, and a fault of the output, which holds a beginning of the text then.
+    /// Writes the text of the document, as `print` makes it, to an output that has not failed. The
+    /// errors are want of memory, found before anything is written, and a fault of the output,
+    /// which holds a beginning of the text then.
     pub fn print_to<W: Output>(&self, alloc: Global, out: &mut W) -> Result<(), PrintFault>
         requires { W.has_failed out.old ≡ false }
         ensures prints { OnOk result (Appends (W.contents out.old) (W.contents out.new) (print_of self.now)) }

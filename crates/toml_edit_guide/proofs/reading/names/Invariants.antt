@@ -1,9 +1,10 @@
 -- What is written, and the lines of the slots that are left, are the lines of the table.
 use Rattle.std.proofs.Common.{◌≡◌, ◌++◌, string_bytes}
 use Rattle.toml_edit_guide.specs.Names.{name_lines}
-use Rattle.toml_edit_tree.specs.Held.{held, held_left}
-use Rattle.toml_edit_tree.specs.View.{table_slots}
+use Rattle.toml_edit.specs.model.Iterating.{filled_pairs}
+use Rattle.toml_edit.specs.tree.Held.{held_left}
+use Rattle.toml_edit.specs.tree.SlotsOf.{slots_of}
 use Rattle.toml_edit_guide.proofs.reading.names.Given as goal
 
 abbrev pub invariant-loop-name : goal.invariant-loop-name
-invariant-loop-name l = string_bytes l.names ++ name_lines (held_left l.name-iterator) ≡ name_lines (held (table_slots l.table))
+invariant-loop-name l = string_bytes l.names ++ name_lines (held_left l.name-iterator) ≡ name_lines (filled_pairs (slots_of l.table))

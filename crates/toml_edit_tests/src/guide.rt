@@ -1,0 +1,235 @@
+//! Each function of the guide, on documents whose texts before and after are written by hand.
+use crate::holding::is_text;
+use std::alloc::{AllocError, Global};
+use toml_edit::{Array, Document, DocumentMut, Item, Mem, ParseFault, Table, Value};
+use toml_edit_guide::adding::{
+    add_dependency, add_element, add_table, push_line, set_default, try_insert,
+};
+use toml_edit_guide::arranging::{insert_first, rename, sort_strings};
+use toml_edit_guide::changing::set_value;
+use toml_edit_guide::documents::{print_if_fits, read_exactly, read_strictly, report};
+use toml_edit_guide::reading::{integer_at, names, span_at};
+
+const SERVER: &str = "title = 'x'\n\n# two servers\n[server]\nport = 80  # http\nhost = 'a'\n";
+
+fn reads_server(alloc: Global, document: &Document<&str>) -> bool {
+    let root = document.as_item();
+    integer_at(root, "server", "port") == Some(80)
+        && integer_at(root, "server", "host").is_none()
+        && integer_at(root, "title", "port").is_none()
+        && span_at(root, "title") == Some(8..11)
+        && is_text(names(alloc, document.as_table()), "title\nserver\n")
+}
+
+#[test]
+fn reads(rt: HostRuntime) {
+    match Document::parse(rt.alloc(), SERVER) {
+        Ok(document) => assert!(rt; reads_server(rt.alloc(), &document)),
+        Err(_) => assert!(rt; false),
+    }
+}
+
+#[test]
+fn has_no_spans_without_its_source(rt: HostRuntime) {
+    match DocumentMut::from_str(rt.alloc(), SERVER) {
+        Ok(document) => assert!(rt; span_at(document.as_item(), "title").is_none()),
+        Err(_) => assert!(rt; false),
+    }
+}
+
+/// Returns whether it was done.
+fn done(is_done: bool) -> Mem<()> {
+    if is_done { Ok(()) } else { Err(AllocError) }
+}
+
+fn set_port(root: &mut Table) -> Mem<()> {
+    let is_set = set_value(root, "server", "port", Value::from(8080));
+    let has_name = set_value(root, "server", "name", Value::from(1));
+    let is_table = set_value(root, "title", "port", Value::from(1));
+    done(is_set && !has_name && !is_table)
+}
+
+fn set_defaults(root: &mut Table) -> Mem<()> {
+    set_default(root, "a", Item::Value(Value::from(5)))?;
+    set_default(root, "b", Item::Value(Value::from(5)))
+}
+
+fn insert_a(root: &mut Table) -> Mem<()> {
+    match try_insert(root, "a", Item::Value(Value::from(2))) {
+        None => Ok(()),
+        Some(item) => {
+            drop(item);
+            Err(AllocError)
+        }
+    }
+}
+
+fn array_mut<'a>(root: &'a mut Table, key: &str) -> Option<&'a mut Array> {
+    root.get_mut(key).and_then(|item| item.as_array_mut())
+}
+
+fn push_alan(alloc: Global, root: &mut Table) -> Mem<()> {
+    match array_mut(root, "all") {
+        Some(all) => push_line(alloc, all, "Alan"),
+        None => Err(AllocError),
+    }
+}
+
+fn rename_keys(alloc: Global, root: &mut Table) -> Mem<()> {
+    let is_renamed = rename(alloc, root, "b", "x")?;
+    let was_there = rename(alloc, root, "missing", "y")?;
+    let was_free = rename(alloc, root, "a", "c")?;
+    done(is_renamed && !was_there && !was_free)
+}
+
+fn sort_all(root: &mut Table) -> Mem<()> {
+    if let Some(array) = array_mut(root, "z") {
+        sort_strings(array)?;
+    }
+    root.sort_values()
+}
+
+/// Makes the change of this name.
+fn change(alloc: Global, root: &mut Table, name: &str) -> Mem<()> {
+    match name {
+        "set port" => set_port(root),
+        "set b" => done(set_value(root, "a", "b", Value::from(3))),
+        "set defaults" => set_defaults(root),
+        "insert a" => insert_a(root),
+        "insert a first" => insert_first(alloc, root, "a", Item::Value(Value::from(0))),
+        "add serde" => add_dependency(alloc, root, "serde", "1.0", &["derive", "rc"]),
+        "add lib" => add_table(alloc, root, "lib", "bench", Value::from(false)),
+        "add bin" => add_element(alloc, root, "bin", Table::new(alloc)),
+        "push" => push_alan(alloc, root),
+        "rename" => rename_keys(alloc, root),
+        "sort" => sort_all(root),
+        _ => Err(AllocError),
+    }
+}
+
+/// Returns whether the document that was read prints so after a change.
+fn gives(alloc: Global, read: Result<DocumentMut, ParseFault>, name: &str, wanted: &str) -> bool {
+    match read {
+        Ok(mut document) => {
+            change(alloc, document.as_table_mut(), name).is_ok()
+                && is_text(document.print(alloc), wanted)
+        }
+        Err(fault) => is_text(fault.to_string(alloc), wanted),
+    }
+}
+
+#[test]
+fn edits(rt: HostRuntime) {
+    for (name, before, after) in [
+        (
+            "set port",
+            SERVER,
+            "title = 'x'\n\n# two servers\n[server]\nport = 8080  # http\nhost = 'a'\n",
+        ),
+        ("set defaults", "a = 1 # one\n", "a = 1 # one\nb = 5\n"),
+        (
+            "insert a",
+            "a = 1 # one\nb = 2 # two\n",
+            "a = 2\nb = 2 # two\n",
+        ),
+        ("insert a", "b = 2 # two\n", "b = 2 # two\na = 2\n"),
+        (
+            "insert a first",
+            "b = 1 # b\n\"c\".x = 2\nc.y = 3\n",
+            "a = 0\nb = 1 # b\n\"c\".x = 2\n\"c\".y = 3\n",
+        ),
+        ("insert a first", "b = 1 # b\na = 2\n", "a = 0\nb = 1 # b\n"),
+        (
+            "add serde",
+            "log = '0.4'\n",
+            "log = '0.4'\nserde = { version = \"1.0\", features = [\"derive\", \"rc\"] }\n",
+        ),
+        (
+            "add lib",
+            "[package]\nname = 'x'\n",
+            "[package]\nname = 'x'\n\n[lib]\nbench = false\n",
+        ),
+        (
+            "add bin",
+            "[[bin]]\nname = 'a' # one\n\n[lib]\n",
+            "[[bin]]\nname = 'a' # one\n\n[[bin]]\n\n[lib]\n",
+        ),
+        ("add bin", "a = 1\n", "a = 1\n\n[[bin]]\n"),
+        (
+            "push",
+            "all = [\n  'Ada', # wrote it\n  'George',\n]\n",
+            "all = [\n  'Ada', # wrote it\n  'George',\n  \"Alan\",\n]\n",
+        ),
+        (
+            "push",
+            "all = [\n\t# the first\n\t'Ada', # wrote it\n]\n",
+            "all = [\n\t# the first\n\t'Ada', # wrote it\n\t\"Alan\",\n]\n",
+        ),
+        (
+            "push",
+            "all = [\n  'Ada' # wrote it\n]\n",
+            "all = [\n  'Ada', # wrote it\n  \"Alan\",\n]\n",
+        ),
+        ("push", "all = []\n", "all = [\n    \"Alan\",\n]\n"),
+        (
+            "rename",
+            "a = 1\n# about b\nb  = 2 # b\nc = 3\n\n[t]\n",
+            "a = 1\n# about b\nx  = 2 # b\nc = 3\n\n[t]\n",
+        ),
+        (
+            "sort",
+            "z = [\n  'b',\n  'a',\n]\n# about b\nb = 1 # b\na = 2\n",
+            "a = 2\n# about b\nb = 1 # b\nz = [\n  'a',\n  'b',\n]\n",
+        ),
+        (
+            "set b",
+            "[a]\r\nb = 1 # one\r\nc = 2",
+            "[a]\nb = 3 # one\nc = 2\n",
+        ),
+    ] {
+        let read = DocumentMut::from_str(rt.alloc(), before);
+        assert!(rt; gives(rt.alloc(), read, name, after), "{name}");
+    }
+}
+
+#[test]
+fn reads_as_asked(rt: HostRuntime) {
+    let exact = read_exactly(rt.alloc(), "[a]\r\nb = 1 # one\r\nc = 2");
+    assert!(rt; gives(rt.alloc(), exact, "set b", "[a]\r\nb = 3 # one\r\nc = 2"));
+    let strict = read_strictly(rt.alloc(), "[a]\nb = 1\n");
+    assert!(rt; gives(rt.alloc(), strict, "set b", "[a]\nb = 3\n"));
+    let refused = read_strictly(rt.alloc(), "a = { b = 1, }\n");
+    let why =
+        "TOML parse error at line 1, column 12\n  |\n1 | a = { b = 1, }\n  |            ^\nneeds TOML 1.1\n";
+    assert!(rt; gives(rt.alloc(), refused, "set b", why));
+}
+
+#[test]
+fn reports(rt: HostRuntime) {
+    let why = "TOML parse error at line 2, column 1\n  |\n2 | a = 2\n  | ^\nduplicate key\n";
+    assert!(rt; is_text(report(rt.alloc(), "a = 1\na = 2\n"), why));
+    assert!(rt; is_text(report(rt.alloc(), "a = 1\nb = 2\n"), ""));
+}
+
+/// Returns whether the document prints so, or with `None` doesn't fit.
+fn prints(alloc: Global, document: &DocumentMut, wanted: Option<&str>) -> bool {
+    match print_if_fits(alloc, document) {
+        Ok(Some(text)) => wanted == Some(text.as_str()),
+        Ok(None) => wanted.is_none(),
+        Err(_) => false,
+    }
+}
+
+fn fits_until_it_is_dotted(alloc: Global, document: &mut DocumentMut) -> bool {
+    let fits = prints(alloc, document, Some("a = 1\n"));
+    document.as_table_mut().set_dotted(true);
+    fits && prints(alloc, document, None)
+}
+
+#[test]
+fn prints_what_fits(rt: HostRuntime) {
+    match DocumentMut::from_str(rt.alloc(), "a = 1\n") {
+        Ok(mut document) => assert!(rt; fits_until_it_is_dotted(rt.alloc(), &mut document)),
+        Err(_) => assert!(rt; false),
+    }
+}
