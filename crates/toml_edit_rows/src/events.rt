@@ -1,5 +1,5 @@
 //! The events of a text, and of a lone value.
-use crate::said::Answer;
+use toml_edit_rows_read::Answer;
 use toml_edit_syntax::{Event, SyntaxFault, events, lone_events};
 
 type Found = Result<Vec<Event>, SyntaxFault>;

@@ -1,30 +1,33 @@
 //! Rows on keys and paths.
-use crate::row::Row;
-use crate::said::Answer;
-use crate::steps::{Asked, Subject, behind, copied, word};
-use crate::{refusal, steps, value};
+use crate::kinds::Texts;
 use serde_json::Value as Json;
-use toml_edit::{Key, KeyMut, Repr};
+use toml_edit::Key;
+use toml_edit_rows_read::key::{ask, ask_found, call_lent};
+use toml_edit_rows_read::steps::{Tries, behind, copied, word};
+use toml_edit_rows_read::value::{Plain, change_decor};
+use toml_edit_rows_read::{Answer, Row, refusal, steps};
 
+/// Rows on a key or a path.
 pub fn answer(row: Row<'_>, out: &mut Answer) {
     match row.kind {
-        "path" => steps::read(Key::parse(out.alloc, row.text()), row, out),
-        "name" => steps::made(Key::from_text(out.alloc, row.text()), row, out),
-        _ => steps::read(Key::from_str(out.alloc, row.text()), row, out),
+        "path" => steps::read::<Texts, _>(Key::parse(out.alloc, row.text()), row, out),
+        "name" => steps::made::<Texts, _>(Key::from_text(out.alloc, row.text()), row, out),
+        _ => steps::read::<Texts, _>(Key::from_str(out.alloc, row.text()), row, out),
     }
 }
 
-impl Subject for Key {
-    fn call(&mut self, words: &[Json], out: &mut Answer) {
-        call(self, words, out);
+impl Tries<Key> for Texts {
+    fn call(key: &mut Key, words: &[Json], out: &mut Answer) {
+        call(key, words, out);
     }
 
-    fn answer(&self, question: &str, out: &mut Answer) {
+    fn answer(key: &Key, question: &str, out: &mut Answer) {
         match question {
-            "says" => out.text(self.get()),
-            "shown" => out.shown(self),
-            "default_repr" => out.repr(self.default_repr(out.alloc)),
-            "display_repr" => out.made(self.display_repr(out.alloc)),
+            "steps" => {}
+            "says" => out.text(key.get()),
+            "shown" => out.shown(key),
+            "default_repr" => out.repr(key.default_repr(out.alloc)),
+            "display_repr" => out.made(key.display_repr(out.alloc)),
             _ => refusal::of_accepted(question, out),
         }
     }
@@ -34,72 +37,24 @@ impl Subject for Key {
 fn call(key: &mut Key, words: &[Json], out: &mut Answer) {
     let rest = behind(words, 1);
     match word(words, 0) {
-        "leaf_decor_mut" => value::change_decor(key.leaf_decor_mut(), rest, out),
-        "dotted_decor_mut" => value::change_decor(key.dotted_decor_mut(), rest, out),
+        "leaf_decor_mut" => change_decor(key.leaf_decor_mut(), rest, out),
+        "dotted_decor_mut" => change_decor(key.dotted_decor_mut(), rest, out),
         "fmt" => key.fmt(),
         "as_mut" => call_lent(&mut key.as_mut(), rest, out),
-        "clone" => copied(key.clone(out.alloc), rest, out),
+        "clone" => copied::<Plain, _>(key.clone(out.alloc), rest, out),
         _ => ask(key, words, out),
     }
 }
 
-/// Does a step through the lent key.
-fn call_lent(lent: &mut KeyMut<'_>, words: &[Json], out: &mut Answer) {
-    let rest = behind(words, 1);
-    match word(words, 0) {
-        "leaf_decor_mut" => value::change_decor(lent.leaf_decor_mut(), rest, out),
-        "dotted_decor_mut" => value::change_decor(lent.dotted_decor_mut(), rest, out),
-        "fmt" => lent.fmt(),
-        _ => ask_lent(lent, words, out),
-    }
-}
-
-impl Asked for Key {
-    fn ask(&self, words: &[Json], out: &mut Answer) {
-        ask(self, words, out);
-    }
-}
-
-/// Asks of a key, if there is one.
-pub fn ask_found(key: Option<&Key>, words: &[Json], out: &mut Answer) {
-    match key {
-        Some(key) => ask(key, words, out),
-        None => out.text("none"),
-    }
-}
-
-fn ask(key: &Key, words: &[Json], out: &mut Answer) {
-    match word(words, 0) {
-        "get" => out.text(key.get()),
-        "as_repr" => out.raw(key.as_repr().map(Repr::as_raw)),
-        "span" => out.span(key.span()),
-        "leaf_decor" => value::ask_decor(key.leaf_decor(), word(words, 1), out),
-        "dotted_decor" => value::ask_decor(key.dotted_decor(), word(words, 1), out),
-        call => out.no_such(call),
-    }
-}
-
-fn ask_lent(lent: &KeyMut<'_>, words: &[Json], out: &mut Answer) {
-    match word(words, 0) {
-        "get" => out.text(lent.get()),
-        "as_repr" => out.raw(lent.as_repr().map(Repr::as_raw)),
-        "leaf_decor" => value::ask_decor(lent.leaf_decor(), word(words, 1), out),
-        "dotted_decor" => value::ask_decor(lent.dotted_decor(), word(words, 1), out),
-        "default_repr" => out.repr(lent.default_repr(out.alloc)),
-        "display_repr" => out.made(lent.display_repr(out.alloc)),
-        "to_string" => out.shown(lent),
-        call => out.no_such(call),
-    }
-}
-
-impl Subject for Vec<Key> {
-    fn call(&mut self, words: &[Json], out: &mut Answer) {
-        ask_path(self.as_slice(), words, out);
+impl Tries<Vec<Key>> for Texts {
+    fn call(keys: &mut Vec<Key>, words: &[Json], out: &mut Answer) {
+        ask_path(keys.as_slice(), words, out);
     }
 
-    fn answer(&self, question: &str, out: &mut Answer) {
+    fn answer(keys: &Vec<Key>, question: &str, out: &mut Answer) {
         match question {
-            "len" => out.shown(&self.len()),
+            "steps" => {}
+            "len" => out.shown(&keys.len()),
             _ => refusal::of_accepted(question, out),
         }
     }

@@ -1,30 +1,10 @@
-//! The print of a document, by each way to it.
-use crate::said::Answer;
+//! The print of a document, by each way to it, and what it is once it is read again.
 use std::alloc::Global;
-use std::io;
-use std::io::Write;
-use toml_edit::{DocumentMut, PrintFault, Watched};
+use toml_edit::{DocumentMut, Mem, PrintFault, Watched};
+use toml_edit_rows_read::{Answer, Bites, refusal};
 
-/// Takes so many bytes at a time.
-#[derive(Drop)]
-struct Bites<'a> {
-    held: &'a mut Vec<u8>,
-    most: usize,
-}
-
-impl Write for Bites<'_> {
-    fn write(&mut self, buf: &[u8]) -> io::Result<usize> {
-        let count = self.most.min(buf.len());
-        self.held.extend_from_slice(&buf[..count])?;
-        Ok(count)
-    }
-
-    fn flush(&mut self) -> io::Result<()> {
-        Ok(())
-    }
-}
-
-/// The print, where it is also what is written to an output, whether this takes one byte at a time, three, or all.
+/// The print, where it is also what is written to an output, whether this takes one byte at a time,
+/// three, or all.
 pub fn answer(document: &DocumentMut, out: &mut Answer) {
     match document.print(out.alloc) {
         Ok(print) => written(document, print.as_str(), out),
@@ -54,4 +34,26 @@ fn in_bites(alloc: Global, document: &DocumentMut, most: usize) -> Result<Vec<u8
     };
     document.print_to(alloc, &mut Watched::new(bites))?;
     Ok(held)
+}
+
+/// Whether the print, read again, is printed as it stands.
+pub fn settles(document: &DocumentMut, out: &mut Answer) {
+    match document.print(out.alloc) {
+        Ok(text) => comes_back(text.as_str(), out),
+        Err(_) => out.refuse(),
+    }
+}
+
+fn comes_back(text: &str, out: &mut Answer) {
+    match DocumentMut::from_str(out.alloc, text) {
+        Ok(document) => is_text(document.print(out.alloc), text, out),
+        Err(fault) => refusal::answer(&fault, "settles", out),
+    }
+}
+
+fn is_text(printed: Mem<String>, text: &str, out: &mut Answer) {
+    match printed {
+        Ok(printed) => out.truth(printed.as_str() == text),
+        Err(_) => out.refuse(),
+    }
 }

@@ -1,14 +1,13 @@
 //! Rows on the program: its words and its input, and how it ends.
-use crate::row::{self, Row};
-use crate::said::Answer;
 use crate::streams;
 use serde_json::Value as Json;
 use std::alloc::Global;
 use toml_edit::{Mem, Watched};
 use toml_edit_command::run;
+use toml_edit_rows_read::{Answer, Row, items_of, text_of};
 
 pub fn answer(row: Row<'_>, out: &mut Answer) {
-    let words = words(out.alloc, row::items_of(row.subject()));
+    let words = words(out.alloc, items_of(row.subject()));
     run_of(words, row, out);
 }
 
@@ -47,7 +46,7 @@ fn ended(words: &[String], input: &[u8], question: &str, out: &mut Answer) {
 fn words(alloc: Global, items: &[Json]) -> Mem<Vec<String>> {
     let mut words = Vec::new(alloc);
     for item in items {
-        words.push(String::from_str(alloc, row::text_of(Some(item)))?)?;
+        words.push(String::from_str(alloc, text_of(Some(item)))?)?;
     }
     Ok(words)
 }
@@ -55,8 +54,8 @@ fn words(alloc: Global, items: &[Json]) -> Mem<Vec<String>> {
 /// The input: the text `input`, and behind it the `bytes`.
 fn input(alloc: Global, json: &Json) -> Mem<Vec<u8>> {
     let mut input = Vec::new(alloc);
-    input.extend_from_slice(row::text_of(json.get("input")).as_bytes())?;
-    for byte in row::items_of(json.get("bytes")) {
+    input.extend_from_slice(text_of(json.get("input")).as_bytes())?;
+    for byte in items_of(json.get("bytes")) {
         input.push(byte_of(byte))?;
     }
     Ok(input)
@@ -76,7 +75,8 @@ fn bytes(bytes: &[u8], out: &mut Answer) {
     }
 }
 
-/// Whether `print` ends with status 0 or 1 on each beginning of the text, and with 1 where that ends inside a character.
+/// Whether `print` ends with status 0 or 1 on each beginning of the text, and with 1 where that
+/// ends inside a character.
 pub fn every_cut_ends(text: &str, out: &mut Answer) {
     match print_word(out.alloc) {
         Ok(words) => out.truth(cuts_end(out.alloc, words.as_slice(), text)),

@@ -1,15 +1,15 @@
-//! Rows on scalars and on empty lists that are made and not read, and what is asked of scalars.
-use crate::row::Row;
-use crate::said::Answer;
-use crate::{refusal, steps};
+//! Rows on scalars that are made and not read.
+use crate::kinds::Texts;
 use std::alloc::Global;
-use toml_edit::{Array, FloatText, Formatted, InlineTable, Mem, Repr, Value, ValueRepr};
+use toml_edit::{FloatText, Mem, Value};
+use toml_edit_rows_read::{Answer, Row, refusal, steps};
 
+/// Rows on a scalar that is made.
 pub fn answer(row: Row<'_>, out: &mut Answer) {
     match row.kind {
         "float" => float(String::from_str(out.alloc, row.text()), row, out),
-        "integer" => steps::found(integer(row.text()), row, out),
-        _ => steps::made(made(out.alloc, row), row, out),
+        "integer" => steps::found::<Texts, _>(integer(row.text()), row, out),
+        _ => steps::made::<Texts, _>(made(out.alloc, row), row, out),
     }
 }
 
@@ -17,9 +17,7 @@ fn made(alloc: Global, row: Row<'_>) -> Mem<Value> {
     match row.kind {
         "string" => Value::string(alloc, row.text()),
         "owned_string" => String::from_str(alloc, row.text()).map(Value::from),
-        "boolean" => Ok(Value::from(row.text() == "true")),
-        "array" => Ok(Value::from(Array::new(alloc))),
-        _ => Ok(Value::from(InlineTable::new(alloc))),
+        _ => Ok(Value::from(row.text() == "true")),
     }
 }
 
@@ -37,7 +35,7 @@ fn float(text: Mem<String>, row: Row<'_>, out: &mut Answer) {
 /// Asks of the float, or of the text that is given back, which is none.
 fn checked_float(float: Result<FloatText, String>, row: Row<'_>, out: &mut Answer) {
     match float {
-        Ok(float) => steps::stepped(Value::from(float), row, out),
+        Ok(float) => steps::stepped::<Texts, _>(Value::from(float), row, out),
         Err(back) => given_back(back.as_str(), row.question, out),
     }
 }
@@ -47,64 +45,4 @@ fn given_back(text: &str, question: &str, out: &mut Answer) {
         "given_back" => out.text(text),
         _ => refusal::none(question, out),
     }
-}
-
-/// Drops the spelling of a scalar.
-pub fn forget_spelling(value: &mut Value, out: &mut Answer) {
-    match value {
-        Value::String(scalar) => scalar.fmt(),
-        Value::Integer(scalar) => scalar.fmt(),
-        Value::Float(scalar) => scalar.fmt(),
-        Value::Boolean(scalar) => scalar.fmt(),
-        Value::Datetime(scalar) => scalar.fmt(),
-        _ => out.no_such("fmt"),
-    }
-}
-
-/// Asks for the spelling of a scalar.
-pub fn ask(value: &Value, call: &str, out: &mut Answer) {
-    match value {
-        Value::String(scalar) => ask_scalar(scalar, call, out),
-        Value::Integer(scalar) => ask_scalar(scalar, call, out),
-        Value::Float(scalar) => ask_scalar(scalar, call, out),
-        Value::Boolean(scalar) => ask_scalar(scalar, call, out),
-        Value::Datetime(scalar) => ask_scalar(scalar, call, out),
-        _ => out.no_such(call),
-    }
-}
-
-fn ask_scalar<T: ValueRepr>(scalar: &Formatted<T>, call: &str, out: &mut Answer) {
-    match call {
-        "as_repr" => out.raw(scalar.as_repr().map(Repr::as_raw)),
-        "repr_span" => out.span(scalar.as_repr().and_then(Repr::span)),
-        "default_repr" => out.repr(scalar.default_repr(out.alloc)),
-        _ => out.made(scalar.display_repr(out.alloc)),
-    }
-}
-
-/// Asks by a call that every value has.
-pub fn cast(value: &Value, call: &str, out: &mut Answer) -> bool {
-    match call {
-        "as_str" => out.text_or_none(value.as_str()),
-        "as_integer" => out.shown_or_none(value.as_integer().as_ref()),
-        "as_bool" => out.shown_or_none(value.as_bool().as_ref()),
-        "as_float_text" => out.shown_or_none(value.as_float_text()),
-        _ => return is_kind(value, call, out),
-    }
-    true
-}
-
-fn is_kind(value: &Value, call: &str, out: &mut Answer) -> bool {
-    let is_kind = match call {
-        "is_str" => value.is_str(),
-        "is_integer" => value.is_integer(),
-        "is_float" => value.is_float(),
-        "is_bool" => value.is_bool(),
-        "is_datetime" => value.is_datetime(),
-        "is_array" => value.is_array() && value.as_array().is_some(),
-        "is_inline_table" => value.is_inline_table() && value.as_inline_table().is_some(),
-        _ => return false,
-    };
-    out.truth(is_kind);
-    true
 }

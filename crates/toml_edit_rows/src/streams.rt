@@ -102,8 +102,9 @@ fn run_within(alloc: Global, words: &[String], input: &[u8], limits: Limits) -> 
     }
 }
 
-/// Whether a run that writes this output writes it byte by byte too, ends with status 4 wherever a read or a write fails, with a beginning
-/// of the output at most, and ends as it does where nothing can be told.
+/// Whether a run that writes this output writes it byte by byte too, ends with status 4 wherever a
+/// read or a write fails, with a beginning of the output at most, and ends as it does where nothing
+/// can be told.
 pub fn hold(alloc: Global, words: &[String], input: &[u8], status: u8, output: &[u8]) -> bool {
     let untold = Limits {
         errors: 0,

@@ -1,9 +1,8 @@
 //! Rows on tokens: keys and scalars as they are spelled.
-use crate::row::Row;
-use crate::said::Answer;
 use std::fmt::Display;
 use toml_edit::Mem;
 use toml_edit_datetime::{is_datetime, is_float};
+use toml_edit_rows_read::{Answer, Row};
 use toml_edit_token::{Scalar, after_key, after_scalar, decode_key, decode_scalar};
 
 pub fn answer(row: Row<'_>, out: &mut Answer) {

@@ -1,0 +1,23 @@
+//! Rows: how they are read, tried and reported, and what is asked of values and keys, whichever
+//! program asks.
+#![tactic(auto)]
+
+mod bites;
+pub mod date_time;
+pub mod key;
+pub mod lines;
+pub mod list;
+pub mod made;
+pub mod refusal;
+mod report;
+mod row;
+mod said;
+pub mod scalar;
+pub mod steps;
+pub mod told;
+pub mod value;
+
+pub use bites::Bites;
+pub use report::run;
+pub use row::{Program, Row, items_of, text_of};
+pub use said::Answer;

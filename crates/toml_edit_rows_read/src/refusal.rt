@@ -1,0 +1,45 @@
+//! What is asked of a refusal.
+use crate::said::Answer;
+use toml_edit_error::{ParseFault, TomlError};
+
+/// The answer to a question where the text was refused.
+pub fn answer(fault: &ParseFault, question: &str, out: &mut Answer) {
+    match fault {
+        ParseFault::Memory => out.refuse(),
+        ParseFault::Toml(_) if question == "fault" => out.shown(fault),
+        ParseFault::Toml(error) => error_answer(error, question, out),
+    }
+}
+
+fn error_answer(error: &TomlError, question: &str, out: &mut Answer) {
+    match question {
+        "is_refused" => out.truth(true),
+        "refused" => out.text(error.message()),
+        "at" | "from_str_at" => out.span(error.span()),
+        "error" | "from_str_error" => out.shown(error),
+        _ => {
+            out.text("refused: ");
+            out.text(error.message());
+        }
+    }
+}
+
+/// The answer where what is asked isn't made, for a reason that is no `TomlError`.
+pub fn none(question: &str, out: &mut Answer) {
+    if question == "is_refused" {
+        out.truth(true);
+    } else {
+        out.text("refused");
+    }
+}
+
+/// The answer to another question where nothing was refused.
+pub fn of_accepted(question: &str, out: &mut Answer) {
+    match question {
+        "is_refused" => out.truth(false),
+        "refused" | "at" | "error" | "fault" | "from_str_at" | "from_str_error" => {
+            out.text("not refused");
+        }
+        _ => out.no_such(question),
+    }
+}

@@ -1,0 +1,188 @@
+//! A row: what is asked, and what is wanted.
+use crate::said::{self, Answer};
+use serde_json::{Map, Value as Json};
+
+/// A program that tries rows of some kinds. A row is of a kind if it has a member of this name,
+/// which says what is asked.
+pub trait Program {
+    /// Whether the program tries rows of this kind.
+    fn knows(kind: &str) -> bool;
+
+    /// Answers a question of a row.
+    fn answer(row: Row<'_>, out: &mut Answer);
+}
+
+/// A row, its kind, and one of its questions.
+#[derive(Clone, Copy)]
+pub struct Row<'a> {
+    pub kind: &'a str,
+    pub json: &'a Json,
+    pub question: &'a str,
+}
+
+impl<'a> Row<'a> {
+    /// What the row is about.
+    pub fn subject(self) -> Option<&'a Json> {
+        self.json.get(self.kind)
+    }
+
+    /// What the row is about, where that is a text.
+    pub fn text(self) -> &'a str {
+        text_of(self.json.get(self.kind))
+    }
+
+    /// The steps that come before the question.
+    pub fn steps(self) -> &'a [Json] {
+        match self.question {
+            "reads" | "into_item" | "owned_into_item" | "as_item" => items_of(
+                self.json.get(self.question),
+            ),
+            _ => items_of(self.json.get("steps")),
+        }
+    }
+}
+
+/// The text, or the empty one where there is none.
+pub fn text_of(found: Option<&Json>) -> &str {
+    match found {
+        Some(json) => json.as_str().unwrap_or(""),
+        None => "",
+    }
+}
+
+/// The items of a list, or none.
+pub fn items_of(found: Option<&Json>) -> &[Json] {
+    match found {
+        Some(Json::Array(items)) => items.as_slice(),
+        _ => &[],
+    }
+}
+
+/// Whether the row of the line holds. If not, what came is written.
+pub fn holds<P: Program>(line: &str, came: &mut Answer) -> bool {
+    match Json::from_str(came.alloc, line) {
+        Ok(json) => json_holds::<P>(line, &json, came),
+        Err(error) => {
+            if error.is_memory() {
+                came.refuse();
+            }
+            came.text("this is not JSON");
+            false
+        }
+    }
+}
+
+fn json_holds<P: Program>(line: &str, json: &Json, came: &mut Answer) -> bool {
+    let Some(members) = json.as_object() else {
+        came.text("no row");
+        return false;
+    };
+    if colons(line) != held(members) {
+        came.text("a member is doubled");
+        return false;
+    }
+    match kind::<P>(members) {
+        Some(kind) => row_holds::<P>(kind, json, members, came),
+        None => {
+            came.text("no kind of row");
+            false
+        }
+    }
+}
+
+/// How many colons the line has outside of its texts: one for each member that is written.
+fn colons(line: &str) -> usize {
+    let mut count = 0_usize;
+    let mut is_text = false;
+    let mut is_escaped = false;
+    for byte in line.as_bytes() {
+        if is_escaped {
+            is_escaped = false;
+        } else if *byte == b'\\' {
+            is_escaped = true;
+        } else if *byte == b'"' {
+            is_text = !is_text;
+        } else if *byte == b':' && !is_text {
+            count = count.saturating_add(1);
+        }
+    }
+    count
+}
+
+/// How many members the row has, and the objects in it.
+fn held(members: &Map<String, Json>) -> usize {
+    let mut count = members.len();
+    for (_, inner) in members {
+        if let Json::Object(inner) = inner {
+            count = count.saturating_add(inner.len());
+        }
+    }
+    count
+}
+
+fn kind<P: Program>(members: &Map<String, Json>) -> Option<&str> {
+    for (member, _) in members {
+        if P::knows(member.as_str()) {
+            return Some(member.as_str());
+        }
+    }
+    None
+}
+
+fn row_holds<P: Program>(
+    kind: &str,
+    json: &Json,
+    members: &Map<String, Json>,
+    came: &mut Answer,
+) -> bool {
+    let mut is_asked = false;
+    for (member, wanted) in members {
+        let question = member.as_str();
+        if is_question(kind, question) {
+            is_asked = true;
+            if !is_answered::<P>(
+                Row {
+                    kind,
+                    json,
+                    question,
+                },
+                wanted,
+                came,
+            ) {
+                return false;
+            }
+        }
+    }
+    is_asked
+}
+
+/// The members that are no questions are the one that names the kind, and the input of a run.
+fn is_question(kind: &str, member: &str) -> bool {
+    member != kind && (kind != "run" || (member != "input" && member != "bytes"))
+}
+
+/// Whether the question is answered as it is wanted. The answer is left behind.
+fn is_answered<P: Program>(row: Row<'_>, wanted: &Json, came: &mut Answer) -> bool {
+    came.clear();
+    P::answer(row, came);
+    if is_wanted(came.as_str(), wanted) {
+        return !came.is_refused();
+    }
+    came.text(" (");
+    came.text(row.question);
+    came.text(")");
+    false
+}
+
+/// Whether this is what is wanted. Of steps it is that nothing is told of them.
+fn is_wanted(came: &str, wanted: &Json) -> bool {
+    match wanted {
+        Json::String(text) => came == text.as_str(),
+        Json::Bool(holds) => came == said::truth(*holds),
+        Json::Array(_) => came.is_empty(),
+        _ => match (came.parse::<u64>(), wanted.as_u64()) {
+            (Ok(came), Some(wanted)) => came == wanted,
+            _ => false,
+        },
+    }
+}

@@ -1,0 +1,123 @@
+//! Items inside of items, by a number or a key.
+use crate::kinds::Tables;
+use serde_json::Value as Json;
+use toml_edit::{DocumentMut, IndexFault, Item, Mem, Table};
+use toml_edit_rows_read::steps::{behind, word};
+use toml_edit_rows_read::told::{Told, tell_lent, write};
+use toml_edit_rows_read::{Answer, made};
+
+/// Asks an item for one inside: by a number where the second word is one, else by it as a key.
+pub fn ask(item: &Item, words: &[Json], out: &mut Answer) {
+    let place = word(words, 1);
+    match word(words, 0) {
+        "item_get_text" => by_text(item, String::from_str(out.alloc, place), out),
+        "item_brackets" => read(item, place, out),
+        _ => match place.parse::<usize>() {
+            Ok(at) => tell_lent(item.get(at), out),
+            Err(_) => tell_lent(item.get(place), out),
+        },
+    }
+}
+
+/// The same by a text that is lent, and then by one that is owned.
+fn by_text(item: &Item, key: Mem<String>, out: &mut Answer) {
+    match key {
+        Ok(key) => {
+            tell_lent(item.get(&key), out);
+            out.text(" ");
+            tell_lent(item.get(key), out);
+        }
+        Err(_) => out.refuse(),
+    }
+}
+
+/// The same by brackets, where it is there.
+fn read(item: &Item, key: &str, out: &mut Answer) {
+    match item.get(key) {
+        Some(_) => item[key].tell(out),
+        None => out.text("none"),
+    }
+}
+
+/// Changes an item, or one inside it.
+pub fn change(item: &mut Item, words: &[Json], out: &mut Answer) {
+    match word(words, 0) {
+        "item_get_mut" => write_found(item, words, out),
+        "item_or_insert" => fill(item, made::item::<Tables>(word(words, 1), out), out),
+        _ => go_on(item, words, out),
+    }
+}
+
+/// Writes an item over the one that the second word finds.
+fn write_found(item: &mut Item, words: &[Json], out: &mut Answer) {
+    let place = word(words, 1);
+    let made = made::item::<Tables>(word(words, 2), out);
+    match place.parse::<usize>() {
+        Ok(at) => write(item.get_mut(at), made, out),
+        Err(_) => write(item.get_mut(place), made, out),
+    }
+}
+
+/// Tells what stands there, once a placeholder is filled.
+fn fill(item: &mut Item, made: Option<Item>, out: &mut Answer) {
+    match made {
+        Some(made) => item.or_insert(made).tell(out),
+        None => out.text("no item"),
+    }
+}
+
+/// Finds the item under a key, which is made where there is none, and does there what stands behind
+/// the key.
+fn go_on(item: &mut Item, words: &[Json], out: &mut Answer) {
+    match item.index_or_insert(out.alloc, word(words, 1)) {
+        Ok(found) => below(found, behind(words, 2), out),
+        Err(fault) => tell_fault(fault, out),
+    }
+}
+
+/// The same from a table.
+pub fn go_down(table: &mut Table, words: &[Json], out: &mut Answer) {
+    match table.index_or_insert(out.alloc, word(words, 1)) {
+        Ok(found) => below(found, behind(words, 2), out),
+        Err(fault) => tell_fault(fault, out),
+    }
+}
+
+/// The same from a document.
+pub fn go_into(document: &mut DocumentMut, words: &[Json], out: &mut Answer) {
+    match document.index_or_insert(out.alloc, word(words, 1)) {
+        Ok(found) => below(found, behind(words, 2), out),
+        Err(fault) => tell_fault(fault, out),
+    }
+}
+
+/// Does what stands behind the key, or goes down by one key more behind the word `below`.
+fn below(item: &mut Item, words: &[Json], out: &mut Answer) {
+    if word(words, 0) != "below" {
+        return end(item, words, out);
+    }
+    match item.index_or_insert(out.alloc, word(words, 1)) {
+        Ok(found) => end(found, behind(words, 2), out),
+        Err(fault) => tell_fault(fault, out),
+    }
+}
+
+/// Tells what stands there, or changes it.
+fn end(item: &mut Item, words: &[Json], out: &mut Answer) {
+    match word(words, 0) {
+        "fmt" => match item.as_inline_table_mut() {
+            Some(table) => table.fmt(),
+            None => out.text("no inline table"),
+        },
+        "becomes" => write(Some(item), made::item::<Tables>(word(words, 1), out), out),
+        "" => item.tell(out),
+        call => out.no_such(call),
+    }
+}
+
+fn tell_fault(fault: IndexFault, out: &mut Answer) {
+    match fault {
+        IndexFault::WrongKind => out.shown(&fault),
+        IndexFault::Memory => out.refuse(),
+    }
+}

@@ -1,0 +1,22 @@
+//! Tries rows on tables, arrays of tables and items, and on the documents that hold them. Each line
+//! of standard input is a row in JSON: what the library is asked, and what it is to answer. Each
+//! row that doesn't hold is written with what came instead, and last how many rows hold.
+#![tactic(auto)]
+
+mod convert;
+mod document;
+mod entry;
+mod indexing;
+mod item;
+mod kinds;
+mod prints;
+mod slots;
+mod table;
+mod tables;
+
+use kinds::Tables;
+use std::process::ExitCode;
+
+fn main(rt: HostRuntime) -> ExitCode {
+    toml_edit_rows_read::run::<Tables>(rt)
+}

@@ -1,0 +1,122 @@
+//! What is changed in arrays.
+use serde_json::Value as Json;
+use toml_edit::{Array, Mem, Value};
+use toml_edit_rows_read::steps::{behind, index, word};
+use toml_edit_rows_read::told::{set_none, tell_given, write};
+use toml_edit_rows_read::{Answer, list, made};
+
+/// Does a step with an array, if there is one.
+pub fn change_found(array: Option<&mut Array>, words: &[Json], out: &mut Answer) {
+    match array {
+        Some(array) => change(array, words, out),
+        None => out.text("none"),
+    }
+}
+
+/// Changes an array. Of a call that answers nothing the answer is empty.
+fn change(array: &mut Array, words: &[Json], out: &mut Answer) {
+    let argument = word(words, 1);
+    match word(words, 0) {
+        "push" | "push_formatted" => push(array, words, out),
+        "clear" => array.clear(),
+        "retain" => array.retain(|value| value.type_name() == argument),
+        "fmt" => array.fmt(),
+        "sort_by" => out.done(sort_by_type(array)),
+        "sort_by_key" => out.done(sort(array)),
+        "from_iter" => from_iter(made::value(behind(words, 1), out), out),
+        "value_from_iter" => value_from_iter(made::value(behind(words, 1), out), out),
+        "extend" => extend(array, made::value(behind(words, 1), out), out),
+        "insert" | "insert_formatted" | "replace" | "replace_formatted" => {
+            put_at(array, words, made::value(behind(words, 2), out), out);
+        }
+        "remove" => remove(array, index(words), out),
+        "get_mut" => lend(array, words, made::value(behind(words, 2), out), out),
+        "slot_at_mut" => set_none(array.slot_at_mut(index(words)), out),
+        _ => list::change_array(array, words, out),
+    }
+}
+
+/// Writes a value over the one at a place, if one stands there.
+fn lend(array: &mut Array, words: &[Json], made: Option<Value>, out: &mut Answer) {
+    write(array.get_mut(index(words)), made, out);
+}
+
+fn push(array: &mut Array, words: &[Json], out: &mut Answer) {
+    match made::value(behind(words, 1), out) {
+        Some(value) if word(words, 0) == "push" => out.put(array.push(value)),
+        Some(value) => out.put(array.push_formatted(value)),
+        None => out.text("no value"),
+    }
+}
+
+/// Sorts the values by the names of their types.
+fn sort_by_type(array: &mut Array) -> Mem<()> {
+    array.sort_by(|one, other| one.type_name().cmp(other.type_name()))
+}
+
+/// Sorts the values by the integers that they are. What is none comes last.
+fn sort(array: &mut Array) -> Mem<()> {
+    array.sort_by_key(|value| value.as_integer().unwrap_or(i64::MAX))
+}
+
+/// Puts the elements of another array last.
+fn extend(array: &mut Array, more: Option<Value>, out: &mut Answer) {
+    match more {
+        Some(Value::Array(more)) => out.done(array.extend(more)),
+        other => {
+            drop(other);
+            out.text("no array");
+        }
+    }
+}
+
+/// Shows an array of the elements of another one.
+fn from_iter(values: Option<Value>, out: &mut Answer) {
+    match values {
+        Some(Value::Array(values)) => out.made(Array::from_iter(out.alloc, values)),
+        other => {
+            drop(other);
+            out.text("no array");
+        }
+    }
+}
+
+/// Shows the value that an array of the elements of another one is.
+fn value_from_iter(values: Option<Value>, out: &mut Answer) {
+    match values {
+        Some(Value::Array(values)) => out.made(Value::from_iter(out.alloc, values)),
+        other => {
+            drop(other);
+            out.text("no array");
+        }
+    }
+}
+
+/// Puts a value at a place. Where the call may not be made there, this is told.
+fn put_at(array: &mut Array, words: &[Json], made: Option<Value>, out: &mut Answer) {
+    let Some(value) = made else {
+        return out.text("no value");
+    };
+    let at = index(words);
+    let is_there = array.get(at).is_some();
+    match word(words, 0) {
+        "insert" if at <= array.len() => out.put(array.insert(at, value)),
+        "insert_formatted" if at <= array.len() => out.put(array.insert_formatted(at, value)),
+        "replace" if is_there => out.old(array.replace(at, value)),
+        "replace_formatted" if is_there => {
+            tell_given(array.replace_formatted(at, value), out);
+        }
+        _ => {
+            drop(value);
+            out.text("none");
+        }
+    }
+}
+
+fn remove(array: &mut Array, at: usize, out: &mut Answer) {
+    if array.get(at).is_some() {
+        tell_given(array.remove(at), out);
+    } else {
+        out.text("none");
+    }
+}

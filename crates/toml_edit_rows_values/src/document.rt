@@ -1,0 +1,41 @@
+//! Rows on documents that hold a value, or a table of either kind.
+use crate::kinds::Values;
+use crate::{item, prints};
+use serde_json::Value as Json;
+use toml_edit::{Document, DocumentMut, ParseFault};
+use toml_edit_rows_read::steps::{Tries, behind, word};
+use toml_edit_rows_read::{Answer, Row, refusal, steps};
+
+/// Rows on the text of a document.
+pub fn answer(row: Row<'_>, out: &mut Answer) {
+    owned(Document::parse(out.alloc, row.text()), row, out);
+}
+
+/// Asks of the document after it owns its texts.
+fn owned(read: Result<Document<&str>, ParseFault>, row: Row<'_>, out: &mut Answer) {
+    match read {
+        Ok(document) => steps::made::<Values, _>(document.into_mut(out.alloc), row, out),
+        Err(fault) => refusal::answer(&fault, row.question, out),
+    }
+}
+
+impl Tries<DocumentMut> for Values {
+    fn call(document: &mut DocumentMut, words: &[Json], out: &mut Answer) {
+        match word(words, 0) {
+            "as_table_mut" => {
+                item::change_table(document.as_table_mut(), behind(words, 1), out);
+            }
+            _ => item::ask_table(document.as_table(), words, out),
+        }
+    }
+
+    fn answer(document: &DocumentMut, question: &str, out: &mut Answer) {
+        match question {
+            "steps" => {}
+            "prints" => prints::answer(document, out),
+            "settles" => prints::settles(document, out),
+            "fits" => out.told(document.fits(out.alloc)),
+            _ => refusal::of_accepted(question, out),
+        }
+    }
+}

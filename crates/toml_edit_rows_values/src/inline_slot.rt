@@ -1,0 +1,52 @@
+//! Slots of any item that an inline table lends.
+use crate::kinds::Values;
+use serde_json::Value as Json;
+use toml_edit::{InlineSlotMut, InlineTable};
+use toml_edit_rows_read::steps::{behind, index, word};
+use toml_edit_rows_read::told::{Told, write};
+use toml_edit_rows_read::{Answer, key, list, made, value};
+
+/// Does a step with a slot, or changes what isn't one.
+pub fn change(table: &mut InlineTable, words: &[Json], out: &mut Answer) {
+    let name = word(words, 1);
+    let rest = behind(words, 2);
+    match word(words, 0) {
+        "slot_mut" => match table.slot_mut(name) {
+            Some(mut slot) => change_slot(&mut slot, rest, out),
+            None => out.text("none"),
+        },
+        "get_key_value_mut" => match table.get_key_value_mut(name) {
+            Some(mut slot) => change_slot(&mut slot, rest, out),
+            None => out.text("none"),
+        },
+        "key_value_at_mut" => match table.key_value_at_mut(index(words)) {
+            Some(mut slot) => change_slot(&mut slot, rest, out),
+            None => out.text("none"),
+        },
+        "key_mut" => match table.key_mut(name) {
+            Some(mut lent) => key::call_lent(&mut lent, rest, out),
+            None => out.text("none"),
+        },
+        _ => list::change_inline(table, words, out),
+    }
+}
+
+/// Changes what stands around the key, or the item. Of a call that answers nothing the answer is
+/// empty.
+fn change_slot(slot: &mut InlineSlotMut<'_>, words: &[Json], out: &mut Answer) {
+    let rest = behind(words, 1);
+    match word(words, 0) {
+        "key" => out.shown(slot.key()),
+        "get" => slot.get().tell(out),
+        "leaf_decor_mut" => value::change_decor(slot.leaf_decor_mut(), rest, out),
+        "dotted_decor_mut" => value::change_decor(slot.dotted_decor_mut(), rest, out),
+        "fmt_key" => slot.fmt_key(),
+        "key_mut" => key::call_lent(&mut slot.key_mut(), rest, out),
+        "get_mut" => write(
+            Some(slot.get_mut()),
+            made::item::<Values>(word(words, 1), out),
+            out,
+        ),
+        call => out.no_such(call),
+    }
+}

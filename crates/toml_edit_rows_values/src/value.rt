@@ -1,0 +1,42 @@
+//! Rows on lone values, and on arrays and inline tables that are made.
+use crate::kinds::Values;
+use crate::{array, inline};
+use serde_json::Value as Json;
+use toml_edit::{Array, FromStr, InlineTable, Value};
+use toml_edit_rows_read::steps::{Tries, behind, word};
+use toml_edit_rows_read::{Answer, Row, refusal, steps, value};
+
+/// Rows on a value.
+pub fn answer(row: Row<'_>, out: &mut Answer) {
+    match row.kind {
+        "array" => steps::stepped::<Values, _>(Value::from(Array::new(out.alloc)), row, out),
+        "inline_table" => {
+            steps::stepped::<Values, _>(Value::from(InlineTable::new(out.alloc)), row, out);
+        }
+        _ => steps::read::<Values, _>(Value::from_str(out.alloc, row.text()), row, out),
+    }
+}
+
+impl Tries<Value> for Values {
+    fn call(value: &mut Value, words: &[Json], out: &mut Answer) {
+        change(value, words, out);
+    }
+
+    fn answer(value: &Value, question: &str, out: &mut Answer) {
+        match question {
+            "shown" => out.shown(value),
+            "steps" => {}
+            _ => refusal::of_accepted(question, out),
+        }
+    }
+}
+
+/// Does a step with a value. Of a call that changes it the answer is empty.
+pub fn change(value: &mut Value, words: &[Json], out: &mut Answer) {
+    let rest = behind(words, 1);
+    match word(words, 0) {
+        "as_array_mut" => array::change_found(value.as_array_mut(), rest, out),
+        "as_inline_table_mut" => inline::change_found(value.as_inline_table_mut(), rest, out),
+        _ => value::change(value, words, out),
+    }
+}
