@@ -1,9 +1,10 @@
 //! Writing texts that are kept beside values.
-ghost use Rattle.std.specs.Prelude.{◌≡◌, ◌<◌, false, ◌++◌, length, option_and_then, IfSome, MatchOption};
+ghost use Rattle.std.specs.Prelude.{◌≡◌, ◌<◌, false, [], ◌++◌, if◌then◌else◌, length, option_and_then, IfSome, MatchOption};
 ghost use Rattle.std.specs.Option.{option_copied};
 ghost use Rattle.std.specs.Fmt.{WritesOnOk};
 ghost use Rattle.toml_edit_model.specs.Text.{without_returns};
 ghost use Rattle.toml_edit_model.specs.Mode.{shown_text};
+ghost use Rattle.toml_edit_model.specs.Syntax.{comma_text};
 ghost use Rattle.toml_edit_model.specs.Tree.{scalar_text, shown_side, shown_raw};
 ghost use Rattle.toml_edit_repr.specs.Modes.{mode_of};
 ghost use Rattle.toml_edit_repr.specs.Views.{text_of};
@@ -65,6 +66,17 @@ pub fn write_raw<W: Write>(f: &mut Formatter<W>, mode: Mode, raw: &RawString) ->
     match raw.as_str() {
         Some(text) => write_text(f, mode, text),
         None => Ok(()),
+    }
+}
+
+/// Writes the comma that ends a list, if it has one and is not empty.
+pub fn write_last_comma<W: Write>(f: &mut Formatter<W>, comma: bool, is_empty: bool) -> fmt::Result
+    ensures { WritesOnOk W.write_str_gives f.old result (if is_empty then [] else comma_text comma) f.new }
+{
+    if comma && !is_empty {
+        f.write_str(",")
+    } else {
+        Ok(())
     }
 }
 

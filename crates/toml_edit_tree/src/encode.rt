@@ -9,7 +9,7 @@ ghost use Rattle.toml_edit_model.specs.Conversions.{value_display};
 ghost use Rattle.toml_edit_model.specs.Print.{one_space, element_default, inside_lines, segments, table_lines};
 ghost use Rattle.toml_edit_laws.specs.PrintByVisits.{has_inside, has_lines};
 ghost use Rattle.toml_edit_repr.specs.Modes.{mode_of};
-ghost use Rattle.toml_edit_tree.specs.Printing.{WritesWithAnswer, node_text, keys_on, before_key, dotted_keys, key_part, pair_start, comma_before, element_text, last_comma, items_text, lines_of_item, lines_in_table, has_lines_inside, has_lines_in_table, between_pairs, after_pairs, pairs_shown, last_shown, lines_text};
+ghost use Rattle.toml_edit_tree.specs.Printing.{WritesWithAnswer, node_text, keys_on, before_key, dotted_keys, key_part, pair_start, comma_before, element_text, items_text, lines_of_item, lines_in_table, has_lines_inside, has_lines_in_table, between_pairs, after_pairs, pairs_shown, last_shown, lines_text};
 ghost use Rattle.toml_edit_tree.specs.Containers.{array_node, inline_node};
 ghost use Rattle.toml_edit_tree.specs.View.{array_view, inline_view, value_view, item_view, items_view, slots_view, table_slots, fields_view};
 
@@ -21,7 +21,9 @@ use crate::value::Value;
 use std::fmt;
 use std::fmt::{Formatter, Write};
 use toml_edit_key::Key;
-use toml_edit_repr::{Decor, Mode, spelling_text, write_raw, write_scalar, write_side};
+use toml_edit_repr::{
+    Decor, Mode, spelling_text, write_last_comma, write_raw, write_scalar, write_side,
+};
 use toml_edit_slots::Slots;
 use toml_edit_token::write_key;
 
@@ -382,17 +384,6 @@ fn default_before(is_first: bool) -> &'static str
     ensures { result.now ≡ element_default is_first }
 {
     if is_first { "" } else { " " }
-}
-
-/// The comma after the last element, where there is one.
-fn write_last_comma<W: Write>(f: &mut Formatter<W>, comma: bool, is_first: bool) -> fmt::Result
-    ensures { WritesOnOk W.write_str_gives f.old result (last_comma comma is_first) f.new }
-{
-    if comma && !is_first {
-        f.write_str(",")
-    } else {
-        Ok(())
-    }
 }
 
 /// The inline table, from brace to brace.
