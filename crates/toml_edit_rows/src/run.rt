@@ -1,9 +1,8 @@
 //! Rows on the program: its words and its input, and how it ends.
-use crate::streams;
+use crate::streams::{self, Ended};
 use serde_json::Value as Json;
 use std::alloc::Global;
-use toml_edit::{Mem, Watched};
-use toml_edit_command::run;
+use toml_edit::Mem;
 use toml_edit_rows_read::{Answer, Row, items_of, text_of};
 
 pub fn answer(row: Row<'_>, out: &mut Answer) {
@@ -20,25 +19,20 @@ fn run_of(words: Mem<Vec<String>>, row: Row<'_>, out: &mut Answer) {
 
 /// How the run ends: its status, what it has written, or what it has told.
 fn ended(words: &[String], input: &[u8], question: &str, out: &mut Answer) {
-    let (mut output, mut errors) = (Vec::new(out.alloc), Vec::new(out.alloc));
-    let status = run(
-        out.alloc,
-        words,
-        &mut Watched::new(input),
-        &mut Watched::new(&mut output),
-        &mut Watched::new(&mut errors),
-    );
+    match streams::run_whole(out.alloc, words, input) {
+        Ok(ended) if question == "streams_fail" => {
+            out.told(streams::hold(out.alloc, words, input, &ended));
+        }
+        Ok(ended) => tell(&ended, question, out),
+        Err(_) => out.refuse(),
+    }
+}
+
+fn tell(ended: &Ended, question: &str, out: &mut Answer) {
     match question {
-        "status" => out.shown(&status),
-        "output" => bytes(output.as_slice(), out),
-        "errors" => bytes(errors.as_slice(), out),
-        "streams_fail" => out.truth(streams::hold(
-            out.alloc,
-            words,
-            input,
-            status,
-            output.as_slice(),
-        )),
+        "status" => out.shown(&ended.status),
+        "output" => bytes(ended.output.as_slice(), out),
+        "errors" => bytes(ended.errors.as_slice(), out),
         _ => out.no_such(question),
     }
 }
@@ -79,7 +73,7 @@ fn bytes(bytes: &[u8], out: &mut Answer) {
 /// ends inside a character.
 pub fn every_cut_ends(text: &str, out: &mut Answer) {
     match print_word(out.alloc) {
-        Ok(words) => out.truth(cuts_end(out.alloc, words.as_slice(), text)),
+        Ok(words) => out.told(cuts_end(out.alloc, words.as_slice(), text)),
         Err(_) => out.refuse(),
     }
 }
@@ -90,24 +84,18 @@ fn print_word(alloc: Global) -> Mem<Vec<String>> {
     Ok(words)
 }
 
-fn cuts_end(alloc: Global, words: &[String], text: &str) -> bool {
+fn cuts_end(alloc: Global, words: &[String], text: &str) -> Mem<bool> {
     for length in 0..text.len() {
-        let status = cut_status(alloc, words, text.as_bytes(), length);
+        let status = cut_status(alloc, words, text.as_bytes(), length)?;
         if status != 1 && (status != 0 || !text.is_char_boundary(length)) {
-            return false;
+            return Ok(false);
         }
     }
-    true
+    Ok(true)
 }
 
-fn cut_status(alloc: Global, words: &[String], text: &[u8], length: usize) -> u8 {
+fn cut_status(alloc: Global, words: &[String], text: &[u8], length: usize) -> Mem<u8> {
     let cut = text.get(..length).unwrap_or(&[]);
-    let (mut output, mut errors) = (Vec::new(alloc), Vec::new(alloc));
-    run(
-        alloc,
-        words,
-        &mut Watched::new(cut),
-        &mut Watched::new(&mut output),
-        &mut Watched::new(&mut errors),
-    )
+    let ended = streams::run_whole(alloc, words, cut)?;
+    Ok(ended.status)
 }

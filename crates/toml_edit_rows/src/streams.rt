@@ -1,8 +1,8 @@
 //! Runs over streams that fail, or that give and take one byte at a time.
-use std::alloc::Global;
+use std::alloc::{AllocError, Global};
 use std::io;
 use std::io::{ErrorKind, Read, Write};
-use toml_edit::Watched;
+use toml_edit::{Mem, Watched};
 use toml_edit_command::run;
 
 /// Gives one byte at a time, and fails at one of its calls.
@@ -48,10 +48,10 @@ impl Write for Narrow<'_> {
 
 /// How a run ends over streams of its own, and what it leaves.
 #[derive(Drop)]
-struct Ended {
-    status: u8,
-    output: Vec<u8>,
-    errors: Vec<u8>,
+pub struct Ended {
+    pub status: u8,
+    pub output: Vec<u8>,
+    pub errors: Vec<u8>,
 }
 
 impl Ended {
@@ -60,6 +60,42 @@ impl Ended {
             && self.output.as_slice() == output
             && self.errors.as_slice() == errors
     }
+
+    /// The end, or `Err` if it is that of a run that was refused memory: its status says so, and as
+    /// much of its line as the errors had room for, and nothing was written.
+    fn unless_refused(self, room: usize) -> Mem<Ended> {
+        let line = REFUSED.get(..room).unwrap_or(REFUSED);
+        if self.is(3, b"", line) {
+            Err(AllocError)
+        } else {
+            Ok(self)
+        }
+    }
+}
+
+/// What a run that is refused memory tells.
+const REFUSED: &[u8] = b"tomled: out of memory\n";
+
+/// More room than a row's run fills, so that no stream of its own finds none.
+const ROOM: usize = 65536;
+
+/// Runs the program on the input, over streams that give and take all at once.
+pub fn run_whole(alloc: Global, words: &[String], input: &[u8]) -> Mem<Ended> {
+    let mut output = Vec::with_capacity(alloc, ROOM)?;
+    let mut errors = Vec::with_capacity(alloc, ROOM)?;
+    let status = run(
+        alloc,
+        words,
+        &mut Watched::new(input),
+        &mut Watched::new(&mut output),
+        &mut Watched::new(&mut errors),
+    );
+    let ended = Ended {
+        status,
+        output,
+        errors,
+    };
+    ended.unless_refused(usize::MAX)
 }
 
 /// The streams of a run: how many reads there are before the fault, and how many bytes find room.
@@ -77,8 +113,9 @@ const NO_LIMITS: Limits = Limits {
 };
 
 /// Runs the program on the input within the limits of its streams.
-fn run_within(alloc: Global, words: &[String], input: &[u8], limits: Limits) -> Ended {
-    let (mut output, mut errors) = (Vec::new(alloc), Vec::new(alloc));
+fn run_within(alloc: Global, words: &[String], input: &[u8], limits: Limits) -> Mem<Ended> {
+    let mut output = Vec::with_capacity(alloc, ROOM)?;
+    let mut errors = Vec::with_capacity(alloc, ROOM)?;
     let status = run(
         alloc,
         words,
@@ -95,47 +132,68 @@ fn run_within(alloc: Global, words: &[String], input: &[u8], limits: Limits) -> 
             room: limits.errors,
         }),
     );
-    Ended {
+    let ended = Ended {
         status,
         output,
         errors,
-    }
-}
-
-/// Whether a run that writes this output writes it byte by byte too, ends with status 4 wherever a
-/// read or a write fails, with a beginning of the output at most, and ends as it does where nothing
-/// can be told.
-pub fn hold(alloc: Global, words: &[String], input: &[u8], status: u8, output: &[u8]) -> bool {
-    let untold = Limits {
-        errors: 0,
-        ..NO_LIMITS
     };
-    run_within(alloc, words, input, NO_LIMITS).status == status
-        && run_within(alloc, words, input, untold).is(status, output, b"")
-        && reads_hold(alloc, words, input)
-        && writes_hold(alloc, words, input, output)
+    ended.unless_refused(limits.errors)
 }
 
-fn reads_hold(alloc: Global, words: &[String], input: &[u8]) -> bool {
-    for reads in 0..input.len() {
+/// Whether a run that ends so ends so byte by byte too, ends with status 4 wherever a read or a
+/// write fails, with a beginning of the output at most, and ends as it does where what it tells
+/// finds no room.
+pub fn hold(alloc: Global, words: &[String], input: &[u8], whole: &Ended) -> Mem<bool> {
+    let slow = run_within(alloc, words, input, NO_LIMITS)?;
+    Ok(
+        slow.is(
+            whole.status,
+            whole.output.as_slice(),
+            whole.errors.as_slice(),
+        ) && reads_hold(alloc, words, input)?
+            && writes_hold(alloc, words, input, whole.output.as_slice())?
+            && errors_hold(alloc, words, input, whole)?,
+    )
+}
+
+/// The last of these reads is the one that finds the end.
+fn reads_hold(alloc: Global, words: &[String], input: &[u8]) -> Mem<bool> {
+    for reads in 0..=input.len() {
         let limits = Limits { reads, ..NO_LIMITS };
-        if !run_within(alloc, words, input, limits).is(4, b"", b"tomled: read failed\n") {
-            return false;
+        let ended = run_within(alloc, words, input, limits)?;
+        if !ended.is(4, b"", b"tomled: read failed\n") {
+            return Ok(false);
         }
     }
-    true
+    Ok(true)
 }
 
-fn writes_hold(alloc: Global, words: &[String], input: &[u8], output: &[u8]) -> bool {
+fn writes_hold(alloc: Global, words: &[String], input: &[u8], output: &[u8]) -> Mem<bool> {
     for room in 0..output.len() {
         let limits = Limits {
             output: room,
             ..NO_LIMITS
         };
         let held = output.get(..room).unwrap_or(&[]);
-        if !run_within(alloc, words, input, limits).is(4, held, b"tomled: write failed\n") {
-            return false;
+        let ended = run_within(alloc, words, input, limits)?;
+        if !ended.is(4, held, b"tomled: write failed\n") {
+            return Ok(false);
         }
     }
-    true
+    Ok(true)
+}
+
+fn errors_hold(alloc: Global, words: &[String], input: &[u8], whole: &Ended) -> Mem<bool> {
+    for room in 0..=whole.errors.len() {
+        let limits = Limits {
+            errors: room,
+            ..NO_LIMITS
+        };
+        let held = whole.errors.get(..room).unwrap_or(&[]);
+        let ended = run_within(alloc, words, input, limits)?;
+        if !ended.is(whole.status, whole.output.as_slice(), held) {
+            return Ok(false);
+        }
+    }
+    Ok(true)
 }

@@ -5,6 +5,7 @@
 mod bites;
 pub mod date_time;
 pub mod key;
+mod left;
 pub mod lines;
 pub mod list;
 pub mod made;

@@ -20,30 +20,69 @@ pub fn read<T: Drop>(read: Result<T, ParseFault>, out: &mut Answer) -> Option<T>
     }
 }
 
-/// The value that the first word is, if it is one. Two more words are what stands around it.
+/// The value that the first word says, if it is one. Two more words are what stands around it.
 pub fn value(words: &[Json], out: &mut Answer) -> Option<Value> {
-    let mut value = read(Value::from_str(out.alloc, word(words, 0)), out)?;
-    decorate(value.decor_mut(), words, out);
-    Some(value)
+    let value = said_value(word(words, 0), out)?;
+    if words.len() < 3 {
+        return Some(out.handed(value));
+    }
+    match decorated(value, words, out) {
+        Some(value) => Some(out.handed(value)),
+        None => None,
+    }
+}
+
+/// The value between the texts that the second and the third word are.
+fn decorated(value: Value, words: &[Json], out: &mut Answer) -> Option<Value> {
+    let before = RawString::from_text(out.alloc, word(words, 1));
+    match (before, RawString::from_text(out.alloc, word(words, 2))) {
+        (Ok(before), Ok(after)) => Some(value.decorated(before, after)),
+        _ => {
+            drop(value);
+            out.refuse();
+            None
+        }
+    }
+}
+
+/// A value that is made of the text, the number or the boolean behind the name of its kind, or
+/// else is read.
+fn said_value(text: &str, out: &mut Answer) -> Option<Value> {
+    if let Some(text) = text.strip_prefix("string ") {
+        return out.given(Value::string(out.alloc, text)).ok();
+    }
+    match text.strip_prefix("integer ") {
+        Some(number) => number.parse::<i64>().ok().map(Value::from),
+        None => match text.strip_prefix("boolean ") {
+            Some(truth) => Some(Value::from(truth == "true")),
+            None => read(Value::from_str(out.alloc, text), out),
+        },
+    }
 }
 
 /// The key that the first word is, if it is one. Two more words are its leaf decor.
 pub fn key(words: &[Json], out: &mut Answer) -> Option<Key> {
     let mut key = read(Key::from_str(out.alloc, word(words, 0)), out)?;
-    decorate(key.leaf_decor_mut(), words, out);
-    Some(key)
+    if words.len() < 3 || decorate(key.leaf_decor_mut(), words, out) {
+        return Some(key);
+    }
+    drop(key);
+    None
 }
 
-/// Sets both sides of a decor, if there are words for them behind the first.
-fn decorate(decor: &mut Decor, words: &[Json], out: &mut Answer) {
-    if words.len() < 3 {
-        return;
-    }
-    if let Ok(prefix) = out.given(RawString::from_text(out.alloc, word(words, 1))) {
-        decor.set_prefix(prefix);
-    }
-    if let Ok(suffix) = out.given(RawString::from_text(out.alloc, word(words, 2))) {
-        decor.set_suffix(suffix);
+/// Sets both sides of a decor to the second and the third word, if there is memory for them.
+fn decorate(decor: &mut Decor, words: &[Json], out: &mut Answer) -> bool {
+    let before = RawString::from_text(out.alloc, word(words, 1));
+    match (before, RawString::from_text(out.alloc, word(words, 2))) {
+        (Ok(before), Ok(after)) => {
+            decor.set_prefix(before);
+            decor.set_suffix(after);
+            true
+        }
+        _ => {
+            out.refuse();
+            false
+        }
     }
 }
 
@@ -56,6 +95,13 @@ pub trait Reads {
 /// An item: an empty one of a kind, a new table of the pairs behind `new`, a value, or what stands
 /// under `t` in a document.
 pub fn item<P: Reads>(text: &str, out: &mut Answer) -> Option<Item> {
+    match said_item::<P>(text, out) {
+        Some(item) => Some(out.handed(item)),
+        None => None,
+    }
+}
+
+fn said_item<P: Reads>(text: &str, out: &mut Answer) -> Option<Item> {
     match text {
         "none" => Some(Item::default()),
         "table" => Some(item::table(out.alloc)),
@@ -78,7 +124,7 @@ fn new_table(made: Option<Value>) -> Option<Item> {
 }
 
 fn item_read<P: Reads>(text: &str, out: &mut Answer) -> Option<Item> {
-    match read(Value::from_str(out.alloc, text), out) {
+    match said_value(text, out) {
         Some(value) => Some(Item::from(value)),
         None => under_t(P::root(text, out)),
     }

@@ -24,21 +24,26 @@ fn tell<P: Program>(rt: &HostRuntime, rows: &str) -> ExitCode {
     }
 }
 
-/// The rows that didn't hold, as they are told, and how many held.
+/// The rows that didn't hold, as they are told, and how many held. A row for which memory was refused
+/// is neither.
 #[derive(Drop)]
 struct Report {
     told: Answer,
     held: u64,
     failed: u64,
+    is_refused: bool,
 }
 
 impl Report {
-    /// The empty report.
+    /// The empty report, with room for how many rows hold.
     fn new(alloc: Global) -> Report {
+        let mut told = Answer::new(alloc);
+        told.reserve(64);
         Report {
-            told: Answer::new(alloc),
+            told,
             held: 0,
             failed: 0,
+            is_refused: false,
         }
     }
 
@@ -60,8 +65,8 @@ impl Report {
         let mut came = Answer::new(self.told.alloc);
         if row::holds::<P>(line, &mut came) {
             self.held = self.held.saturating_add(1);
-        } else if came.is_refused() {
-            self.told.refuse();
+        } else if came.is_refused() && !came.is_wrong() {
+            self.is_refused = true;
         } else {
             self.failed = self.failed.saturating_add(1);
             self.tell(line, came.as_str());
@@ -84,7 +89,7 @@ impl Report {
         }
         self.told.shown(&self.held);
         self.told.text(" rows hold\n");
-        if self.told.is_refused() {
+        if self.is_refused || self.told.is_refused() {
             2
         } else {
             u8::from(self.failed > 0)

@@ -165,13 +165,27 @@ fn is_question(kind: &str, member: &str) -> bool {
 fn is_answered<P: Program>(row: Row<'_>, wanted: &Json, came: &mut Answer) -> bool {
     came.clear();
     P::answer(row, came);
+    if came.is_refused() {
+        came.is_to_begin(beginning_of(wanted));
+        return false;
+    }
     if is_wanted(came.as_str(), wanted) {
-        return !came.is_refused();
+        return true;
     }
     came.text(" (");
     came.text(row.question);
     came.text(")");
     false
+}
+
+/// The text that an answer begins if memory was refused for it. Of steps this is judged at each, and
+/// of a number it is nothing.
+fn beginning_of(wanted: &Json) -> &str {
+    match wanted {
+        Json::String(text) => text.as_str(),
+        Json::Bool(holds) => said::truth(*holds),
+        _ => "",
+    }
 }
 
 /// Whether this is what is wanted. Of steps it is that nothing is told of them.

@@ -2,11 +2,12 @@
 ghost use Rattle.std.specs.Prelude.{IfOk};
 ghost use Rattle.std.specs.Iterator.{IsFinite};
 
-use crate::refusal;
 use crate::row::{self, Row};
 use crate::said::Answer;
 use crate::told::Told;
+use crate::{left, refusal};
 use serde_json::Value as Json;
+use std::fmt::Debug;
 use toml_edit_error::ParseFault;
 use toml_edit_repr::Mem;
 
@@ -28,7 +29,11 @@ pub trait Asks<S> {
 
 /// Asks of what was read, or of the refusal. Whatever is read, made or copied is owned and let go
 /// here.
-pub fn read<P: Tries<S>, S: Drop>(read: Result<S, ParseFault>, row: Row<'_>, out: &mut Answer) {
+pub fn read<P: Tries<S>, S: Debug + Drop>(
+    read: Result<S, ParseFault>,
+    row: Row<'_>,
+    out: &mut Answer,
+) {
     match read {
         Ok(subject) => stepped::<P, S>(subject, row, out),
         Err(fault) => refusal::answer(&fault, row.question, out),
@@ -36,7 +41,7 @@ pub fn read<P: Tries<S>, S: Drop>(read: Result<S, ParseFault>, row: Row<'_>, out
 }
 
 /// Asks of what was made, where there was memory for it.
-pub fn made<P: Tries<S>, S: Drop>(made: Mem<S>, row: Row<'_>, out: &mut Answer) {
+pub fn made<P: Tries<S>, S: Debug + Drop>(made: Mem<S>, row: Row<'_>, out: &mut Answer) {
     match made {
         Ok(subject) => stepped::<P, S>(subject, row, out),
         Err(_) => out.refuse(),
@@ -44,7 +49,7 @@ pub fn made<P: Tries<S>, S: Drop>(made: Mem<S>, row: Row<'_>, out: &mut Answer) 
 }
 
 /// Asks of what was made, if it was.
-pub fn found<P: Tries<S>, S: Drop>(made: Option<S>, row: Row<'_>, out: &mut Answer) {
+pub fn found<P: Tries<S>, S: Debug + Drop>(made: Option<S>, row: Row<'_>, out: &mut Answer) {
     match made {
         Some(subject) => stepped::<P, S>(subject, row, out),
         None => refusal::none(row.question, out),
@@ -77,7 +82,7 @@ pub fn given_up<T: Told + Drop, U: IntoIterator<Item = T>>(copy: Mem<U>, out: &m
 
 /// Does the steps, and answers the question, or tells of the first step that doesn't give what it
 /// says.
-pub fn stepped<P: Tries<S>, S: Drop>(subject: S, row: Row<'_>, out: &mut Answer) {
+pub fn stepped<P: Tries<S>, S: Debug + Drop>(subject: S, row: Row<'_>, out: &mut Answer) {
     let mut subject = subject;
     for step in row.steps() {
         if !gives::<P, S>(&mut subject, row::items_of(Some(step)), out) {
@@ -88,10 +93,14 @@ pub fn stepped<P: Tries<S>, S: Drop>(subject: S, row: Row<'_>, out: &mut Answer)
 }
 
 /// Whether the step gives what it says. If not, what it gave is told.
-fn gives<P: Tries<S>, S>(subject: &mut S, step: &[Json], out: &mut Answer) -> bool {
+fn gives<P: Tries<S>, S: Debug>(subject: &mut S, step: &[Json], out: &mut Answer) -> bool {
     let calls = calls(step);
-    P::call(subject, calls, out);
+    call::<P, S>(subject, calls, out);
     let wanted = word(step, calls.len().saturating_add(1));
+    if out.is_refused() {
+        out.is_to_begin(wanted);
+        return false;
+    }
     if out.as_str() == wanted {
         out.clear();
         return true;
@@ -99,6 +108,28 @@ fn gives<P: Tries<S>, S>(subject: &mut S, step: &[Json], out: &mut Answer) -> bo
     out.text(" for ");
     out.text(wanted);
     false
+}
+
+/// Makes the calls of a step. Behind `take_no_memory` nothing else is done that takes some.
+fn call<P: Tries<S>, S: Debug>(subject: &mut S, calls: &[Json], out: &mut Answer) {
+    match word(calls, 0) {
+        "take_no_memory" => out.make_room(),
+        _ if out.is_roomy() => P::call(subject, calls, out),
+        _ => watched::<P, S>(subject, calls, out),
+    }
+}
+
+/// Makes the calls of a step. Where memory is refused for one, what is left is judged.
+fn watched<P: Tries<S>, S: Debug>(subject: &mut S, calls: &[Json], out: &mut Answer) {
+    match left::seen(subject, out.alloc) {
+        Ok(before) => {
+            P::call(subject, calls, out);
+            if out.is_call_refused() {
+                left::judge(before.as_str(), left::seen(subject, out.alloc), calls, out);
+            }
+        }
+        Err(_) => out.cut_short(),
+    }
 }
 
 /// The calls of a step, without what they are to give.

@@ -1,5 +1,6 @@
 //! What is told of items, values and slots, and what is written over them.
 use crate::said::Answer;
+use std::fmt::Debug;
 use std::mem;
 use toml_edit_key::Key;
 use toml_edit_slots::NoMemory;
@@ -82,10 +83,10 @@ pub fn tell_taken<T: Told + Drop>(taken: Option<T>, out: &mut Answer) {
 }
 
 /// Tells what stood there before, where there was memory for the change.
-pub fn tell_old<T: Told + Drop>(old: Result<Option<T>, NoMemory<T>>, out: &mut Answer) {
+pub fn tell_old<T: Told + Debug + Drop>(old: Result<Option<T>, NoMemory<T>>, out: &mut Answer) {
     match old {
         Ok(old) => tell_taken(old, out),
-        Err(_) => out.refuse(),
+        Err(refused) => out.given_back(refused),
     }
 }
 

@@ -171,6 +171,7 @@ fn alone(item: Item, key: &str, out: &mut Answer) -> DocumentMut {
 }
 
 fn put_in(table: &mut Table, key: &str, item: Item, out: &mut Answer) {
+    let item = out.handed(item);
     out.tried(table.insert(key, item));
 }
 

@@ -32,7 +32,21 @@ fn by_text(item: &Item, key: Mem<String>, out: &mut Answer) {
 }
 
 /// The same by brackets, where it is there.
-fn read(item: &Item, key: &str, out: &mut Answer) {
+fn read(item: &Item, place: &str, out: &mut Answer) {
+    match place.parse::<usize>() {
+        Ok(at) => read_at(item, at, out),
+        Err(_) => read_under(item, place, out),
+    }
+}
+
+fn read_at(item: &Item, at: usize, out: &mut Answer) {
+    match item.get(at) {
+        Some(_) => item[at].tell(out),
+        None => out.text("none"),
+    }
+}
+
+fn read_under(item: &Item, key: &str, out: &mut Answer) {
     match item.get(key) {
         Some(_) => item[key].tell(out),
         None => out.text("none"),
@@ -91,8 +105,29 @@ pub fn go_into(document: &mut DocumentMut, words: &[Json], out: &mut Answer) {
     }
 }
 
-/// Does what stands behind the key, or goes down by one key more behind the word `below`.
+/// Does what stands behind the key, or goes down by one key more behind each word `below`, of which
+/// there may be three.
 fn below(item: &mut Item, words: &[Json], out: &mut Answer) {
+    if word(words, 0) != "below" {
+        return end(item, words, out);
+    }
+    match item.index_or_insert(out.alloc, word(words, 1)) {
+        Ok(found) => below_again(found, behind(words, 2), out),
+        Err(fault) => tell_fault(fault, out),
+    }
+}
+
+fn below_again(item: &mut Item, words: &[Json], out: &mut Answer) {
+    if word(words, 0) != "below" {
+        return end(item, words, out);
+    }
+    match item.index_or_insert(out.alloc, word(words, 1)) {
+        Ok(found) => below_last(found, behind(words, 2), out),
+        Err(fault) => tell_fault(fault, out),
+    }
+}
+
+fn below_last(item: &mut Item, words: &[Json], out: &mut Answer) {
     if word(words, 0) != "below" {
         return end(item, words, out);
     }

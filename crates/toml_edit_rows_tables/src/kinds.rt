@@ -28,6 +28,6 @@ impl Program for Tables {
 impl Reads for Tables {
     fn root(text: &str, out: &mut Answer) -> Option<Table> {
         let document = made::read(DocumentMut::from_str(out.alloc, text), out)?;
-        Some(document.into_table())
+        Some(out.handed(document.into_table()))
     }
 }

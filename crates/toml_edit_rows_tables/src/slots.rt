@@ -82,7 +82,7 @@ fn insert_under(table: &mut Table, key: &Key, item: &str, out: &mut Answer) {
 /// The item that is said, or the one that is there, in place of which a placeholder is left.
 fn item_for(there: Option<&mut Item>, said: &str, out: &mut Answer) -> Option<Item> {
     match there {
-        Some(item) if said == "its own" => Some(mem::replace(item, Item::None)),
+        Some(item) if said == "its own" => Some(out.handed(mem::replace(item, Item::None))),
         _ => made::item::<Tables>(said, out),
     }
 }

@@ -99,6 +99,7 @@ fn change_taken(tables: &mut ArrayOfTables, at: usize, words: &[Json], out: &mut
         let mut table = tables.remove(at);
         table::change_below(&mut table, words, out);
         if at <= tables.len() {
+            let table = out.handed(table);
             out.put(tables.insert(at, table));
         }
     }

@@ -1,5 +1,7 @@
 //! What is changed in arrays.
 use serde_json::Value as Json;
+use std::alloc::Global;
+use std::cmp::Ordering;
 use toml_edit::{Array, Mem, Value};
 use toml_edit_rows_read::steps::{behind, index, word};
 use toml_edit_rows_read::told::{set_none, tell_given, write};
@@ -21,10 +23,12 @@ fn change(array: &mut Array, words: &[Json], out: &mut Answer) {
         "clear" => array.clear(),
         "retain" => array.retain(|value| value.type_name() == argument),
         "fmt" => array.fmt(),
+        "sort_by" if argument == "less" => out.done(sort_by_nothing(array)),
         "sort_by" => out.done(sort_by_type(array)),
         "sort_by_key" => out.done(sort(array)),
         "from_iter" => from_iter(made::value(behind(words, 1), out), out),
         "value_from_iter" => value_from_iter(made::value(behind(words, 1), out), out),
+        "value_from_texts" => value_from_texts(strings(out.alloc, behind(words, 1)), out),
         "extend" => extend(array, made::value(behind(words, 1), out), out),
         "insert" | "insert_formatted" | "replace" | "replace_formatted" => {
             put_at(array, words, made::value(behind(words, 2), out), out);
@@ -52,6 +56,11 @@ fn push(array: &mut Array, words: &[Json], out: &mut Answer) {
 /// Sorts the values by the names of their types.
 fn sort_by_type(array: &mut Array) -> Mem<()> {
     array.sort_by(|one, other| one.type_name().cmp(other.type_name()))
+}
+
+/// Sorts the values as if each were less than any other, which is no order.
+fn sort_by_nothing(array: &mut Array) -> Mem<()> {
+    array.sort_by(|_one, _other| Ordering::Less)
 }
 
 /// Sorts the values by the integers that they are. What is none comes last.
@@ -89,6 +98,23 @@ fn value_from_iter(values: Option<Value>, out: &mut Answer) {
             drop(other);
             out.text("no array");
         }
+    }
+}
+
+/// The values that are made of these texts.
+fn strings(alloc: Global, texts: &[Json]) -> Mem<Vec<Value>> {
+    let mut values = Vec::new(alloc);
+    for at in 0..texts.len() {
+        values.push(Value::string(alloc, word(texts, at))?)?;
+    }
+    Ok(values)
+}
+
+/// Shows the value that an array of these values is.
+fn value_from_texts(values: Mem<Vec<Value>>, out: &mut Answer) {
+    match values {
+        Ok(values) => out.made(Value::from_iter(out.alloc, values)),
+        Err(_) => out.refuse(),
     }
 }
 

@@ -113,6 +113,7 @@ fn ask(item: &Item, words: &[Json], out: &mut Answer) {
         "is_table_like" => out.truth(item.is_table_like()),
         "as_table_like" => like::ask_lent(item.as_table_like(), rest, out),
         "type_name" => out.text(item.type_name()),
+        "item_to_string" => out.shown(item),
         "as_value" => ask_value(item, rest, out),
         _ => ask_value(item, words, out),
     }

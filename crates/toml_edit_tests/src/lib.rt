@@ -1,5 +1,5 @@
-//! Tests of what no row of `toml_edit_rows` can say: equality, order and hash, streams that fail, and calls that leave something behind
-//! when memory is refused. Functions that are generic in a type own what is made, and are proved once: a test hands it to them.
+//! Tests of what no row of `toml_edit_rows` can say: equality, order and hash, and streams that fail. None holds where calls do nothing.
+//! Functions that are generic in a type own what is made, and are proved once: a test hands it to them.
 #![tactic(auto)]
 
 #[cfg(test)]

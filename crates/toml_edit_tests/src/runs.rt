@@ -1,4 +1,4 @@
-//! Runs that can't tell their end, or in want of memory: what they have written is right.
+//! Runs of the program: what they have written, and how they end where they can't tell it.
 use crate::holding::holds_moved;
 use crate::streams::Short;
 use std::alloc::Global;
@@ -47,36 +47,20 @@ fn passes_over_a_fault_in_telling(rt: HostRuntime) {
     assert!(rt; rest.len() == 6);
 }
 
-/// A run where memory may be refused: its status says so, and nothing wrong was written. Returns the status if that is so.
-fn end(alloc: Global, words: &[String]) -> Option<u8> {
+/// Whether the run ends with status 0, has written the text, and has told nothing.
+fn prints(alloc: Global, words: Vec<String>) -> bool {
     let (mut output, mut told) = (Vec::new(alloc), Vec::new(alloc));
-    let status = status(alloc, words, TEXT.as_bytes(), &mut output, &mut told);
-    let is_right = match status {
-        0 => output.as_slice() == TEXT.as_bytes() && told.is_empty(),
-        3 => output.is_empty(),
-        // The output is a vector, which had no memory to grow.
-        4 => TEXT.as_bytes().starts_with(output.as_slice()),
-        _ => false,
-    };
-    if is_right { Some(status) } else { None }
-}
-
-fn ends_in_want(alloc: Global, words: Vec<String>) -> bool {
-    end(alloc, words.as_slice()).is_some()
-}
-
-fn ends_well(alloc: Global, words: Vec<String>) -> bool {
-    end(alloc, words.as_slice()) == Some(0)
+    let status = status(
+        alloc,
+        words.as_slice(),
+        TEXT.as_bytes(),
+        &mut output,
+        &mut told,
+    );
+    status == 0 && output.as_slice() == TEXT.as_bytes() && told.is_empty()
 }
 
 #[test]
-fn runs_in_want_of_memory(rt: HostRuntime) {
-    if let Ok(words) = print_word(rt.alloc()) {
-        assert!(rt; ends_in_want(rt.alloc(), words));
-    }
-}
-
-#[test]
-fn runs_with_memory(rt: HostRuntime) {
-    assert!(rt; holds_moved(rt.alloc(), print_word(rt.alloc()).ok(), ends_well));
+fn prints_a_text(rt: HostRuntime) {
+    assert!(rt; holds_moved(rt.alloc(), print_word(rt.alloc()).ok(), prints));
 }

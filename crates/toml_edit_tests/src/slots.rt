@@ -1,10 +1,7 @@
-//! The container of keyed slots at a concrete type: each call once. Those that take memory hold whichever allocation fails, but for
-//! `mixes_slots` and `does_all_with_memory`, which want theirs.
+//! The container of keyed slots at a concrete type: each call once.
 use crate::holding::{holds_changed, holds_moved, no_memory};
-use crate::spans::{is_done, is_yes};
-use std::alloc::{AllocError, Global};
-use std::fmt::Write;
-use std::mem;
+use crate::spans::is_done;
+use std::alloc::Global;
 use toml_edit::{Decor, Key, Mem, Slot, Slots};
 
 fn is_next(slots: &Slots<u8>, name: &str, before: usize) -> bool {
@@ -26,29 +23,23 @@ fn are_found(slots: &Slots<u8>) -> bool {
         .all(|(at, slot)| slots.find(slot.key.get()) == Some(at))
 }
 
-/// Whether the item is put in behind the others, or is given back where there is no memory.
-fn inserts(slots: &mut Slots<u8>, name: &str, item: u8) -> bool {
+/// Whether the item is put in behind the others.
+fn inserts(slots: &mut Slots<u8>, name: &str) -> bool {
     let before = slots.len();
-    match slots.insert(name, item) {
-        Ok(old) => old.is_none() && is_next(slots, name, before),
-        Err(refused) => { refused.0 == item && slots.len() == before && slots.find(name).is_none() }
+    matches!(slots.insert(name, 7), Ok(None)) && is_next(slots, name, before)
+}
+
+/// The same of a key with its formatting.
+fn inserts_formatted(alloc: Global, slots: &mut Slots<u8>, name: &str) -> Mem<bool> {
+    let key = Key::from_text(alloc, name)?;
+    let before = slots.len();
+    match slots.insert_formatted(&key, 7) {
+        Ok(old) => Ok(old.is_none() && is_next(slots, name, before)),
+        Err(_) => Ok(false),
     }
 }
 
-fn inserts_all(_alloc: Global, slots: &mut Slots<u8>) -> bool {
-    let mut is_right = slots.is_empty();
-    for name in NAMES.iter() {
-        is_right = is_right && inserts(slots, name, 7) && are_found(slots);
-    }
-    is_right
-}
-
-#[test]
-fn inserts_slots(rt: HostRuntime) {
-    assert!(rt; holds_changed(rt.alloc(), Slots::new(rt.alloc()), inserts_all));
-}
-
-/// Whether the key is put in behind the others, or given back. A key that no memory was left for isn't pushed.
+/// The same of a slot whose key is known to be new.
 fn pushes(alloc: Global, slots: &mut Slots<u8>, name: &str) -> Mem<bool> {
     let key = Key::from_text(alloc, name)?;
     let before = slots.len();
@@ -57,30 +48,44 @@ fn pushes(alloc: Global, slots: &mut Slots<u8>, name: &str) -> Mem<bool> {
     };
     match slots.push(Slot { key, item: 7 }) {
         Ok(()) => Ok(is_next(slots, name, before)),
-        Err(refused) => Ok(refused.0.key.get() == name && slots.len() == before),
+        Err(_) => Ok(false),
     }
 }
 
-fn pushes_all(alloc: Global, slots: &mut Slots<u8>) -> bool {
-    let mut is_right = slots.is_empty();
-    for name in ["a", "b", "c", "d", "e"].iter() {
-        is_right = is_right && is_yes(pushes(alloc, slots, name));
+/// The same of a slot whose key is looked up first.
+fn tries_to_push(alloc: Global, slots: &mut Slots<u8>, name: &str) -> Mem<bool> {
+    let key = Key::from_text(alloc, name)?;
+    let before = slots.len();
+    match slots.try_push(Slot { key, item: 7 }) {
+        Ok(()) => Ok(is_next(slots, name, before)),
+        Err(_) => Ok(false),
     }
-    is_right
+}
+
+/// Whether slots are filled by each of these calls, beyond those that are found without an index.
+fn fills_all(alloc: Global, slots: &mut Slots<u8>) -> bool {
+    let mut is_right = slots.is_empty();
+    for (at, name) in NAMES.iter().enumerate() {
+        let is_put = match at % 4 {
+            0 => inserts(slots, name),
+            1 => is_done(inserts_formatted(alloc, slots, name)),
+            2 => is_done(pushes(alloc, slots, name)),
+            _ => is_done(tries_to_push(alloc, slots, name)),
+        };
+        is_right = is_right && is_put && are_found(slots);
+    }
+    is_right && slots.len() == NAMES.len()
 }
 
 #[test]
-fn pushes_slots(rt: HostRuntime) {
-    assert!(rt; holds_changed(rt.alloc(), Slots::new(rt.alloc()), pushes_all));
+fn fills_slots(rt: HostRuntime) {
+    assert!(rt; holds_changed(rt.alloc(), Slots::new(rt.alloc()), fills_all));
 }
 
 /// Whether the items of `a` and `b` are found, replaced and lent.
 fn changes(slots: &mut Slots<u8>) -> bool {
-    let is_found = slots.get("a") == Some(&1) && slots.find("c").is_none();
-    let is_replaced = match slots.insert("b", 4) {
-        Ok(old) => old == Some(2),
-        Err(_) => true,
-    };
+    let is_found = slots.get("a") == Some(&7) && slots.find("c").is_none();
+    let is_replaced = matches!(slots.insert("b", 4), Ok(Some(7)));
     if let Some(item) = slots.get_mut("a") {
         *item = 5;
     }
@@ -104,207 +109,18 @@ fn removes(alloc: Global, slots: &mut Slots<u8>) -> bool {
 }
 
 fn changes_all(alloc: Global, slots: &mut Slots<u8>) -> bool {
-    let is_filled = inserts(slots, "a", 1) && inserts(slots, "b", 2);
-    // Where no memory was left there may be nothing to change.
-    if is_filled && slots.len() == 2 {
-        return changes(slots) && lends_first(slots) && removes(alloc, slots);
-    }
-    is_filled
+    inserts(slots, "a")
+        && inserts(slots, "b")
+        && changes(slots)
+        && lends_first(slots)
+        && removes(alloc, slots)
+        && slots.get("b") == Some(&4)
+        && slots.len() == 1
 }
 
 #[test]
 fn changes_slots(rt: HostRuntime) {
     assert!(rt; holds_changed(rt.alloc(), Slots::new(rt.alloc()), changes_all));
-}
-
-/// The keys and items that the slots are to have, without an index.
-type Pairs = Vec<(String, u32)>;
-
-fn place_of(pairs: &Pairs, name: &str) -> Option<usize> {
-    pairs.iter().position(|pair| pair.0.as_str() == name)
-}
-
-fn is_same(slots: &Slots<u32>, pairs: &Pairs) -> bool {
-    let entries = slots.as_slice();
-    entries.len() == pairs.len()
-        && entries.iter().zip(pairs.iter()).all(|(slot, pair)| slot.key.get() == pair.0.as_str()
-            && slot.item == pair.1)
-}
-
-fn inserts_in_both(
-    slots: &mut Slots<u32>,
-    pairs: &mut Pairs,
-    name: String,
-    item: u32,
-) -> Mem<bool> {
-    let old = slots.insert(name.as_str(), item).map_err(no_memory)?;
-    match place_of(pairs, name.as_str()) {
-        Some(at) => match pairs.get_mut(at) {
-            Some(pair) => Ok(old == Some(mem::replace(&mut pair.1, item))),
-            None => Ok(false),
-        },
-        None => {
-            pairs.push((name, item))?;
-            Ok(old.is_none())
-        }
-    }
-}
-
-fn removes_from_both(slots: &mut Slots<u32>, pairs: &mut Pairs, name: &str) -> bool {
-    let removed = slots.remove(name).map(|slot| slot.into_item());
-    match place_of(pairs, name) {
-        Some(at) => at < pairs.len() && removed == Some(pairs.remove(at).1),
-        None => removed.is_none(),
-    }
-}
-
-fn gets_from_both(slots: &Slots<u32>, pairs: &Pairs, name: &str) -> bool {
-    let at = place_of(pairs, name);
-    let item = at.and_then(|at| pairs.get(at)).map(|pair| pair.1);
-    slots.find(name) == at && slots.get(name).copied() == item
-}
-
-/// The item of the name is lent, or put in where there is none.
-fn enters_in_both(slots: &mut Slots<u32>, pairs: &mut Pairs, name: String, item: u32) -> Mem<bool> {
-    let entry = slots.entry(name.as_str())?;
-    let lent = *entry.or_insert(item).map_err(no_memory)?;
-    match place_of(pairs, name.as_str()) {
-        Some(at) => Ok(pairs.get(at).map(|pair| pair.1) == Some(lent)),
-        None => {
-            pairs.push((name, item))?;
-            Ok(lent == item)
-        }
-    }
-}
-
-/// Odd items go from both, or both are sorted by name.
-fn clears_both(slots: &mut Slots<u32>, pairs: &mut Pairs, sorts: bool) -> Mem<bool> {
-    if sorts {
-        slots.sort_by_name()?;
-        pairs.sort_by(|one, other| one.0.as_str().cmp(other.0.as_str()))?;
-    } else {
-        slots.retain(|_, item| item % 2 == 0);
-        pairs.retain(|pair| pair.1 % 2 == 0);
-    }
-    Ok(true)
-}
-
-/// Whether 5,000 calls on 200 keys, in an order that looks mixed, leave what they leave in the pairs, each of them.
-fn mixes(alloc: Global, slots: &mut Slots<u32>) -> Mem<bool> {
-    let mut pairs = Vec::new(alloc);
-    let mut state: u32 = 1;
-    for item in 0..5000u32 {
-        state = state.wrapping_mul(1664525).wrapping_add(1013904223);
-        let mut name = String::new(alloc);
-        write!(name, "{}", (state >> 8) % 200).map_err(|_| AllocError)?;
-        let is_right = match (state >> 24) % 64 {
-            0 => clears_both(slots, &mut pairs, item % 2 == 0)?,
-            1..=15 => removes_from_both(slots, &mut pairs, name.as_str()),
-            16..=31 => gets_from_both(slots, &pairs, name.as_str()),
-            32..=47 => enters_in_both(slots, &mut pairs, name, item)?,
-            _ => inserts_in_both(slots, &mut pairs, name, item)?,
-        };
-        if !is_right || !is_same(slots, &pairs) {
-            return Ok(false);
-        }
-    }
-    Ok(true)
-}
-
-/// It wants its memory.
-fn mixes_all(alloc: Global, slots: &mut Slots<u32>) -> bool {
-    mixes(alloc, slots).unwrap_or(false)
-}
-
-#[test]
-fn mixes_slots(rt: HostRuntime) {
-    assert!(rt; holds_changed(rt.alloc(), Slots::new(rt.alloc()), mixes_all));
-}
-
-/// Their names and items, copied.
-fn copied(alloc: Global, slots: &Slots<u32>) -> Mem<Pairs> {
-    let mut pairs = Vec::new(alloc);
-    for slot in slots.as_slice() {
-        let name = String::from_str(alloc, slot.key.get())?;
-        pairs.push((name, slot.item))?;
-    }
-    Ok(pairs)
-}
-
-/// Whether the item is put in, or given back and the slots are as they were.
-fn inserts_or_stays(alloc: Global, slots: &mut Slots<u32>, name: &str, item: u32) -> Mem<bool> {
-    let before = copied(alloc, slots)?;
-    match slots.insert(name, item) {
-        Ok(_) => Ok(slots.get(name) == Some(&item)),
-        Err(refused) => Ok(refused.0 == item && is_same(slots, &before)),
-    }
-}
-
-/// The same of a key with its formatting.
-fn inserts_formatted_or_stays(
-    alloc: Global,
-    slots: &mut Slots<u32>,
-    name: &str,
-    item: u32,
-) -> Mem<bool> {
-    let before = copied(alloc, slots)?;
-    let key = Key::from_text(alloc, name)?;
-    match slots.insert_formatted(&key, item) {
-        Ok(_) => Ok(slots.get(name) == Some(&item)),
-        Err(refused) => Ok(refused.0 == item && is_same(slots, &before)),
-    }
-}
-
-/// The same of a new slot that is pushed.
-fn pushes_or_stays(alloc: Global, slots: &mut Slots<u32>, name: &str, item: u32) -> Mem<bool> {
-    let before = copied(alloc, slots)?;
-    let key = Key::from_text(alloc, name)?;
-    match slots.try_push(Slot { key, item }) {
-        Ok(()) => Ok(slots.get(name) == Some(&item)),
-        Err(_) => Ok(is_same(slots, &before)),
-    }
-}
-
-/// The item that an entry of the name then lends, or the one that it gives back; `None` where there is no entry.
-fn entered(slots: &mut Slots<u32>, name: &str, item: u32) -> Option<u32> {
-    match slots.entry(name) {
-        Ok(entry) => match entry.or_insert(item) {
-            Ok(lent) => Some(*lent),
-            Err(refused) => Some(refused.0),
-        },
-        Err(_) => None,
-    }
-}
-
-/// Whether a new name's item is put in by its entry, or the slots are as they were.
-fn enters_or_stays(alloc: Global, slots: &mut Slots<u32>, name: &str, item: u32) -> Mem<bool> {
-    let before = copied(alloc, slots)?;
-    match entered(slots, name, item) {
-        Some(there) => {
-            Ok(there == item && (slots.get(name) == Some(&item) || is_same(slots, &before)))
-        }
-        None => Ok(is_same(slots, &before)),
-    }
-}
-
-/// Whether slots are filled by each way to put an item in, beyond those that are found without an index, and each that is refused stays out.
-fn stays_all(alloc: Global, slots: &mut Slots<u32>) -> bool {
-    let mut is_right = slots.is_empty();
-    for (at, name) in NAMES.iter().enumerate() {
-        let is_put = match at % 4 {
-            0 => inserts_or_stays(alloc, slots, name, 7),
-            1 => inserts_formatted_or_stays(alloc, slots, name, 7),
-            2 => pushes_or_stays(alloc, slots, name, 7),
-            _ => enters_or_stays(alloc, slots, name, 7),
-        };
-        is_right = is_right && is_yes(is_put);
-    }
-    is_right
-}
-
-#[test]
-fn refused_slots_stay(rt: HostRuntime) {
-    assert!(rt; holds_changed(rt.alloc(), Slots::new(rt.alloc()), stays_all));
 }
 
 /// Whether the entry of `a` is read and changed.
@@ -344,13 +160,15 @@ fn fills(alloc: Global, slots: &mut Slots<u8>) -> Mem<bool> {
     Ok(made == 2 && *entry.or_insert(4).map_err(no_memory)? == 4)
 }
 
-/// Whether entries are filled, and one is changed and taken out. Where no memory was left there may be none.
+/// Whether entries are filled, and one is changed and taken out.
 fn enters_all(alloc: Global, slots: &mut Slots<u8>) -> bool {
-    let is_filled = is_yes(fills(alloc, slots)) && inserts(slots, "a", 1);
-    if slots.find("a").is_none() {
-        return is_filled;
-    }
-    is_filled && changes_entry(slots) && removes_entry(slots) && slots.find("a").is_none()
+    is_done(fills(alloc, slots))
+        && matches!(slots.insert("a", 1), Ok(None))
+        && changes_entry(slots)
+        && removes_entry(slots)
+        && slots.get("b") == Some(&2)
+        && slots.get("c") == Some(&4)
+        && slots.len() == 2
 }
 
 #[test]
@@ -368,50 +186,12 @@ fn cuts_key(alloc: Global) -> Mem<bool> {
     let mut slots: Slots<u8> = Slots::new(alloc);
     slots.push(Slot { key, item: 7 }).map_err(no_memory)?;
     match slots.despan_key(0, alloc, "k = 1") {
-        Ok(()) => Ok(spelled(&slots) == Some("k")),
-        Err(refused) if slots.get("k") == Some(&7) => Err(refused),
-        Err(_) => Ok(false),
+        Ok(()) => Ok(spelled(&slots) == Some("k") && slots.get("k") == Some(&7)),
+        Err(refused) => Err(refused),
     }
 }
 
 #[test]
 fn cuts_keys(rt: HostRuntime) {
-    assert!(rt; is_yes(cuts_key(rt.alloc())));
-}
-
-fn inserts_each(alloc: Global, slots: &mut Slots<u8>) -> bool {
-    inserts_all(alloc, slots) && slots.len() == NAMES.len()
-}
-
-fn pushes_each(alloc: Global, slots: &mut Slots<u8>) -> bool {
-    pushes_all(alloc, slots) && slots.len() == 5
-}
-
-fn changes_each(alloc: Global, slots: &mut Slots<u8>) -> bool {
-    changes_all(alloc, slots) && slots.len() == 1 && slots.get("b") == Some(&4)
-}
-
-fn stays_each(alloc: Global, slots: &mut Slots<u32>) -> bool {
-    stays_all(alloc, slots) && slots.len() == NAMES.len()
-}
-
-fn enters_each(alloc: Global, slots: &mut Slots<u8>) -> bool {
-    is_done(fills(alloc, slots))
-        && matches!(slots.insert("a", 1), Ok(None))
-        && changes_entry(slots)
-        && removes_entry(slots)
-        && slots.get("b") == Some(&2)
-        && slots.get("c") == Some(&4)
-        && slots.len() == 2
-}
-
-#[test]
-fn does_all_with_memory(rt: HostRuntime) {
-    let alloc = rt.alloc();
-    assert!(rt; holds_changed(alloc, Slots::new(alloc), inserts_each));
-    assert!(rt; holds_changed(alloc, Slots::new(alloc), pushes_each));
-    assert!(rt; holds_changed(alloc, Slots::new(alloc), changes_each));
-    assert!(rt; holds_changed(alloc, Slots::new(alloc), stays_each));
-    assert!(rt; holds_changed(alloc, Slots::new(alloc), enters_each));
-    assert!(rt; is_done(cuts_key(alloc)));
+    assert!(rt; is_done(cuts_key(rt.alloc())));
 }
