@@ -77,7 +77,7 @@ impl Ended {
 const REFUSED: &[u8] = b"tomled: out of memory\n";
 
 /// More room than a row's run fills, so that no stream of its own finds none.
-const ROOM: usize = 65536;
+const ROOM: usize = 4096;
 
 /// Runs the program on the input, over streams that give and take all at once.
 pub fn run_whole(alloc: Global, words: &[String], input: &[u8]) -> Mem<Ended> {
