@@ -1,17 +1,12 @@
-//! Tests of what no row of `toml_edit_rows` can say: equality, order and hash, and streams that fail. None holds where calls do nothing.
-//! Functions that are generic in a type own what is made, and are proved once: a test hands it to them.
+//! Tests of what no row of `toml_edit_rows` can say: equality, order and hash, `Display`, and calls on large tables. None holds where
+//! calls do nothing. Functions that are generic in a type own what is made, and are proved once: a test hands it to them.
 #![tactic(auto)]
 
 #[cfg(test)]
 mod comparisons;
 #[cfg(test)]
 mod displays;
-#[cfg(test)]
-mod examples;
-#[cfg(test)]
-mod guide;
-#[cfg(test)]
-mod holding;
+pub mod holding;
 #[cfg(test)]
 mod labelled;
 #[cfg(test)]
@@ -19,15 +14,9 @@ mod makers;
 #[cfg(test)]
 mod mixed;
 #[cfg(test)]
-mod prints;
-#[cfg(test)]
-mod runs;
-#[cfg(test)]
 mod slots;
 #[cfg(test)]
 mod spans;
-#[cfg(test)]
-mod streams;
 
 use std::hash::{DefaultHasher, Hash, Hasher};
 

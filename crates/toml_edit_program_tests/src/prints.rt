@@ -1,10 +1,10 @@
 //! Prints to outputs that take little at a time, or fail.
-use crate::holding::{holds_changed, holds_moved};
 use crate::streams::Short;
 use std::alloc::Global;
 use std::io;
 use std::io::Write;
 use toml_edit::{DocumentMut, Output, PrintFault, Watched};
+use toml_edit_tests::holding::{holds_changed, holds_moved};
 
 const TEXT: &str =
     "# a\nk = [1, 2]  # b\nd.e = 'x'\n\n[t]\nu = { v = 1.5 }\n[[w]]\n[[w]]\nx = true\n# end\n";

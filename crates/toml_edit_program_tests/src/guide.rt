@@ -1,5 +1,4 @@
 //! Each function of the guide, on documents whose texts before and after are written by hand.
-use crate::holding::is_text;
 use std::alloc::{AllocError, Global};
 use toml_edit::{Array, Document, DocumentMut, Item, Mem, ParseFault, Table, Value};
 use toml_edit_guide::adding::{
@@ -9,6 +8,7 @@ use toml_edit_guide::arranging::{insert_first, rename, sort_strings};
 use toml_edit_guide::changing::set_value;
 use toml_edit_guide::documents::{print_if_fits, read_exactly, read_strictly, report};
 use toml_edit_guide::reading::{integer_at, names, span_at};
+use toml_edit_tests::holding::is_text;
 
 const SERVER: &str = "title = 'x'\n\n# two servers\n[server]\nport = 80  # http\nhost = 'a'\n";
 

@@ -1,10 +1,10 @@
 //! Runs of the program: what they have written, and how they end where they can't tell it.
-use crate::holding::holds_moved;
 use crate::streams::Short;
 use std::alloc::Global;
 use std::io::{Read, Write};
 use toml_edit::{Mem, Watched};
 use toml_edit_command::run;
+use toml_edit_tests::holding::holds_moved;
 
 const TEXT: &str = "# a\nk = [1]  # b\n";
 

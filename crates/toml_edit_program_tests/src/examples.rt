@@ -1,10 +1,10 @@
 //! The first example of each type in the documentation of the Rust crate, with the changes that `docs/DIFFERENCES.md` lists.
-use crate::holding::{holds_changed, is_text, no_memory};
 use std::alloc::Global;
 use std::mem;
 use toml_edit::{
     Array, Document, DocumentMut, IndexFault, InlineTable, Item, Key, Mem, Table, Value, value,
 };
+use toml_edit_tests::holding::{holds_changed, is_text, no_memory};
 
 const HELLO: &str = "\n\"hello\" = 'toml!' # comment\n['a'.b]\n    ";
 

@@ -1,0 +1,14 @@
+//! Tests of programs that use the library: the functions of the guide, the first examples of the Rust crate's documentation, and
+//! prints and runs over streams that take little at a time or fail.
+#![tactic(auto)]
+
+#[cfg(test)]
+mod examples;
+#[cfg(test)]
+mod guide;
+#[cfg(test)]
+mod prints;
+#[cfg(test)]
+mod runs;
+#[cfg(test)]
+mod streams;
