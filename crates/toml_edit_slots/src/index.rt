@@ -7,6 +7,7 @@ ghost use Rattle.toml_edit_slots.specs.SlotIndex.{IsIndexed, IsIndexOf, IsRightB
 use crate::places::Places;
 use crate::slots::Slot;
 use std::alloc::Global;
+use std::mem;
 use toml_edit_repr::Mem;
 
 /// How many slots need no index: so few are found as fast one by one.
@@ -56,22 +57,39 @@ fn add_place<T>(
     if entries.len() < FEW {
         return Ok(());
     }
-    let mut places = index_of(alloc, entries, room)?;
-    places.insert(alloc, name, entries.len())?;
-    *index = Some(Box::new(alloc, places)?);
+    let places = index_of(alloc, entries, room, name)?;
+    drop(mem::replace(index, Some(Box::new(alloc, places)?)));
     Ok(())
 }
 
-/// The index of these slots, with room for so many.
-fn index_of<T>(alloc: Global, entries: &[Slot<T>], room: usize) -> Mem<Places>
-    requires { AreApart entries.now }
-    ensures { IfOk result (λ places. IsIndexOf places (names entries.now)) }
+/// Returns the index of these slots and of a new name behind them, with room for so many. Fails only if memory runs out.
+fn index_of<T>(alloc: Global, entries: &[Slot<T>], room: usize, name: &str) -> Mem<Places>
+    requires apart { AreApart entries.now }
+    requires new { place name.now entries.now ≡ None }
+    ensures { IfOk result (λ places. IsIndexOf places (names entries.now ++ name.now ∷ [])) }
 {
     let mut places = Places::with_room(alloc, room)?;
+    match note_all(&mut places, alloc, entries, name) {
+        Ok(()) => Ok(places),
+        Err(refused) => {
+            drop(places);
+            Err(refused)
+        }
+    }
+}
+
+/// Puts the places of these slots, and of a new name behind them, into an empty index. Fails only if memory runs out.
+fn note_all<T>(places: &mut Places, alloc: Global, entries: &[Slot<T>], name: &str) -> Mem<()>
+    requires apart { AreApart entries.now }
+    requires new { place name.now entries.now ≡ None }
+    requires empty { IsIndexOf places.old [] }
+    ensures { OnOk result (IsIndexOf places.new (names entries.now ++ name.now ∷ [])) }
+{
     for at in 0..entries.len() {
         places.insert(alloc, entries[at].key.get(), at)?;
     }
-    Ok(places)
+    places.insert(alloc, name, entries.len())?;
+    Ok(())
 }
 
 /// Notes that the slot of a name comes behind the others, which have room for so many, if the name is new; the answer is the place where it

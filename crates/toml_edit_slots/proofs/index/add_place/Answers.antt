@@ -14,5 +14,5 @@ returns-in-Some-clause-ok g c =
 
 pub returns-clause-ok : goal.returns-clause-ok
 returns-clause-ok g c =
-    let es = c.args.entries.now in
-    subst (λ m. IsIndexOf m (names es ++ c.args.name.now ∷ [])) (sym c.in_ok-new.ensures.ok) (index-slot es c.in_ok-places.places c.insert-2.new.self c.args.name.now c.requires.new c.in_ok-places.ensures c.in_ok-insert-2.ensures.ok)
+    let all = names c.args.entries.now ++ c.args.name.now ∷ [] in
+    rw c.replace.ensures.after (subst (λ m. IsIndexOf m all) (sym c.in_ok-new.ensures.ok) c.in_ok-places.ensures)
