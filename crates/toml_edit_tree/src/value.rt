@@ -302,11 +302,11 @@ impl Value {
         ensures { result ≡ span_in (value_view self.now) }
     {
         match self {
-            Value::String(scalar) => scalar.as_repr()?.span(),
-            Value::Integer(scalar) => scalar.as_repr()?.span(),
-            Value::Float(scalar) => scalar.as_repr()?.span(),
-            Value::Boolean(scalar) => scalar.as_repr()?.span(),
-            Value::Datetime(scalar) => scalar.as_repr()?.span(),
+            Value::String(scalar) => scalar.span(),
+            Value::Integer(scalar) => scalar.span(),
+            Value::Float(scalar) => scalar.span(),
+            Value::Boolean(scalar) => scalar.span(),
+            Value::Datetime(scalar) => scalar.span(),
             Value::Array(array) => array.span(),
             Value::InlineTable(table) => table.span(),
         }
