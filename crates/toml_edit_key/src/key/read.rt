@@ -1,5 +1,5 @@
 //! Texts of one key or one path.
-ghost use Rattle.std.specs.Prelude.{◌≡◌, ◌+◌, ◌<◌, ◌≤◌, ◌++◌, None, Some, List, length, IfOk, IfErr, IfSome, IfNone, MatchResult, option_map, string_bytes};
+ghost use Rattle.std.specs.Prelude.{◌≡◌, ◌+◌, ◌<◌, ◌≤◌, ◌++◌, ◌∷◌, [], None, Some, List, length, OnOk, IfOk, IfErr, IfSome, IfNone, MatchResult, option_map, string_bytes};
 ghost use Rattle.toml_edit_model.specs.Text.{Text};
 ghost use Rattle.toml_edit_model.specs.Syntax.{Segment};
 ghost use Rattle.toml_edit_model.specs.Spelling.{SpellsKey};
@@ -177,6 +177,41 @@ fn path_part(alloc: Global, part: Part<'_>, before: &str, after: &str, leaf: Dec
     )
 }
 
+/// Puts the key of a segment behind those before it. Fails only if memory runs out.
+fn push_part(
+    keys: &mut Vec<Key>,
+    alloc: Global,
+    part: Part<'_>,
+    before: &str,
+    after: &str,
+    leaf: Decor,
+) -> Mem<()>
+    requires { ∥ SpellsKey (string_bytes part.name) part.spelled.now ∥₁ }
+    ensures { OnOk result (keys.new.items ≡ keys.old.items ++ (path_key leaf
+        (spec.segment before.now (string_bytes part.entry.name, part.entry.spelled.now) after.now) ∷ [])) }
+{
+    let key = path_part(alloc, part, before, after, leaf)?;
+    keys.push(key)?;
+    Ok(())
+}
+
+/// The same of the last segment, between which and the end of the text this white space stands. The first one stands before the path.
+fn push_last(
+    keys: &mut Vec<Key>,
+    alloc: Global,
+    part: Part<'_>,
+    first: &str,
+    before: &str,
+    last: &str,
+) -> Mem<()>
+    requires { ∥ SpellsKey (string_bytes part.name) part.spelled.now ∥₁ }
+    ensures { OnOk result (keys.new.items ≡ keys.old.items ++ (path_key (spec.outer first.now last.now)
+        (spec.segment before.now (string_bytes part.entry.name, part.entry.spelled.now) []) ∷ [])) }
+{
+    let leaf = outer_decor(alloc, first, last)?;
+    push_part(keys, alloc, part, before, "", leaf)
+}
+
 /// The keys of a path of at most 80 segments.
 fn read_path(alloc: Global, text: &str) -> Result<Vec<Key>, ParseFault>
     ensures keys { IfOk result (λ keys. (spec.lone_at text.now ≡ Some keys.items) × (length keys.items ≤ 80)) }
@@ -192,8 +227,7 @@ fn read_path(alloc: Global, text: &str) -> Result<Vec<Key>, ParseFault>
         };
         let (white, next) = split_run(after, Class::Blank);
         if next.is_empty() {
-            let leaf = outer_decor(alloc, before, white)?;
-            keys.push(path_part(alloc, part, gap, "", leaf)?)?;
+            push_last(&mut keys, alloc, part, before, gap, white)?;
             return Ok(keys);
         }
         let Some(tail) = after_dot(next) else {
@@ -203,7 +237,7 @@ fn read_path(alloc: Global, text: &str) -> Result<Vec<Key>, ParseFault>
         if count == MOST_SEGMENTS {
             return Err(longer(alloc, text, tail));
         }
-        keys.push(path_part(alloc, part, gap, white, Decor::default())?)?;
+        push_part(&mut keys, alloc, part, gap, white, Decor::default())?;
         (gap, rest) = split_run(tail, Class::Blank);
     }
 }

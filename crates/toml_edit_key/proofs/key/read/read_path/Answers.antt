@@ -5,7 +5,7 @@ use Rattle.toml_edit_model.specs.Text.{Text}
 use Rattle.toml_edit_model.specs.Trivia.{is_blank}
 use Rattle.toml_edit_laws.specs.reading.Runs.{split_while}
 use Rattle.toml_edit_laws.proofs.reading.Steps.{split_parts}
-use Rattle.toml_edit_model.specs.Tree.{Key, unset}
+use Rattle.toml_edit_model.specs.Tree.{Decor, Key, unset}
 use Rattle.toml_edit_model.specs.Lone.{path_key}
 use Rattle.toml_edit_key.specs.PathReading.{front_key, after_dot, segment, outer, HasRead}
 use Rattle.toml_edit_key.proofs.PathLoop.{begins, no_key, ends, no_dot, goes_on}
@@ -29,13 +29,11 @@ returns-then-is_empty-clause-keys c =
     let k : Text × Text = (string_bytes c.in-Some.part.name, c.in-Some.part.spelled.now) in
     let found : front_key l.rest.now ≡ Some (k, c.in-Some.after.now) = search rules in
     let none : length c.split_run-in-segments.result.1.now ≡ 0 = grind (arith, common_steps) in
-    let leaf : c.in_ok-leaf.leaf ≡ outer before white = search rules in
-    let last : c.in_ok-path_part.field-0 ≡ path_key (outer before white) (segment l.gap.now k []) = search rules in
-    let pushed : c.push.new.self.items ≡ l.keys.items ++ (c.in_ok-path_part.field-0 ∷ []) = search rules in
-    let room : length c.push.new.self.items ≤ 80 = omega (arith, l.invariant.3, ap length pushed, length-append l.keys.items (c.in_ok-path_part.field-0 ∷ [])) in (
+    let last = path_key (outer before white) (segment l.gap.now k []) in
+    let pushed : c.push_last.new.keys.items ≡ l.keys.items ++ (last ∷ []) = c.in_ok-push_last.ensures in
+    let room : length c.push_last.new.keys.items ≤ 80 = omega (arith, l.invariant.3, ap length pushed, length-append l.keys.items (last ∷ [])) in (
       ends c.args.text.now before l.gap.now l.rest.now c.in-Some.after.now white c.split_run-in-segments.result.1.now k l.keys.items l.invariant.2 found
           c.split_run-in-segments.ensures.parts none
-          ∙ ap (λ (x : Key). Some (l.keys.items ++ (x ∷ []))) (sym last)
           ∙ ap Some (sym pushed),
       room,
     )
@@ -64,13 +62,14 @@ segments-preserved c =
     let dot : after_dot next ≡ Some c.in-Some-after_dot.tail.now = search rules in
     let within : length c.in-Some.after.now < length l.rest.now = search rules in
     let less : length c.split_run-in-segments-2.result.1.now < length l.rest.now = omega (arith, within, c.split_run-in-segments.ensures.lens, c.in-Some-after_dot.ensures.within, c.split_run-in-segments-2.ensures.lens) in
-    let last : c.in_ok-path_part-2.field-0 ≡ path_key unset (segment l.gap.now k white) = search rules in
-    let pushed : c.push-in-segments.new.self.items ≡ l.keys.items ++ (c.in_ok-path_part-2.field-0 ∷ []) = search rules in
+    let last = path_key unset (segment l.gap.now k white) in
+    let blank : c.default.result ≡ unset = search rules in
+    let pushed : c.push_part.new.keys.items ≡ l.keys.items ++ (last ∷ []) =
+    c.in_ok-push_part.ensures ∙ ap (λ (d : Decor). l.keys.items ++ (path_key d (segment l.gap.now k white) ∷ [])) blank in
     let read = goes_on c.args.text.now before l.gap.now l.rest.now c.in-Some.after.now white next c.in-Some-after_dot.tail.now c.split_run-in-segments-2.result.0.now c.split_run-in-segments-2.result.1.now k l.keys.items
     l.invariant.2 found c.split_run-in-segments.ensures.parts some dot c.split_run-in-segments-2.ensures.parts less in
-    let grown : l.keys.items ++ (path_key unset (segment l.gap.now k white) ∷ []) ≡ c.push-in-segments.new.self.items = ap (λ (x : Key). l.keys.items ++ (x ∷ [])) (sym last) ∙ sym pushed in
-    let room : length c.push-in-segments.new.self.items < 80 = omega (arith, l.invariant.3, c.if-count-eq-MOST_SEGMENTS.false, c.len-count.ensures, ap length pushed, length-append l.keys.items (c.in_ok-path_part-2.field-0 ∷ [])) in
-    (search rules, search rules, subst (λ (x : List Key). HasRead c.args.text.now before x c.split_run-in-segments-2.result.0.now c.split_run-in-segments-2.result.1.now) grown read, room)
+    let room : length c.push_part.new.keys.items < 80 = omega (arith, l.invariant.3, c.if-count-eq-MOST_SEGMENTS.false, c.len-count.ensures, ap length pushed, length-append l.keys.items (last ∷ [])) in
+    (search rules, search rules, subst (λ (x : List Key). HasRead c.args.text.now before x c.split_run-in-segments-2.result.0.now c.split_run-in-segments-2.result.1.now) (sym pushed) read, room)
 
 pub returns-then-count-eq-MOST_SEGMENTS-clause-refused : goal.returns-then-count-eq-MOST_SEGMENTS-clause-refused
 returns-then-count-eq-MOST_SEGMENTS-clause-refused c =
