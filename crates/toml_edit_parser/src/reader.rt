@@ -175,9 +175,10 @@ pub(crate) fn read_scalar(alloc: Global, source: &str, span: Span) -> Result<Val
     ensures listed { IfErr result (λ e. IfToml e IsListed) }
     ensures fits { IfOk result (λ v. NodeFits source.now (value_view v)) }
 {
-    match decode_scalar(alloc, cut(source, span))? {
+    let text = cut(source, span);
+    match decode_scalar(alloc, text)? {
         Some(scalar) => Ok(Value::spanned(scalar, span.start, span.end, Decor::default())),
-        None => Err(refusal(alloc, source, range_message(cut(source, span)), span)),
+        None => Err(refusal(alloc, source, range_message(text), span)),
     }
 }
 
