@@ -356,3 +356,12 @@ pairs::read_pair-returns-in_default-clause-listed t c = c.refusal_at_end.ensures
 
 pub pairs::read_pair-returns-then-frame-gt-MOST_PATH_EVENTS-clause-listed : goal.pairs::read_pair-returns-then-frame-gt-MOST_PATH_EVENTS-clause-listed
 pairs::read_pair-returns-then-frame-gt-MOST_PATH_EVENTS-clause-listed t c = c.refusal_of_all.ensures.listed v1_1 refl
+
+pub reader::read_value-returns-in_default-clause-input : goal.reader::read_value-returns-in_default-clause-input
+reader::read_value-returns-in_default-clause-input t c = mapped c.refusal_at_end.result _ _ (λ r known. ap (λ (x : Report). x.input) known) c.refusal_at_end.ensures.report
+
+pub pairs::read_pair-returns-in_default-clause-input : goal.pairs::read_pair-returns-in_default-clause-input
+pairs::read_pair-returns-in_default-clause-input t c = mapped c.refusal_at_end.result _ _ (λ r known. ap (λ (x : Report). x.input) known) c.refusal_at_end.ensures.report
+
+pub pairs::read_pair-returns-then-frame-gt-MOST_PATH_EVENTS-clause-input : goal.pairs::read_pair-returns-then-frame-gt-MOST_PATH_EVENTS-clause-input
+pairs::read_pair-returns-then-frame-gt-MOST_PATH_EVENTS-clause-input t c = mapped c.refusal_of_all.result _ _ (λ r known. ap (λ (x : Report). x.input) known) c.refusal_of_all.ensures.report

@@ -11,6 +11,8 @@ use Rattle.toml_edit_slots.specs.Slots.{place}
 use Rattle.toml_edit_tree.specs.declared.item.Item.{Item, the_lemmas}
 use Rattle.toml_edit_tree.specs.Containers.{inline_node}
 use Rattle.toml_edit_tree.specs.View.{inline_view, item_view, slots_view, value_view}
+use Rattle.toml_edit_error.specs.Report.{Report}
+use Rattle.toml_edit_parser.proofs.ReadLaws.{mapped}
 use Rattle.toml_edit_parser.proofs.DescentLaws.{below-refused, dot_in, fits-below, fits-found, fits-in, fits-put, name-refused, no-value, on_ok, stops-empty, stops-other, went-in}
 use Rattle.toml_edit_parser.proofs.EntryLaws.{below-added, inside-added, last-added, some-key, stopped}
 use Rattle.toml_edit_parser.proofs.SplitLaws.{first_in}
@@ -178,3 +180,15 @@ add_in_value-returns-in_default-clause-listed t c = c.refusal.ensures.listed v1_
 
 pub add_in_table-returns-else-is_dotted-clause-listed : goal.add_in_table-returns-else-is_dotted-clause-listed
 add_in_table-returns-else-is_dotted-clause-listed t c = c.refusal.ensures.listed v1_1 (inr (0, lit< tt, refl))
+
+pub add_entry-returns-in_default-clause-input : goal.add_entry-returns-in_default-clause-input
+add_entry-returns-in_default-clause-input t c = mapped c.refusal_at_end.result _ _ (λ r known. ap (λ (x : Report). x.input) known) c.refusal_at_end.ensures.report
+
+pub add_inside-returns-in_default-clause-input : goal.add_inside-returns-in_default-clause-input
+add_inside-returns-in_default-clause-input t c = mapped c.refusal.result _ _ (λ r known. ap (λ (x : Report). x.input) known) c.refusal.ensures.report
+
+pub add_in_value-returns-in_default-clause-input : goal.add_in_value-returns-in_default-clause-input
+add_in_value-returns-in_default-clause-input t c = mapped c.refusal.result _ _ (λ r known. ap (λ (x : Report). x.input) known) c.refusal.ensures.report
+
+pub add_in_table-returns-else-is_dotted-clause-input : goal.add_in_table-returns-else-is_dotted-clause-input
+add_in_table-returns-else-is_dotted-clause-input t c = mapped c.refusal.result _ _ (λ r known. ap (λ (x : Report). x.input) known) c.refusal.ensures.report

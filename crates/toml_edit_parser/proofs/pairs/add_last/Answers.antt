@@ -5,6 +5,8 @@ use Rattle.toml_edit_model.specs.Tree.{Slots}
 use Rattle.toml_edit_laws.specs.FlatTree.{with_slot}
 use Rattle.toml_edit_slots.specs.Slots.{place}
 use Rattle.toml_edit_tree.specs.View.{item_view, slots_view}
+use Rattle.toml_edit_error.specs.Report.{Report}
+use Rattle.toml_edit_parser.proofs.ReadLaws.{mapped}
 use Rattle.toml_edit_parser.proofs.EntryLaws.{last-put, last-refused}
 use Rattle.toml_edit_parser.proofs.SlotLaws.{fits-with_slot, slots_view-append}
 use Rattle.toml_edit_parser.proofs.pairs.add_last.Goals as goal
@@ -31,3 +33,6 @@ returns-in-Ok-clause-fits c =
 
 pub returns-in-Some-clause-listed : goal.returns-in-Some-clause-listed
 returns-in-Some-clause-listed c = c.refusal.ensures.listed v1_1 (inr (0, lit< tt, refl))
+
+pub returns-in-Some-clause-input : goal.returns-in-Some-clause-input
+returns-in-Some-clause-input c = mapped c.refusal.result _ _ (λ r known. ap (λ (x : Report). x.input) known) c.refusal.ensures.report

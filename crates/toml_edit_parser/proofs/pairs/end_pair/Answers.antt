@@ -9,9 +9,10 @@ use Rattle.toml_edit_syntax.specs.declared.event.Event.{Event}
 use Rattle.toml_edit_parser.specs.PairRead.{FrameParts}
 use Rattle.toml_edit_parser.specs.ValueRead.{spanned_raw, split_first}
 use Rattle.toml_edit_tree.specs.View.{item_view, slots_view}
+use Rattle.toml_edit_error.specs.Report.{Report}
 use Rattle.toml_edit_parser.proofs.PairLaws.{key-decor, path-begins, path-ends, value-decor}
 use Rattle.toml_edit_parser.proofs.ReadFits.{fits-with_decor}
-use Rattle.toml_edit_parser.proofs.ReadLaws.{same_parts}
+use Rattle.toml_edit_parser.proofs.ReadLaws.{same_parts, mapped}
 use Rattle.toml_edit_parser.proofs.SplitLaws.{first_in}
 use Rattle.toml_edit_parser.proofs.pairs.end_pair.Goals as goal
 use Rattle.toml_edit_model.specs.OwnedForm.{NodeFits}
@@ -56,3 +57,6 @@ returns-clause-rest c =
 
 pub returns-in_default-clause-listed : goal.returns-in_default-clause-listed
 returns-in_default-clause-listed c = c.refusal_at_end.ensures.listed v1_1 (inl (7, lit< tt, refl))
+
+pub returns-in_default-clause-input : goal.returns-in_default-clause-input
+returns-in_default-clause-input c = mapped c.refusal_at_end.result _ _ (λ r known. ap (λ (x : Report). x.input) known) c.refusal_at_end.ensures.report

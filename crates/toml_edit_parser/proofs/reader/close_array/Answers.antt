@@ -1,7 +1,8 @@
-use Rattle.std.proofs.Common.{◌∙◌, lit<, refl, inl}
+use Rattle.std.proofs.Common.{◌∙◌, lit<, refl, inl, ap}
 use Rattle.toml_edit_model.specs.Version.{v1_1}
 use Rattle.toml_edit_tree.specs.View.{items_view, value_view}
-use Rattle.toml_edit_parser.proofs.ReadLaws.{same_closes}
+use Rattle.toml_edit_error.specs.Report.{Report}
+use Rattle.toml_edit_parser.proofs.ReadLaws.{same_closes, mapped}
 use Rattle.toml_edit_parser.proofs.ReadFits.{close_in, fits-array}
 use Rattle.toml_edit_parser.proofs.ArrayLaws.{made_array}
 use Rattle.toml_edit_parser.proofs.reader.close_array.Goals as goal
@@ -19,3 +20,6 @@ returns-clause-fits c =
 
 pub returns-in_default-clause-listed : goal.returns-in_default-clause-listed
 returns-in_default-clause-listed c = c.refusal_at_end.ensures.listed v1_1 (inl (6, lit< tt, refl))
+
+pub returns-in_default-clause-input : goal.returns-in_default-clause-input
+returns-in_default-clause-input c = mapped c.refusal_at_end.result _ _ (λ r known. ap (λ (x : Report). x.input) known) c.refusal_at_end.ensures.report

@@ -11,6 +11,8 @@ use Rattle.toml_edit_token.specs.Decoded.{IsSpelling, scalar_view}
 use Rattle.toml_edit_token.specs.declared.decode.Scalar as code
 use Rattle.toml_edit_tree.specs.declared.value.Value.TheVariants as values
 use Rattle.toml_edit_parser.specs.ValueRead.{spanned_raw}
+use Rattle.toml_edit_error.specs.Report.{Report}
+use Rattle.toml_edit_parser.proofs.ReadLaws.{mapped}
 use Rattle.toml_edit_parser.proofs.ScalarElements.{place_cut, scalar_refusal, scalar_added, scalar_fits}
 use Rattle.toml_edit_parser.proofs.SplitLaws.{first_in}
 use Rattle.toml_edit_parser.proofs.ViewLaws.{view-Integer}
@@ -109,3 +111,9 @@ returns-in_default-clause-listed c = c.refusal_at_end.ensures.listed v1_1 (inl (
 
 pub returns-in-None-clause-listed : goal.returns-in-None-clause-listed
 returns-in-None-clause-listed c = c.refusal.ensures.listed v1_1 (inr c.range_message.ensures.listed)
+
+pub returns-in_default-clause-input : goal.returns-in_default-clause-input
+returns-in_default-clause-input c = mapped c.refusal_at_end.result _ _ (λ r known. ap (λ (x : Report). x.input) known) c.refusal_at_end.ensures.report
+
+pub returns-in-None-clause-input : goal.returns-in-None-clause-input
+returns-in-None-clause-input c = mapped c.refusal.result _ _ (λ r known. ap (λ (x : Report). x.input) known) c.refusal.ensures.report

@@ -7,6 +7,8 @@ use Rattle.toml_edit_syntax.specs.ValueEvents.{shortened}
 use Rattle.toml_edit_repr.specs.Modes.{mode_of}
 use Rattle.toml_edit_parser.specs.PairRead.{PathView}
 use Rattle.toml_edit_parser.specs.ValueRead.{AreIn}
+use Rattle.toml_edit_error.specs.Report.{Report}
+use Rattle.toml_edit_parser.proofs.ReadLaws.{mapped}
 use Rattle.toml_edit_parser.proofs.PairLaws.{fewer, in_drop, in_take, path-too-long}
 use Rattle.toml_edit_parser.proofs.SplitLaws.{first_in}
 use Rattle.toml_edit_parser.proofs.StatementLaws.{header-first, header-path, header-read, header_end, key_at, no-header, no-path, third-in}
@@ -87,3 +89,15 @@ returns-in_default-behind-clause-listed c = c.refusal_at_end-in_default-behind.e
 
 pub returns-then-path-gt-MOST_PATH_EVENTS-clause-listed : goal.returns-then-path-gt-MOST_PATH_EVENTS-clause-listed
 returns-then-path-gt-MOST_PATH_EVENTS-clause-listed c = c.refusal_of_all.ensures.listed v1_1 refl
+
+pub returns-in_default-clause-input : goal.returns-in_default-clause-input
+returns-in_default-clause-input c = mapped c.refusal_at_end.result _ _ (λ r known. ap (λ (x : Report). x.input) known) c.refusal_at_end.ensures.report
+
+pub returns-in_default-path_end-clause-input : goal.returns-in_default-path_end-clause-input
+returns-in_default-path_end-clause-input c = mapped c.refusal_at_end-in_default-path_end.result _ _ (λ r known. ap (λ (x : Report). x.input) known) c.refusal_at_end-in_default-path_end.ensures.report
+
+pub returns-in_default-behind-clause-input : goal.returns-in_default-behind-clause-input
+returns-in_default-behind-clause-input c = mapped c.refusal_at_end-in_default-behind.result _ _ (λ r known. ap (λ (x : Report). x.input) known) c.refusal_at_end-in_default-behind.ensures.report
+
+pub returns-then-path-gt-MOST_PATH_EVENTS-clause-input : goal.returns-then-path-gt-MOST_PATH_EVENTS-clause-input
+returns-then-path-gt-MOST_PATH_EVENTS-clause-input c = mapped c.refusal_of_all.result _ _ (λ r known. ap (λ (x : Report). x.input) known) c.refusal_of_all.ensures.report

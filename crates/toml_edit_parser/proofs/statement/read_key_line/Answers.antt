@@ -10,6 +10,8 @@ use Rattle.toml_edit_syntax.specs.ValueEvents.{value_at_byte}
 use Rattle.toml_edit_repr.specs.Modes.{mode_of}
 use Rattle.toml_edit_parser.specs.PairRead.{FrameParts, PathView, parts_of}
 use Rattle.toml_edit_parser.specs.ValueRead.{AreIn, spanned_raw}
+use Rattle.toml_edit_error.specs.Report.{Report}
+use Rattle.toml_edit_parser.proofs.ReadLaws.{mapped}
 use Rattle.toml_edit_parser.proofs.ModeLaws.{line-suffix}
 use Rattle.toml_edit_parser.proofs.PairLaws.{frame-in, key-decor, key-whole, no-frame, path-some, short-path, the-frame, value-stands}
 use Rattle.toml_edit_parser.proofs.StatementLaws.{line-read, line-refused, line-too-long, path-from}
@@ -70,3 +72,9 @@ returns-in_default-clause-listed c = c.refusal_at_end.ensures.listed v1_1 (inl (
 
 pub returns-then-frame-gt-MOST_PATH_EVENTS-clause-listed : goal.returns-then-frame-gt-MOST_PATH_EVENTS-clause-listed
 returns-then-frame-gt-MOST_PATH_EVENTS-clause-listed c = c.refusal_of_all.ensures.listed v1_1 refl
+
+pub returns-in_default-clause-input : goal.returns-in_default-clause-input
+returns-in_default-clause-input c = mapped c.refusal_at_end.result _ _ (λ r known. ap (λ (x : Report). x.input) known) c.refusal_at_end.ensures.report
+
+pub returns-then-frame-gt-MOST_PATH_EVENTS-clause-input : goal.returns-then-frame-gt-MOST_PATH_EVENTS-clause-input
+returns-then-frame-gt-MOST_PATH_EVENTS-clause-input c = mapped c.refusal_of_all.result _ _ (λ r known. ap (λ (x : Report). x.input) known) c.refusal_of_all.ensures.report

@@ -14,7 +14,8 @@ use Rattle.toml_edit_tree.specs.declared.item.Item.{Item}
 use Rattle.toml_edit_repr.specs.Modes.{mode_of}
 use Rattle.toml_edit_parser.specs.StatementParts.{suffix_span}
 use Rattle.toml_edit_parser.specs.ValueRead.{IsRead, split_first}
-use Rattle.toml_edit_parser.proofs.ReadLaws.{same_parts}
+use Rattle.toml_edit_error.specs.Report.{Report}
+use Rattle.toml_edit_parser.proofs.ReadLaws.{same_parts, mapped}
 use Rattle.toml_edit_parser.proofs.SplitLaws.{first_in}
 use Rattle.toml_edit_parser.proofs.StatementLaws.{line-value}
 use Rattle.toml_edit_parser.proofs.ViewLaws.{view-Value}
@@ -53,3 +54,6 @@ returns-clause-rest c =
 
 pub returns-in_default-clause-listed : goal.returns-in_default-clause-listed
 returns-in_default-clause-listed c = c.refusal_at_end.ensures.listed v1_1 (inl (4, lit< tt, refl))
+
+pub returns-in_default-clause-input : goal.returns-in_default-clause-input
+returns-in_default-clause-input c = mapped c.refusal_at_end.result _ _ (λ r known. ap (λ (x : Report). x.input) known) c.refusal_at_end.ensures.report
