@@ -126,6 +126,7 @@ fn new_table(made: Option<Value>) -> Option<Item> {
 fn item_read<P: Reads>(text: &str, out: &mut Answer) -> Option<Item> {
     match said_value(text, out) {
         Some(value) => Some(Item::from(value)),
+        None if out.is_call_refused() => None,
         None => under_t(P::root(text, out)),
     }
 }
