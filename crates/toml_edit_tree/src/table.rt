@@ -1,4 +1,5 @@
-//! Tables.
+//! Tables: the type, its construction, what belongs to its header, and look-up by key. Its
+//! submodules have the calls that change slots, iterate over them, and lend them.
 ghost use Rattle.std.specs.Prelude.{◌≡◌, ◌<◌, List, None, Some, IfOk, IfSome, OnOk, length, option_and_then, option_map, slice_get};
 ghost use Rattle.std.specs.Borrow.{sem};
 ghost use Rattle.std.specs.Iterator.{YieldsFirstBy, item_count};
@@ -42,8 +43,24 @@ pub use iterate::IntoIter;
 #[doc(hidden)]
 pub use iterate::is_filled;
 
-/// A table: its slots in order, and what is kept of its header (TOML, "Table"). A slot may be a
-/// placeholder, which isn't printed.
+/// A table that headers or dotted keys define, or the root of a document (TOML, "Table").
+///
+/// It has slots in order, each a [`Key`] with an [`Item`]. No two keys have the same name. A slot
+/// with `Item::None` is a placeholder: it isn't printed, and [`get`](Self::get) and
+/// [`iter`](Self::iter) skip it, but it keeps its place and its key. Beside the slots it keeps what
+/// belongs to its header: a decor, a position, and the flags `implicit` and `dotted`.
+///
+/// A table in braces is an [`InlineTable`](crate::InlineTable).
+///
+/// # Examples
+///
+/// ```rust,ignore
+/// let mut table = Table::new(alloc);
+/// drop(table.insert(key, Item::Value(value)).map_err(no_memory)?);
+/// drop(root.insert(name, Item::Table(table)).map_err(no_memory)?);
+/// ```
+///
+/// From `add_table` of the guide, docs/GUIDE.md.
 #[cycle(tree)]
 #[derive(Debug)]
 pub struct Table {
@@ -73,14 +90,26 @@ impl Drop for Table {
 }
 
 impl Table {
-    /// No slots, which take no memory yet.
+    /// Creates an empty table, which takes no memory before its first slot.
+    ///
+    /// It has an unset decor and no position, and is neither implicit nor dotted. Once inserted,
+    /// its header is printed after that of the table before it in the tree.
+    ///
+    /// # Examples
+    ///
+    /// ```rust,ignore
+    /// let mut table = Table::new(alloc);
+    /// drop(table.insert(key, Item::Value(value)).map_err(no_memory)?);
+    /// ```
+    ///
+    /// From `add_table` of the guide, docs/GUIDE.md.
     pub fn new(alloc: Global) -> Table
         ensures { table_view result ≡ record { fields = new_table; slots = no_slots } }
     {
         Table::of_slots(Slots::new(alloc))
     }
 
-    /// A new table of these slots.
+    /// Makes a new table of these slots.
     pub(crate) fn of_slots(slots: Slots<Item>) -> Table
         ensures { table_view result ≡ record { fields = new_table; slots = slots_view slots } }
     {
@@ -94,7 +123,7 @@ impl Table {
         }
     }
 
-    /// The root of a document that was read.
+    /// Makes the root of a parsed document of these slots.
     #[doc(hidden)]
     pub fn root(slots: Slots<Item>) -> Table
         ensures fields { fields_view result ≡ root_fields spanned_form }
@@ -110,8 +139,8 @@ impl Table {
         }
     }
 
-    /// The table of these slots that was read below a key of a path, which stands from the byte
-    /// `start` of the source up to `end`: of a dotted key, or of a header's key before the last.
+    /// Makes the table that a path implies: below a dotted key, or below a key of a header before
+    /// the last. The key spans the bytes from `start` to `end` of the source.
     #[doc(hidden)]
     pub fn passed(slots: Slots<Item>, dotted: bool, start: usize, end: usize) -> Table
         ensures { table_view result ≡ record { fields = made_by_path spanned_form dotted (Some (start, end)); slots = slots_view slots } }
@@ -126,8 +155,8 @@ impl Table {
         }
     }
 
-    /// The table of these slots that was read with its header, the one of this number in the
-    /// source, whose brackets stand from the byte `start` up to `end`.
+    /// Makes the table of a header, whose brackets span the bytes from `start` to `end` of the
+    /// source. `position` counts headers.
     #[doc(hidden)]
     pub fn headed(
         slots: Slots<Item>,
@@ -148,19 +177,19 @@ impl Table {
         }
     }
 
-    /// The slots, to be changed.
+    /// Returns a mutable reference to the slots.
     #[doc(hidden)]
     pub fn slots_mut(&mut self) -> &mut Slots<Item>
         ensures* writes_back { sem 𝓛 (LendsTableSlots self.entry result) }
         ensures slots { slots_view result.now ≡ table_slots self.old }
-        // Other slots are seen as such, and nothing else is.
+        // Writing other slots changes nothing else.
         ensures others { (slots : List (Slot Item)) → table_view (table_holding slots self.old)
             ≡ record { fields = fields_view self.old; slots = slots_view slots } }
     {
         &mut self.slots
     }
 
-    /// The slots, and nothing else of the table.
+    /// Returns the slots, and drops all else of the table.
     #[doc(hidden)]
     pub fn into_slots(self) -> Slots<Item>
         ensures { slots_view result ≡ table_slots self }
@@ -177,8 +206,12 @@ impl Table {
         slots
     }
 
-    /// Turns spans of `source` into the texts that stand there. The only error is want of memory,
-    /// and then spans may be left: the document is to be given up.
+    /// Replaces each span of `source` by the text there.
+    ///
+    /// # Errors
+    ///
+    /// Returns an `AllocError` if out of memory. Some spans may be left then, so the document has
+    /// to be dropped.
     #[doc(hidden)]
     pub fn despan(&mut self, alloc: Global, source: &str) -> Mem<()>
         requires decor { DecorFits source.now (fields_view self.old).decor }
@@ -190,60 +223,80 @@ impl Table {
         despan_table(self, alloc, source)
     }
 
-    /// Whether it stands there only for the tables below it (TOML, "Table", on super-tables): it
-    /// has no header where it has no lines.
+    /// Returns `true` if the table exists only for the tables below it (TOML, "Table", on
+    /// super-tables).
+    ///
+    /// An implicit table has no header unless it has lines of its own. An element of an array of
+    /// tables always has one.
     pub fn is_implicit(&self) -> bool
         ensures { result ≡ (fields_view self.now).is_implicit }
     {
         self.implicit
     }
 
-    /// Says whether it stands there only for the tables below it.
+    /// Sets whether the table exists only for the tables below it.
+    ///
+    /// With `true` the header isn't printed where the table has no lines of its own, so an empty
+    /// one disappears from the text.
     pub fn set_implicit(&mut self, implicit: bool)
         ensures { table_view self.new ≡ table_with_implicit implicit (table_view self.old) }
     {
         self.implicit = implicit;
     }
 
-    /// Whether it stands for a dotted key (TOML, "Keys"): it has no header, and its lines are
-    /// printed among those of the table around it, after its key and a dot.
+    /// Returns `true` if the table stands for a dotted key (TOML, "Keys").
+    ///
+    /// It has no header then. Its lines are printed among those of the table around it, after its
+    /// key and a dot.
     pub fn is_dotted(&self) -> bool
         ensures { result ≡ (fields_view self.now).is_dotted }
     {
         self.dotted
     }
 
-    /// Says whether it stands for a dotted key.
+    /// Sets whether the table stands for a dotted key.
+    ///
+    /// The root and the elements of an array of tables must not be dotted: `fits` of the document
+    /// is `false` then.
     pub fn set_dotted(&mut self, dotted: bool)
         ensures { table_view self.new ≡ table_with_dotted dotted (table_view self.old) }
     {
         self.dotted = dotted;
     }
 
-    /// Its place among the headers of the document, where it was given one. Headers are printed by
-    /// ascending position.
+    /// Returns the position of the header in the document, or `None` if it was given none.
+    ///
+    /// Headers are printed by ascending position. The parser numbers them in the order of the
+    /// source; tables that were made or implied have none. A [`clone`](Self::clone) has the
+    /// position of its original.
     pub fn position(&self) -> Option<isize>
         ensures { result ≡ (fields_view self.now).position }
     {
         self.position
     }
 
-    /// Gives it a place among the headers, or takes it away. A table without one is printed behind
-    /// the one before it in the tree.
+    /// Sets the position of the header in the document.
+    ///
+    /// With `None` the table takes the position of the table before it in the tree, and its header
+    /// is printed after that one. The root is always first, and a dotted table has no header to
+    /// place.
     pub fn set_position(&mut self, position: Option<isize>)
         ensures { table_view self.new ≡ table_with_position position (table_view self.old) }
     {
         self.position = position;
     }
 
-    /// What stands around its header; of a root, around the lines before the first header.
+    /// Returns the whitespace and comments before and after the header.
+    ///
+    /// Those of the root are printed before and after the whole document. An unset prefix of a
+    /// header prints as a newline, but as nothing at the beginning of the document.
     pub fn decor(&self) -> &Decor
         ensures { result.now ≡ (fields_view self.now).decor }
     {
         &self.decor
     }
 
-    /// What stands around its header, to be changed.
+    /// Returns a mutable reference to the whitespace and comments before and after the header.
     pub fn decor_mut(&mut self) -> &mut Decor
         ensures* writes_back { sem 𝓛 (LendsTableDecor self.entry result) }
         ensures decor { result.now ≡ (fields_view self.old).decor }
@@ -251,8 +304,11 @@ impl Table {
         &mut self.decor
     }
 
-    /// The bytes of the source from the opening bracket of its header to the closing one, if it was
-    /// read and still is over its source. A table without a header has the place of its key.
+    /// Returns the byte range of the header in the source, both brackets included.
+    ///
+    /// A table that has no header of its own spans the key that implied it, and the root has an
+    /// empty range. It is `None` for a table that was made, and in a `DocumentMut`: ask before
+    /// `into_mut`.
     pub fn span(&self) -> Option<Range<usize>>
         ensures { result ≡ range_in (fields_view self.now).extent }
     {
@@ -260,18 +316,33 @@ impl Table {
         Some(start..end)
     }
 
-    /// The item under the key, which is no placeholder.
+    /// Returns the item under `key`, or `None` if the key is missing or has a placeholder.
     pub fn get(&self, key: &str) -> Option<&Item>
         ensures { option_map (λ x. item_view x.now) result ≡ get key.now (slots_of self.now) }
     {
         filled_item(&self.slots, key)
     }
 
-    /// The item under the key, which is no placeholder, to be changed.
+    /// Returns a mutable reference to the item under `key`, or `None` if the key is missing or has
+    /// a placeholder.
+    ///
+    /// What is written replaces the item alone: the key keeps its spelling, its decor and its
+    /// place. The comment after a value is in the decor of the value, so carry that over, as
+    /// `replace_value` of the guide does. To insert what is missing, use
+    /// [`index_or_insert`](Self::index_or_insert) or [`entry`](Self::entry).
+    ///
+    /// # Examples
+    ///
+    /// ```rust,ignore
+    /// let table = root.get_mut(table).and_then(|item| item.as_table_mut());
+    /// let item = table.and_then(|table| table.get_mut(key));
+    /// ```
+    ///
+    /// From `set_value` of the guide, docs/GUIDE.md.
     pub fn get_mut(&mut self, key: &str) -> Option<&mut Item>
         ensures* writes_back { sem 𝓛 (LendsHeld self.entry key.now result) }
         ensures item { option_map (λ x. item_view x.now) result ≡ get key.now (slots_of self.old) }
-        // What an item that is written leaves.
+        // What the table is after a write through the reference.
         ensures leaves { (w : Item) → slots_of (with_item_under key.now w self.old) ≡ changed key.now (with_item (item_view w)) (slots_of self.old) }
         ensures keeps { (w : Item) → fields_view (with_item_under key.now w self.old) ≡ fields_view self.old }
     {
@@ -281,7 +352,7 @@ impl Table {
         }
     }
 
-    /// The place of the key's slot, unless it is a placeholder.
+    /// Finds the slot of the key, unless it is a placeholder.
     fn held_place(&self, key: &str) -> Option<usize>
         ensures held { option_map item_view (option_and_then (slice_get (items_of (out-Table self.now).slots)) result)
             ≡ get key.now (slots_of self.now) }
@@ -298,8 +369,19 @@ impl Table {
         }
     }
 
-    /// The key of this text as it stands in the table, with its spelling and decors, if it has a
-    /// slot of any kind.
+    /// Returns the key of this name as the table has it, with spelling and decor, or `None` if it
+    /// is missing. A key with a placeholder is returned too.
+    ///
+    /// # Examples
+    ///
+    /// ```rust,ignore
+    /// let renamed = match table.key(old) {
+    ///     Some(key) if table.key(new).is_none() => renamed(alloc, key, new)?,
+    ///     _ => return Ok(false),
+    /// };
+    /// ```
+    ///
+    /// From `rename` of the guide, docs/GUIDE.md.
     pub fn key(&self, key: &str) -> Option<&Key>
         ensures { option_copied result ≡ lookup_key key.now (slots_of self.now) }
     {
@@ -307,7 +389,21 @@ impl Table {
         Some(&self.slots.as_slice()[at].key)
     }
 
-    /// The keys' texts and the items in order, without placeholders.
+    /// Iterates over the names of the keys and the items, in order and without placeholders.
+    ///
+    /// There is no `iter_mut`: for each number below [`slots`](Self::slots), use
+    /// [`key_value_at_mut`](Self::key_value_at_mut).
+    ///
+    /// # Examples
+    ///
+    /// ```rust,ignore
+    /// for (name, _item) in table.iter() {
+    ///     names.push_str(name)?;
+    ///     names.push_str("\n")?;
+    /// }
+    /// ```
+    ///
+    /// From `names` of the guide, docs/GUIDE.md.
     pub fn iter(&self) -> Iter<'_>
         ensures { held_left result ≡ filled_pairs (slots_of self.now) }
     {
@@ -316,7 +412,14 @@ impl Table {
         }
     }
 
-    /// An equal copy. The only error is want of memory.
+    /// Copies the table, with all spellings, decors, spans and positions.
+    ///
+    /// The copy of a table that has a position is printed beside its original. Use
+    /// [`set_position`](Self::set_position) to free it.
+    ///
+    /// # Errors
+    ///
+    /// Returns an `AllocError` if out of memory.
     pub fn clone(&self, alloc: Global) -> Mem<Table>
         ensures { IfOk result (λ copy. table_view copy ≡ table_view self.now) }
     {
@@ -324,14 +427,17 @@ impl Table {
     }
 }
 
-/// The slots of a table that hold an item: the texts of their keys, and the items, in order.
+/// An iterator over the names of the keys of a table and their items, in order and without
+/// placeholders.
+///
+/// Returned by [`Table::iter`], and by `iter` of the trait `AnyTable`.
 #[derive(Drop)]
 pub struct Iter<'a> {
     slots: slice::Iter<'a, Slot<Item>>,
 }
 
 impl<'a> Iter<'a> {
-    /// Those of these slots that hold an item.
+    /// Iterates over those of these slots that are no placeholders.
     #[doc(hidden)]
     pub fn over(slots: &'a [Slot<Item>]) -> Iter<'a>
         ensures { held_left result ≡ filled_pairs (slot_list (slots_view slots.now)) }

@@ -1,4 +1,4 @@
-//! Slots of a table by their places: what is written in one, and one that is taken out.
+//! Access to the slots of a table by number, for its entries.
 ghost use Rattle.std.specs.Prelude.{◌≡◌, ◌<◌, Some, IfSome, length, option_map, slice_get};
 ghost use Rattle.std.specs.Borrow.{sem};
 ghost use Rattle.toml_edit_key.specs.KeyMutView.{key_of};
@@ -15,7 +15,7 @@ use toml_edit_key::KeyMut;
 use toml_edit_repr::Decor;
 
 impl Table {
-    /// The item at the place, to be changed.
+    /// Returns a mutable reference to the item of slot `at`.
     pub(crate) fn item_at_mut(&mut self, at: usize) -> &mut Item
         requires { at < length (out-Table self.old).slots }
         ensures* writes_back { sem 𝓛 (LendsItemAt self.entry at result) }
@@ -24,7 +24,7 @@ impl Table {
         self.slots.item_mut(at)
     }
 
-    /// Lends the key at the place, to change all of it but its text.
+    /// Returns the key of slot `at`, to change all of it but its name.
     pub(crate) fn key_at_mut(&mut self, at: usize) -> KeyMut<'_>
         requires { at < length (out-Table self.old).slots }
         ensures* writes_back { sem 𝓛 (LendsKeyAt self.entry at result) }
@@ -33,7 +33,7 @@ impl Table {
         self.slots.key_mut(at)
     }
 
-    /// What stands around the key at the place where it ends a path, to be changed.
+    /// Returns a mutable reference to the leaf decor of the key of slot `at`.
     pub(crate) fn leaf_decor_at_mut(&mut self, at: usize) -> &mut Decor
         requires { at < length (out-Table self.old).slots }
         ensures* writes_back { sem 𝓛 (LendsLeafAt self.entry at result) }
@@ -42,7 +42,7 @@ impl Table {
         self.slots.leaf_decor_mut(at)
     }
 
-    /// What stands around the key at the place where it ends no path, to be changed.
+    /// Returns a mutable reference to the dotted decor of the key of slot `at`.
     pub(crate) fn dotted_decor_at_mut(&mut self, at: usize) -> &mut Decor
         requires { at < length (out-Table self.old).slots }
         ensures* writes_back { sem 𝓛 (LendsDottedAt self.entry at result) }
@@ -51,7 +51,7 @@ impl Table {
         self.slots.dotted_decor_mut(at)
     }
 
-    /// Takes the slot at the place out, and answers its item. The others keep their order.
+    /// Removes slot `at` and returns its item, keeping the order of the others.
     pub(crate) fn remove_at(&mut self, at: usize) -> Item
         requires { at < length (out-Table self.old).slots }
         ensures item { Some result ≡ slice_get (items_of (out-Table self.old).slots) at }

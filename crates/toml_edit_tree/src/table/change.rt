@@ -1,4 +1,4 @@
-//! Slots that are put into a table, taken out and changed.
+//! Calls that insert, remove and change slots of a table.
 ghost use Rattle.std.specs.Prelude.{◌≡◌, List, [], IfErr, IfOk, IsOk, IsTrue, OnErr, OnOk, map, option_map};
 ghost use Rattle.std.specs.Iterator.{Drains, ExtendsWithItems, IsFinite};
 ghost use Rattle.toml_edit_model.specs.Conversions.{formatted};
@@ -20,9 +20,26 @@ use toml_edit_repr::Mem;
 use toml_edit_slots::{NoMemory, Slots};
 
 impl Table {
-    /// Puts the item under the key: a key that is there loses its spelling and its decors and keeps its place, and the answer is its old item,
-    /// `Item::None` for a placeholder; a new key goes last. A present key takes no memory. The only error is want of memory: the table stays as
-    /// it was, and the error has the item.
+    /// Inserts `item` under `key` and returns the item that it replaces, if any.
+    ///
+    /// An existing key keeps its place, but its spelling is reset and its decor unset, so the
+    /// comment above it goes. The comment after the old value goes with that value. To keep them,
+    /// write through [`get_mut`](Self::get_mut). A new key is added at the end. A placeholder is
+    /// returned as `Some(Item::None)`.
+    ///
+    /// To insert only what is missing, use [`entry`](Self::entry).
+    ///
+    /// # Errors
+    ///
+    /// Returns a [`NoMemory`] with `item` if out of memory. Replacing never fails.
+    ///
+    /// # Examples
+    ///
+    /// ```rust,ignore
+    /// drop(root.insert(name, Item::Table(table)).map_err(no_memory)?);
+    /// ```
+    ///
+    /// From `add_table` of the guide, docs/GUIDE.md.
     pub fn insert(&mut self, key: &str, item: Item) -> Result<Option<Item>, NoMemory<Item>>
         ensures old { IfOk result (λ old. option_map item_view old ≡ lookup key.now (slots_of self.old)) }
         ensures slots { OnOk result (slots_of self.new ≡ inserted key.now (item_view item) (slots_of self.old)) }
@@ -34,8 +51,27 @@ impl Table {
         self.slots.insert(key, item)
     }
 
-    /// Puts the item under a copy of the key: a key that is there becomes that copy and keeps its place, and the answer is its old item; a new
-    /// one goes last. The only error is want of memory: the table stays as it was, and the error has the item.
+    /// Inserts `item` under a copy of `key` and returns the item that it replaces, if any.
+    ///
+    /// An existing key keeps its place, but gets the spelling and the decor of `key`. A new one is
+    /// added at the end. A placeholder is returned as `Some(Item::None)`. For a key of default
+    /// spelling, use [`insert`](Self::insert).
+    ///
+    /// # Errors
+    ///
+    /// Returns a [`NoMemory`] with `item` if out of memory. The copy takes memory at an existing
+    /// key too.
+    ///
+    /// # Examples
+    ///
+    /// ```rust,ignore
+    /// if let Some((key, item)) = take_first(alloc, table)? {
+    ///     let key = if key.get() == old { &renamed } else { &key };
+    ///     drop(table.insert_formatted(key, item).map_err(no_memory)?);
+    /// }
+    /// ```
+    ///
+    /// From `rename` of the guide, docs/GUIDE.md.
     pub fn insert_formatted(
         &mut self,
         key: &Key,
@@ -50,7 +86,11 @@ impl Table {
         self.slots.insert_formatted(key, item)
     }
 
-    /// Takes the slot of the key out, if there is one: its item, `Item::None` for a placeholder. The others keep their order. It takes no memory.
+    /// Removes the slot of `key` and returns its item, or `None` if the key is missing.
+    ///
+    /// The other slots keep their order. The comment above the key and the comment after its value
+    /// go too; [`remove_entry`](Self::remove_entry) returns the key with its decor. A placeholder
+    /// is removed as well, and returned as `Some(Item::None)`.
     pub fn remove(&mut self, key: &str) -> Option<Item>
         ensures item { option_map item_view result ≡ lookup key.now (slots_of self.old) }
         ensures slots { slots_of self.new ≡ without key.now (slots_of self.old) }
@@ -60,8 +100,19 @@ impl Table {
         Some(slot.into_item())
     }
 
-    /// Takes the slot of the key out, if there is one: its key with its spelling and decors, and its item, `Item::None` for a placeholder. The
-    /// others keep their order. It takes no memory.
+    /// Removes the slot of `key` and returns its key and its item, or `None` if the key is missing.
+    ///
+    /// The key has its spelling and its decor, so that it can be inserted again by
+    /// [`insert_formatted`](Self::insert_formatted). The other slots keep their order. A
+    /// placeholder is returned as `Item::None`.
+    ///
+    /// # Examples
+    ///
+    /// ```rust,ignore
+    /// Ok(table.remove_entry(name.as_str()))
+    /// ```
+    ///
+    /// From `take_first` of the guide, docs/GUIDE.md.
     pub fn remove_entry(&mut self, key: &str) -> Option<(Key, Item)>
         ensures slot { option_map slot_taken result ≡ lookup_slot key.now (slots_of self.old) }
         ensures slots { slots_of self.new ≡ without key.now (slots_of self.old) }
@@ -70,7 +121,7 @@ impl Table {
         self.slots.remove_entry(key)
     }
 
-    /// Takes all slots out. What is kept of its header stays.
+    /// Removes all slots, placeholders included, and keeps the decor, the position and the flags.
     pub fn clear(&mut self)
         ensures slots { slots_of self.new ≡ [] }
         ensures fields { fields_view self.new ≡ fields_view self.old }
@@ -78,8 +129,10 @@ impl Table {
         self.slots.clear();
     }
 
-    /// Keeps the slots of which the closure says `true` at the text of the key and the item, `Item::None` for a placeholder. The others go,
-    /// and the order stays. It takes no memory.
+    /// Keeps the slots for which `keep` returns `true`, in their order, and removes the others.
+    ///
+    /// The closure is passed the name of the key and the item, which is `Item::None` for a
+    /// placeholder.
     pub fn retain<F: Fn(&str, &Item) -> bool>(&mut self, keep: F)
     where
         F: Drop,
@@ -90,8 +143,9 @@ impl Table {
         self.slots.retain(keep);
     }
 
-    /// Unsets the decors of each value and of its key, so that they are printed with those by default. Spellings stay, and so does what is
-    /// inside of values and tables. It takes no memory.
+    /// Unsets the decor of each value and of its key, so that they print with default whitespace.
+    ///
+    /// Comments there are removed. Spellings stay, and so does all inside values and tables.
     pub fn fmt(&mut self)
         ensures slots { slots_of self.new ≡ formatted (slots_of self.old) }
         ensures fields { fields_view self.new ≡ fields_view self.old }
@@ -99,8 +153,16 @@ impl Table {
         format_slots(&mut self.slots);
     }
 
-    /// Puts pairs in, one after another: a key that is there stays with its spelling, decors and place, and gets the item; a new one goes last.
-    /// The only error is want of memory: then some first pairs are there, and the others are gone.
+    /// Inserts the pairs one after another.
+    ///
+    /// An existing key keeps its place, its spelling and its decor, and gets the item;
+    /// [`insert`](Self::insert) would reset it. A new key is added at the end, with its spelling
+    /// and its decor.
+    ///
+    /// # Errors
+    ///
+    /// Returns an `AllocError` if out of memory. The table keeps the pairs that were inserted
+    /// before, and the others are dropped.
     pub fn extend<U: IntoIterator<Item = (Key, Item)>>(&mut self, pairs: U) -> Mem<()>
         requires { (it : U.IntoIter) → U.into_iter_gives pairs it → U.IntoIter.can_next it × IsFinite (U.IntoIter.remaining it) }
         ensures { ExtendsWithItems U.into_iter_gives U.IntoIter.next_gives AddsSlots pairs self.old self.new result }
@@ -108,7 +170,11 @@ impl Table {
         self.slots.extend(pairs)
     }
 
-    /// A table of the pairs, as `extend` puts them in. The only error is want of memory.
+    /// Creates a table of the pairs, inserted as by [`extend`](Self::extend).
+    ///
+    /// # Errors
+    ///
+    /// Returns an `AllocError` if out of memory.
     pub fn from_iter<U: IntoIterator<Item = (Key, Item)>>(alloc: Global, pairs: U) -> Mem<Table>
         requires { (it : U.IntoIter) → U.into_iter_gives pairs it → U.IntoIter.can_next it × IsFinite (U.IntoIter.remaining it) }
         ensures { IfOk result (λ table. (it : U.IntoIter) × (xs : List (Key × Item)) × U.into_iter_gives pairs it × Drains U.IntoIter.next_gives it xs

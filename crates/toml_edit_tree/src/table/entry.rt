@@ -1,4 +1,4 @@
-//! The slot of a key in a table, or where one would go.
+//! The types of entries: the slot of a key in a table, or the place for a new one.
 ghost use Rattle.std.specs.Prelude.{◌≡◌, ◌<◌, None, length};
 ghost use Rattle.toml_edit_slots.specs.Slots.{place};
 ghost use Rattle.toml_edit_tree.specs.declared.table.Table.{out-Table};
@@ -9,16 +9,30 @@ use toml_edit_key::Key;
 mod methods;
 mod places;
 
-/// The slot of a key in a table, or where one would go.
+/// The slot of a key in a table, or the place for a new one at the end.
+///
+/// Returned by [`Table::entry`] and [`Table::entry_format`].
+///
+/// # Examples
+///
+/// ```rust,ignore
+/// table.entry(key)?.or_insert(item)?;
+/// ```
+///
+/// From `set_default` of the guide, docs/GUIDE.md.
 #[derive(Drop)]
 pub enum Entry<'a> {
-    /// The key is there, maybe with a placeholder.
+    /// The key has a slot, which may be a placeholder.
     Occupied(OccupiedEntry<'a>),
-    /// The key isn't there.
+    /// The key has no slot.
     Vacant(VacantEntry<'a>),
 }
 
-/// The slot of a key in a table. It may be a placeholder.
+/// A slot of a table, to read and change its item and the decor of its key. It may be a
+/// placeholder.
+///
+/// Returned by [`Table::entry`] for an existing key, and by [`Table::slot_mut`],
+/// [`Table::get_key_value_mut`] and [`Table::key_value_at_mut`].
 #[derive(Drop)]
 pub struct OccupiedEntry<'a> {
     table: &'a mut Table,
@@ -26,7 +40,9 @@ pub struct OccupiedEntry<'a> {
     ghost within: { at < length (out-Table table.now).slots },
 }
 
-/// A new key of a table, and where its slot would go.
+/// The place for a new key at the end of a table.
+///
+/// Returned by [`Table::entry`] for a key that is missing.
 #[derive(Drop)]
 pub struct VacantEntry<'a> {
     table: &'a mut Table,

@@ -1,4 +1,4 @@
-//! The item of a key in a table, which may be new.
+//! `index_or_insert` of a table.
 ghost use Rattle.std.specs.Prelude.{◌≡◌, Some, IfErr, IfOk, IsOk, IsTrue};
 ghost use Rattle.std.specs.Borrow.{sem};
 ghost use Rattle.toml_edit_model.specs.Slots.{has_slot};
@@ -16,13 +16,20 @@ use crate::item::Item;
 use std::alloc::Global;
 
 impl Table {
-    /// The item under the key, a placeholder too, to be changed. A new key goes last, with a key of
-    /// the text alone and a placeholder, by the allocator that the table was made with. The only
-    /// error is `IndexFault::Memory`, at a new key: the table stays as it was.
+    /// Returns a mutable reference to the item under `key`, after adding a placeholder at the end
+    /// if the key is missing.
+    ///
+    /// A new key has the default spelling. The placeholder isn't printed until something else is
+    /// written. To keep a placeholder out, use [`entry`](Self::entry). The table grows by its own
+    /// allocator, and `_alloc` is there to match [`Item::index_or_insert`].
+    ///
+    /// # Errors
+    ///
+    /// Returns [`IndexFault::Memory`] if out of memory, at a new key alone, and no other fault.
     pub fn index_or_insert(&mut self, _alloc: Global, key: &str) -> Result<&mut Item, IndexFault>
         ensures* writes_back { sem 𝓛 (LendsMade self.entry key.now result) }
         ensures item { IfOk result (λ lent. lent_under key.now (table_node (table_view self.old)) ≡ Some (item_view lent.now)) }
-        // What an item that is written leaves.
+        // What the table is after a write through the reference.
         ensures leaves { (w : Item) → written_under key.now (item_view w) (table_node (table_view self.old))
             ≡ Some (table_node (table_view (item_put key.now w self.old))) }
         ensures present { IsTrue (has_slot key.now (slots_of self.old)) → IsOk result }

@@ -1,4 +1,4 @@
-//! All slots of a table, and those that hold an item.
+//! Sizes of a table, and its iterators and text.
 ghost use Rattle.std.specs.Prelude.{◌≡◌, ◌↔◌, [], IsTrue, Some, length};
 ghost use Rattle.std.specs.Iterator.{YieldsFirstBy, item_count};
 ghost use Rattle.toml_edit_model.specs.Conversions.{table_display};
@@ -17,7 +17,9 @@ use toml_edit_repr::Mode;
 use toml_edit_slots::Slot;
 
 impl Table {
-    /// How many slots there are, placeholders too. No two keys have one text.
+    /// Returns the number of slots, placeholders included.
+    ///
+    /// [`len`](Self::len) counts them without placeholders.
     pub fn slots(&self) -> usize
         ensures count { result ≡ length (slots_of self.now) }
         ensures apart { AreApart (slots_of self.now) }
@@ -26,7 +28,9 @@ impl Table {
         self.slots.len()
     }
 
-    /// How many slots hold an item, which is how many pairs `iter` gives.
+    /// Returns the number of slots that are no placeholders, which [`iter`](Self::iter) gives.
+    ///
+    /// [`slots`](Self::slots) counts placeholders too.
     pub fn len(&self) -> usize
         ensures { result ≡ length (filled (slots_of self.now)) }
     {
@@ -39,7 +43,7 @@ impl Table {
         count
     }
 
-    /// Whether no slot holds an item.
+    /// Returns `true` if there are no slots but placeholders.
     pub fn is_empty(&self) -> bool
         ensures { IsTrue result ↔ (filled (slots_of self.now) ≡ []) }
     {
@@ -47,7 +51,7 @@ impl Table {
     }
 }
 
-/// Whether the slot is no placeholder.
+/// Returns `true` if the slot is no placeholder.
 #[doc(hidden)]
 pub fn is_filled(slot: &Slot<Item>) -> bool
     ensures { result ≡ is_item (item_view slot.now.item) }
@@ -76,7 +80,10 @@ impl<'a> IntoIterator for &'a Table {
     }
 }
 
-/// All slots of a table in order, placeholders too: the texts of their keys, and the items.
+/// An iterator that takes a table apart: over the names of the keys and the items, in order.
+///
+/// Unlike [`Iter`] it gives placeholders too, as `Item::None`. Spellings and decors of the keys are
+/// dropped.
 #[derive(Drop)]
 pub struct IntoIter {
     slots: vec::IntoIter<Slot<Item>>,

@@ -1,4 +1,4 @@
-//! What stands in a table under a key, or at a place among its slots.
+//! Look-up in a table by key or by number of the slot.
 ghost use Rattle.std.specs.Prelude.{◌≡◌, Bool, IsSome, IsTrue, false, option_map, slice_get};
 ghost use Rattle.std.specs.Option.{option_map_or};
 ghost use Rattle.toml_edit_model.specs.Slots.{has_slot, those};
@@ -12,7 +12,10 @@ use crate::item::Item;
 use toml_edit_key::Key;
 
 impl Table {
-    /// The key of this text and its item, which is no placeholder.
+    /// Returns the key of this name and its item, or `None` if the key is missing or has a
+    /// placeholder.
+    ///
+    /// The key has the spelling and the decor that it has in the table.
     pub fn get_key_value(&self, key: &str) -> Option<(&Key, &Item)>
         ensures { option_map slot_read result ≡ get_slot key.now (slots_of self.now) }
     {
@@ -24,18 +27,29 @@ impl Table {
         }
     }
 
-    /// The key and the item of the slot at the place, a placeholder too, or `None` where there is
-    /// no slot.
+    /// Returns the key and the item of slot `at`, a placeholder too, or `None` if `at` is not below
+    /// [`slots`](Self::slots).
+    ///
+    /// # Examples
+    ///
+    /// ```rust,ignore
+    /// let name = match table.key_value_at(0) {
+    ///     Some((key, _item)) => String::from_str(alloc, key.get())?,
+    ///     None => return Ok(None),
+    /// };
+    /// ```
+    ///
+    /// From `take_first` of the guide, docs/GUIDE.md.
     pub fn key_value_at(&self, at: usize) -> Option<(&Key, &Item)>
         ensures { option_map slot_read result ≡ slice_get (slots_of self.now) at }
     {
         self.slots.key_value_at(at)
     }
 
-    /// Whether an item stands under the key, which is no placeholder.
+    /// Returns `true` if `key` has an item that is no placeholder.
     pub fn contains_key(&self, key: &str) -> bool
         ensures found { result ≡ contains_key key.now (slots_of self.now) }
-        // Then `[..]` finds it.
+        // Then indexing by `[..]` finds the item.
         ensures there { IsTrue result → IsSome (get key.now (slots_of self.now)) }
     {
         match self.item_under(key) {
@@ -44,7 +58,9 @@ impl Table {
         }
     }
 
-    /// Whether a table stands under the key.
+    /// Returns `true` if the item under `key` is a [`Table`].
+    ///
+    /// An inline table is a value: see [`contains_value`](Self::contains_value).
     pub fn contains_table(&self, key: &str) -> bool
         ensures { result ≡ contains_table key.now (slots_of self.now) }
     {
@@ -54,7 +70,7 @@ impl Table {
         }
     }
 
-    /// Whether a value stands under the key.
+    /// Returns `true` if the item under `key` is a value, inline tables and arrays included.
     pub fn contains_value(&self, key: &str) -> bool
         ensures { result ≡ contains_value key.now (slots_of self.now) }
     {
@@ -64,7 +80,9 @@ impl Table {
         }
     }
 
-    /// Whether an array of tables stands under the key.
+    /// Returns `true` if the item under `key` is an array of tables.
+    ///
+    /// An array of inline tables is a value: see [`contains_value`](Self::contains_value).
     pub fn contains_array_of_tables(&self, key: &str) -> bool
         ensures { result ≡ contains_tables key.now (slots_of self.now) }
     {
@@ -74,9 +92,9 @@ impl Table {
         }
     }
 
-    /// The item under the key, a placeholder too.
+    /// Returns the item under the key, a placeholder too.
     fn item_under(&self, key: &str) -> Option<&Item>
-        // What stands there passes each test that a slot of this key does.
+        // The item passes a test exactly if a slot of this key does.
         ensures { (test : Node → Bool) → option_map_or (λ x. test (item_view x.now)) result false ≡ has_slot key.now (those test (slots_of self.now)) }
     {
         let (_, item) = self.slots.get_key_value(key)?;

@@ -1,4 +1,4 @@
-//! What is done with an entry of a table.
+//! The methods of entries of a table.
 ghost use Rattle.std.specs.Prelude.{◌≡◌, None, Some, IsSome, IsOk, IfOk, IfErr, IfSome, option_map};
 ghost use Rattle.std.specs.Borrow.{sem};
 ghost use Rattle.std.specs.Option.{unwrap_or, UnwrapsOrElse};
@@ -19,25 +19,28 @@ use toml_edit_repr::Decor;
 use toml_edit_slots::{NoMemory, Slot};
 
 impl<'a> OccupiedEntry<'a> {
-    /// Returns the text of the key that is there.
+    /// Returns the name of the key.
     pub fn key(&self) -> &str
         ensures { Some result.now ≡ option_map (λ key. key.name) (entry_key (Occupied self.now)) }
     {
         self.table.slots.as_slice()[self.at].key.get()
     }
 
-    /// The item that is there, which may be a placeholder.
+    /// Returns the item, which may be a placeholder.
     pub fn get(&self) -> &Item
         ensures { Some result.now ≡ entry_item (Occupied self.now) }
     {
         &self.table.slots.as_slice()[self.at].item
     }
 
-    /// The item that is there, to be changed, for as long as the table is lent.
+    /// Converts the entry into a mutable reference to the item, which lives as long as the borrow
+    /// of the table.
+    ///
+    /// To use the entry again, call [`get_mut`](Self::get_mut).
     pub fn into_mut(self) -> &'a mut Item
         ensures* writes_back { sem 𝓛 (EntryLends (Occupied self.entry) result) }
         ensures item { Some result.now ≡ entry_item (Occupied self.entry) }
-        // What an item that is written leaves.
+        // What the table is after a write through the reference.
         ensures leaves { (w : Item) → slots_of (table_with (Occupied self.entry) w)
             ≡ changed_at (entry_place (Occupied self.entry)) (with_item (item_view w)) (slots_of (entry_ref (Occupied self.entry)).now) }
         ensures keeps { (w : Item) → fields_view (table_with (Occupied self.entry) w) ≡ fields_view (entry_ref (Occupied self.entry)).now }
@@ -46,11 +49,14 @@ impl<'a> OccupiedEntry<'a> {
         table.slots.item_mut(at)
     }
 
-    /// The item that is there, to be changed.
+    /// Returns a mutable reference to the item, which may be a placeholder.
+    ///
+    /// The reference ends with the borrow of the entry; [`into_mut`](Self::into_mut) gives one that
+    /// outlives it.
     pub fn get_mut(&mut self) -> &mut Item
         ensures* writes_back { sem 𝓛 (OccupiedLends self.entry result) }
         ensures item { Some result.now ≡ entry_item (Occupied self.old) }
-        // What an item that is written leaves.
+        // What the table is after a write through the reference.
         ensures leaves { (w : Item) → slots_of (with_entry_item self.old w).table.now
             ≡ changed_at (entry_place (Occupied self.old)) (with_item (item_view w)) (slots_of (entry_ref (Occupied self.old)).now) }
         ensures keeps { (w : Item) → fields_view (with_entry_item self.old w).table.now ≡ fields_view (entry_ref (Occupied self.old)).now }
@@ -59,11 +65,11 @@ impl<'a> OccupiedEntry<'a> {
         self.table.item_at_mut(at)
     }
 
-    /// Lends the key that is there, to change all of it but its text.
+    /// Returns the key, to change all of it but its name.
     pub fn key_mut(&mut self) -> KeyMut<'_>
         ensures* writes_back { sem 𝓛 (OccupiedLendsKey self.entry result) }
         ensures key { entry_key (Occupied self.old) ≡ Some (key_of result) }
-        // What a change of the key leaves.
+        // What the table is after a change of the key.
         ensures leaves { (h : Key → Key) → slots_of (with_entry_key self.old h).table.now
             ≡ changed_at (entry_place (Occupied self.old)) (on_key h) (slots_of (entry_ref (Occupied self.old)).now) }
         ensures keeps { (h : Key → Key) → fields_view (with_entry_key self.old h).table.now ≡ fields_view (entry_ref (Occupied self.old)).now }
@@ -72,11 +78,12 @@ impl<'a> OccupiedEntry<'a> {
         self.table.key_at_mut(at)
     }
 
-    /// What stands around the key where it ends a path, to be changed.
+    /// Returns a mutable reference to the decor of the key where it ends a path: the whitespace and
+    /// comments before its line, and the whitespace before `=`.
     pub fn leaf_decor_mut(&mut self) -> &mut Decor
         ensures* writes_back { sem 𝓛 (OccupiedLendsLeaf self.entry result) }
         ensures decor { option_map (λ key. key.leaf) (entry_key (Occupied self.old)) ≡ Some result.now }
-        // What a change of the key leaves.
+        // What the table is after a change of the key.
         ensures leaves { (h : Key → Key) → slots_of (with_entry_key self.old h).table.now
             ≡ changed_at (entry_place (Occupied self.old)) (on_key h) (slots_of (entry_ref (Occupied self.old)).now) }
         ensures keeps { (h : Key → Key) → fields_view (with_entry_key self.old h).table.now ≡ fields_view (entry_ref (Occupied self.old)).now }
@@ -85,11 +92,11 @@ impl<'a> OccupiedEntry<'a> {
         self.table.leaf_decor_at_mut(at)
     }
 
-    /// What stands around the key where it ends no path, to be changed.
+    /// Returns a mutable reference to the whitespace between the key and the dots beside it.
     pub fn dotted_decor_mut(&mut self) -> &mut Decor
         ensures* writes_back { sem 𝓛 (OccupiedLendsDotted self.entry result) }
         ensures decor { option_map (λ key. key.dotted) (entry_key (Occupied self.old)) ≡ Some result.now }
-        // What a change of the key leaves.
+        // What the table is after a change of the key.
         ensures leaves { (h : Key → Key) → slots_of (with_entry_key self.old h).table.now
             ≡ changed_at (entry_place (Occupied self.old)) (on_key h) (slots_of (entry_ref (Occupied self.old)).now) }
         ensures keeps { (h : Key → Key) → fields_view (with_entry_key self.old h).table.now ≡ fields_view (entry_ref (Occupied self.old)).now }
@@ -98,7 +105,7 @@ impl<'a> OccupiedEntry<'a> {
         self.table.dotted_decor_at_mut(at)
     }
 
-    /// Gives the key its default spelling, and unsets its decors.
+    /// Resets the key to its default spelling, and unsets its decor.
     pub fn fmt_key(&mut self)
         ensures same_table { (entry_ref (Occupied self.new)).ghost_name ≡ (entry_ref (Occupied self.old)).ghost_name }
         ensures same_place { entry_place (Occupied self.new) ≡ entry_place (Occupied self.old) }
@@ -110,7 +117,7 @@ impl<'a> OccupiedEntry<'a> {
         self.table.slots.fmt_key(self.at);
     }
 
-    /// Puts another item here, and answers the one that was there.
+    /// Replaces the item and returns the old one. The key keeps its spelling and its decor.
     pub fn insert(&mut self, item: Item) -> Item
         ensures same_table { (entry_ref (Occupied self.new)).ghost_name ≡ (entry_ref (Occupied self.old)).ghost_name }
         ensures same_place { entry_place (Occupied self.new) ≡ entry_place (Occupied self.old) }
@@ -124,7 +131,8 @@ impl<'a> OccupiedEntry<'a> {
         self.table.slots.replace_item(self.at, item)
     }
 
-    /// Takes the slot out, and answers its item. The others keep their order. It takes no memory.
+    /// Removes the slot and returns its item, keeping the order of the others. The key and its
+    /// comments are dropped.
     pub fn remove(self) -> Item
         ensures item { Some result ≡ entry_item (Occupied self.entry) }
         ensures removed { IfSome (entry_key (Occupied self.entry)) (λ key. slots_of self.exit.0.now ≡ without key.name (slots_of (entry_ref (Occupied self.entry)).now)) }
@@ -136,19 +144,22 @@ impl<'a> OccupiedEntry<'a> {
 }
 
 impl<'a> VacantEntry<'a> {
-    /// Returns the text of the key that a slot would get.
+    /// Returns the name that a new key will have.
     pub fn key(&self) -> &str
         ensures { Some result.now ≡ option_map (λ key. key.name) (entry_key (Vacant self.now)) }
     {
         self.key.get()
     }
 
-    /// Puts the key last with the item, which it lends. The only error is want of memory: the table stays as it was, and the error has the
-    /// item.
+    /// Inserts `item` under the key at the end of the table, and returns a mutable reference to it.
+    ///
+    /// # Errors
+    ///
+    /// Returns a [`NoMemory`] with `item` if out of memory.
     pub fn insert(self, item: Item) -> Result<&'a mut Item, NoMemory<Item>>
         ensures* writes_back { sem 𝓛 (EntryLendsOk (Vacant self.entry) result) }
         ensures item { IfOk result (λ x. x.now ≡ item) }
-        // What an item that is written leaves.
+        // What the table is after a write through the reference.
         ensures leaves { (w : Item) → slots_of (table_with (Vacant self.entry) w) ≡ slots_left (Vacant self.entry) (item_view w) }
         ensures keeps { (w : Item) → fields_view (table_with (Vacant self.entry) w) ≡ fields_view (entry_ref (Vacant self.entry)).now }
         ensures back { IfErr result (λ refused. refused.0 ≡ item) }
@@ -163,7 +174,7 @@ impl<'a> VacantEntry<'a> {
 }
 
 impl<'a> Entry<'a> {
-    /// Returns the text of the key that is there, or that a slot would get.
+    /// Returns the name of the key, present or new.
     pub fn key(&self) -> &str
         ensures { Some result.now ≡ option_map (λ key. key.name) (entry_key self.now) }
     {
@@ -173,12 +184,30 @@ impl<'a> Entry<'a> {
         }
     }
 
-    /// The item that is there, a placeholder too, or else this one, put last with the key. The only error is want of memory, at a new key: the
-    /// table stays as it was, and the error has the item.
+    /// Returns a mutable reference to the item of the key, after inserting `item` if the key is
+    /// missing.
+    ///
+    /// An existing item stays, a placeholder too, and `item` is dropped. A new key is added at the
+    /// end.
+    ///
+    /// To use the reference, take the result apart with `if let Ok(..)`, since a `match` on it gets
+    /// no proof.
+    ///
+    /// # Errors
+    ///
+    /// Returns a [`NoMemory`] with `item` if out of memory. An existing key takes no memory.
+    ///
+    /// # Examples
+    ///
+    /// ```rust,ignore
+    /// table.entry(key)?.or_insert(item)?;
+    /// ```
+    ///
+    /// From `set_default` of the guide, docs/GUIDE.md.
     pub fn or_insert(self, item: Item) -> Result<&'a mut Item, NoMemory<Item>>
         ensures* writes_back { sem 𝓛 (EntryLendsOk self.entry result) }
         ensures item { IfOk result (λ x. x.now ≡ unwrap_or (entry_item self.entry) item) }
-        // What an item that is written leaves.
+        // What the table is after a write through the reference.
         ensures leaves { (w : Item) → slots_of (table_with self.entry w) ≡ slots_left self.entry (item_view w) }
         ensures keeps { (w : Item) → fields_view (table_with self.entry w) ≡ fields_view (entry_ref self.entry).now }
         ensures present { IsSome (entry_item self.entry) → IsOk result }
@@ -193,8 +222,16 @@ impl<'a> Entry<'a> {
         }
     }
 
-    /// The item that is there, a placeholder too, or else the closure's answer, put last with the key. The closure is called for a new key
-    /// alone. The only error is want of memory, at a new key: the table stays as it was, and the error has the answer.
+    /// Returns a mutable reference to the item of the key, after inserting the result of `default`
+    /// if the key is missing.
+    ///
+    /// The closure is called only then. An existing item stays, a placeholder too. A new key is
+    /// added at the end.
+    ///
+    /// # Errors
+    ///
+    /// Returns a [`NoMemory`] with the result of `default` if out of memory. An existing key takes
+    /// no memory.
     pub fn or_insert_with<F: FnOnce() -> Item>(
         self,
         default: F,
@@ -204,7 +241,7 @@ impl<'a> Entry<'a> {
         requires { entry_item self ≡ None → F.pre default }
         ensures* writes_back { sem 𝓛 (EntryLendsOk self.entry result) }
         ensures item { IfOk result (λ x. UnwrapsOrElse (entry_item self.entry) (F.post default) x.now) }
-        // What an item that is written leaves.
+        // What the table is after a write through the reference.
         ensures leaves { (w : Item) → slots_of (table_with self.entry w) ≡ slots_left self.entry (item_view w) }
         ensures keeps { (w : Item) → fields_view (table_with self.entry w) ≡ fields_view (entry_ref self.entry).now }
         ensures present { IsSome (entry_item self.entry) → IsOk result }

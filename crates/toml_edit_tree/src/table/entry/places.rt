@@ -1,4 +1,4 @@
-//! Entries of a table: of a key, or of a place.
+//! Calls of a table that return an entry, or lend a key.
 ghost use Rattle.std.specs.Prelude.{◌≡◌, ◌<◌, IfOk, IfSome, IsTrue, None, Some, if◌then◌else◌, length, nat_lt, option_and_then, option_map};
 ghost use Rattle.std.specs.Borrow.{sem};
 ghost use Rattle.toml_edit_key.specs.KeyMutView.{key_of};
@@ -18,8 +18,22 @@ use toml_edit_key::{Key, KeyMut};
 use toml_edit_repr::Mem;
 
 impl Table {
-    /// The entry of the key's text; a new one has a key of the text alone. The only error is want of memory, at a new key: the table stays as
-    /// it was.
+    /// Returns the entry of `key`, to change its item or to insert one.
+    ///
+    /// A new key will have the default spelling and no decor. For another one use
+    /// [`entry_format`](Self::entry_format).
+    ///
+    /// # Errors
+    ///
+    /// Returns an `AllocError` if out of memory. An existing key takes no memory.
+    ///
+    /// # Examples
+    ///
+    /// ```rust,ignore
+    /// table.entry(key)?.or_insert(item)?;
+    /// ```
+    ///
+    /// From `set_default` of the guide, docs/GUIDE.md.
     pub fn entry(&mut self, key: &str) -> Mem<Entry<'_>>
         ensures* refused { sem 𝓛 (RestsIfRefused self.entry result) }
         ensures same_table { IfOk result (λ e. (entry_ref e).ghost_name ≡ self.entry.ghost_name) }
@@ -35,8 +49,14 @@ impl Table {
         }
     }
 
-    /// The entry of the key; a new one has a copy of the key, with its spelling and decors. The only error is want of memory, at a new key: the
-    /// table stays as it was.
+    /// Returns the entry of `key`, to change its item or to insert one.
+    ///
+    /// A new key will be a copy of `key`, with its spelling and its decor. An existing one stays as
+    /// it is.
+    ///
+    /// # Errors
+    ///
+    /// Returns an `AllocError` if out of memory. An existing key takes no memory.
     pub fn entry_format(&mut self, key: &Key) -> Mem<Entry<'_>>
         ensures* refused { sem 𝓛 (RestsIfRefused self.entry result) }
         ensures same_table { IfOk result (λ e. (entry_ref e).ghost_name ≡ self.entry.ghost_name) }
@@ -52,7 +72,9 @@ impl Table {
         }
     }
 
-    /// The entry of the slot at the place, a placeholder too, if there is one, to change its item or what stands around its key.
+    /// Returns slot `at`, a placeholder too, or `None` if `at` is not below [`slots`](Self::slots).
+    ///
+    /// In a loop over numbers it takes the place of an `iter_mut`.
     pub fn key_value_at_mut(&mut self, at: usize) -> Option<OccupiedEntry<'_>>
         ensures* absent { sem 𝓛 (RestsIfAbsent self.entry result) }
         ensures same_table { IfSome result (λ e. (entry_ref (Occupied e)).ghost_name ≡ self.entry.ghost_name) }
@@ -66,8 +88,11 @@ impl Table {
         }
     }
 
-    /// Lends the key as it stands in the table, whatever stands under it, to change all of it but its text. Returns `None` where the
-    /// key has no slot.
+    /// Returns the key of this name, to change all of it but its name, or `None` if it is missing.
+    /// A key with a placeholder is returned too.
+    ///
+    /// No contract says what the table is after a change of the key. Where a proof needs that, use
+    /// [`slot_mut`](Self::slot_mut).
     pub fn key_mut(&mut self, key: &str) -> Option<KeyMut<'_>>
         ensures { option_map key_of result ≡ lookup_key key.now (slots_of self.old) }
     {
@@ -77,7 +102,9 @@ impl Table {
         }
     }
 
-    /// Returns the entry of the key's slot, a placeholder too, or `None` where the key has no slot.
+    /// Returns the slot of `key`, a placeholder too, or `None` if the key is missing.
+    ///
+    /// It lends the item by `get_mut` and the key by `key_mut`, one after the other.
     pub fn slot_mut(&mut self, key: &str) -> Option<OccupiedEntry<'_>>
         ensures* absent { sem 𝓛 (RestsIfAbsent self.entry result) }
         ensures same_table { IfSome result (λ e. (entry_ref (Occupied e)).ghost_name ≡ self.entry.ghost_name) }
@@ -90,7 +117,10 @@ impl Table {
         }
     }
 
-    /// The entry of the key, if an item stands there which is no placeholder, to change that or what stands around the key.
+    /// Returns the slot of `key`, or `None` if the key is missing or has a placeholder.
+    ///
+    /// It lends the item by `get_mut` and the key by `key_mut`, one after the other. For
+    /// placeholders too, use [`slot_mut`](Self::slot_mut).
     pub fn get_key_value_mut(&mut self, key: &str) -> Option<OccupiedEntry<'_>>
         ensures* absent { sem 𝓛 (RestsIfAbsent self.entry result) }
         ensures same_table { IfSome result (λ e. (entry_ref (Occupied e)).ghost_name ≡ self.entry.ghost_name) }
@@ -104,7 +134,7 @@ impl Table {
         }
     }
 
-    /// The place of the key's slot of any kind, among keys of which no two have one text.
+    /// Finds the slot of the key, a placeholder too.
     pub(crate) fn place_of(&self, key: &str) -> Option<usize>
         ensures place { result ≡ place key.now (out-Table self.now).slots }
         ensures there { result ≡ place_seen key.now (slots_of self.now) }
@@ -115,7 +145,7 @@ impl Table {
         self.slots.find(key)
     }
 
-    /// Whether there is a slot at the place.
+    /// Returns `true` if `at` is below the number of slots.
     fn has_place(&self, at: usize) -> bool
         ensures there { result ≡ nat_lt at (length (slots_of self.now)) }
         ensures within { IsTrue result → at < length (out-Table self.now).slots }
