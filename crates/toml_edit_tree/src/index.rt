@@ -1,4 +1,5 @@
-//! What is found in an item by a number or a key.
+//! The trait `Index`, which finds an item in another one, the fault of `index_or_insert`, and
+//! indexing by `[..]`.
 ghost use Rattle.std.specs.Prelude.{◌≡◌, IsSome, Some, option_map, string_bytes};
 ghost use Rattle.toml_edit_model.specs.Indexing as indexing;
 ghost use Rattle.toml_edit_model.specs.InlineCalls.{get_value};
@@ -18,12 +19,12 @@ use toml_edit_slots::NoMemory;
 mod lent;
 pub(crate) mod slots;
 
-/// Why `index_or_insert` gives no item.
+/// Why `index_or_insert` returns no item.
 #[derive(Clone, Copy, Debug, PartialEq, Eq, Hash)]
 pub enum IndexFault {
-    /// The item is neither a table nor an inline table, and no placeholder.
+    /// The item is neither a table, an inline table nor a placeholder.
     WrongKind,
-    /// No memory was left.
+    /// Out of memory.
     Memory,
 }
 
@@ -63,19 +64,25 @@ impl<T: Drop> From<NoMemory<T>> for IndexFault {
     }
 }
 
-/// What finds an item in another one: a number, which is a place in an array or an array of tables,
-/// or the text of a key of a table or an inline table. Both calls find the item that is seen there.
-/// What a change of the lent one leaves in the item that it was found in, no clause says.
+/// A number or a key that finds an item in another one.
+///
+/// It is implemented for `usize`, `&str`, `String` and `&String`. A number counts the slots of an
+/// array or an array of tables from 0; a text is the name of a key of a table or an inline table.
+/// An implementation proves that both calls find the item that `stands_for` says. No contract says
+/// what the outer item is after a write through `index_mut`.
 pub trait Index: Drop {
-    /// The number or the text.
+    /// What the index means: a number or a text.
     ghost stands_for: { Self → indexing.Index };
 
-    /// Returns the item that it finds, or `None`: by a number a slot of any kind, and by a text an
-    /// item that is no placeholder.
+    /// Returns the item that the index finds, or `None`.
+    ///
+    /// A number finds placeholders too, and a text doesn't. Call it as [`Item::get`].
     fn index<'v>(&self, item: &'v Item) -> Option<&'v Item>
         ensures { option_map (λ x. item_view x.now) result ≡ indexing.indexed (stands_for self.now) (item_view item.now) };
 
-    /// Returns that item, or `None`, to be changed.
+    /// Returns a mutable reference to the item that the index finds, or `None`.
+    ///
+    /// Call it as [`Item::get_mut`].
     fn index_mut<'v>(&self, item: &'v mut Item) -> Option<&'v mut Item>
         ensures { option_map (λ x. item_view x.now) result ≡ indexing.indexed (stands_for self.now) (item_view item.old) };
 }
@@ -128,7 +135,7 @@ impl Index for &String {
     }
 }
 
-/// The item that the index finds, which must be there.
+/// Returns the item that the index finds, which a contract requires to be there.
 impl<I: Index> ops::Index<I> for Item {
     type Output = Item;
 
@@ -141,7 +148,7 @@ impl<I: Index> ops::Index<I> for Item {
     }
 }
 
-/// The item under the key, which must be there and no placeholder.
+/// Returns the item under the key, which a contract requires to be there and no placeholder.
 impl ops::Index<&str> for Table {
     type Output = Item;
 
@@ -154,7 +161,7 @@ impl ops::Index<&str> for Table {
     }
 }
 
-/// The value under the key, which must be there.
+/// Returns the value under the key, which a contract requires to be there.
 impl ops::Index<&str> for InlineTable {
     type Output = Value;
 

@@ -1,4 +1,5 @@
-//! What the slots of a table hold.
+//! Items: the type, its kinds, and its construction. Look-up inside items is in `item/index.rt`,
+//! and the kinds of a value in `item/casts.rt`.
 ghost use Rattle.std.specs.Prelude.{◌≡◌, ◌↔◌, true, None, Some, IfOk, IsTrue, is_some, option_map};
 ghost use Rattle.std.specs.Borrow.{sem};
 ghost use Rattle.toml_edit_model.specs.Tree.{nothing, no_items, no_slots, is_value_node};
@@ -24,17 +25,27 @@ mod casts;
 mod index;
 mod shown;
 
-/// What stands under a key, or in an array.
+/// What a table has under a key: a value, a table, an array of tables, or nothing.
+///
+/// The slots of arrays and arrays of tables are items too.
+///
+/// # Examples
+///
+/// ```rust,ignore
+/// root.get(table)?.get(key)?.as_integer()
+/// ```
+///
+/// From `integer_at` of the guide, docs/GUIDE.md.
 #[cycle(tree)]
 #[derive(Debug, Drop)]
 pub enum Item {
-    /// Nothing: a placeholder, which isn't printed.
+    /// Nothing: a placeholder, which keeps its place and its key, but isn't printed.
     None,
-    /// A value.
+    /// A value, inline tables and arrays included.
     Value(Value),
-    /// A table.
+    /// A table with a header or of a dotted key (TOML, "Table").
     Table(Table),
-    /// An array of tables.
+    /// An array of tables (TOML, "Array of Tables").
     ArrayOfTables(ArrayOfTables),
 }
 
@@ -48,7 +59,10 @@ impl Default for Item {
 }
 
 impl Item {
-    /// The name of its type in TOML's words, as error messages have it.
+    /// Returns the name of the item's type in the words of TOML, for messages.
+    ///
+    /// It is `none` for a placeholder, `table` or `array of tables`, and else the
+    /// [`type_name`](Value::type_name) of the value.
     pub fn type_name(&self) -> &'static str
         ensures { result.now ≡ type_of (item_view self.now) }
     {
@@ -60,14 +74,14 @@ impl Item {
         }
     }
 
-    /// Whether it is a placeholder.
+    /// Returns `true` if the item is a placeholder.
     pub fn is_none(&self) -> bool
         ensures { IsTrue result ↔ (item_view self.now ≡ nothing) }
     {
         matches!(self, Item::None)
     }
 
-    /// The value, if it is one.
+    /// Returns the value, or `None` for any other item.
     pub fn as_value(&self) -> Option<&Value>
         ensures { option_map (λ v. value_view v.now) result ≡ value_in (item_view self.now) }
     {
@@ -77,7 +91,10 @@ impl Item {
         }
     }
 
-    /// The value, to be changed, if it is one.
+    /// Returns a mutable reference to the value, or `None` for any other item.
+    ///
+    /// A new value that is written there brings its own decor: to keep the comment after the old
+    /// one, swap the two decors first, as `replace_value` of the guide does (docs/GUIDE.md).
     pub fn as_value_mut(&mut self) -> Option<&mut Value>
         ensures* writes_back { sem 𝓛 (LendsValue self.entry result) }
         ensures value { option_map (λ v. value_view v.now) result ≡ value_in (item_view self.old) }
@@ -88,7 +105,7 @@ impl Item {
         }
     }
 
-    /// The value that it is, to be changed.
+    /// Returns a mutable reference to the value of an item that is one.
     pub(crate) fn own_value_mut(&mut self) -> &mut Value
         requires { is_some (value_held self.old) ≡ true }
         ensures* writes_back { sem 𝓛 (LendsOwnValue self.entry result) }
@@ -100,7 +117,7 @@ impl Item {
         }
     }
 
-    /// The table that it is, to be changed.
+    /// Returns a mutable reference to the table of an item that is one.
     pub(crate) fn own_table_mut(&mut self) -> &mut Table
         requires { is_some (table_held self.old) ≡ true }
         ensures* writes_back { sem 𝓛 (LendsOwnTable self.entry result) }
@@ -112,7 +129,7 @@ impl Item {
         }
     }
 
-    /// The value that it is.
+    /// Returns the value of an item that is one.
     pub(crate) fn into_own_value(self) -> Value
         requires { is_some (value_held self) ≡ true }
         ensures { value_held self ≡ Some result }
@@ -123,14 +140,17 @@ impl Item {
         }
     }
 
-    /// Whether it is a value.
+    /// Returns `true` if the item is a value, inline tables and arrays included.
     pub fn is_value(&self) -> bool
         ensures { result ≡ is_value_node (item_view self.now) }
     {
         self.as_value().is_some()
     }
 
-    /// The table, if it is one.
+    /// Returns the table, or `None` for any other item.
+    ///
+    /// An inline table is a value: see [`as_inline_table`](Self::as_inline_table). For both kinds
+    /// of table use `as_table_like` of the trait `AsTableLike`.
     pub fn as_table(&self) -> Option<&Table>
         ensures { option_map (λ t. table_view t.now) result ≡ table_in (item_view self.now) }
     {
@@ -140,7 +160,20 @@ impl Item {
         }
     }
 
-    /// The table, to be changed, if it is one.
+    /// Returns a mutable reference to the table, or `None` for any other item.
+    ///
+    /// An inline table is a value: see [`as_inline_table_mut`](Self::as_inline_table_mut). For both
+    /// kinds of table use `as_table_like_mut` of the trait `AsTableLike`.
+    ///
+    /// # Examples
+    ///
+    /// The method is called in a closure, since it gets no proof where it is passed by its path.
+    ///
+    /// ```rust,ignore
+    /// let table = root.get_mut(table).and_then(|item| item.as_table_mut());
+    /// ```
+    ///
+    /// From `set_value` of the guide, docs/GUIDE.md.
     pub fn as_table_mut(&mut self) -> Option<&mut Table>
         ensures* writes_back { sem 𝓛 (LendsTable self.entry result) }
         ensures table { option_map (λ t. table_view t.now) result ≡ table_in (item_view self.old) }
@@ -151,14 +184,17 @@ impl Item {
         }
     }
 
-    /// Whether it is a table.
+    /// Returns `true` if the item is a [`Table`], which an inline table is not.
     pub fn is_table(&self) -> bool
         ensures { result ≡ is_some (table_in (item_view self.now)) }
     {
         self.as_table().is_some()
     }
 
-    /// The array of tables, if it is one.
+    /// Returns the array of tables, or `None` for any other item.
+    ///
+    /// An array of inline tables is a value: see [`as_array`](Self::as_array), and
+    /// [`into_array_of_tables`](Self::into_array_of_tables) to convert one.
     pub fn as_array_of_tables(&self) -> Option<&ArrayOfTables>
         ensures { option_map (λ a. tables_view a.now) result ≡ tables_in (item_view self.now) }
     {
@@ -168,7 +204,7 @@ impl Item {
         }
     }
 
-    /// The array of tables, to be changed, if it is one.
+    /// Returns a mutable reference to the array of tables, or `None` for any other item.
     pub fn as_array_of_tables_mut(&mut self) -> Option<&mut ArrayOfTables>
         ensures* writes_back { sem 𝓛 (LendsTables self.entry result) }
         ensures tables { option_map (λ a. tables_view a.now) result ≡ tables_in (item_view self.old) }
@@ -179,14 +215,14 @@ impl Item {
         }
     }
 
-    /// Whether it is an array of tables.
+    /// Returns `true` if the item is an array of tables, which an array of inline tables is not.
     pub fn is_array_of_tables(&self) -> bool
         ensures { result ≡ is_some (tables_in (item_view self.now)) }
     {
         self.as_array_of_tables().is_some()
     }
 
-    /// Puts these texts around its value, if it is one.
+    /// Sets the decor of a value, and leaves any other item as it is.
     #[doc(hidden)]
     pub fn decorate(&mut self, prefix: RawString, suffix: RawString)
         ensures { item_view self.new ≡ with_decor (both_sides prefix suffix) (item_view self.old) }
@@ -196,7 +232,11 @@ impl Item {
         }
     }
 
-    /// An equal copy. The only error is want of memory.
+    /// Copies the item, with all spellings, decors, spans and positions.
+    ///
+    /// # Errors
+    ///
+    /// Returns an `AllocError` if out of memory.
     pub fn clone(&self, alloc: Global) -> Mem<Item>
         ensures { IfOk result (λ copy. item_view copy ≡ item_view self.now) }
     {
@@ -204,21 +244,23 @@ impl Item {
     }
 }
 
-/// The item of a value.
+/// Makes an item of the value, as `Item::from` does.
 pub fn value(value: Value) -> Item
     ensures { item_view result ≡ value_view value }
 {
     Item::Value(value)
 }
 
-/// A new table, which has no slots yet. It takes no memory.
+/// Makes an item of an empty table, which takes no memory before its first slot.
 pub fn table(alloc: Global) -> Item
     ensures { item_view result ≡ table_node (record { fields = new_table; slots = no_slots }) }
 {
     Item::Table(Table::new(alloc))
 }
 
-/// A new array of tables, which has no elements yet. It takes no memory.
+/// Makes an item of an empty array of tables, which takes no memory before its first element.
+///
+/// For an array in brackets, make a value of an [`Array`](crate::Array).
 pub fn array(alloc: Global) -> Item
     ensures { item_view result ≡ tables_node (record { extent = None; items = no_items }) }
 {

@@ -1,4 +1,6 @@
-//! The items of documents: values, arrays, inline tables and tables, with their copies and their print.
+//! The tree of a document: items, values, arrays, inline tables, tables and arrays of tables, with
+//! their calls, copies, conversions and text. Texts are parsed into trees by `toml_edit_parser`,
+//! and documents are in `toml_edit`.
 #![tactic(auto)]
 
 pub mod array;

@@ -1,4 +1,4 @@
-//! Values.
+//! Values: the type, its kinds, its decor, and what it is made of.
 ghost use Rattle.std.specs.Prelude.{◌≡◌, None, Some, OnOk, IfOk, option_map, is_some, string_bytes};
 ghost use Rattle.std.specs.Borrow.{sem};
 ghost use Rattle.toml_edit_model.specs.Scalars.{string, integer, float, boolean, datetime};
@@ -28,28 +28,40 @@ use toml_edit_token::Scalar;
 
 mod make;
 
-/// A value, with its spelling and what stands around it.
+/// A value with its spelling and its decor (TOML, "Key/Value Pair").
+///
+/// The decor is the whitespace and comments on both sides of it. What is made has the default
+/// spelling and an unset decor.
+///
+/// # Examples
+///
+/// ```rust,ignore
+/// let name = Value::string(alloc, *feature)?;
+/// names.push(name).map_err(no_memory)?;
+/// ```
+///
+/// From `add_dependency` of the guide, docs/GUIDE.md.
 #[cycle(tree)]
 #[derive(Debug, Drop)]
 pub enum Value {
-    /// A string.
+    /// A string (TOML, "String").
     String(Formatted<String>),
-    /// An integer of 64 bits.
+    /// An integer of 64 bits (TOML, "Integer").
     Integer(Formatted<i64>),
-    /// A float, kept as its text.
+    /// A float, kept as its text (TOML, "Float").
     Float(Formatted<FloatText>),
-    /// A truth value.
+    /// A boolean (TOML, "Boolean").
     Boolean(Formatted<bool>),
-    /// A date, a time, or both.
+    /// A date, a time, or both (TOML, "Offset Date-Time" to "Local Time").
     Datetime(Formatted<Datetime>),
-    /// Values in order.
+    /// An array (TOML, "Array").
     Array(Array),
-    /// Keys with values, in one place.
+    /// An inline table (TOML, "Inline Table").
     InlineTable(InlineTable),
 }
 
 impl Value {
-    /// A scalar that was read: its spelling stands from the byte `start` of the source up to `end`.
+    /// Makes a scalar whose spelling spans the bytes from `start` to `end` of the source.
     #[doc(hidden)]
     pub fn spanned(scalar: Scalar, start: usize, end: usize, decor: Decor) -> Value
         ensures { value_view result ≡ leaf (scalar_view scalar) (Some (span start end)) decor }
@@ -67,8 +79,12 @@ impl Value {
         }
     }
 
-    /// Turns spans of `source` into the texts that stand there. The only error is want of memory, and then spans may be left: the
-    /// document is to be given up.
+    /// Replaces each span of `source` by the text there.
+    ///
+    /// # Errors
+    ///
+    /// Returns an `AllocError` if out of memory. Some spans may be left then, so the document has
+    /// to be dropped.
     #[doc(hidden)]
     pub fn despan(&mut self, alloc: Global, source: &str) -> Mem<()>
         requires fits { NodeFits source.now (value_view self.old) }
@@ -78,14 +94,21 @@ impl Value {
         despan_value(self, alloc, source)
     }
 
-    /// An equal copy. The only error is want of memory.
+    /// Copies the value, with all spellings, decors and spans.
+    ///
+    /// # Errors
+    ///
+    /// Returns an `AllocError` if out of memory.
     pub fn clone(&self, alloc: Global) -> Mem<Value>
         ensures { IfOk result (λ copy. value_view copy ≡ value_view self.now) }
     {
         copy_value(self, alloc)
     }
 
-    /// The name of its type in TOML's words, as error messages have it.
+    /// Returns the name of the value's type in the words of TOML, for messages.
+    ///
+    /// It is one of `string`, `integer`, `float`, `boolean`, `datetime`, `array` and
+    /// `inline table`.
     pub fn type_name(&self) -> &'static str
         ensures { result.now ≡ type_of (value_view self.now) }
     {
@@ -100,7 +123,15 @@ impl Value {
         }
     }
 
-    /// The text, if it is a string.
+    /// Returns the text of a string, without quotes and escapes, or `None` for any other value.
+    ///
+    /// # Examples
+    ///
+    /// ```rust,ignore
+    /// array.sort_by(|a, b| a.as_str().cmp(&b.as_str()))
+    /// ```
+    ///
+    /// From `sort_strings` of the guide, docs/GUIDE.md.
     pub fn as_str(&self) -> Option<&str>
         ensures { option_map (λ t. t.now) result ≡ text_in (value_view self.now) }
     {
@@ -110,14 +141,14 @@ impl Value {
         }
     }
 
-    /// Whether it is a string.
+    /// Returns `true` if the value is a string.
     pub fn is_str(&self) -> bool
         ensures { result ≡ is_some (text_in (value_view self.now)) }
     {
         self.as_str().is_some()
     }
 
-    /// The number, if it is an integer.
+    /// Returns the number of an integer, or `None` for any other value.
     pub fn as_integer(&self) -> Option<i64>
         ensures { result ≡ integer_in (value_view self.now) }
     {
@@ -127,14 +158,16 @@ impl Value {
         }
     }
 
-    /// Whether it is an integer.
+    /// Returns `true` if the value is an integer.
     pub fn is_integer(&self) -> bool
         ensures { result ≡ is_some (integer_in (value_view self.now)) }
     {
         self.as_integer().is_some()
     }
 
-    /// The float, if it is one.
+    /// Returns the text of a float, or `None` for any other value.
+    ///
+    /// A float is kept as its text, of any magnitude and never rounded, so there is no `as_float`.
     pub fn as_float_text(&self) -> Option<&FloatText>
         ensures { option_map (λ x. x.now) result ≡ float_in (value_view self.now) }
     {
@@ -144,14 +177,14 @@ impl Value {
         }
     }
 
-    /// Whether it is a float.
+    /// Returns `true` if the value is a float.
     pub fn is_float(&self) -> bool
         ensures { result ≡ is_some (float_in (value_view self.now)) }
     {
         self.as_float_text().is_some()
     }
 
-    /// The date-time, if it is one.
+    /// Returns the date-time, date or time, or `None` for any other value.
     pub fn as_datetime(&self) -> Option<&Datetime>
         ensures { option_map (λ x. datetime_view x.now) result ≡ datetime_in (value_view self.now) }
     {
@@ -161,14 +194,14 @@ impl Value {
         }
     }
 
-    /// Whether it is a date-time.
+    /// Returns `true` if the value is a date-time, a date or a time.
     pub fn is_datetime(&self) -> bool
         ensures { result ≡ is_some (datetime_in (value_view self.now)) }
     {
         self.as_datetime().is_some()
     }
 
-    /// The truth value, if it is one.
+    /// Returns the boolean, or `None` for any other value.
     pub fn as_bool(&self) -> Option<bool>
         ensures { result ≡ truth_in (value_view self.now) }
     {
@@ -178,14 +211,15 @@ impl Value {
         }
     }
 
-    /// Whether it is a truth value.
+    /// Returns `true` if the value is a boolean. The value itself is that of
+    /// [`as_bool`](Self::as_bool).
     pub fn is_bool(&self) -> bool
         ensures { result ≡ is_some (truth_in (value_view self.now)) }
     {
         self.as_bool().is_some()
     }
 
-    /// The array, if it is one.
+    /// Returns the array, or `None` for any other value.
     pub fn as_array(&self) -> Option<&Array>
         ensures { option_map (λ a. array_view a.now) result ≡ array_in (value_view self.now) }
     {
@@ -195,7 +229,7 @@ impl Value {
         }
     }
 
-    /// The array, to be changed, if it is one.
+    /// Returns a mutable reference to the array, or `None` for any other value.
     pub fn as_array_mut(&mut self) -> Option<&mut Array>
         ensures* writes_back { sem 𝓛 (LendsArray self.entry result) }
         ensures array { option_map (λ a. array_view a.now) result ≡ array_in (value_view self.old) }
@@ -206,14 +240,14 @@ impl Value {
         }
     }
 
-    /// Whether it is an array.
+    /// Returns `true` if the value is an array.
     pub fn is_array(&self) -> bool
         ensures { result ≡ is_some (array_in (value_view self.now)) }
     {
         self.as_array().is_some()
     }
 
-    /// The inline table, if it is one.
+    /// Returns the inline table, or `None` for any other value.
     pub fn as_inline_table(&self) -> Option<&InlineTable>
         ensures { option_map (λ t. inline_view t.now) result ≡ inline_in (value_view self.now) }
     {
@@ -223,7 +257,7 @@ impl Value {
         }
     }
 
-    /// The inline table, to be changed, if it is one.
+    /// Returns a mutable reference to the inline table, or `None` for any other value.
     pub fn as_inline_table_mut(&mut self) -> Option<&mut InlineTable>
         ensures* writes_back { sem 𝓛 (LendsInline self.entry result) }
         ensures table { option_map (λ t. inline_view t.now) result ≡ inline_in (value_view self.old) }
@@ -234,14 +268,26 @@ impl Value {
         }
     }
 
-    /// Whether it is an inline table.
+    /// Returns `true` if the value is an inline table.
     pub fn is_inline_table(&self) -> bool
         ensures { result ≡ is_some (inline_in (value_view self.now)) }
     {
         self.as_inline_table().is_some()
     }
 
-    /// What stands around it.
+    /// Returns the whitespace and comments around the value.
+    ///
+    /// An unset side prints as the default for its place: one space after `=`, say. The comment
+    /// after a value on its line is in the suffix; in an array, a comment after a comma belongs to
+    /// the next value.
+    ///
+    /// # Examples
+    ///
+    /// ```rust,ignore
+    /// let last = array.iter().last().map(|value| value.decor());
+    /// ```
+    ///
+    /// From `push_line` of the guide, docs/GUIDE.md.
     pub fn decor(&self) -> &Decor
         ensures { result.now ≡ node_decor (value_view self.now) }
     {
@@ -256,7 +302,16 @@ impl Value {
         }
     }
 
-    /// What stands around it, to be changed.
+    /// Returns a mutable reference to the whitespace and comments around the value.
+    ///
+    /// # Examples
+    ///
+    /// ```rust,ignore
+    /// mem::swap(old.decor_mut(), value.decor_mut());
+    /// mem::swap(old, &mut value);
+    /// ```
+    ///
+    /// From `replace_value` of the guide, docs/GUIDE.md.
     pub fn decor_mut(&mut self) -> &mut Decor
         ensures* writes_back { sem 𝓛 (LendsDecor self.entry result) }
         ensures decor { result.now ≡ node_decor (value_view self.old) }
@@ -272,14 +327,24 @@ impl Value {
         }
     }
 
-    /// Puts these texts around it.
+    /// Sets both sides of the decor.
     pub(crate) fn surround(&mut self, prefix: RawString, suffix: RawString)
         ensures { value_view self.new ≡ with_decor (both_sides prefix suffix) (value_view self.old) }
     {
         *self.decor_mut() = Decor::new(prefix, suffix);
     }
 
-    /// The value with these texts around it.
+    /// Returns the value with `prefix` before it and `suffix` after it, in place of its decor.
+    ///
+    /// An empty text is not an unset side: it prints as nothing, and an unset side as its default.
+    ///
+    /// # Examples
+    ///
+    /// ```rust,ignore
+    /// let value = Value::string(alloc, text)?.decorated(prefix, RawString::default());
+    /// ```
+    ///
+    /// From `push_line` of the guide, docs/GUIDE.md.
     pub fn decorated(self, prefix: RawString, suffix: RawString) -> Value
         ensures { value_view result ≡ with_decor (both_sides prefix suffix) (value_view self) }
     {
@@ -288,7 +353,7 @@ impl Value {
         value
     }
 
-    /// Leaves its decor unset.
+    /// Unsets both sides of the decor.
     #[doc(hidden)]
     pub fn undecorate(&mut self)
         ensures { value_view self.new ≡ with_decor unset (value_view self.old) }
@@ -296,8 +361,11 @@ impl Value {
         *self.decor_mut() = Decor::default();
     }
 
-    /// The bytes of the source that it stands at: those of a scalar's spelling, if that is a span, and those from bracket to
-    /// bracket of an array or inline table.
+    /// Returns the byte range of the value in the source, without its decor.
+    ///
+    /// It is that of the spelling of a scalar, and from bracket to bracket of an array or an inline
+    /// table. It is `None` for a value that was made, and in a `DocumentMut`: ask before
+    /// `into_mut`.
     pub fn span(&self) -> Option<Range<usize>>
         ensures { result ≡ span_in (value_view self.now) }
     {
@@ -312,7 +380,22 @@ impl Value {
         }
     }
 
-    /// A string with this text, of default spelling and decor. The only error is want of memory.
+    /// Makes a string with a copy of `text`, of default spelling and unset decor.
+    ///
+    /// A `String` becomes a value without a copy by `Value::from`.
+    ///
+    /// # Errors
+    ///
+    /// Returns an `AllocError` if out of memory.
+    ///
+    /// # Examples
+    ///
+    /// ```rust,ignore
+    /// let name = Value::string(alloc, *feature)?;
+    /// names.push(name).map_err(no_memory)?;
+    /// ```
+    ///
+    /// From `add_dependency` of the guide, docs/GUIDE.md.
     pub fn string(alloc: Global, text: &str) -> Mem<Value>
         ensures { IfOk result (λ v. value_view v ≡ leaf (string text.now) None unset) }
     {

@@ -1,4 +1,5 @@
-//! The slots of tables, inline tables and items, to be changed.
+//! Mutable references to the slots of tables, inline tables and what holds them, with contracts on
+//! what is left after a write.
 ghost use Rattle.std.specs.Prelude.{◌≡◌, option_map};
 ghost use Rattle.std.specs.Borrow.{sem};
 ghost use Rattle.toml_edit_tree.specs.ContainerParts.{LendsInlineSlots, LendsTableSlots};
@@ -13,7 +14,7 @@ use crate::value::Value;
 use toml_edit_slots::Slots;
 
 impl Table {
-    /// Its slots, to be changed.
+    /// Returns a mutable reference to the slots.
     fn own_slots_mut(&mut self) -> &mut Slots<Item>
         ensures* writes_back { sem 𝓛 (LendsTableSlots self.entry result) }
         ensures slots { result.now ≡ (out-Table self.old).slots }
@@ -23,7 +24,7 @@ impl Table {
 }
 
 impl InlineTable {
-    /// Its slots, to be changed.
+    /// Returns a mutable reference to the slots.
     fn own_slots_mut(&mut self) -> &mut Slots<Item>
         ensures* writes_back { sem 𝓛 (LendsInlineSlots self.entry result) }
         ensures slots { result.now ≡ (out-InlineTable self.old).items }
@@ -33,7 +34,7 @@ impl InlineTable {
 }
 
 impl Value {
-    /// Its slots, to be changed, if it is an inline table.
+    /// Returns a mutable reference to the slots of an inline table, or `None` for any other value.
     fn own_slots_mut(&mut self) -> Option<&mut Slots<Item>>
         ensures* writes_back { sem 𝓛 (LendsValueSlots self.entry result) }
         ensures slots { option_map (λ es. es.now) result ≡ value_slots self.old }
@@ -46,7 +47,7 @@ impl Value {
 }
 
 impl Item {
-    /// Its slots, to be changed, if it is a table or an inline table.
+    /// Returns a mutable reference to the slots of a table or an inline table, or `None`.
     pub(crate) fn own_slots_mut(&mut self) -> Option<&mut Slots<Item>>
         ensures* writes_back { sem 𝓛 (LendsSlotsIn self.entry result) }
         ensures slots { option_map (λ es. es.now) result ≡ slots_held self.old }

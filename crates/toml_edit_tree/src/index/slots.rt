@@ -1,5 +1,4 @@
-//! What is found in slots or a list of items, and the slot of a key that is made where there is
-//! none.
+//! Look-up in slots and lists of items, and the call that makes a missing slot.
 ghost use Rattle.std.specs.Prelude.{◌≡◌, ◌<◌, IfOk, IfSome, IsOk, IsTrue, OnErr, OnOk, Some, length, option_and_then, option_map, slice_get};
 ghost use Rattle.toml_edit_model.specs.Slots.{changed, has_slot, lookup, place, with_item as with_item_seen};
 ghost use Rattle.toml_edit_model.specs.TableCalls.{get, with_place};
@@ -15,7 +14,7 @@ use toml_edit_key::Key;
 use toml_edit_repr::Mem;
 use toml_edit_slots::{Slot, Slots};
 
-/// The item at the place, a placeholder too.
+/// Returns the item at index `at`, a placeholder too.
 pub(crate) fn item_at(items: &[Item], at: usize) -> Option<&Item>
     ensures { option_map (λ x. item_view x.now) result ≡ slice_get (listed items.now) at }
 {
@@ -26,7 +25,7 @@ pub(crate) fn item_at(items: &[Item], at: usize) -> Option<&Item>
     }
 }
 
-/// The item under the key, which is no placeholder.
+/// Returns the item under the key, unless it is a placeholder.
 pub(crate) fn filled_item<'s>(slots: &'s Slots<Item>, key: &str) -> Option<&'s Item>
     ensures { option_map (λ x. item_view x.now) result ≡ get key.now (shown_slots slots.now) }
 {
@@ -34,7 +33,7 @@ pub(crate) fn filled_item<'s>(slots: &'s Slots<Item>, key: &str) -> Option<&'s I
     if item.is_none() { None } else { Some(item) }
 }
 
-/// The place of the key's slot, unless it is a placeholder.
+/// Finds the slot of the key, unless it is a placeholder.
 pub(crate) fn filled_place(slots: &Slots<Item>, key: &str) -> Option<usize>
     ensures held { option_map item_view (option_and_then (slice_get (items_of slots.now)) result) ≡ get key.now (shown_slots slots.now) }
     ensures within { IfSome result (λ at. at < length slots.now) }
@@ -48,8 +47,7 @@ pub(crate) fn filled_place(slots: &Slots<Item>, key: &str) -> Option<usize>
     }
 }
 
-/// The place of the key's slot. A new key goes last, with a key of the text alone and a
-/// placeholder. The only error is want of memory, at a new key: the slots stay.
+/// Finds the slot of the key, after adding a placeholder at the end if the key is missing.
 pub(crate) fn place_under(slots: &mut Slots<Item>, key: &str) -> Mem<usize>
     ensures within { IfOk result (λ at. at < length slots.new) }
     ensures made { OnOk result (shown_slots slots.new ≡ with_place key.now (shown_slots slots.old)) }

@@ -1,4 +1,4 @@
-//! What an item answers of the value that it holds.
+//! The calls of an item that ask what its value is, and where it is in the source.
 ghost use Rattle.std.specs.Prelude.{◌≡◌, is_some, option_map};
 ghost use Rattle.std.specs.Borrow.{sem};
 ghost use Rattle.toml_edit_datetime.specs.DatetimeView.{datetime_view};
@@ -13,7 +13,7 @@ use std::ops::Range;
 use toml_edit_datetime::{Datetime, FloatText};
 
 impl Item {
-    /// The text, if it is a string.
+    /// Returns the text of a string, without quotes and escapes, or `None` for any other item.
     pub fn as_str(&self) -> Option<&str>
         ensures { option_map (λ t. t.now) result ≡ text_in (item_view self.now) }
     {
@@ -23,7 +23,7 @@ impl Item {
         }
     }
 
-    /// Whether it is a string.
+    /// Returns `true` if the item is a string.
     pub fn is_str(&self) -> bool
         ensures { result ≡ is_some (text_in (item_view self.now)) }
     {
@@ -33,7 +33,15 @@ impl Item {
         }
     }
 
-    /// The number, if it is an integer.
+    /// Returns the number of an integer, or `None` for any other item.
+    ///
+    /// # Examples
+    ///
+    /// ```rust,ignore
+    /// root.get(table)?.get(key)?.as_integer()
+    /// ```
+    ///
+    /// From `integer_at` of the guide, docs/GUIDE.md.
     pub fn as_integer(&self) -> Option<i64>
         ensures { result ≡ integer_in (item_view self.now) }
     {
@@ -43,7 +51,7 @@ impl Item {
         }
     }
 
-    /// Whether it is an integer.
+    /// Returns `true` if the item is an integer.
     pub fn is_integer(&self) -> bool
         ensures { result ≡ is_some (integer_in (item_view self.now)) }
     {
@@ -53,7 +61,9 @@ impl Item {
         }
     }
 
-    /// The float, if it is one.
+    /// Returns the text of a float, or `None` for any other item.
+    ///
+    /// A float is kept as its text, of any magnitude and never rounded, so there is no `as_float`.
     pub fn as_float_text(&self) -> Option<&FloatText>
         ensures { option_map (λ x. x.now) result ≡ float_in (item_view self.now) }
     {
@@ -63,7 +73,7 @@ impl Item {
         }
     }
 
-    /// Whether it is a float.
+    /// Returns `true` if the item is a float.
     pub fn is_float(&self) -> bool
         ensures { result ≡ is_some (float_in (item_view self.now)) }
     {
@@ -73,7 +83,7 @@ impl Item {
         }
     }
 
-    /// The truth value, if it is one.
+    /// Returns the boolean, or `None` for any other item.
     pub fn as_bool(&self) -> Option<bool>
         ensures { result ≡ truth_in (item_view self.now) }
     {
@@ -83,7 +93,7 @@ impl Item {
         }
     }
 
-    /// Whether it is a truth value.
+    /// Returns `true` if the item is a boolean. Its value is that of [`as_bool`](Self::as_bool).
     pub fn is_bool(&self) -> bool
         ensures { result ≡ is_some (truth_in (item_view self.now)) }
     {
@@ -93,7 +103,7 @@ impl Item {
         }
     }
 
-    /// The date-time, if it is one.
+    /// Returns the date-time, date or time, or `None` for any other item.
     pub fn as_datetime(&self) -> Option<&Datetime>
         ensures { option_map (λ x. datetime_view x.now) result ≡ datetime_in (item_view self.now) }
     {
@@ -103,7 +113,7 @@ impl Item {
         }
     }
 
-    /// Whether it is a date-time.
+    /// Returns `true` if the item is a date-time, a date or a time.
     pub fn is_datetime(&self) -> bool
         ensures { result ≡ is_some (datetime_in (item_view self.now)) }
     {
@@ -113,7 +123,7 @@ impl Item {
         }
     }
 
-    /// The array, if it is one.
+    /// Returns the array, or `None` for any other item.
     pub fn as_array(&self) -> Option<&Array>
         ensures { option_map (λ a. array_view a.now) result ≡ array_in (item_view self.now) }
     {
@@ -123,7 +133,7 @@ impl Item {
         }
     }
 
-    /// The array, to be changed, if it is one.
+    /// Returns a mutable reference to the array, or `None` for any other item.
     pub fn as_array_mut(&mut self) -> Option<&mut Array>
         ensures* writes_back { sem 𝓛 (LendsArrayIn self.entry result) }
         ensures array { option_map (λ a. array_view a.now) result ≡ array_in (item_view self.old) }
@@ -134,7 +144,7 @@ impl Item {
         }
     }
 
-    /// Whether it is an array.
+    /// Returns `true` if the item is an array. An array of tables is none.
     pub fn is_array(&self) -> bool
         ensures { result ≡ is_some (array_in (item_view self.now)) }
     {
@@ -144,7 +154,7 @@ impl Item {
         }
     }
 
-    /// The inline table, if it is one.
+    /// Returns the inline table, or `None` for any other item.
     pub fn as_inline_table(&self) -> Option<&InlineTable>
         ensures { option_map (λ t. inline_view t.now) result ≡ inline_in (item_view self.now) }
     {
@@ -154,7 +164,7 @@ impl Item {
         }
     }
 
-    /// The inline table, to be changed, if it is one.
+    /// Returns a mutable reference to the inline table, or `None` for any other item.
     pub fn as_inline_table_mut(&mut self) -> Option<&mut InlineTable>
         ensures* writes_back { sem 𝓛 (LendsInlineIn self.entry result) }
         ensures table { option_map (λ t. inline_view t.now) result ≡ inline_in (item_view self.old) }
@@ -165,7 +175,7 @@ impl Item {
         }
     }
 
-    /// Whether it is an inline table.
+    /// Returns `true` if the item is an inline table. A [`Table`](crate::Table) is none.
     pub fn is_inline_table(&self) -> bool
         ensures { result ≡ is_some (inline_in (item_view self.now)) }
     {
@@ -175,8 +185,18 @@ impl Item {
         }
     }
 
-    /// The bytes of the source that it stands at, if it was read and still is over its source: those of its value, of a table's header, or
-    /// from the first header to the last of an array of tables.
+    /// Returns the byte range of the item in the source, or `None` if it was made or has no span.
+    ///
+    /// It is that of the value, of a table's header with its brackets, or from the first header of
+    /// an array of tables to the last. A `DocumentMut` has no spans: ask before `into_mut`.
+    ///
+    /// # Examples
+    ///
+    /// ```rust,ignore
+    /// root.get(key)?.span()
+    /// ```
+    ///
+    /// From `span_at` of the guide, docs/GUIDE.md.
     pub fn span(&self) -> Option<Range<usize>>
         ensures { result ≡ item_span (item_view self.now) }
     {

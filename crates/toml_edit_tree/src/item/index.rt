@@ -1,4 +1,4 @@
-//! Items inside of items, by a number or a key.
+//! Look-up inside items, by a number or a key, and the slots of an item.
 ghost use Rattle.std.specs.Prelude.{◌≡◌, ◌↔◌, List, None, Some, IfErr, IfOk, IfSome, IsOk, IsSome, OnErr, OnOk, option_and_then, option_map};
 ghost use Rattle.std.specs.Borrow.{sem};
 ghost use Rattle.toml_edit_model.specs.Indexing.{index_or_inserted, indexed, item_under, number, text};
@@ -22,24 +22,40 @@ use toml_edit_repr::Mem;
 use toml_edit_slots::Slots;
 
 impl Item {
-    /// Returns the item that the index finds, or `None`: by a number a slot of any kind of an array
-    /// or an array of tables, by a text an item of a table or an inline table that is no
-    /// placeholder.
+    /// Returns the item that `index` finds, or `None` if there is none or this item is of another
+    /// kind.
+    ///
+    /// A number finds a slot of an array or an array of tables, a placeholder too. A text finds an
+    /// item of a table or an inline table that is no placeholder. Indexing by `[..]` requires that
+    /// there is one.
+    ///
+    /// # Examples
+    ///
+    /// ```rust,ignore
+    /// root.get(table)?.get(key)?.as_integer()
+    /// ```
+    ///
+    /// From `integer_at` of the guide, docs/GUIDE.md.
     pub fn get<I: Index>(&self, index: I) -> Option<&Item>
         ensures { option_map (λ x. item_view x.now) result ≡ indexed (I.stands_for index) (item_view self.now) }
     {
         index.index(self)
     }
 
-    /// Returns the item that the index finds, as `get` does, to be changed. No clause says what
-    /// this item is once the lent one is changed.
+    /// Returns a mutable reference to the item that [`get`](Self::get) finds, or `None`.
+    ///
+    /// It never inserts: see [`index_or_insert`](Self::index_or_insert). No contract says what this
+    /// item is after a write through the reference. Where a proof needs that, take the table by
+    /// [`as_table_mut`](Self::as_table_mut) and call [`Table::get_mut`](crate::Table::get_mut).
     pub fn get_mut<I: Index>(&mut self, index: I) -> Option<&mut Item>
         ensures { option_map (λ x. item_view x.now) result ≡ indexed (I.stands_for index) (item_view self.old) }
     {
         index.index_mut(self)
     }
 
-    /// This item, once a placeholder is filled with that one.
+    /// Fills a placeholder with `item`, and returns a mutable reference to this item.
+    ///
+    /// Any other item stays, and `item` is dropped.
     pub fn or_insert(&mut self, item: Item) -> &mut Item
         ensures same_item { result.ghost_name ≡ self.entry.ghost_name }
         ensures item { item_view result.now ≡ or_else (item_view item) (item_view self.old) }
@@ -52,16 +68,19 @@ impl Item {
         self
     }
 
-    /// Returns the item under the key of a table or an inline table, a placeholder too, to be
-    /// changed. A new key goes last, with a key of the text alone and a placeholder; a placeholder
-    /// first becomes an inline table, which is made by the allocator.
+    /// Returns a mutable reference to the item under `key`, after adding a placeholder if it is
+    /// missing.
     ///
-    /// No clause says what this item is after an error, or once the lent one is changed.
-    /// `make_place` says what it is before the loan.
+    /// It works on tables and inline tables. A new key has the default spelling and is added at the
+    /// end. A placeholder first becomes an inline table, made by `alloc`.
+    ///
+    /// No contract says what this item is after an error, or after a write through the reference.
+    /// [`Table::index_or_insert`](crate::Table::index_or_insert) has one that does.
     ///
     /// # Errors
     ///
-    /// `WrongKind` if it is any other item, and `Memory` if memory runs out, at a new key.
+    /// Returns [`IndexFault::WrongKind`] if this item is neither a table, an inline table nor a
+    /// placeholder. Returns [`IndexFault::Memory`] if out of memory, at a new key.
     pub fn index_or_insert(&mut self, alloc: Global, key: &str) -> Result<&mut Item, IndexFault>
         ensures item { IfOk result (λ lent. lent_under key.now (item_view self.old) ≡ Some (item_view lent.now)) }
         ensures kind { IfErr result (λ fault. (fault ≡ WrongKind) ↔ (index_or_inserted key.now (item_view self.old) ≡ None)) }
@@ -76,12 +95,11 @@ impl Item {
         }
     }
 
-    /// Finds the slot of the key, or makes it as `index_or_insert` does, and returns its place
-    /// among the slots. The item that is there stays, and so does each other one.
+    /// Finds the slot of the key, or makes it as `index_or_insert` does, and returns its number.
     ///
     /// # Errors
     ///
-    /// Those of `index_or_insert`. The item is as it was.
+    /// Those of `index_or_insert`.
     #[doc(hidden)]
     pub fn make_place(&mut self, alloc: Global, key: &str) -> Result<usize, IndexFault>
         ensures made { OnOk result (index_or_inserted key.now (item_view self.old) ≡ Some (item_view self.new)) }
@@ -105,8 +123,8 @@ impl Item {
         }
     }
 
-    /// Makes a placeholder an inline table with a placeholder under the key, and answers its place.
-    /// The only error is want of memory: the item stays as it was.
+    /// Makes a placeholder an inline table with a placeholder under the key, and returns its
+    /// number.
     fn make_inline(&mut self, alloc: Global, key: &str) -> Mem<usize>
         requires { item_view self.old ≡ nothing }
         ensures made { OnOk result (index_or_inserted key.now nothing ≡ Some (item_view self.new)) }
@@ -126,7 +144,7 @@ impl Item {
         }
     }
 
-    /// The slots of a table or an inline table.
+    /// Returns the slots of a table or an inline table, or `None` for any other item.
     #[doc(hidden)]
     pub fn as_slots(&self) -> Option<&Slots<Item>>
         ensures { option_map (λ es. shown_slots es.now) result ≡ slots_in (item_view self.now) }
@@ -138,19 +156,19 @@ impl Item {
         }
     }
 
-    /// The same, to be changed.
+    /// Returns a mutable reference to the slots of a table or an inline table, or `None`.
     #[doc(hidden)]
     pub fn as_slots_mut(&mut self) -> Option<&mut Slots<Item>>
         ensures* writes_back { sem 𝓛 (LendsSlotsIn self.entry result) }
         ensures slots { option_map (λ es. shown_slots es.now) result ≡ slots_in (item_view self.old) }
-        // Other slots are seen as such, and nothing else is; its own leave it as it is.
+        // Writing other slots replaces these alone, and writing them back changes nothing.
         ensures others { (es : List (Slot Item)) → item_view (with_slots es self.old) ≡ on_slots (λ _. shown_slots es) (item_view self.old) }
         ensures own { IfSome result (λ es. with_slots es.now self.old ≡ self.old) }
     {
         self.own_slots_mut()
     }
 
-    /// The slots of an array or an array of tables.
+    /// Returns the slots of an array or an array of tables, or `None` for any other item.
     fn as_items(&self) -> Option<&[Item]>
         ensures { option_map (λ xs. listed xs.now) result ≡ items_in (item_view self.now) }
     {
@@ -161,7 +179,7 @@ impl Item {
         }
     }
 
-    /// The slot at the place of an array or an array of tables, a placeholder too.
+    /// Returns slot `at` of an array or an array of tables, a placeholder too.
     pub(crate) fn slot_at(&self, at: usize) -> Option<&Item>
         ensures { option_map (λ x. item_view x.now) result ≡ indexed (number at) (item_view self.now) }
     {
@@ -171,7 +189,8 @@ impl Item {
         }
     }
 
-    /// The same, to be changed.
+    /// Returns a mutable reference to slot `at` of an array or an array of tables, a placeholder
+    /// too.
     pub(crate) fn slot_at_mut(&mut self, at: usize) -> Option<&mut Item>
         ensures { option_map (λ x. item_view x.now) result ≡ indexed (number at) (item_view self.old) }
     {
@@ -182,7 +201,7 @@ impl Item {
         }
     }
 
-    /// The item under the key of a table or an inline table, which is no placeholder.
+    /// Returns the item under the key of a table or an inline table, unless it is a placeholder.
     pub(crate) fn item_under(&self, key: &str) -> Option<&Item>
         ensures { option_map (λ x. item_view x.now) result ≡ indexed (text key.now) (item_view self.now) }
     {
@@ -192,7 +211,7 @@ impl Item {
         }
     }
 
-    /// The same, to be changed.
+    /// Returns a mutable reference to the item under the key, unless it is a placeholder.
     pub(crate) fn item_under_mut(&mut self, key: &str) -> Option<&mut Item>
         ensures { option_map (λ x. item_view x.now) result ≡ indexed (text key.now) (item_view self.old) }
     {

@@ -1,4 +1,4 @@
-//! Values made of other values.
+//! Values made of sequences.
 ghost use Rattle.std.specs.Prelude.{◌≡◌, [], IfOk, List, map};
 ghost use Rattle.std.specs.Iterator.{Drains, IsFinite};
 ghost use Rattle.toml_edit_model.specs.Conversions.{new_array, new_inline};
@@ -16,7 +16,11 @@ use toml_edit_key::Key;
 use toml_edit_repr::Mem;
 
 impl Value {
-    /// An array of these values, in their order. The only error is want of memory.
+    /// Creates an array of the values, in order and each with its decor.
+    ///
+    /// # Errors
+    ///
+    /// Returns an `AllocError` if out of memory.
     pub fn from_iter<U: IntoIterator<Item = Value>>(alloc: Global, values: U) -> Mem<Value>
         requires { (it : U.IntoIter) → U.into_iter_gives values it → U.IntoIter.can_next it × IsFinite (U.IntoIter.remaining it) }
         ensures { IfOk result (λ value. (it : U.IntoIter) × (vs : List Value) × U.into_iter_gives values it × Drains U.IntoIter.next_gives it vs
@@ -28,8 +32,14 @@ impl Value {
         }
     }
 
-    /// An inline table of the pairs, one put in after another: a key that is there stays with its spelling, decors and place, and gets the
-    /// value; a new one goes last. The only error is want of memory.
+    /// Creates an inline table of the pairs, inserted one after another.
+    ///
+    /// Where a name comes again, its first key keeps its place, its spelling and its decor, and
+    /// gets the later value.
+    ///
+    /// # Errors
+    ///
+    /// Returns an `AllocError` if out of memory.
     pub fn from_pairs<U: IntoIterator<Item = (Key, Value)>>(alloc: Global, pairs: U) -> Mem<Value>
         requires { (it : U.IntoIter) → U.into_iter_gives pairs it → U.IntoIter.can_next it × IsFinite (U.IntoIter.remaining it) }
         ensures { IfOk result (λ value. (it : U.IntoIter) × (ps : List (Key × Value)) × U.into_iter_gives pairs it × Drains U.IntoIter.next_gives it ps
