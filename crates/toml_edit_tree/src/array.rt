@@ -1,4 +1,5 @@
-//! Arrays.
+//! Arrays: the type, its construction, its decor, and reading by index. Its submodules have the
+//! calls that change values, iterate and sort.
 ghost use Rattle.std.specs.Prelude.{◌≡◌, ◌↔◌, [], IsTrue, IfOk, length, option_map};
 ghost use Rattle.std.specs.Borrow.{sem};
 ghost use Rattle.std.specs.Iterator.{YieldsFirstBy, item_count};
@@ -28,8 +29,25 @@ mod replace;
 mod sort;
 mod whole;
 
-/// An array: its values in order, with what stands around them (TOML, "Array"). A slot may be a
-/// placeholder, which isn't printed.
+/// An array of values in brackets (TOML, "Array").
+///
+/// It keeps its values in order, each with its decor, and what is before the closing bracket. A
+/// slot may hold no value: a placeholder, or a table that was written there through
+/// [`Item::get_mut`]. It isn't printed, [`get`](Self::get) and [`iter`](Self::iter) skip it, and
+/// [`len`](Self::len) counts it.
+///
+/// An array of `[[..]]` tables is an [`ArrayOfTables`](crate::ArrayOfTables).
+///
+/// # Examples
+///
+/// ```rust,ignore
+/// for feature in features {
+///     let name = Value::string(alloc, *feature)?;
+///     names.push(name).map_err(no_memory)?;
+/// }
+/// ```
+///
+/// From `add_dependency` of the guide, docs/GUIDE.md.
 #[cycle(tree)]
 #[derive(Debug)]
 pub struct Array {
@@ -58,7 +76,7 @@ impl Drop for Array {
 }
 
 impl Array {
-    /// The slots, and nothing else of the array.
+    /// Returns the slots, and drops all else of the array.
     pub(crate) fn into_values(self) -> Vec<Item>
         ensures { result ≡ self.values }
     {
@@ -74,7 +92,17 @@ impl Array {
         values
     }
 
-    /// No values, which take no memory yet.
+    /// Creates an empty array, which takes no memory before its first value.
+    ///
+    /// Its decor is unset, and there is no trailing comma.
+    ///
+    /// # Examples
+    ///
+    /// ```rust,ignore
+    /// let mut names = Array::new(alloc);
+    /// ```
+    ///
+    /// From `add_dependency` of the guide, docs/GUIDE.md.
     pub fn new(alloc: Global) -> Array
         ensures { array_view result ≡ record { fields = new_array; items = no_items } }
     {
@@ -87,8 +115,8 @@ impl Array {
         }
     }
 
-    /// An array that was read: these values, and the text and the comma behind the last. It stands
-    /// from the byte `start` of the source up to `end`.
+    /// Makes an array of these values that spans the bytes from `start` to `end` of the source,
+    /// with what is after the last value.
     #[doc(hidden)]
     pub fn spanned(
         values: Vec<Item>,
@@ -108,28 +136,39 @@ impl Array {
         }
     }
 
-    /// How many slots there are, placeholders among them.
+    /// Returns the number of slots, those without a value included.
     pub fn len(&self) -> usize
         ensures { result ≡ length (items_of self.now) }
     {
         self.values.len()
     }
 
-    /// Whether there are no slots.
+    /// Returns `true` if there are no slots.
     pub fn is_empty(&self) -> bool
         ensures { IsTrue result ↔ (items_of self.now ≡ []) }
     {
         self.len() == 0
     }
 
-    /// The value at the place, or `None` where there is no slot or the slot holds no value.
+    /// Returns the value at index `at`, or `None` past the end and where the slot holds none.
     pub fn get(&self, at: usize) -> Option<&Value>
         ensures { option_map (λ v. value_view v.now) result ≡ value_at at (items_of self.now) }
     {
         toml_edit_lists::get(self.values.as_slice(), at)
     }
 
-    /// The values in order, without placeholders.
+    /// Iterates over the values in order, without slots that hold none.
+    ///
+    /// There is no `iter_mut`: for each index below [`len`](Self::len), use
+    /// [`get_mut`](Self::get_mut).
+    ///
+    /// # Examples
+    ///
+    /// ```rust,ignore
+    /// let last = array.iter().last().map(|value| value.decor());
+    /// ```
+    ///
+    /// From `push_line` of the guide, docs/GUIDE.md.
     pub fn iter(&self) -> ArrayIter<'_>
         ensures { values_left result ≡ values_seen (items_of self.now) }
     {
@@ -138,42 +177,67 @@ impl Array {
         }
     }
 
-    /// Whether a comma stands after the last value.
+    /// Returns `true` if a comma follows the last value.
     pub fn trailing_comma(&self) -> bool
         ensures { result ≡ (array_view self.now).fields.comma }
     {
         self.trailing_comma
     }
 
-    /// Says whether a comma is to stand after the last value. An array without values has none.
+    /// Sets whether a comma follows the last value.
+    ///
+    /// An array that shows no value prints none.
+    ///
+    /// # Examples
+    ///
+    /// ```rust,ignore
+    /// array.set_trailing_comma(true);
+    /// array.set_trailing(end);
+    /// ```
+    ///
+    /// From `push_line` of the guide, docs/GUIDE.md.
     pub fn set_trailing_comma(&mut self, trailing_comma: bool)
         ensures { array_view self.new ≡ array_with_comma trailing_comma (array_view self.old) }
     {
         self.trailing_comma = trailing_comma;
     }
 
-    /// The text between the last value, or the comma after it, and the closing bracket.
+    /// Returns the whitespace and comments between the last value, or the comma after it, and the
+    /// closing bracket.
+    ///
+    /// In a parsed array without a trailing comma, that text is in the suffix of the last value
+    /// instead.
     pub fn trailing(&self) -> &RawString
         ensures { result.now ≡ (array_view self.now).fields.trailing }
     {
         &self.trailing
     }
 
-    /// Puts another text before the closing bracket.
+    /// Sets the whitespace and comments between the last value, or the comma after it, and the
+    /// closing bracket.
+    ///
+    /// # Examples
+    ///
+    /// ```rust,ignore
+    /// array.set_trailing_comma(true);
+    /// array.set_trailing(end);
+    /// ```
+    ///
+    /// From `push_line` of the guide, docs/GUIDE.md.
     pub fn set_trailing(&mut self, trailing: RawString)
         ensures { array_view self.new ≡ array_with_trailing trailing (array_view self.old) }
     {
         self.trailing = trailing;
     }
 
-    /// What stands around it.
+    /// Returns the whitespace and comments around the array.
     pub fn decor(&self) -> &Decor
         ensures { result.now ≡ (array_view self.now).fields.decor }
     {
         &self.decor
     }
 
-    /// What stands around it, to be changed.
+    /// Returns a mutable reference to the whitespace and comments around the array.
     pub fn decor_mut(&mut self) -> &mut Decor
         ensures* writes_back { sem 𝓛 (LendsArrayDecor self.entry result) }
         ensures decor { result.now ≡ (array_view self.old).fields.decor }
@@ -181,8 +245,9 @@ impl Array {
         &mut self.decor
     }
 
-    /// The bytes of the source from the opening bracket to the closing one, if it was read and
-    /// still is over its source.
+    /// Returns the byte range of the array in the source, both brackets included.
+    ///
+    /// It is `None` for an array that was made, and in a `DocumentMut`: ask before `into_mut`.
     pub fn span(&self) -> Option<Range<usize>>
         ensures { result ≡ range_in (array_view self.now).fields.extent }
     {
@@ -190,7 +255,11 @@ impl Array {
         Some(start..end)
     }
 
-    /// An equal copy. The only error is want of memory.
+    /// Copies the array, with all spellings, decors and spans.
+    ///
+    /// # Errors
+    ///
+    /// Returns an `AllocError` if out of memory.
     pub fn clone(&self, alloc: Global) -> Mem<Array>
         ensures { IfOk result (λ copy. array_view copy ≡ array_view self.now) }
     {
@@ -210,7 +279,9 @@ impl fmt::Display for Array {
     }
 }
 
-/// The values of an array, in order.
+/// An iterator over the values of an array, in order.
+///
+/// Returned by [`Array::iter`].
 #[derive(Drop)]
 pub struct ArrayIter<'a> {
     items: slice::Iter<'a, Item>,

@@ -1,4 +1,5 @@
-//! Arrays of tables.
+//! Arrays of tables: the type, its construction, and its sizes. Its submodules have the calls that
+//! change tables and iterate.
 ghost use Rattle.std.specs.Prelude.{◌≡◌, ◌↔◌, [], None, Some, IsTrue, IfOk, OnOk, length};
 ghost use Rattle.std.specs.Iterator.{YieldsFirstBy, item_count};
 ghost use Rattle.toml_edit_model.specs.Iterating.{elements};
@@ -24,8 +25,23 @@ mod lent;
 mod shown;
 mod whole;
 
-/// An array of tables: its elements in order, each with a header in double brackets (TOML, "Array
-/// of Tables"). A slot may hold no table, and then isn't printed.
+/// An array of tables, each with a header in double brackets (TOML, "Array of Tables").
+///
+/// A slot may hold no table, and then isn't printed: [`get`](Self::get) and [`iter`](Self::iter)
+/// skip it, and [`len`](Self::len) counts it. An array that shows no table isn't printed.
+///
+/// An array of inline tables in brackets is an [`Array`](crate::Array).
+///
+/// # Examples
+///
+/// ```rust,ignore
+/// let mut tables = ArrayOfTables::new(alloc);
+/// tables.push(element).map_err(no_memory)?;
+/// let item = Item::ArrayOfTables(tables);
+/// drop(root.insert(name, item).map_err(no_memory)?);
+/// ```
+///
+/// From `add_element` of the guide, docs/GUIDE.md.
 #[cycle(tree)]
 #[derive(Debug)]
 pub struct ArrayOfTables {
@@ -43,7 +59,7 @@ impl Drop for ArrayOfTables {
 }
 
 impl ArrayOfTables {
-    /// The slots, and nothing else of the array of tables.
+    /// Returns the slots, and drops all else of the array of tables.
     pub(crate) fn into_values(self) -> Vec<Item>
         ensures { result ≡ self.values }
     {
@@ -51,7 +67,18 @@ impl ArrayOfTables {
         values
     }
 
-    /// No tables, which take no memory yet.
+    /// Creates an empty array of tables, which takes no memory before its first table.
+    ///
+    /// It isn't printed as long as it is empty, since TOML has no form for it.
+    ///
+    /// # Examples
+    ///
+    /// ```rust,ignore
+    /// let mut tables = ArrayOfTables::new(alloc);
+    /// tables.push(element).map_err(no_memory)?;
+    /// ```
+    ///
+    /// From `add_element` of the guide, docs/GUIDE.md.
     pub fn new(alloc: Global) -> ArrayOfTables
         ensures { tables_view result ≡ record { extent = None; items = no_items } }
     {
@@ -61,8 +88,8 @@ impl ArrayOfTables {
         }
     }
 
-    /// No tables, as yet: what is to be read below headers in double brackets, the first of which
-    /// stands from the byte `start` of the source up to `end`.
+    /// Makes an empty array of tables, whose first header spans the bytes from `start` to `end` of
+    /// the source.
     #[doc(hidden)]
     pub fn begun(alloc: Global, start: usize, end: usize) -> ArrayOfTables
         ensures { tables_view result ≡ record { extent = Some (start, end); items = no_items } }
@@ -73,8 +100,11 @@ impl ArrayOfTables {
         }
     }
 
-    /// One more element, the header of which ends before the byte `end` of the source. The only
-    /// error is want of memory.
+    /// Adds an element whose header ends before the byte `end` of the source.
+    ///
+    /// # Errors
+    ///
+    /// Returns an `AllocError` if out of memory. No contract says what the array of tables is then.
     #[doc(hidden)]
     pub fn add_element(&mut self, element: Item, end: usize) -> Mem<()>
         ensures { OnOk result (tables_view self.new ≡ record {
@@ -89,21 +119,24 @@ impl ArrayOfTables {
         Ok(())
     }
 
-    /// How many slots there are, those without a table among them.
+    /// Returns the number of slots, those without a table included.
     pub fn len(&self) -> usize
         ensures { result ≡ length (tables_of self.now) }
     {
         self.values.len()
     }
 
-    /// Whether there are no slots.
+    /// Returns `true` if there are no slots.
     pub fn is_empty(&self) -> bool
         ensures { IsTrue result ↔ (tables_of self.now ≡ []) }
     {
         self.len() == 0
     }
 
-    /// The tables in order. Slots without one are left out.
+    /// Iterates over the tables in order, without slots that hold none.
+    ///
+    /// There is no `iter_mut`: for each index below [`len`](Self::len), use
+    /// [`get_mut`](Self::get_mut).
     pub fn iter(&self) -> ArrayOfTablesIter<'_>
         ensures { tables_left result ≡ elements (tables_of self.now) }
     {
@@ -112,8 +145,9 @@ impl ArrayOfTables {
         }
     }
 
-    /// The bytes of the source from the first header to the last, if it was read and still is over
-    /// its source.
+    /// Returns the byte range from the first header to the last in the source, brackets included.
+    ///
+    /// It is `None` for an array that was made, and in a `DocumentMut`: ask before `into_mut`.
     pub fn span(&self) -> Option<Range<usize>>
         ensures { result ≡ range_in (tables_view self.now).extent }
     {
@@ -121,7 +155,11 @@ impl ArrayOfTables {
         Some(start..end)
     }
 
-    /// An equal copy. The only error is want of memory.
+    /// Copies the array of tables, with all spellings, decors, spans and positions.
+    ///
+    /// # Errors
+    ///
+    /// Returns an `AllocError` if out of memory.
     pub fn clone(&self, alloc: Global) -> Mem<ArrayOfTables>
         ensures { IfOk result (λ copy. tables_view copy ≡ tables_view self.now) }
     {
@@ -129,7 +167,7 @@ impl ArrayOfTables {
     }
 }
 
-/// Puts an item last.
+/// Adds an item at the end.
 fn push_element(items: &mut Vec<Item>, element: Item) -> Mem<()>
     ensures { OnOk result (items_view items.new.items ≡ with_item (items_view items.old.items) (item_view element)) }
 {
@@ -137,7 +175,9 @@ fn push_element(items: &mut Vec<Item>, element: Item) -> Mem<()>
     Ok(())
 }
 
-/// The tables of an array of tables, in order.
+/// An iterator over the tables of an array of tables, in order.
+///
+/// Returned by [`ArrayOfTables::iter`].
 #[derive(Drop)]
 pub struct ArrayOfTablesIter<'a> {
     items: slice::Iter<'a, Item>,

@@ -1,4 +1,5 @@
-//! Items made values, and values made tables, in place: no list is built anew, so no conversion takes memory.
+//! Conversions in place: of items to values, and of values to tables. The list of slots is kept, so
+//! none takes memory.
 ghost use Rattle.std.specs.Prelude.{◌≡◌, None, Some, IfErr, IfOk, map};
 ghost use Rattle.toml_edit_model.specs.Conversions.{into_table, into_tables, into_value, made_table, made_value, may_be_tables, new_array, new_inline, with_decor};
 ghost use Rattle.toml_edit_model.specs.Tree.{inline, is_value_node, list, unset};
@@ -18,8 +19,15 @@ use toml_edit_repr::{Decor, RawString};
 use toml_edit_slots::Slots;
 
 impl Item {
-    /// The value that it is or can be made: a table becomes an inline table, an array of tables an array, and so on below. `Err` is the
-    /// item, a placeholder. It takes no memory.
+    /// Converts the item into a value: a table into an inline table, and an array of tables into an
+    /// array.
+    ///
+    /// So are the items below them. A value is returned as it is. Of a table, the decors of keys
+    /// and values are unset and the header is dropped, so its comments are removed.
+    ///
+    /// # Errors
+    ///
+    /// Returns the item if it is a placeholder.
     pub fn into_value(self) -> Result<Value, Item>
         ensures ok { IfOk result (λ value. into_value (item_view self) ≡ Some (value_view value)) }
         ensures err { IfErr result (λ item. (into_value (item_view self) ≡ None) × (item ≡ self)) }
@@ -32,7 +40,7 @@ impl Item {
         }
     }
 
-    /// Makes it a value, as `into_value` does. A placeholder stays one. It takes no memory.
+    /// Makes the item a value, as [`into_value`](Self::into_value) does. A placeholder stays one.
     pub fn make_value(&mut self)
         ensures { item_view self.new ≡ made_value (item_view self.old) }
     {
@@ -40,8 +48,14 @@ impl Item {
         renew(self);
     }
 
-    /// The table that it is or can be made: an inline table becomes one, with the decors of its keys and values unset. `Err` is the item,
-    /// unchanged. It takes no memory.
+    /// Converts the item into a table.
+    ///
+    /// A table is returned as it is. An inline table is converted as by
+    /// [`InlineTable::into_table`], with the decors of its keys and values unset.
+    ///
+    /// # Errors
+    ///
+    /// Returns the item, unchanged, if it is neither a table nor an inline table.
     pub fn into_table(self) -> Result<Table, Item>
         ensures ok { IfOk result (λ table. into_table (item_view self) ≡ Some (table_node (table_view table))) }
         ensures err { IfErr result (λ item. (into_table (item_view self) ≡ None) × (item ≡ self)) }
@@ -56,8 +70,15 @@ impl Item {
         }
     }
 
-    /// The array of tables that it is or can be made: an array that has at least one slot, and no values but inline tables, becomes one,
-    /// with each inline table made a table. `Err` is the item, unchanged. It takes no memory.
+    /// Converts the item into an array of tables.
+    ///
+    /// An array of tables is returned as it is. An array is converted if it has at least one slot,
+    /// and no values but inline tables: each becomes a table as by [`InlineTable::into_table`], and
+    /// the other slots stay.
+    ///
+    /// # Errors
+    ///
+    /// Returns the item, unchanged, if it is anything else.
     pub fn into_array_of_tables(self) -> Result<ArrayOfTables, Item>
         ensures ok { IfOk result (λ tables. into_tables (item_view self) ≡ Some (tables_node (tables_view tables))) }
         ensures err { IfErr result (λ item. (into_tables (item_view self) ≡ None) × (item ≡ self)) }
@@ -77,8 +98,11 @@ impl Item {
 }
 
 impl Table {
-    /// An inline table of its slots: each item is made a value, and the decors of their keys and of the values are unset. What is kept of
-    /// its header goes. It takes no memory.
+    /// Converts the table into an inline table of its slots.
+    ///
+    /// Each item is made a value, as by [`Item::make_value`]. The decors of the values and of their
+    /// keys are unset, and the decor, the position and the flags of the table are dropped, so its
+    /// comments are removed. Spellings stay.
     pub fn into_inline_table(self) -> InlineTable
         ensures { inline_node (inline_view result) ≡ made_value (table_node (table_view self)) }
     {
@@ -89,8 +113,10 @@ impl Table {
 }
 
 impl ArrayOfTables {
-    /// An array of its slots: each item is made a value; nothing stands around the first value, and one space before each of the others.
-    /// It takes no memory.
+    /// Converts the array of tables into an array of its slots.
+    ///
+    /// Each table is made an inline table, as by [`Table::into_inline_table`], and the array is
+    /// formatted on one line, as by [`Array::fmt`](Array::fmt).
     pub fn into_array(self) -> Array
         ensures { array_node (array_view result) ≡ made_value (tables_node (tables_view self)) }
     {
@@ -101,8 +127,11 @@ impl ArrayOfTables {
 }
 
 impl InlineTable {
-    /// A table of its slots, with the decors of keys that hold a value and of the values unset. Nothing else of it stays. It takes no
-    /// memory.
+    /// Converts the inline table into a table of its slots.
+    ///
+    /// The decors of the values and of their keys are unset, and all else of the inline table is
+    /// dropped: its decor, what is before the closing brace, and the flag `dotted`. Spellings stay,
+    /// and so do inline tables inside. The table has no position.
     pub fn into_table(self) -> Table
         ensures { table_node (table_view result) ≡ made_table (inline_node (inline_view self)) }
     {
@@ -114,7 +143,7 @@ impl InlineTable {
 
 // ---- to values
 
-/// Makes each item below it a value, if it is a table or an array of tables.
+/// Makes each item inside a table or an array of tables a value.
 #[cycle(convert)]
 fn make_inside(item: &mut Item)
     ensures { item_view item.new ≡ inside_made (item_view item.old) }
@@ -163,7 +192,7 @@ fn make_items(items: &mut Vec<Item>)
     }
 }
 
-/// Makes a table the inline table of its slots, and an array of tables the array of its own.
+/// Makes a table the inline table of its slots, and an array of tables the array of its slots.
 fn renew(item: &mut Item)
     ensures { item_view item.new ≡ in_new_form (item_view item.old) }
 {
@@ -181,7 +210,7 @@ fn renewed(item: Item) -> Item
     }
 }
 
-/// A new inline table of these slots, formatted.
+/// Makes a new inline table of these slots, formatted.
 fn inline_of(slots: Slots<Item>) -> InlineTable
     ensures { inline_node (inline_view result) ≡ inline new_inline (formatted_slots (slots_view slots)) }
 {
@@ -198,7 +227,7 @@ fn inline_of(slots: Slots<Item>) -> InlineTable
     }
 }
 
-/// A new array of these items, formatted.
+/// Makes a new array of these items, formatted.
 fn array_of(items: Vec<Item>) -> Array
     ensures { array_node (array_view result) ≡ list new_array (formatted_elements (items_view items.items)) }
 {
@@ -207,7 +236,7 @@ fn array_of(items: Vec<Item>) -> Array
     array
 }
 
-/// A new array of these items as they are.
+/// Makes a new array of these items as they are.
 fn bare_array(values: Vec<Item>) -> Array
     ensures { array_view result ≡ record { fields = new_array; items = items_view values.items } }
 {
@@ -222,7 +251,7 @@ fn bare_array(values: Vec<Item>) -> Array
 
 // ---- to tables
 
-/// A new table of these slots.
+/// Makes a new table of these slots.
 fn table_of(slots: Slots<Item>) -> Table
     ensures { table_view result ≡ record { fields = new_table; slots = slots_view slots } }
 {
@@ -236,7 +265,7 @@ fn table_of(slots: Slots<Item>) -> Table
     }
 }
 
-/// The array of tables that an array can be made. `Err` is the array, unchanged.
+/// Converts an array into an array of tables, or returns it where that can't be.
 fn array_as_tables(array: Array) -> Result<ArrayOfTables, Array>
     ensures ok { IfOk result (λ tables. into_tables (array_node (array_view array)) ≡ Some (tables_node (tables_view tables))) }
     ensures err { IfErr result (λ back. (into_tables (array_node (array_view array)) ≡ None) × (back ≡ array)) }
@@ -248,7 +277,7 @@ fn array_as_tables(array: Array) -> Result<ArrayOfTables, Array>
     }
 }
 
-/// Whether there is one at least, and no value but inline tables.
+/// Returns `true` if there is an item, and no value but inline tables.
 fn can_be_tables(items: &[Item]) -> bool
     ensures { result ≡ may_be_tables (map item_view items.now) }
 {
@@ -260,7 +289,7 @@ fn can_be_tables(items: &[Item]) -> bool
     !items.is_empty()
 }
 
-/// Whether it is an inline table or no value.
+/// Returns `true` if the item is an inline table or no value.
 fn can_be_table(item: &Item) -> bool
     ensures { result ≡ suits_tables (item_view item.now) }
 {
@@ -270,7 +299,7 @@ fn can_be_table(item: &Item) -> bool
     }
 }
 
-/// A new array of tables of these items, with each inline table made a table.
+/// Makes a new array of tables of these items, with each inline table made a table.
 fn tables_of_items(items: Vec<Item>) -> ArrayOfTables
     ensures { tables_view result ≡ record { extent = None; items = tables_made (items_view items.items) } }
 {
@@ -309,7 +338,7 @@ fn as_table(item: Item) -> Item
 
 // ---- the decors of what a container holds
 
-/// Unsets the decors of each slot's key and value, where it holds a value.
+/// Unsets the decors of each value and of its key.
 pub(crate) fn format_slots(slots: &mut Slots<Item>)
     ensures { slots_view slots.new ≡ formatted_slots (slots_view slots.old) }
 {
@@ -321,7 +350,7 @@ pub(crate) fn format_slots(slots: &mut Slots<Item>)
     }
 }
 
-/// Unsets its decor, if it is a value; whether it is.
+/// Unsets the decor of a value, and returns whether the item is one.
 fn undecorate(item: &mut Item) -> bool
     ensures kind { result ≡ is_value_node (item_view item.old) }
     ensures item { item_view item.new ≡ with_decor unset (item_view item.old) }

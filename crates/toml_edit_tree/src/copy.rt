@@ -1,4 +1,4 @@
-//! Equal copies of items, written out for each type that holds others.
+//! Copies of items, with a function for each type that holds others.
 ghost use Rattle.std.specs.Prelude.{◌≡◌, IfOk};
 ghost use Rattle.toml_edit_tree.specs.View.{array_view, inline_view, item_view, items_view, slots_view, table_view, tables_view, value_view};
 

@@ -1,4 +1,5 @@
-//! Items over their source, put in owned form in place: each span becomes the text that stands there.
+//! Replacing the spans of items by texts, in place, with a function for each type that holds
+//! others.
 ghost use Rattle.std.specs.Prelude.{◌≡◌, OnOk};
 ghost use Rattle.toml_edit_model.specs.Tree.{IsWellMade, ItemsAreWellMade, SlotsAreWellMade};
 ghost use Rattle.toml_edit_tree.specs.Containers.{array_node, inline_node, table_node, tables_node};

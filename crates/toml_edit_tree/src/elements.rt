@@ -1,4 +1,4 @@
-//! The items of arrays and of arrays of tables, by what they hold: a value, or a table.
+//! Lists of items as lists of values or of tables, for arrays and arrays of tables.
 ghost use Rattle.std.specs.Prelude.{◌≡◌, ◌≤◌, Some, IsSome, IfErr, OnErr, OnOk, length};
 ghost use Rattle.std.proofs.Common.{rules};
 ghost use Rattle.toml_edit_model.specs.ArrayCalls.{inserted_at, pushed, removed_at, value_at, written_at};
@@ -67,7 +67,7 @@ impl Holds<Table> for Item {
     ghost holds = { Prim.search (rules, the_lemmas) };
 }
 
-/// Takes out the value at a place.
+/// Removes the value at the index and returns it.
 pub(crate) fn take_value(items: &mut Vec<Item>, at: usize) -> Value
     requires { IsSome (value_at at (listed items.old.items)) }
     ensures value { Some (value_view result) ≡ value_at at (listed items.old.items) }
@@ -76,7 +76,7 @@ pub(crate) fn take_value(items: &mut Vec<Item>, at: usize) -> Value
     toml_edit_lists::remove(items, at)
 }
 
-/// Takes out the table at a place.
+/// Removes the table at the index and returns it.
 pub(crate) fn take_table(items: &mut Vec<Item>, at: usize) -> Table
     requires { IsSome (table_at at (listed items.old.items)) }
     ensures table { Some (table_node (table_view result)) ≡ table_at at (listed items.old.items) }
@@ -85,7 +85,7 @@ pub(crate) fn take_table(items: &mut Vec<Item>, at: usize) -> Table
     toml_edit_lists::remove(items, at)
 }
 
-/// Puts a value in the place of the one there, which is the answer.
+/// Replaces the value at the index and returns the old one.
 pub(crate) fn replace_value(items: &mut Vec<Item>, at: usize, value: Value) -> Value
     requires { IsSome (value_at at (listed items.old.items)) }
     ensures value { Some (value_view result) ≡ value_at at (listed items.old.items) }
@@ -94,7 +94,7 @@ pub(crate) fn replace_value(items: &mut Vec<Item>, at: usize, value: Value) -> V
     toml_edit_lists::replace(items, at, value)
 }
 
-/// Puts a table in the place of the one there, which is the answer.
+/// Replaces the table at the index and returns the old one.
 pub(crate) fn replace_table(items: &mut Vec<Item>, at: usize, table: Table) -> Table
     requires { IsSome (table_at at (listed items.old.items)) }
     ensures table { Some (table_node (table_view result)) ≡ table_at at (listed items.old.items) }
@@ -103,7 +103,7 @@ pub(crate) fn replace_table(items: &mut Vec<Item>, at: usize, table: Table) -> T
     toml_edit_lists::replace(items, at, table)
 }
 
-/// Puts a value last. The only error is want of memory: the list stays, and the error has the value.
+/// Adds a value at the end.
 pub(crate) fn push_value(items: &mut Vec<Item>, value: Value) -> Result<(), NoMemory<Value>>
     ensures items { OnOk result (listed items.new.items ≡ pushed (value_view value) (listed items.old.items)) }
     ensures err { OnErr result (items_view items.new.items ≡ items_view items.old.items) }
@@ -115,7 +115,7 @@ pub(crate) fn push_value(items: &mut Vec<Item>, value: Value) -> Result<(), NoMe
     }
 }
 
-/// Puts a table last. The only error is want of memory: the list stays, and the error has the table.
+/// Adds a table at the end.
 pub(crate) fn push_table(items: &mut Vec<Item>, table: Table) -> Result<(), NoMemory<Table>>
     ensures items { OnOk result (listed items.new.items ≡ pushed (table_node (table_view table)) (listed items.old.items)) }
     ensures err { OnErr result (items_view items.new.items ≡ items_view items.old.items) }
@@ -127,7 +127,7 @@ pub(crate) fn push_table(items: &mut Vec<Item>, table: Table) -> Result<(), NoMe
     }
 }
 
-/// Puts a value at a place, before what stood there. The only error is want of memory: the list stays, and the error has the value.
+/// Inserts a value before what is at the index.
 pub(crate) fn insert_value(
     items: &mut Vec<Item>,
     at: usize,
@@ -144,7 +144,7 @@ pub(crate) fn insert_value(
     }
 }
 
-/// Puts a table at a place, before what stood there. The only error is want of memory: the list stays, and the error has the table.
+/// Inserts a table before what is at the index.
 pub(crate) fn insert_table(
     items: &mut Vec<Item>,
     at: usize,

@@ -1,4 +1,4 @@
-//! The slots of tables, put in the order in which their keys begin in the source, in place.
+//! Putting the slots of parsed tables in the order of their keys in the source.
 ghost use Rattle.std.specs.Prelude.{◌≡◌, OnOk};
 ghost use Rattle.toml_edit_laws.specs.PlaceOrder.{items_by_place, node_by_place, slots_by_place};
 ghost use Rattle.toml_edit_tree.specs.Containers.{table_node, tables_node};
@@ -10,8 +10,14 @@ use crate::table::Table;
 use toml_edit_repr::Mem;
 use toml_edit_slots::Slots;
 
-/// Puts these slots, and those of each table below them, in the order in which the spellings of their keys begin in the source. Values stay
-/// as they are. The only error is want of memory; then some tables may be in order and others not.
+/// Sorts these slots, and those of each table below them, by where the spellings of their keys
+/// begin in the source.
+///
+/// Values stay as they are.
+///
+/// # Errors
+///
+/// Returns an `AllocError` if out of memory. Some tables may be sorted then and others not.
 #[cycle(order)]
 pub fn put_in_order(slots: &mut Slots<Item>) -> Mem<()>
     ensures { OnOk result (slots_view slots.new ≡ slots_by_place (slots_view slots.old)) }

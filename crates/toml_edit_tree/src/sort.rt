@@ -1,4 +1,4 @@
-//! Slots sorted by a closure or by the names of their keys, and those of the dotted tables inside.
+//! Sorts of a table and of the dotted tables inside it.
 ghost use Rattle.std.specs.Prelude.{◌≡◌, IsPermutation, OnErr, OnOk};
 ghost use Rattle.toml_edit_model.specs.Lists.{is_dotted_table, slots_from};
 ghost use Rattle.toml_edit_model.specs.Sorting.{IsDeepReorder, IsDeepSort, ReordersItem, name_lt, sorted_slots};
@@ -16,12 +16,20 @@ use toml_edit_repr::Mem;
 use toml_edit_slots::{Slot, Slots};
 
 impl Table {
-    /// Sorts the slots by the bytes of their names, and likewise those of the dotted tables inside. The only error is want of memory; then
-    /// the slots of some tables may be sorted and others not, and none is lost.
+    /// Sorts the slots by the bytes of the names of their keys, and those of dotted tables inside
+    /// likewise.
+    ///
+    /// Each slot moves with its decors. Tables inside that have a header keep their order of slots.
+    /// Headers with a position are printed by it, whatever the order of slots.
+    ///
+    /// # Errors
+    ///
+    /// Returns an `AllocError` if out of memory. Some of the tables may be sorted then and others
+    /// not, but no slot is lost.
     pub fn sort_values(&mut self) -> Mem<()>
         ensures reorders { IsDeepReorder is_dotted_table (slots_of self.old) (slots_of self.new) }
         ensures sorted { OnOk result (IsDeepSort is_dotted_table name_lt (slots_of self.old) (slots_of self.new)) }
-        // The order of names is lawful, so that there is one such list.
+        // The order of names is a lawful one, so exactly one list is in order.
         ensures in_order { OnOk result (slots_of self.new ≡ sorted_slots is_dotted_table (slots_from (slots_of self.old))) }
         ensures fields { fields_view self.new ≡ fields_view self.old }
     {
@@ -31,8 +39,16 @@ impl Table {
         )
     }
 
-    /// Sorts the slots by the closure, which is shown their keys and items, and likewise those of the dotted tables inside. Ties keep their
-    /// order. The only error is want of memory; then the slots of some tables may be sorted and others not, and none is lost.
+    /// Sorts the slots by `compare`, and those of dotted tables inside likewise. The sort is
+    /// stable.
+    ///
+    /// The closure is passed the key and the item of two slots, and sees placeholders as
+    /// `Item::None`. Where it is not a strict weak order, the order is any.
+    ///
+    /// # Errors
+    ///
+    /// Returns an `AllocError` if out of memory. Some of the tables may be sorted then and others
+    /// not, but no slot is lost.
     pub fn sort_values_by<F: Fn(&Key, &Item, &Key, &Item) -> Ordering>(
         &mut self,
         compare: F,
@@ -48,8 +64,7 @@ impl Table {
     }
 }
 
-/// Sorts these slots by the closure, and likewise those of the dotted tables inside. The only error is want of memory; then some tables may
-/// be sorted and others not.
+/// Sorts these slots, and those of dotted tables inside. On an error some tables may be sorted.
 #[cycle(sort)]
 fn sort_slots<F: Fn(&Key, &Item, &Key, &Item) -> Ordering>(
     slots: &mut Slots<Item>,
@@ -67,7 +82,7 @@ fn sort_slots<F: Fn(&Key, &Item, &Key, &Item) -> Ordering>(
     Ok(())
 }
 
-/// Sorts the slots of the item by the closure, if it is a dotted table.
+/// Sorts the slots of the item, if it is a dotted table.
 #[cycle(sort)]
 fn sort_item<F: Fn(&Key, &Item, &Key, &Item) -> Ordering>(item: &mut Item, compare: &F) -> Mem<()>
     requires { F.IsAlwaysCallable compare.now }
@@ -82,7 +97,7 @@ fn sort_item<F: Fn(&Key, &Item, &Key, &Item) -> Ordering>(item: &mut Item, compa
     }
 }
 
-/// The same of a table.
+/// Sorts the slots of the table, if it is dotted.
 #[cycle(sort)]
 fn sort_table<F: Fn(&Key, &Item, &Key, &Item) -> Ordering>(
     table: &mut Table,
@@ -99,7 +114,7 @@ fn sort_table<F: Fn(&Key, &Item, &Key, &Item) -> Ordering>(
     }
 }
 
-/// Sorts these slots by the closure, and none inside. The only error is want of memory, and then they stay.
+/// Sorts these slots, and none inside.
 pub(crate) fn sort_items<F: Fn(&Key, &Item, &Key, &Item) -> Ordering>(
     slots: &mut Slots<Item>,
     compare: &F,

@@ -1,4 +1,4 @@
-//! Changes of an array by place.
+//! Calls that insert, replace and remove values of an array by index.
 ghost use Rattle.std.specs.Prelude.{◌≡◌, ◌≤◌, [], Some, IsSome, IfErr, OnErr, OnOk, length};
 ghost use Rattle.toml_edit_model.specs.ArrayCalls.{inserted_at, pushed, removed_at, value_at, written_at};
 ghost use Rattle.toml_edit_tree.specs.Elements.{array_fields, items_of};
@@ -10,7 +10,8 @@ use crate::value::Value;
 use toml_edit_slots::NoMemory;
 
 impl Array {
-    /// Takes all slots out.
+    /// Removes all slots, and keeps the decor, the trailing comma and what is before the closing
+    /// bracket.
     pub fn clear(&mut self)
         ensures items { items_of self.new ≡ [] }
         ensures fields { array_fields self.new ≡ array_fields self.old }
@@ -18,7 +19,10 @@ impl Array {
         self.values.clear();
     }
 
-    /// Takes out the value at the place, which is the answer. The others keep their order.
+    /// Removes the value at index `at` and returns it, keeping the order of the others.
+    ///
+    /// Its decor comes with it, so a comment after the comma before it goes too. A contract
+    /// requires that there is a value: ask [`get`](Self::get).
     pub fn remove(&mut self, at: usize) -> Value
         requires { IsSome (value_at at (items_of self.old)) }
         ensures value { Some (value_view result) ≡ value_at at (items_of self.old) }
@@ -28,7 +32,11 @@ impl Array {
         take_value(&mut self.values, at)
     }
 
-    /// Puts the value, with what stands around it, in the place of the one there, which is the answer.
+    /// Replaces the value at index `at` and returns the old one.
+    ///
+    /// The new value keeps its own decor. To give it that of the old one, use
+    /// [`replace`](Self::replace). A contract requires that there is a value: ask
+    /// [`get`](Self::get).
     pub fn replace_formatted(&mut self, at: usize, value: Value) -> Value
         requires { IsSome (value_at at (items_of self.old)) }
         ensures value { Some (value_view result) ≡ value_at at (items_of self.old) }
@@ -38,7 +46,23 @@ impl Array {
         replace_value(&mut self.values, at, value)
     }
 
-    /// Puts the value last, with what stands around it. The only error is want of memory: the array stays, and the error has the value.
+    /// Adds `value` at the end, with its decor.
+    ///
+    /// An unset prefix prints as one space, or as nothing before the first value. To write it on a
+    /// line of its own, see `push_line` of the guide.
+    ///
+    /// # Errors
+    ///
+    /// Returns a [`NoMemory`] with `value` if out of memory.
+    ///
+    /// # Examples
+    ///
+    /// ```rust,ignore
+    /// let name = Value::string(alloc, *feature)?;
+    /// names.push(name).map_err(no_memory)?;
+    /// ```
+    ///
+    /// From `add_dependency` of the guide, docs/GUIDE.md.
     pub fn push(&mut self, value: Value) -> Result<(), NoMemory<Value>>
         ensures items { OnOk result (items_of self.new ≡ pushed (value_view value) (items_of self.old)) }
         ensures fields { array_fields self.new ≡ array_fields self.old }
@@ -48,7 +72,11 @@ impl Array {
         push_value(&mut self.values, value)
     }
 
-    /// As `push`.
+    /// Adds `value` at the end, with its decor, as [`push`](Self::push) does.
+    ///
+    /// # Errors
+    ///
+    /// Returns a [`NoMemory`] with `value` if out of memory.
     pub fn push_formatted(&mut self, value: Value) -> Result<(), NoMemory<Value>>
         ensures items { OnOk result (items_of self.new ≡ pushed (value_view value) (items_of self.old)) }
         ensures fields { array_fields self.new ≡ array_fields self.old }
@@ -58,8 +86,14 @@ impl Array {
         self.push(value)
     }
 
-    /// Puts the value, with what stands around it, at the place, before what stood there. The only error is want of memory: the array
-    /// stays, and the error has the value.
+    /// Inserts `value`, with its decor, before what is at index `at`.
+    ///
+    /// A contract requires that `at` is at most [`len`](Self::len); there the value is added at the
+    /// end. An unset prefix prints as one space, or as nothing before the first value.
+    ///
+    /// # Errors
+    ///
+    /// Returns a [`NoMemory`] with `value` if out of memory.
     pub fn insert(&mut self, at: usize, value: Value) -> Result<(), NoMemory<Value>>
         requires { at ≤ length (items_of self.old) }
         ensures items { OnOk result (items_of self.new ≡ inserted_at at (value_view value) (items_of self.old)) }
@@ -70,7 +104,12 @@ impl Array {
         insert_value(&mut self.values, at, value)
     }
 
-    /// As `insert`.
+    /// Inserts `value`, with its decor, before what is at index `at`, as [`insert`](Self::insert)
+    /// does.
+    ///
+    /// # Errors
+    ///
+    /// Returns a [`NoMemory`] with `value` if out of memory.
     pub fn insert_formatted(&mut self, at: usize, value: Value) -> Result<(), NoMemory<Value>>
         requires { at ≤ length (items_of self.old) }
         ensures items { OnOk result (items_of self.new ≡ inserted_at at (value_view value) (items_of self.old)) }

@@ -1,4 +1,5 @@
-//! Arrays as sequences of values.
+//! Arrays as sequences of values: `extend`, `from_iter`, and the iterators by reference and by
+//! value.
 ghost use Rattle.std.specs.Prelude.{◌≡◌, IfOk, List};
 ghost use Rattle.std.specs.Iterator.{Drains, ExtendsWithItems, IsFinite, YieldsFirstBy, item_count};
 ghost use Rattle.toml_edit_model.specs.Iterating.{values as values_seen};
@@ -15,8 +16,12 @@ use std::vec;
 use toml_edit_repr::Mem;
 
 impl Array {
-    /// Puts values last, one after another. The only error is want of memory: then some first ones
-    /// are there, and the others are gone.
+    /// Adds the values at the end, one after another and each with its decor.
+    ///
+    /// # Errors
+    ///
+    /// Returns an `AllocError` if out of memory. The array keeps the values that were added before,
+    /// and the others are dropped.
     #[tactic(auto, using(crate::proofs::ElementLaws::value_last))]
     pub fn extend<U: IntoIterator<Item = Value>>(&mut self, values: U) -> Mem<()>
         requires { (it : U.IntoIter) → U.into_iter_gives values it → U.IntoIter.can_next it × IsFinite (U.IntoIter.remaining it) }
@@ -28,7 +33,11 @@ impl Array {
         Ok(())
     }
 
-    /// An array of these values, in their order. The only error is want of memory.
+    /// Creates an array of the values, in order and each with its decor.
+    ///
+    /// # Errors
+    ///
+    /// Returns an `AllocError` if out of memory.
     pub fn from_iter<U: IntoIterator<Item = Value>>(alloc: Global, values: U) -> Mem<Array>
         requires { (it : U.IntoIter) → U.into_iter_gives values it → U.IntoIter.can_next it × IsFinite (U.IntoIter.remaining it) }
         ensures { IfOk result (λ array. (it : U.IntoIter) × (vs : List Value) × U.into_iter_gives values it × Drains U.IntoIter.next_gives it vs × HasValues vs array) }
@@ -53,7 +62,7 @@ impl<'a> IntoIterator for &'a Array {
     }
 }
 
-/// The values of an array that was given up, in order.
+/// An iterator that takes an array apart: over its values in order.
 #[derive(Drop)]
 pub struct ArrayIntoIter {
     items: vec::IntoIter<Item>,

@@ -1,4 +1,4 @@
-//! Slots and values of an array, to be changed in place.
+//! Mutable references to values and slots of an array.
 ghost use Rattle.std.specs.Prelude.{◌≡◌, ◌<◌, true, Some, is_some, length, option_map, slice_get};
 ghost use Rattle.toml_edit_model.specs.ArrayCalls.{value_at, written_at};
 ghost use Rattle.std.specs.Borrow.{sem};
@@ -13,11 +13,25 @@ use crate::item::Item;
 use crate::value::Value;
 
 impl Array {
-    /// The value at the place, to be changed, or `None` where there is no slot or the slot holds no value.
+    /// Returns a mutable reference to the value at index `at`, or `None` past the end and where the
+    /// slot holds none.
+    ///
+    /// A new value that is written there brings its own decor. To keep the old one, use
+    /// [`replace`](Self::replace).
+    ///
+    /// # Examples
+    ///
+    /// ```rust,ignore
+    /// if let Some(last) = array.get_mut(count.saturating_sub(1)) {
+    ///     last.decor_mut().set_suffix(RawString::default());
+    /// }
+    /// ```
+    ///
+    /// From `push_line` of the guide, docs/GUIDE.md.
     pub fn get_mut(&mut self, at: usize) -> Option<&mut Value>
         ensures* writes_back { sem 𝓛 (LendsValueAt self.entry at result) }
         ensures value { option_map (λ value. value_view value.now) result ≡ value_at at (items_of self.old) }
-        // What a value that is written leaves.
+        // What the array is after a write through the reference.
         ensures leaves { (w : Value) → items_of (with_value_at at w self.old) ≡ written_at at (value_view w) (items_of self.old) }
         ensures keeps { (w : Value) → array_fields (with_value_at at w self.old) ≡ array_fields self.old }
     {
@@ -28,7 +42,7 @@ impl Array {
         }
     }
 
-    /// Whether the place has a value.
+    /// Returns `true` if there is a value at the index.
     fn holds_value(&self, at: usize) -> bool
         ensures { result ≡ is_some (value_in_at at self.now) }
     {
@@ -38,7 +52,7 @@ impl Array {
         }
     }
 
-    /// The value at a place that has one, to be changed.
+    /// Returns a mutable reference to the value at an index that has one.
     fn value_in_mut(&mut self, at: usize) -> &mut Value
         requires { is_some (value_in_at at self.old) ≡ true }
         ensures* writes_back { sem 𝓛 (LendsValueIn self.entry at result) }
@@ -48,7 +62,7 @@ impl Array {
         item.own_value_mut()
     }
 
-    /// The slot at the place, a placeholder too, to be changed, or `None` where there is no slot.
+    /// Returns a mutable reference to slot `at`, of any kind, or `None` past the end.
     #[doc(hidden)]
     pub fn slot_at_mut(&mut self, at: usize) -> Option<&mut Item>
         ensures* writes_back { sem 𝓛 (LendsArraySlot self.entry at result) }
@@ -61,7 +75,7 @@ impl Array {
         }
     }
 
-    /// The slot at a place that it has, to be changed.
+    /// Returns a mutable reference to slot `at`, which is there.
     fn slot_in_mut(&mut self, at: usize) -> &mut Item
         requires { at < length (out-Array self.old).values.items }
         ensures* writes_back { sem 𝓛 (LendsArraySlotIn self.entry at result) }

@@ -1,4 +1,4 @@
-//! A value of an array, with another in its place and decor.
+//! `replace` of an array, which carries the decor over.
 ghost use Rattle.std.specs.Prelude.{◌≡◌, IsSome, IfErr, IfOk, OnErr, OnOk, Some, option_map};
 ghost use Rattle.toml_edit_model.specs.ArrayCalls.{replaced_at, value_at};
 ghost use Rattle.toml_edit_model.specs.Conversions.{with_decor};
@@ -12,8 +12,15 @@ use toml_edit_repr::{Decor, Mem};
 use toml_edit_slots::NoMemory;
 
 impl Array {
-    /// Puts the value in the place of the one there, which is the answer, and gives it a copy of what stood around that one. The only error
-    /// is want of memory for the copy: the array stays, and the error has the value.
+    /// Replaces the value at index `at` and returns the old one.
+    ///
+    /// The new value gets a copy of the old one's decor, so the whitespace and comments around it
+    /// stay. To keep its own, use [`replace_formatted`](Self::replace_formatted). A contract
+    /// requires that there is a value: ask [`get`](Self::get).
+    ///
+    /// # Errors
+    ///
+    /// Returns a [`NoMemory`] with `value` if out of memory for the copy.
     pub fn replace(&mut self, at: usize, value: Value) -> Result<Value, NoMemory<Value>>
         requires { IsSome (value_at at (items_of self.old)) }
         ensures value { IfOk result (λ old. Some (value_view old) ≡ value_at at (items_of self.old)) }
@@ -28,7 +35,7 @@ impl Array {
         }
     }
 
-    /// A copy of what stands around the value at the place.
+    /// Copies the decor of the value at the index.
     fn copied_decor(&self, at: usize) -> Mem<Decor>
         requires { IsSome (value_at at (items_of self.now)) }
         ensures { IfOk result (λ decor. Some decor ≡ option_map node_decor (value_at at (items_of self.now))) }
@@ -41,7 +48,7 @@ impl Array {
     }
 }
 
-/// The value with this decor in place of its own.
+/// Returns the value with this decor in place of its own.
 fn redecorated(value: Value, decor: Decor) -> Value
     ensures { value_view result ≡ with_decor decor (value_view value) }
 {

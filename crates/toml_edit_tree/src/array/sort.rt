@@ -1,4 +1,4 @@
-//! The values of an array in another order.
+//! Sorts of an array.
 ghost use Rattle.std.specs.Prelude.{◌≡◌, IsPermutation, OnErr, OnOk};
 ghost use Rattle.toml_edit_tree.specs.ElementSorts.{SortsValuesAs, SortsValuesByKey};
 ghost use Rattle.toml_edit_tree.specs.Elements.{array_fields, items_of, listed};
@@ -11,8 +11,23 @@ use std::cmp::Ordering;
 use toml_edit_repr::Mem;
 
 impl Array {
-    /// Sorts the values by the closure. Slots without a value come first, and ties keep their order. The only error is want of memory, and
-    /// then the array stays.
+    /// Sorts the values by `compare`. The sort is stable.
+    ///
+    /// Each value moves with its decor, so its comments and its line break move too. Slots without
+    /// a value come first. Where `compare` is not a strict weak order, the order is any, but no
+    /// value is lost.
+    ///
+    /// # Errors
+    ///
+    /// Returns an `AllocError` if out of memory.
+    ///
+    /// # Examples
+    ///
+    /// ```rust,ignore
+    /// array.sort_by(|a, b| a.as_str().cmp(&b.as_str()))
+    /// ```
+    ///
+    /// From `sort_strings` of the guide, docs/GUIDE.md.
     pub fn sort_by<F: Fn(&Value, &Value) -> Ordering>(&mut self, compare: F) -> Mem<()>
     where
         F: Drop,
@@ -25,8 +40,13 @@ impl Array {
         sort_values(&mut self.values, compare)
     }
 
-    /// Sorts the values by the keys that the closure gives of them. Slots without a value come first, and ties keep their order. The only
-    /// error is want of memory, and then the array stays.
+    /// Sorts the values by the keys that `key` returns for them. The sort is stable.
+    ///
+    /// Each value moves with its decor. Slots without a value come first.
+    ///
+    /// # Errors
+    ///
+    /// Returns an `AllocError` if out of memory.
     pub fn sort_by_key<K: Ord, F: Fn(&Value) -> K>(&mut self, key: F) -> Mem<()>
     where
         K: Drop,
@@ -41,7 +61,7 @@ impl Array {
     }
 }
 
-/// Sorts items by their values. The others come first.
+/// Sorts items by their values. Those without one come first.
 fn sort_values<F: Fn(&Value, &Value) -> Ordering>(items: &mut Vec<Item>, compare: F) -> Mem<()>
 where
     F: Drop,
@@ -53,7 +73,7 @@ where
     toml_edit_lists::sort_by(items, compare)
 }
 
-/// Sorts items by keys of their values. The others come first.
+/// Sorts items by keys of their values. Those without one come first.
 fn sort_values_by_key<K: Ord, F: Fn(&Value) -> K>(items: &mut Vec<Item>, key: F) -> Mem<()>
 where
     K: Drop,

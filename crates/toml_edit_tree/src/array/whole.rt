@@ -15,8 +15,10 @@ use std::alloc::Global;
 use toml_edit_repr::RawString;
 
 impl Array {
-    /// Keeps the values of which the closure says `true`, in their order. The others go, and every slot that holds no value. It takes no
-    /// memory.
+    /// Keeps the values for which `keep` returns `true`, in their order, and removes the others.
+    ///
+    /// Slots without a value are removed too. A comment after the comma before a removed value goes
+    /// with it.
     pub fn retain<F: Fn(&Value) -> bool>(&mut self, keep: F)
     where
         F: Drop,
@@ -27,8 +29,12 @@ impl Array {
         retain_values(&mut self.values, keep);
     }
 
-    /// Leaves nothing around the first value, one space before each of the others, no comma after the last, and nothing before the closing
-    /// bracket. It takes no memory.
+    /// Formats the array on one line: nothing around the first value, and one space before each of
+    /// the others.
+    ///
+    /// The trailing comma and what is before the closing bracket are removed, and so is each
+    /// comment between values. Spellings stay, and so does what is inside values and around the
+    /// array.
     pub fn fmt(&mut self)
         ensures items { items_of self.new ≡ formatted_items (items_of self.old) }
         ensures fields { array_fields self.new ≡ formatted_array (array_fields self.old) }
@@ -49,7 +55,7 @@ where
     toml_edit_lists::retain(items, keep);
 }
 
-/// Puts nothing around the first value, and one space before each of the others. It takes no memory.
+/// Sets the decor of each value: nothing around the first, and one space before each of the others.
 pub(crate) fn format_items(items: &mut Vec<Item>)
     ensures { listed items.new.items ≡ formatted_items (listed items.old.items) }
 {
@@ -60,7 +66,7 @@ pub(crate) fn format_items(items: &mut Vec<Item>)
     }
 }
 
-/// Does so with one item, and tells whether the next value is the first.
+/// Sets the decor of one item, and returns whether the next value is still the first.
 fn format_item(item: &mut Item, alloc: Global, is_first: bool) -> bool
     ensures { (others : List Node) → formatted_from is_first (item_view item.old ∷ others) ≡ item_view item.new ∷ formatted_from result others }
 {
@@ -71,7 +77,7 @@ fn format_item(item: &mut Item, alloc: Global, is_first: bool) -> bool
     false
 }
 
-/// Nothing, or one space, which take no memory.
+/// Returns nothing or one space, which take no memory.
 fn space_before(alloc: Global, is_first: bool) -> RawString
     ensures { Some result ≡ (element_decor is_first).prefix }
 {

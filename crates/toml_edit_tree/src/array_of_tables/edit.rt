@@ -1,4 +1,4 @@
-//! Changes of an array of tables by place.
+//! Calls that read, insert, replace and remove tables by index.
 ghost use Rattle.std.specs.Prelude.{◌≡◌, ◌≤◌, [], Some, IsSome, IfErr, OnErr, OnOk, length, option_map};
 ghost use Rattle.toml_edit_model.specs.ArrayCalls.{inserted_at, pushed, removed_at, written_at};
 ghost use Rattle.toml_edit_model.specs.TablesCalls.{table_at};
@@ -12,14 +12,14 @@ use crate::table::Table;
 use toml_edit_slots::NoMemory;
 
 impl ArrayOfTables {
-    /// The table at the place, or `None` where there is no slot or the slot holds no table.
+    /// Returns the table at index `at`, or `None` past the end and where the slot holds none.
     pub fn get(&self, at: usize) -> Option<&Table>
         ensures { option_map (λ table. table_node (table_view table.now)) result ≡ table_at at (tables_of self.now) }
     {
         toml_edit_lists::get(self.values.as_slice(), at)
     }
 
-    /// Takes all slots out.
+    /// Removes all slots.
     pub fn clear(&mut self)
         ensures items { tables_of self.new ≡ [] }
         ensures extent { extent_of self.new ≡ extent_of self.old }
@@ -27,7 +27,9 @@ impl ArrayOfTables {
         self.values.clear();
     }
 
-    /// Takes out the table at the place, which is the answer. The others keep their order.
+    /// Removes the table at index `at` and returns it, keeping the order of the others.
+    ///
+    /// A contract requires that there is a table: ask [`get`](Self::get).
     pub fn remove(&mut self, at: usize) -> Table
         requires { IsSome (table_at at (tables_of self.old)) }
         ensures table { Some (table_node (table_view result)) ≡ table_at at (tables_of self.old) }
@@ -37,7 +39,10 @@ impl ArrayOfTables {
         take_table(&mut self.values, at)
     }
 
-    /// Puts the table in the place of the one there, which is the answer.
+    /// Replaces the table at index `at` and returns the old one.
+    ///
+    /// The new table keeps its own decor and position. A contract requires that there is a table:
+    /// ask [`get`](Self::get).
     pub fn replace(&mut self, at: usize, table: Table) -> Table
         requires { IsSome (table_at at (tables_of self.old)) }
         ensures table { Some (table_node (table_view result)) ≡ table_at at (tables_of self.old) }
@@ -47,7 +52,24 @@ impl ArrayOfTables {
         replace_table(&mut self.values, at, table)
     }
 
-    /// Puts the table last. The only error is want of memory: the array of tables stays, and the error has the table.
+    /// Adds `table` at the end.
+    ///
+    /// Without a position its header is printed after that of the table before it in the tree.
+    ///
+    /// # Errors
+    ///
+    /// Returns a [`NoMemory`] with `table` if out of memory.
+    ///
+    /// # Examples
+    ///
+    /// ```rust,ignore
+    /// if let Some(Item::ArrayOfTables(tables)) = root.get_mut(name) {
+    ///     tables.push(element).map_err(no_memory)?;
+    ///     return Ok(());
+    /// }
+    /// ```
+    ///
+    /// From `add_element` of the guide, docs/GUIDE.md.
     pub fn push(&mut self, table: Table) -> Result<(), NoMemory<Table>>
         ensures items { OnOk result (tables_of self.new ≡ pushed (table_node (table_view table)) (tables_of self.old)) }
         ensures extent { extent_of self.new ≡ extent_of self.old }
@@ -57,8 +79,15 @@ impl ArrayOfTables {
         push_table(&mut self.values, table)
     }
 
-    /// Puts the table at the place, before what stood there. The only error is want of memory: the array of tables stays, and the error
-    /// has the table.
+    /// Inserts `table` before what is at index `at`.
+    ///
+    /// A contract requires that `at` is at most [`len`](Self::len); there the table is added at the
+    /// end. Headers are printed by position, so a copy of another element needs
+    /// [`set_position`](Table::set_position) with `None` to be printed there.
+    ///
+    /// # Errors
+    ///
+    /// Returns a [`NoMemory`] with `table` if out of memory.
     pub fn insert(&mut self, at: usize, table: Table) -> Result<(), NoMemory<Table>>
         requires { at ≤ length (tables_of self.old) }
         ensures items { OnOk result (tables_of self.new ≡ inserted_at at (table_node (table_view table)) (tables_of self.old)) }

@@ -1,4 +1,5 @@
-//! Arrays of tables as sequences of tables.
+//! Arrays of tables as sequences of tables: `extend`, `from_iter`, and the iterators by reference
+//! and by value.
 ghost use Rattle.std.specs.Prelude.{◌≡◌, IfOk, List};
 ghost use Rattle.std.specs.Iterator.{Drains, ExtendsWithItems, IsFinite, YieldsFirstBy, item_count};
 ghost use Rattle.toml_edit_model.specs.Iterating.{elements};
@@ -14,8 +15,12 @@ use std::vec;
 use toml_edit_repr::Mem;
 
 impl ArrayOfTables {
-    /// Puts tables last, one after another. The only error is want of memory: then some first ones
-    /// are there, and the others are gone.
+    /// Adds the tables at the end, one after another.
+    ///
+    /// # Errors
+    ///
+    /// Returns an `AllocError` if out of memory. The array keeps the tables that were added before,
+    /// and the others are dropped.
     #[tactic(auto, using(crate::proofs::ElementLaws::table_last))]
     pub fn extend<U: IntoIterator<Item = Table>>(&mut self, tables: U) -> Mem<()>
         requires { (it : U.IntoIter) → U.into_iter_gives tables it → U.IntoIter.can_next it × IsFinite (U.IntoIter.remaining it) }
@@ -27,7 +32,11 @@ impl ArrayOfTables {
         Ok(())
     }
 
-    /// An array of these tables, in their order. The only error is want of memory.
+    /// Creates an array of the tables, in order.
+    ///
+    /// # Errors
+    ///
+    /// Returns an `AllocError` if out of memory.
     pub fn from_iter<U: IntoIterator<Item = Table>>(alloc: Global, tables: U) -> Mem<ArrayOfTables>
         requires { (it : U.IntoIter) → U.into_iter_gives tables it → U.IntoIter.can_next it × IsFinite (U.IntoIter.remaining it) }
         ensures { IfOk result (λ array. (it : U.IntoIter) × (ts : List Table) × U.into_iter_gives tables it × Drains U.IntoIter.next_gives it ts × HasTables ts array) }
@@ -52,7 +61,7 @@ impl<'a> IntoIterator for &'a ArrayOfTables {
     }
 }
 
-/// The tables of an array of tables that was given up, in order.
+/// An iterator that takes an array of tables apart: over its tables in order.
 #[derive(Drop)]
 pub struct ArrayOfTablesIntoIter {
     items: vec::IntoIter<Item>,

@@ -1,4 +1,4 @@
-//! Slots and tables of an array of tables, to be changed in place.
+//! Mutable references to tables and slots of an array of tables.
 ghost use Rattle.std.specs.Prelude.{◌≡◌, ◌<◌, true, Some, is_some, length, option_map, slice_get};
 ghost use Rattle.std.specs.Borrow.{sem};
 ghost use Rattle.toml_edit_model.specs.ArrayCalls.{written_at};
@@ -15,11 +15,12 @@ use crate::item::Item;
 use crate::table::Table;
 
 impl ArrayOfTables {
-    /// The table at the place, to be changed, or `None` where there is no slot or the slot holds no table.
+    /// Returns a mutable reference to the table at index `at`, or `None` past the end and where the
+    /// slot holds none.
     pub fn get_mut(&mut self, at: usize) -> Option<&mut Table>
         ensures* writes_back { sem 𝓛 (LendsTableAt self.entry at result) }
         ensures table { option_map (λ table. table_node (table_view table.now)) result ≡ table_at at (tables_of self.old) }
-        // What a table that is written leaves.
+        // What the array of tables is after a write through the reference.
         ensures leaves { (w : Table) → tables_of (with_table_at at w self.old) ≡ written_at at (table_node (table_view w)) (tables_of self.old) }
         ensures keeps { (w : Table) → extent_of (with_table_at at w self.old) ≡ extent_of self.old }
     {
@@ -30,7 +31,7 @@ impl ArrayOfTables {
         }
     }
 
-    /// Whether the place has a table.
+    /// Returns `true` if there is a table at the index.
     fn holds_table(&self, at: usize) -> bool
         ensures { result ≡ is_some (table_in_at at self.now) }
     {
@@ -40,7 +41,7 @@ impl ArrayOfTables {
         }
     }
 
-    /// The table at a place that has one, to be changed.
+    /// Returns a mutable reference to the table at an index that has one.
     fn table_in_mut(&mut self, at: usize) -> &mut Table
         requires { is_some (table_in_at at self.old) ≡ true }
         ensures* writes_back { sem 𝓛 (LendsTableIn self.entry at result) }
@@ -50,7 +51,7 @@ impl ArrayOfTables {
         item.own_table_mut()
     }
 
-    /// The slot at the place, a placeholder too, to be changed, or `None` where there is no slot.
+    /// Returns a mutable reference to slot `at`, of any kind, or `None` past the end.
     #[doc(hidden)]
     pub fn slot_at_mut(&mut self, at: usize) -> Option<&mut Item>
         ensures* writes_back { sem 𝓛 (LendsTablesSlot self.entry at result) }
@@ -63,7 +64,7 @@ impl ArrayOfTables {
         }
     }
 
-    /// The slot at a place that it has, to be changed.
+    /// Returns a mutable reference to slot `at`, which is there.
     fn slot_in_mut(&mut self, at: usize) -> &mut Item
         requires { at < length (out-ArrayOfTables self.old).values.items }
         ensures* writes_back { sem 𝓛 (LendsTablesSlotIn self.entry at result) }

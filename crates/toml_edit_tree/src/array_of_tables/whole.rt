@@ -10,8 +10,9 @@ use crate::item::Item;
 use crate::table::Table;
 
 impl ArrayOfTables {
-    /// Keeps the tables of which the closure says `true`, in their order. The others go, and every slot that holds no table. It takes no
-    /// memory.
+    /// Keeps the tables for which `keep` returns `true`, in their order, and removes the others.
+    ///
+    /// Slots that hold no table are removed too.
     pub fn retain<F: Fn(&Table) -> bool>(&mut self, keep: F)
     where
         F: Drop,
