@@ -1,4 +1,5 @@
-//! Inline tables.
+//! Inline tables: the type, its construction, its decor, and look-up by key. Its submodules have
+//! the calls that change slots, iterate over them, sort them, and lend them.
 ghost use Rattle.std.specs.Prelude.{◌≡◌, ◌↔◌, List, [], Some, IsSome, IsTrue, IfOk, length, option_map};
 ghost use Rattle.std.specs.Borrow.{sem};
 ghost use Rattle.std.specs.Iterator.{YieldsFirstBy, item_count};
@@ -38,8 +39,24 @@ mod slot;
 mod sort;
 mod whole;
 
-/// An inline table: its slots in order, with what stands around them (TOML, "Inline Table"). A slot
-/// may be a placeholder, which isn't printed.
+/// A table in braces, which is a value (TOML, "Inline Table").
+///
+/// It has slots in order, each a [`Key`] with an [`Item`], and what is before the closing brace. No
+/// two keys have the same name. A slot may hold no value: a placeholder, which isn't printed, or a
+/// table or an array of tables that was written there. [`get`](Self::get) and [`iter`](Self::iter)
+/// skip it, and [`slots`](Self::slots) counts it.
+///
+/// A table with a header is a [`Table`](crate::Table).
+///
+/// # Examples
+///
+/// ```rust,ignore
+/// let mut dependency = InlineTable::new(alloc);
+/// let version = Value::string(alloc, version)?;
+/// drop(dependency.insert("version", version).map_err(no_memory)?);
+/// ```
+///
+/// From `add_dependency` of the guide, docs/GUIDE.md.
 #[cycle(tree)]
 #[derive(Debug)]
 pub struct InlineTable {
@@ -47,8 +64,8 @@ pub struct InlineTable {
     pub items: Slots<Item>,
     pub(crate) decor: Decor,
     pub(crate) trailing: RawString,
-    // The flags stand together, and the span, which is one if the table was read, isn't an option:
-    // each would take a word more, and no value is larger than this one.
+    // No value is larger than this one, so it is kept small: the flags are side by side, and the
+    // span is no `Option`, since `is_read` says whether there is one.
     pub(crate) dotted: bool,
     pub(crate) trailing_comma: bool,
     pub(crate) is_read: bool,
@@ -74,7 +91,7 @@ impl Drop for InlineTable {
 }
 
 impl InlineTable {
-    /// The slots, and nothing else of the inline table.
+    /// Returns the slots, and drops all else of the inline table.
     pub(crate) fn into_slots(self) -> Slots<Item>
         ensures { result ≡ self.items }
     {
@@ -92,7 +109,17 @@ impl InlineTable {
         items
     }
 
-    /// No slots, which take no memory yet.
+    /// Creates an empty inline table, which takes no memory before its first slot.
+    ///
+    /// Its decor is unset, it isn't dotted, and there is no trailing comma.
+    ///
+    /// # Examples
+    ///
+    /// ```rust,ignore
+    /// let mut dependency = InlineTable::new(alloc);
+    /// ```
+    ///
+    /// From `add_dependency` of the guide, docs/GUIDE.md.
     pub fn new(alloc: Global) -> InlineTable
         ensures { inline_view result ≡ record { fields = new_inline; slots = no_slots } }
     {
@@ -107,8 +134,8 @@ impl InlineTable {
         }
     }
 
-    /// An inline table that was read: these slots, and the text and the comma behind the last. It
-    /// stands from the byte `start` of the source up to `end`.
+    /// Makes an inline table of these slots that spans the bytes from `start` to `end` of the
+    /// source, with what is after the last pair.
     #[doc(hidden)]
     pub fn spanned(
         items: Slots<Item>,
@@ -130,8 +157,8 @@ impl InlineTable {
         }
     }
 
-    /// The dotted inline table of these slots that was read below a key, which stands from the byte
-    /// `start` of the source up to `end`.
+    /// Makes the dotted inline table that a key implies, which spans the bytes from `start` to
+    /// `end` of the source.
     #[doc(hidden)]
     pub fn below_key(items: Slots<Item>, start: usize, end: usize) -> InlineTable
         ensures { inline_view result ≡ record { fields = path_fields (Some (start, end)); slots = slots_view items } }
@@ -147,19 +174,21 @@ impl InlineTable {
         }
     }
 
-    /// The slots, to be changed.
+    /// Returns a mutable reference to the slots.
     #[doc(hidden)]
     pub fn slots_mut(&mut self) -> &mut Slots<Item>
         ensures* writes_back { sem 𝓛 (LendsInlineSlots self.entry result) }
         ensures slots { slots_view result.now ≡ (inline_view self.old).slots }
-        // Other slots are seen as such, and nothing else is.
+        // Writing other slots changes nothing else.
         ensures others { (slots : List (Slot Item)) → inline_view (holding slots self.old)
             ≡ record { fields = (inline_view self.old).fields; slots = slots_view slots } }
     {
         &mut self.items
     }
 
-    /// How many values there are, which is how many pairs `iter` gives.
+    /// Returns the number of values, which [`iter`](Self::iter) gives.
+    ///
+    /// [`slots`](Self::slots) counts the slots that hold none as well.
     pub fn len(&self) -> usize
         ensures { result ≡ length (valued (inline_slots_of self.now)) }
     {
@@ -172,14 +201,16 @@ impl InlineTable {
         count
     }
 
-    /// Whether there are no values.
+    /// Returns `true` if there are no values.
     pub fn is_empty(&self) -> bool
         ensures { IsTrue result ↔ (valued (inline_slots_of self.now) ≡ []) }
     {
         self.len() == 0
     }
 
-    /// The value under the key, or `None` where there is no slot or the slot holds no value.
+    /// Returns the value under `key`, or `None` if the key is missing or has no value.
+    ///
+    /// For items of any kind use [`get_key_value`](Self::get_key_value).
     pub fn get(&self, key: &str) -> Option<&Value>
         ensures { option_map (λ v. value_view v.now) result ≡ get_value key.now (inline_slots_of self.now) }
     {
@@ -187,17 +218,17 @@ impl InlineTable {
         item.as_value()
     }
 
-    /// Whether a value stands under the key.
+    /// Returns `true` if there is a value under `key`.
     pub fn contains_key(&self, key: &str) -> bool
         ensures found { result ≡ contains_value_key key.now (inline_slots_of self.now) }
-        // Then `[..]` finds it.
+        // Then indexing by `[..]` finds the value.
         ensures there { IsTrue result → IsSome (get_value key.now (inline_slots_of self.now)) }
     {
         self.get(key).is_some()
     }
 
-    /// The key of this text as it stands in the inline table, with its spelling and decors, if it
-    /// has a slot of any kind.
+    /// Returns the key of this name as the inline table has it, with spelling and decor, or `None`
+    /// if it is missing. A key without a value is returned too.
     pub fn key(&self, key: &str) -> Option<&Key>
         ensures { option_copied result ≡ lookup_key key.now (inline_slots_of self.now) }
     {
@@ -205,7 +236,11 @@ impl InlineTable {
         Some(&self.items.as_slice()[at].key)
     }
 
-    /// The keys' texts and the values in order, without placeholders.
+    /// Iterates over the names of the keys and the values, in order and without slots that hold
+    /// none.
+    ///
+    /// There is no `iter_mut`: for each number below [`slots`](Self::slots), use
+    /// [`key_value_at_mut`](Self::key_value_at_mut).
     pub fn iter(&self) -> InlineTableIter<'_>
         ensures { pairs_left result ≡ value_pairs (inline_slots_of self.now) }
     {
@@ -214,58 +249,68 @@ impl InlineTable {
         }
     }
 
-    /// Whether it stands for a dotted key (TOML, "Keys"): it has no braces, and its pairs are
-    /// printed in those of the inline table around it, after its key and a dot.
+    /// Returns `true` if the inline table stands for a dotted key (TOML, "Keys").
+    ///
+    /// It has no braces then. Its pairs are printed among those of the table around it, after its
+    /// key and a dot.
     pub fn is_dotted(&self) -> bool
         ensures { result ≡ (inline_view self.now).fields.is_dotted }
     {
         self.dotted
     }
 
-    /// Says whether it stands for a dotted key.
+    /// Sets whether the inline table stands for a dotted key.
+    ///
+    /// In an array it is printed in braces in any case.
     pub fn set_dotted(&mut self, dotted: bool)
         ensures { inline_view self.new ≡ inline_with_dotted dotted (inline_view self.old) }
     {
         self.dotted = dotted;
     }
 
-    /// Whether a comma stands after the last pair, which TOML has allowed since 1.1.0.
+    /// Returns `true` if a comma follows the last pair, which TOML allows since 1.1.
     pub fn trailing_comma(&self) -> bool
         ensures { result ≡ (inline_view self.now).fields.comma }
     {
         self.trailing_comma
     }
 
-    /// Says whether a comma is to stand after the last pair. An inline table without pairs has
-    /// none.
+    /// Sets whether a comma follows the last pair, which TOML allows since 1.1.
+    ///
+    /// An inline table that shows no pair prints none.
     pub fn set_trailing_comma(&mut self, trailing_comma: bool)
         ensures { inline_view self.new ≡ inline_with_comma trailing_comma (inline_view self.old) }
     {
         self.trailing_comma = trailing_comma;
     }
 
-    /// The text between the last pair, or the comma after it, and the closing brace.
+    /// Returns the whitespace and comments between the last pair, or the comma after it, and the
+    /// closing brace.
+    ///
+    /// In a parsed inline table without a trailing comma, that text is in the suffix of the last
+    /// value instead.
     pub fn trailing(&self) -> &RawString
         ensures { result.now ≡ (inline_view self.now).fields.trailing }
     {
         &self.trailing
     }
 
-    /// Puts another text before the closing brace.
+    /// Sets the whitespace and comments between the last pair, or the comma after it, and the
+    /// closing brace.
     pub fn set_trailing(&mut self, trailing: RawString)
         ensures { inline_view self.new ≡ inline_with_trailing trailing (inline_view self.old) }
     {
         self.trailing = trailing;
     }
 
-    /// What stands around it.
+    /// Returns the whitespace and comments around the inline table.
     pub fn decor(&self) -> &Decor
         ensures { result.now ≡ (inline_view self.now).fields.decor }
     {
         &self.decor
     }
 
-    /// What stands around it, to be changed.
+    /// Returns a mutable reference to the whitespace and comments around the inline table.
     pub fn decor_mut(&mut self) -> &mut Decor
         ensures* writes_back { sem 𝓛 (LendsInlineDecor self.entry result) }
         ensures decor { result.now ≡ (inline_view self.old).fields.decor }
@@ -273,8 +318,10 @@ impl InlineTable {
         &mut self.decor
     }
 
-    /// The bytes of the source from the opening brace to the closing one, if it was read and still
-    /// is over its source. A dotted one has the place of its key.
+    /// Returns the byte range of the inline table in the source, both braces included.
+    ///
+    /// A dotted one spans its key. It is `None` for an inline table that was made, and in a
+    /// `DocumentMut`: ask before `into_mut`.
     pub fn span(&self) -> Option<Range<usize>>
         ensures { result ≡ range_in (inline_view self.now).fields.extent }
     {
@@ -285,7 +332,11 @@ impl InlineTable {
         Some(start..end)
     }
 
-    /// An equal copy. The only error is want of memory.
+    /// Copies the inline table, with all spellings, decors and spans.
+    ///
+    /// # Errors
+    ///
+    /// Returns an `AllocError` if out of memory.
     pub fn clone(&self, alloc: Global) -> Mem<InlineTable>
         ensures { IfOk result (λ copy. inline_view copy ≡ inline_view self.now) }
     {
@@ -306,7 +357,9 @@ impl fmt::Display for InlineTable {
     }
 }
 
-/// The pairs of an inline table, in order: the texts of their keys, and their values.
+/// An iterator over the names of the keys of an inline table and their values, in order.
+///
+/// Returned by [`InlineTable::iter`].
 #[derive(Drop)]
 pub struct InlineTableIter<'a> {
     slots: slice::Iter<'a, Slot<Item>>,

@@ -43,7 +43,7 @@ impl Table {
     /// stable.
     ///
     /// The closure is passed the key and the item of two slots, and sees placeholders as
-    /// `Item::None`. Where it is not a strict weak order, the order is any.
+    /// `Item::None`. Where the closure is not a strict weak order, the order is any.
     ///
     /// # Errors
     ///

@@ -1,4 +1,4 @@
-//! Slots of an inline table by their places: the values and keys there, a slot that is taken out, and one that is made a value.
+//! Access to the slots of an inline table that hold a value, by number, for its entries.
 ghost use Rattle.std.specs.Prelude.{◌≡◌, ◌<◌, true, Some, IfSome, is_some, length, option_map, slice_get};
 ghost use Rattle.std.specs.Borrow.{sem};
 ghost use Rattle.toml_edit_key.specs.KeyMutView.{key_of};
@@ -23,7 +23,7 @@ use toml_edit_key::{Key, KeyMut};
 use toml_edit_repr::Decor;
 
 impl InlineTable {
-    /// The key at the place.
+    /// Returns the key of slot `at`.
     pub(crate) fn key_at(&self, at: usize) -> &Key
         requires { has_value_at at (out-InlineTable self.now).items ≡ true }
         ensures { Some result.now ≡ option_map (λ slot. slot.key) (slice_get (out-InlineTable self.now).items at) }
@@ -31,7 +31,7 @@ impl InlineTable {
         &self.items.as_slice()[at].key
     }
 
-    /// The value at the place.
+    /// Returns the value of slot `at`.
     pub(crate) fn value_at(&self, at: usize) -> &Value
         requires { has_value_at at (out-InlineTable self.now).items ≡ true }
         ensures { Some result.now ≡ value_at at (out-InlineTable self.now).items }
@@ -42,7 +42,7 @@ impl InlineTable {
         }
     }
 
-    /// The value at the place, to be changed.
+    /// Returns a mutable reference to the value of slot `at`.
     pub(crate) fn value_at_mut(&mut self, at: usize) -> &mut Value
         requires { has_value_at at (out-InlineTable self.old).items ≡ true }
         ensures* writes_back { sem 𝓛 (LendsValueAt self.entry at result) }
@@ -52,7 +52,7 @@ impl InlineTable {
         item.own_value_mut()
     }
 
-    /// Lends the key at the place, to change all of it but its text.
+    /// Returns the key of slot `at`, to change all of it but its name.
     pub(crate) fn key_at_mut(&mut self, at: usize) -> KeyMut<'_>
         requires { has_value_at at (out-InlineTable self.old).items ≡ true }
         ensures* writes_back { sem 𝓛 (LendsInlineKeyAt self.entry at result) }
@@ -61,7 +61,7 @@ impl InlineTable {
         self.items.key_mut(at)
     }
 
-    /// What stands around the key at the place where it ends a path, to be changed.
+    /// Returns a mutable reference to the leaf decor of the key of slot `at`.
     pub(crate) fn leaf_decor_at_mut(&mut self, at: usize) -> &mut Decor
         requires { has_value_at at (out-InlineTable self.old).items ≡ true }
         ensures* writes_back { sem 𝓛 (LendsInlineLeafAt self.entry at result) }
@@ -70,7 +70,7 @@ impl InlineTable {
         self.items.leaf_decor_mut(at)
     }
 
-    /// What stands around the key at the place where it ends no path, to be changed.
+    /// Returns a mutable reference to the dotted decor of the key of slot `at`.
     pub(crate) fn dotted_decor_at_mut(&mut self, at: usize) -> &mut Decor
         requires { has_value_at at (out-InlineTable self.old).items ≡ true }
         ensures* writes_back { sem 𝓛 (LendsInlineDottedAt self.entry at result) }
@@ -79,7 +79,7 @@ impl InlineTable {
         self.items.dotted_decor_mut(at)
     }
 
-    /// Gives the key at the place its default spelling, and unsets its decors.
+    /// Resets the key of slot `at` to its default spelling, and unsets its decor.
     pub(crate) fn fmt_key_at(&mut self, at: usize)
         requires { has_value_at at (out-InlineTable self.old).items ≡ true }
         ensures { self.new ≡ with_inline_key at reset_key self.old }
@@ -87,7 +87,7 @@ impl InlineTable {
         self.items.fmt_key(at);
     }
 
-    /// Puts another value in the place of the one there, which is the answer.
+    /// Replaces the value of slot `at` and returns the old one.
     pub(crate) fn replace_value_at(&mut self, at: usize, value: Value) -> Value
         requires { has_value_at at (out-InlineTable self.old).items ≡ true }
         ensures value { Some result ≡ value_at at (out-InlineTable self.old).items }
@@ -98,7 +98,7 @@ impl InlineTable {
             .into_own_value()
     }
 
-    /// Takes the slot at the place out, and answers its value. The others keep their order.
+    /// Removes slot `at` and returns its value, keeping the order of the others.
     pub(crate) fn remove_value_at(&mut self, at: usize) -> Value
         requires { has_value_at at (out-InlineTable self.old).items ≡ true }
         ensures value { Some result ≡ value_at at (out-InlineTable self.old).items }
@@ -108,7 +108,7 @@ impl InlineTable {
         self.items.remove_at(at).into_item().into_own_value()
     }
 
-    /// Makes what stands at the place a value, and puts this one in a placeholder's stead.
+    /// Makes the item of slot `at` a value, and puts `value` in place of a placeholder.
     pub(crate) fn make_value_at(&mut self, at: usize, value: Value)
         requires { at < length (out-InlineTable self.old).items }
         ensures items { MakesValueAt (value_view value) at (out-InlineTable self.old).items (out-InlineTable self.new).items }
@@ -119,7 +119,7 @@ impl InlineTable {
     }
 }
 
-/// Makes the item a value, and puts this one in a placeholder's stead.
+/// Makes the item a value, and puts `value` in place of a placeholder.
 fn make_value_or(item: &mut Item, value: Value)
     ensures item { item_view item.new ≡ made_value_or (value_view value) (item_view item.old) }
     ensures held { is_some (value_held item.new) ≡ true }
@@ -132,7 +132,7 @@ fn make_value_or(item: &mut Item, value: Value)
     }
 }
 
-/// Puts the value in the item's place.
+/// Replaces the item by the value.
 fn put_value(item: &mut Item, value: Value)
     ensures { item.new ≡ items.Value value }
 {

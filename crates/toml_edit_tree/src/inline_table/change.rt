@@ -1,4 +1,4 @@
-//! Slots that are put into an inline table, taken out and changed.
+//! Calls that insert, remove and change slots of an inline table.
 ghost use Rattle.std.specs.Prelude.{◌≡◌, [], IfErr, IfOk, IsOk, IsTrue, OnErr, OnOk, option_and_then, option_map};
 ghost use Rattle.toml_edit_model.specs.Conversions.{formatted, into_value};
 ghost use Rattle.toml_edit_model.specs.InlineCalls.{old_slot, old_value, value_slot};
@@ -15,9 +15,25 @@ use toml_edit_key::Key;
 use toml_edit_slots::NoMemory;
 
 impl InlineTable {
-    /// Puts the value under the key: a key that is there loses its spelling and its decors and keeps its place, and the answer is its old item
-    /// made a value, `None` for a placeholder; a new key goes last. A present key takes no memory. The only error is want of memory: the inline
-    /// table stays as it was, and the error has the value.
+    /// Inserts `value` under `key` and returns the value that it replaces, if any.
+    ///
+    /// An existing key keeps its place, but its spelling is reset and its decor unset. To keep
+    /// them, write through [`get_mut`](Self::get_mut). A new key is added at the end. An old item
+    /// that is no value is made one, as by [`Item::into_value`], and a placeholder is returned as
+    /// `None`.
+    ///
+    /// # Errors
+    ///
+    /// Returns a [`NoMemory`] with `value` if out of memory. Replacing never fails.
+    ///
+    /// # Examples
+    ///
+    /// ```rust,ignore
+    /// let version = Value::string(alloc, version)?;
+    /// drop(dependency.insert("version", version).map_err(no_memory)?);
+    /// ```
+    ///
+    /// From `add_dependency` of the guide, docs/GUIDE.md.
     pub fn insert(&mut self, key: &str, value: Value) -> Result<Option<Value>, NoMemory<Value>>
         ensures old { IfOk result (λ old. option_map value_view old ≡ old_value key.now (inline_slots_of self.old)) }
         ensures slots { OnOk result (inline_slots_of self.new ≡ inserted key.now (value_view value) (inline_slots_of self.old)) }
@@ -33,9 +49,16 @@ impl InlineTable {
         }
     }
 
-    /// Puts the value under a copy of the key: a key that is there becomes that copy and keeps its place, and the answer is its old item made a
-    /// value, `None` for a placeholder; a new one goes last. The only error is want of memory: the inline table stays as it was, and the error
-    /// has the value.
+    /// Inserts `value` under a copy of `key` and returns the value that it replaces, if any.
+    ///
+    /// An existing key keeps its place, but gets the spelling and the decor of `key`. A new one is
+    /// added at the end. An old item that is no value is made one, and a placeholder is returned as
+    /// `None`. For a key of default spelling, use [`insert`](Self::insert).
+    ///
+    /// # Errors
+    ///
+    /// Returns a [`NoMemory`] with `value` if out of memory. The copy takes memory at an existing
+    /// key too.
     pub fn insert_formatted(
         &mut self,
         key: &Key,
@@ -54,8 +77,10 @@ impl InlineTable {
         }
     }
 
-    /// Takes the slot of the key out, if there is one: its item made a value, `None` for a placeholder. The others keep their order. It takes
-    /// no memory.
+    /// Removes the slot of `key` and returns its value, or `None` if the key is missing.
+    ///
+    /// The other slots keep their order. An item that is no value is made one, as by
+    /// [`Item::into_value`]. A placeholder is removed as well, and `None` returned.
     pub fn remove(&mut self, key: &str) -> Option<Value>
         ensures value { option_map value_view result ≡ old_value key.now (inline_slots_of self.old) }
         ensures slots { inline_slots_of self.new ≡ without key.now (inline_slots_of self.old) }
@@ -65,8 +90,12 @@ impl InlineTable {
         value_of(slot.into_item())
     }
 
-    /// Takes the slot of the key out, if there is one: its key with its spelling and decors, and its item made a value, `None` for a
-    /// placeholder. The others keep their order. It takes no memory.
+    /// Removes the slot of `key` and returns its key and its value, or `None` if the key is
+    /// missing.
+    ///
+    /// The key has its spelling and its decor, so that it can be inserted again by
+    /// [`insert_formatted`](Self::insert_formatted). The other slots keep their order. An item that
+    /// is no value is made one. A placeholder is removed as well, and `None` returned.
     pub fn remove_entry(&mut self, key: &str) -> Option<(Key, Value)>
         ensures slot { option_map value_taken result ≡ old_slot key.now (inline_slots_of self.old) }
         ensures slots { inline_slots_of self.new ≡ without key.now (inline_slots_of self.old) }
@@ -76,8 +105,10 @@ impl InlineTable {
         with_value(slot)
     }
 
-    /// Unsets the decors of each key that holds a value, and of the value. Spellings, the trailing text and the trailing comma stay. It takes
-    /// no memory.
+    /// Unsets the decor of each value and of its key, so that they print with default whitespace.
+    ///
+    /// Comments there are removed. Spellings stay, and so do the trailing comma, what is before the
+    /// closing brace, and all inside values.
     pub fn fmt(&mut self)
         ensures slots { inline_slots_of self.new ≡ formatted (inline_slots_of self.old) }
         ensures fields { inline_fields self.new ≡ inline_fields self.old }
@@ -85,7 +116,7 @@ impl InlineTable {
         format_slots(&mut self.items);
     }
 
-    /// Takes all slots out. What stands around them stays.
+    /// Removes all slots, and keeps the decor, the flags and what is before the closing brace.
     pub fn clear(&mut self)
         ensures slots { inline_slots_of self.new ≡ [] }
         ensures fields { inline_fields self.new ≡ inline_fields self.old }
@@ -94,21 +125,21 @@ impl InlineTable {
     }
 }
 
-/// The item that was there, if there was one, made a value, unless it is a placeholder.
+/// Returns an old item as a value, unless it is a placeholder.
 fn old_as_value(old: Option<Item>) -> Option<Value>
     ensures { option_map value_view result ≡ option_and_then into_value (option_map item_view old) }
 {
     value_of(old?)
 }
 
-/// The item made a value, unless it is a placeholder.
+/// Returns the item as a value, unless it is a placeholder.
 fn value_of(item: Item) -> Option<Value>
     ensures { option_map value_view result ≡ into_value (item_view item) }
 {
     item.into_value().ok()
 }
 
-/// The key with its item made a value, unless it is a placeholder.
+/// Returns the key with its item as a value, unless that is a placeholder.
 fn with_value(slot: (Key, Item)) -> Option<(Key, Value)>
     ensures { option_map value_taken result ≡ value_slot (slot_taken slot) }
 {

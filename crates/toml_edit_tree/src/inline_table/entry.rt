@@ -1,4 +1,4 @@
-//! The value of a key in an inline table, or where one would go.
+//! The types of entries: the slot of a key in an inline table, or the place for a new one.
 ghost use Rattle.std.specs.Prelude.{◌≡◌, true, None};
 ghost use Rattle.toml_edit_slots.specs.Slots.{place};
 ghost use Rattle.toml_edit_tree.specs.InlineValues.{has_value_at};
@@ -10,16 +10,21 @@ use toml_edit_key::Key;
 mod methods;
 mod places;
 
-/// The value of a key in an inline table, or where one would go.
+/// The slot of a key in an inline table, or the place for a new one at the end.
+///
+/// Returned by [`InlineTable::entry`] and [`InlineTable::entry_format`].
 #[derive(Drop)]
 pub enum InlineEntry<'a> {
-    /// The key is there, with a value.
+    /// The key has a slot, with a value.
     Occupied(InlineOccupiedEntry<'a>),
-    /// The key isn't there.
+    /// The key has no slot.
     Vacant(InlineVacantEntry<'a>),
 }
 
-/// The slot of a key in an inline table. It holds a value.
+/// A slot of an inline table that holds a value, to read and change that and the decor of its key.
+///
+/// Returned by [`InlineTable::entry`] for an existing key. For slots of any kind there is
+/// [`InlineSlotMut`](crate::InlineSlotMut).
 #[derive(Drop)]
 pub struct InlineOccupiedEntry<'a> {
     table: &'a mut InlineTable,
@@ -27,7 +32,9 @@ pub struct InlineOccupiedEntry<'a> {
     ghost held: { has_value_at at (out-InlineTable table.now).items ≡ true },
 }
 
-/// A new key of an inline table, and where its slot would go.
+/// The place for a new key at the end of an inline table.
+///
+/// Returned by [`InlineTable::entry`] for a key that is missing.
 #[derive(Drop)]
 pub struct InlineVacantEntry<'a> {
     table: &'a mut InlineTable,

@@ -1,4 +1,4 @@
-//! The value of a key, put there where there is none.
+//! `get_or_insert` of an inline table.
 ghost use Rattle.std.specs.Prelude.{◌≡◌, true, None, Some, IfErr, IfOk, IsOk, IsTrue, OnErr, OnOk, length, option_map};
 ghost use Rattle.std.specs.Borrow.{sem};
 ghost use Rattle.toml_edit_model.specs.InlineCalls.{or_inserted_value};
@@ -20,13 +20,20 @@ use toml_edit_key::Key;
 use toml_edit_slots::{NoMemory, Slot};
 
 impl InlineTable {
-    /// The value under the key, to be changed: what stands there, made a value, this one in a placeholder's stead, or this one, put last with
-    /// a key of the text alone. The only error is want of memory, at a new key: the inline table stays as it was, and the error has the
-    /// value.
+    /// Returns a mutable reference to the value under `key`, after inserting `value` if there is
+    /// none.
+    ///
+    /// A new key has the default spelling and is added at the end. An existing one keeps its
+    /// spelling and its decor: a value stays, a table or an array of tables is made a value, as by
+    /// [`Item::make_value`], and a placeholder is replaced by `value`.
+    ///
+    /// # Errors
+    ///
+    /// Returns a [`NoMemory`] with `value` if out of memory. An existing key takes no memory.
     pub fn get_or_insert(&mut self, key: &str, value: Value) -> Result<&mut Value, NoMemory<Value>>
         ensures* writes_back { sem 𝓛 (LendsPut self.entry key.now result) }
         ensures value { IfOk result (λ lent. Some (value_view lent.now) ≡ lookup key.now (or_inserted_value key.now (value_view value) (inline_slots_of self.old))) }
-        // What a value that is written leaves.
+        // What the inline table is after a write through the reference.
         ensures leaves { (w : Value) → inline_slots_of (value_put key.now w self.old)
             ≡ put (with_item (value_view w)) (record { key = new_key key.now; item = value_view w }) (inline_slots_of self.old) }
         ensures keeps { (w : Value) → inline_fields (value_put key.now w self.old) ≡ inline_fields self.old }
@@ -39,7 +46,7 @@ impl InlineTable {
         }
     }
 
-    /// The place of the key's slot, which holds a value now.
+    /// Finds or adds the slot of the key, and sees to it that it holds a value.
     fn place_for(&mut self, key: &str, value: Value) -> Result<usize, NoMemory<Value>>
         ensures held { IfOk result (λ at. has_value_at at (out-InlineTable self.new).items ≡ true) }
         ensures value { IfOk result (λ at. option_map value_view (value_at at (out-InlineTable self.new).items)
@@ -63,7 +70,7 @@ impl InlineTable {
         }
     }
 
-    /// Puts a new key last with the value, and answers its place.
+    /// Adds a new key with the value at the end, and returns the number of its slot.
     fn push_value(&mut self, key: &str, value: Value) -> Result<usize, NoMemory<Value>>
         requires { place key.now (out-InlineTable self.old).items ≡ None }
         ensures table { OnOk result (self.new ≡ value_put key.now value self.old) }

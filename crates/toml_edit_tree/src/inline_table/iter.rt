@@ -1,4 +1,5 @@
-//! Inline tables as sequences of keys and values.
+//! Inline tables as sequences of keys and values: `extend`, `from_iter`, and the iterators by
+//! reference and by value.
 ghost use Rattle.std.specs.Prelude.{◌≡◌, List, [], map, IfOk, OnErr, OnOk};
 ghost use Rattle.std.specs.Iterator.{Drains, ExtendsWithItems, IsFinite, YieldsFirstBy, item_count};
 ghost use Rattle.toml_edit_model.specs.Conversions.{new_inline};
@@ -22,9 +23,16 @@ use toml_edit_repr::Mem;
 use toml_edit_slots::Slot;
 
 impl InlineTable {
-    /// Puts pairs in, one after another: a key that is there stays with its spelling, decors and
-    /// place, and gets the value; a new one goes last. The only error is want of memory: then some
-    /// first pairs are there, and the others are gone.
+    /// Inserts the pairs one after another.
+    ///
+    /// An existing key keeps its place, its spelling and its decor, and gets the value;
+    /// [`insert`](Self::insert) would reset it. A new key is added at the end, with its spelling
+    /// and its decor.
+    ///
+    /// # Errors
+    ///
+    /// Returns an `AllocError` if out of memory. The inline table keeps the pairs that were
+    /// inserted before, and the others are dropped.
     #[tactic(auto, using(crate::proofs::InlineLaws::extended_last))]
     pub fn extend<U: IntoIterator<Item = (Key, Value)>>(&mut self, pairs: U) -> Mem<()>
         requires { (it : U.IntoIter) → U.into_iter_gives pairs it → U.IntoIter.can_next it × IsFinite (U.IntoIter.remaining it) }
@@ -36,7 +44,11 @@ impl InlineTable {
         Ok(())
     }
 
-    /// An inline table of the pairs, as `extend` puts them in. The only error is want of memory.
+    /// Creates an inline table of the pairs, inserted as by [`extend`](Self::extend).
+    ///
+    /// # Errors
+    ///
+    /// Returns an `AllocError` if out of memory.
     pub fn from_iter<U: IntoIterator<Item = (Key, Value)>>(
         alloc: Global,
         pairs: U,
@@ -52,8 +64,7 @@ impl InlineTable {
         }
     }
 
-    /// Puts one pair in so. The only error is want of memory: the inline table stays, and the pair
-    /// is gone.
+    /// Inserts one pair as `extend` does, and drops it if out of memory.
     fn extend_one(&mut self, key: Key, value: Value) -> Mem<()>
         ensures slots { OnOk result (inline_slots_of self.new ≡ put (with_item (value_view value)) (value_taken (key, value)) (inline_slots_of self.old)) }
         ensures fields { inline_fields self.new ≡ inline_fields self.old }
@@ -75,8 +86,10 @@ impl<'a> IntoIterator for &'a InlineTable {
     }
 }
 
-/// The pairs of an inline table that was given up, in order: the texts of their keys, and their
-/// values.
+/// An iterator that takes an inline table apart: over the names of the keys and the values, in
+/// order.
+///
+/// Spellings and decors of the keys are dropped, and so are slots that hold no value.
 #[derive(Drop)]
 pub struct InlineTableIntoIter {
     slots: vec::IntoIter<Slot<Item>>,

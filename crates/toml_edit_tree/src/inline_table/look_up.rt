@@ -1,4 +1,4 @@
-//! What stands in an inline table under a key, or at a place among its slots.
+//! Look-up in an inline table by key or by number of the slot.
 ghost use Rattle.std.specs.Prelude.{◌≡◌, ◌<◌, true, Some, IfSome, length, option_and_then, option_map, slice_get};
 ghost use Rattle.std.specs.Borrow.{sem};
 ghost use Rattle.toml_edit_model.specs.InlineCalls.{get_value};
@@ -19,7 +19,9 @@ use crate::value::Value;
 use toml_edit_key::Key;
 
 impl InlineTable {
-    /// How many slots there are, placeholders and tables among them. No two keys have one text.
+    /// Returns the number of slots, those without a value included.
+    ///
+    /// [`len`](Self::len) counts values alone.
     pub fn slots(&self) -> usize
         ensures count { result ≡ length (inline_slots_of self.now) }
         ensures apart { AreApart (inline_slots_of self.now) }
@@ -28,17 +30,22 @@ impl InlineTable {
         self.items.len()
     }
 
-    /// The key and the item of the slot at the place, a placeholder too, or `None` where there is no slot.
+    /// Returns the key and the item of slot `at`, of any kind, or `None` if `at` is not below
+    /// [`slots`](Self::slots).
     pub fn key_value_at(&self, at: usize) -> Option<(&Key, &Item)>
         ensures { option_map slot_read result ≡ slice_get (inline_slots_of self.now) at }
     {
         self.items.key_value_at(at)
     }
 
-    /// Returns the key of this text and its item, which may be a table, or `None` where there is no slot or the slot is a placeholder.
+    /// Returns the key of this name and its item, or `None` if the key is missing or has a
+    /// placeholder.
+    ///
+    /// The item may be a table or an array of tables. The key has the spelling and the decor that
+    /// it has in the inline table.
     pub fn get_key_value(&self, key: &str) -> Option<(&Key, &Item)>
         ensures slot { option_map slot_read result ≡ get_slot key.now (inline_slots_of self.now) }
-        // No two keys have one text.
+        // No two keys have the same name.
         ensures apart { AreApart (inline_slots_of self.now) }
     {
         let (key, item) = self.items.get_key_value(key)?;
@@ -49,11 +56,16 @@ impl InlineTable {
         }
     }
 
-    /// The value under the key, to be changed, or `None` where there is no slot or the slot holds no value.
+    /// Returns a mutable reference to the value under `key`, or `None` if the key is missing or has
+    /// no value.
+    ///
+    /// The key keeps its spelling, its decor and its place. A new value that is written there
+    /// brings its own decor. To insert what is missing, use [`get_or_insert`](Self::get_or_insert)
+    /// or [`entry`](Self::entry).
     pub fn get_mut(&mut self, key: &str) -> Option<&mut Value>
         ensures* writes_back { sem 𝓛 (LendsValueUnder self.entry key.now result) }
         ensures value { option_map (λ v. value_view v.now) result ≡ get_value key.now (inline_slots_of self.old) }
-        // What a value that is written leaves.
+        // What the inline table is after a write through the reference.
         ensures leaves { (w : Value) → inline_slots_of (with_value_under key.now w self.old) ≡ changed key.now (with_item (value_view w)) (inline_slots_of self.old) }
         ensures keeps { (w : Value) → inline_fields (with_value_under key.now w self.old) ≡ inline_fields self.old }
     {
@@ -63,7 +75,7 @@ impl InlineTable {
         }
     }
 
-    /// Returns the place of the key's slot, or `None` where there is no slot or the slot is a placeholder.
+    /// Finds the slot of the key, unless it is a placeholder.
     pub(crate) fn held_place(&self, key: &str) -> Option<usize>
         ensures held { option_map item_view (option_and_then (slice_get (items_of (out-InlineTable self.now).items)) result)
             ≡ get key.now (inline_slots_of self.now) }
@@ -79,7 +91,7 @@ impl InlineTable {
         }
     }
 
-    /// The place of the key's slot, if it holds a value.
+    /// Finds the slot of the key, if it holds a value.
     pub(crate) fn value_place(&self, key: &str) -> Option<usize>
         ensures value { option_map value_view (option_and_then (λ at. value_at at (out-InlineTable self.now).items) result)
             ≡ get_value key.now (inline_slots_of self.now) }

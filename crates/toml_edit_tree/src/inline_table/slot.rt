@@ -1,4 +1,4 @@
-//! A slot of an inline table, to be changed.
+//! The type of a slot of an inline table that can be changed.
 ghost use Rattle.std.specs.Prelude.{◌<◌, length};
 ghost use Rattle.toml_edit_tree.specs.declared.inline_table.InlineTable.{out-InlineTable};
 
@@ -7,7 +7,11 @@ use super::InlineTable;
 mod methods;
 mod places;
 
-/// A slot of an inline table, to change its item or what stands around its key. It may be a placeholder, or hold a table.
+/// A slot of an inline table, to read and change its item and the decor of its key. It may hold an
+/// item of any kind.
+///
+/// Returned by [`InlineTable::slot_mut`], [`InlineTable::get_key_value_mut`] and
+/// [`InlineTable::key_value_at_mut`].
 #[derive(Drop)]
 pub struct InlineSlotMut<'a> {
     table: &'a mut InlineTable,

@@ -1,4 +1,4 @@
-//! Slots of an inline table sorted by a closure or by the names of their keys, and those of the dotted inline tables inside.
+//! Sorts of an inline table and of the dotted inline tables inside it.
 ghost use Rattle.std.specs.Prelude.{◌≡◌, IsPermutation, OnOk};
 ghost use Rattle.toml_edit_model.specs.Lists.{is_dotted_inline, slots_from};
 ghost use Rattle.toml_edit_model.specs.Sorting.{IsDeepReorder, IsDeepSort, ReordersItem, name_lt, sorted_slots};
@@ -18,12 +18,20 @@ use toml_edit_repr::Mem;
 use toml_edit_slots::Slots;
 
 impl InlineTable {
-    /// Sorts the slots by the bytes of their names, and likewise those of the dotted inline tables inside. The only error is want of memory;
-    /// then the slots of some inline tables may be sorted and others not, and none is lost.
+    /// Sorts the slots by the bytes of the names of their keys, and those of dotted inline tables
+    /// inside likewise.
+    ///
+    /// Each slot moves with its decors, so its comments and its line break move too. Inline tables
+    /// in braces inside keep their order of slots.
+    ///
+    /// # Errors
+    ///
+    /// Returns an `AllocError` if out of memory. Some of the inline tables may be sorted then and
+    /// others not, but no slot is lost.
     pub fn sort_values(&mut self) -> Mem<()>
         ensures reorders { IsDeepReorder is_dotted_inline (inline_slots_of self.old) (inline_slots_of self.new) }
         ensures sorted { OnOk result (IsDeepSort is_dotted_inline name_lt (inline_slots_of self.old) (inline_slots_of self.new)) }
-        // The order of names is lawful, so that there is one such list.
+        // The order of names is a lawful one, so exactly one list is in order.
         ensures in_order { OnOk result (inline_slots_of self.new ≡ sorted_slots is_dotted_inline (slots_from (inline_slots_of self.old))) }
         ensures fields { inline_fields self.new ≡ inline_fields self.old }
     {
@@ -33,9 +41,16 @@ impl InlineTable {
         )
     }
 
-    /// Sorts the slots by the closure, which is shown their keys and values, and likewise those of the dotted inline tables inside. Slots
-    /// without a value come first, and ties keep their order. The only error is want of memory; then the slots of some inline tables may be
-    /// sorted and others not, and none is lost.
+    /// Sorts the slots by `compare`, and those of dotted inline tables inside likewise. The sort is
+    /// stable.
+    ///
+    /// The closure is passed the key and the value of two slots. Slots without a value come first.
+    /// Where the closure is not a strict weak order, the order is any.
+    ///
+    /// # Errors
+    ///
+    /// Returns an `AllocError` if out of memory. Some of the inline tables may be sorted then and
+    /// others not, but no slot is lost.
     pub fn sort_values_by<F: Fn(&Key, &Value, &Key, &Value) -> Ordering>(
         &mut self,
         compare: F,
@@ -57,7 +72,7 @@ impl InlineTable {
     }
 }
 
-/// The order of two slots: by the closure where both have a value, and else what has none comes first.
+/// Compares two slots by the closure where both have a value. One without a value is less.
 fn compare_values<F: Fn(&Key, &Value, &Key, &Value) -> Ordering>(
     key: &Key,
     item: &Item,
@@ -76,8 +91,7 @@ fn compare_values<F: Fn(&Key, &Value, &Key, &Value) -> Ordering>(
     }
 }
 
-/// Sorts these slots by the closure, and likewise those of the dotted inline tables inside. The only error is want of memory; then some
-/// inline tables may be sorted and others not.
+/// Sorts these slots, and those of dotted inline tables inside. On an error some may be sorted.
 #[cycle(sort)]
 fn sort_slots<F: Fn(&Key, &Item, &Key, &Item) -> Ordering>(
     slots: &mut Slots<Item>,
@@ -95,7 +109,7 @@ fn sort_slots<F: Fn(&Key, &Item, &Key, &Item) -> Ordering>(
     Ok(())
 }
 
-/// Sorts the slots of the item by the closure, if it is a dotted inline table.
+/// Sorts the slots of the item, if it is a dotted inline table.
 #[cycle(sort)]
 fn sort_item<F: Fn(&Key, &Item, &Key, &Item) -> Ordering>(item: &mut Item, compare: &F) -> Mem<()>
     requires { F.IsAlwaysCallable compare.now }
@@ -110,7 +124,7 @@ fn sort_item<F: Fn(&Key, &Item, &Key, &Item) -> Ordering>(item: &mut Item, compa
     }
 }
 
-/// The same of a value.
+/// Sorts the slots of the value, if it is a dotted inline table.
 #[cycle(sort)]
 fn sort_value<F: Fn(&Key, &Item, &Key, &Item) -> Ordering>(
     value: &mut Value,
@@ -131,7 +145,7 @@ fn sort_value<F: Fn(&Key, &Item, &Key, &Item) -> Ordering>(
     }
 }
 
-/// The same of an inline table.
+/// Sorts the slots of the inline table, if it is dotted.
 #[cycle(sort)]
 fn sort_inline<F: Fn(&Key, &Item, &Key, &Item) -> Ordering>(
     table: &mut InlineTable,

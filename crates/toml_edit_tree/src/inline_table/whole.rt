@@ -16,8 +16,10 @@ use crate::value::Value;
 use toml_edit_slots::Slots;
 
 impl InlineTable {
-    /// Keeps the values of which the closure says `true` at their keys' texts, in their order. The others go, and every slot that holds no
-    /// value. It takes no memory.
+    /// Keeps the values for which `keep` returns `true`, in their order, and removes the others.
+    ///
+    /// The closure is passed the name of the key and the value. Slots without a value are removed
+    /// too.
     pub fn retain<F: Fn(&str, &Value) -> bool>(&mut self, keep: F)
     where
         F: Drop,

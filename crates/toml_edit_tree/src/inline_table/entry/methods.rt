@@ -1,4 +1,4 @@
-//! What is done with an entry of an inline table.
+//! The methods of entries of an inline table.
 ghost use Rattle.std.specs.Prelude.{◌≡◌, None, Some, IsSome, IsOk, IfOk, IfErr, IfSome, option_map};
 ghost use Rattle.std.specs.Borrow.{sem};
 ghost use Rattle.std.specs.Option.{unwrap_or, UnwrapsOrElse};
@@ -21,25 +21,28 @@ use toml_edit_repr::Decor;
 use toml_edit_slots::{NoMemory, Slot};
 
 impl<'a> InlineOccupiedEntry<'a> {
-    /// Returns the text of the key that is there.
+    /// Returns the name of the key.
     pub fn key(&self) -> &str
         ensures { Some result.now ≡ option_map (λ key. key.name) (inline_key (Occupied self.now)) }
     {
         self.table.key_at(self.at).get()
     }
 
-    /// The value that is there.
+    /// Returns the value.
     pub fn get(&self) -> &Value
         ensures { Some result.now ≡ inline_value (Occupied self.now) }
     {
         self.table.value_at(self.at)
     }
 
-    /// The value that is there, to be changed, for as long as the inline table is lent.
+    /// Converts the entry into a mutable reference to the value, which lives as long as the borrow
+    /// of the inline table.
+    ///
+    /// To use the entry again, call [`get_mut`](Self::get_mut).
     pub fn into_mut(self) -> &'a mut Value
         ensures* writes_back { sem 𝓛 (InlineLends (Occupied self.entry) result) }
         ensures value { Some result.now ≡ inline_value (Occupied self.entry) }
-        // What a value that is written leaves.
+        // What the inline table is after a write through the reference.
         ensures leaves { (w : Value) → inline_slots_of (inline_with (Occupied self.entry) w)
             ≡ changed_at (inline_place (Occupied self.entry)) (with_item (value_view w)) (inline_slots_of (inline_ref (Occupied self.entry)).now) }
         ensures keeps { (w : Value) → inline_fields (inline_with (Occupied self.entry) w) ≡ inline_fields (inline_ref (Occupied self.entry)).now }
@@ -48,11 +51,14 @@ impl<'a> InlineOccupiedEntry<'a> {
         table.value_at_mut(at)
     }
 
-    /// The value that is there, to be changed.
+    /// Returns a mutable reference to the value.
+    ///
+    /// The reference ends with the borrow of the entry; [`into_mut`](Self::into_mut) gives one that
+    /// outlives it.
     pub fn get_mut(&mut self) -> &mut Value
         ensures* writes_back { sem 𝓛 (InlineOccupiedLends self.entry result) }
         ensures value { Some result.now ≡ inline_value (Occupied self.old) }
-        // What a value that is written leaves.
+        // What the inline table is after a write through the reference.
         ensures leaves { (w : Value) → inline_slots_of (with_entry_value self.old w).table.now
             ≡ changed_at (inline_place (Occupied self.old)) (with_item (value_view w)) (inline_slots_of (inline_ref (Occupied self.old)).now) }
         ensures keeps { (w : Value) → inline_fields (with_entry_value self.old w).table.now ≡ inline_fields (inline_ref (Occupied self.old)).now }
@@ -61,11 +67,11 @@ impl<'a> InlineOccupiedEntry<'a> {
         self.table.value_at_mut(at)
     }
 
-    /// Lends the key that is there, to change all of it but its text.
+    /// Returns the key, to change all of it but its name.
     pub fn key_mut(&mut self) -> KeyMut<'_>
         ensures* writes_back { sem 𝓛 (InlineOccupiedLendsKey self.entry result) }
         ensures key { inline_key (Occupied self.old) ≡ Some (key_of result) }
-        // What a change of the key leaves.
+        // What the inline table is after a change of the key.
         ensures leaves { (h : Key → Key) → inline_slots_of (with_inline_entry_key self.old h).table.now
             ≡ changed_at (inline_place (Occupied self.old)) (on_key h) (inline_slots_of (inline_ref (Occupied self.old)).now) }
         ensures keeps { (h : Key → Key) → inline_fields (with_inline_entry_key self.old h).table.now ≡ inline_fields (inline_ref (Occupied self.old)).now }
@@ -74,11 +80,12 @@ impl<'a> InlineOccupiedEntry<'a> {
         self.table.key_at_mut(at)
     }
 
-    /// What stands around the key where it ends a path, to be changed.
+    /// Returns a mutable reference to the decor of the key where it ends a path: the whitespace and
+    /// comments before it, and the whitespace before `=`.
     pub fn leaf_decor_mut(&mut self) -> &mut Decor
         ensures* writes_back { sem 𝓛 (InlineOccupiedLendsLeaf self.entry result) }
         ensures decor { option_map (λ key. key.leaf) (inline_key (Occupied self.old)) ≡ Some result.now }
-        // What a change of the key leaves.
+        // What the inline table is after a change of the key.
         ensures leaves { (h : Key → Key) → inline_slots_of (with_inline_entry_key self.old h).table.now
             ≡ changed_at (inline_place (Occupied self.old)) (on_key h) (inline_slots_of (inline_ref (Occupied self.old)).now) }
         ensures keeps { (h : Key → Key) → inline_fields (with_inline_entry_key self.old h).table.now ≡ inline_fields (inline_ref (Occupied self.old)).now }
@@ -87,11 +94,11 @@ impl<'a> InlineOccupiedEntry<'a> {
         self.table.leaf_decor_at_mut(at)
     }
 
-    /// What stands around the key where it ends no path, to be changed.
+    /// Returns a mutable reference to the whitespace between the key and the dots beside it.
     pub fn dotted_decor_mut(&mut self) -> &mut Decor
         ensures* writes_back { sem 𝓛 (InlineOccupiedLendsDotted self.entry result) }
         ensures decor { option_map (λ key. key.dotted) (inline_key (Occupied self.old)) ≡ Some result.now }
-        // What a change of the key leaves.
+        // What the inline table is after a change of the key.
         ensures leaves { (h : Key → Key) → inline_slots_of (with_inline_entry_key self.old h).table.now
             ≡ changed_at (inline_place (Occupied self.old)) (on_key h) (inline_slots_of (inline_ref (Occupied self.old)).now) }
         ensures keeps { (h : Key → Key) → inline_fields (with_inline_entry_key self.old h).table.now ≡ inline_fields (inline_ref (Occupied self.old)).now }
@@ -100,7 +107,7 @@ impl<'a> InlineOccupiedEntry<'a> {
         self.table.dotted_decor_at_mut(at)
     }
 
-    /// Gives the key its default spelling, and unsets its decors.
+    /// Resets the key to its default spelling, and unsets its decor.
     pub fn fmt_key(&mut self)
         ensures same_table { (inline_ref (Occupied self.new)).ghost_name ≡ (inline_ref (Occupied self.old)).ghost_name }
         ensures same_place { inline_place (Occupied self.new) ≡ inline_place (Occupied self.old) }
@@ -112,7 +119,7 @@ impl<'a> InlineOccupiedEntry<'a> {
         self.table.fmt_key_at(self.at);
     }
 
-    /// Puts another value here, and answers the one that was there.
+    /// Replaces the value and returns the old one. The key keeps its spelling and its decor.
     pub fn insert(&mut self, value: Value) -> Value
         ensures same_table { (inline_ref (Occupied self.new)).ghost_name ≡ (inline_ref (Occupied self.old)).ghost_name }
         ensures same_place { inline_place (Occupied self.new) ≡ inline_place (Occupied self.old) }
@@ -126,7 +133,8 @@ impl<'a> InlineOccupiedEntry<'a> {
         self.table.replace_value_at(self.at, value)
     }
 
-    /// Takes the slot out, and answers its value. The others keep their order. It takes no memory.
+    /// Removes the slot and returns its value, keeping the order of the others. The key and its
+    /// comments are dropped.
     pub fn remove(self) -> Value
         ensures value { Some result ≡ inline_value (Occupied self.entry) }
         ensures removed { IfSome (inline_key (Occupied self.entry)) (λ key. inline_slots_of self.exit.0.now ≡ without key.name (inline_slots_of (inline_ref (Occupied self.entry)).now)) }
@@ -138,19 +146,23 @@ impl<'a> InlineOccupiedEntry<'a> {
 }
 
 impl<'a> InlineVacantEntry<'a> {
-    /// Returns the text of the key that a slot would get.
+    /// Returns the name that a new key will have.
     pub fn key(&self) -> &str
         ensures { Some result.now ≡ option_map (λ key. key.name) (inline_key (Vacant self.now)) }
     {
         self.key.get()
     }
 
-    /// Puts the key last with the value, which it lends. The only error is want of memory: the inline table stays as it was, and the error
-    /// has the value.
+    /// Inserts `value` under the key at the end of the inline table, and returns a mutable
+    /// reference to it.
+    ///
+    /// # Errors
+    ///
+    /// Returns a [`NoMemory`] with `value` if out of memory.
     pub fn insert(self, value: Value) -> Result<&'a mut Value, NoMemory<Value>>
         ensures* writes_back { sem 𝓛 (InlineLendsOk (Vacant self.entry) result) }
         ensures value { IfOk result (λ x. x.now ≡ value) }
-        // What a value that is written leaves.
+        // What the inline table is after a write through the reference.
         ensures leaves { (w : Value) → inline_slots_of (inline_with (Vacant self.entry) w) ≡ inline_slots_left (Vacant self.entry) (value_view w) }
         ensures keeps { (w : Value) → inline_fields (inline_with (Vacant self.entry) w) ≡ inline_fields (inline_ref (Vacant self.entry)).now }
         ensures back { IfErr result (λ refused. refused.0 ≡ value) }
@@ -166,7 +178,7 @@ impl<'a> InlineVacantEntry<'a> {
 }
 
 impl<'a> InlineEntry<'a> {
-    /// Returns the text of the key that is there, or that a slot would get.
+    /// Returns the name of the key, present or new.
     pub fn key(&self) -> &str
         ensures { Some result.now ≡ option_map (λ key. key.name) (inline_key self.now) }
     {
@@ -176,12 +188,18 @@ impl<'a> InlineEntry<'a> {
         }
     }
 
-    /// The value that is there, or else this one, put last with the key. The only error is want of memory, at a new key: the inline table
-    /// stays as it was, and the error has the value.
+    /// Returns a mutable reference to the value of the key, after inserting `value` if the key is
+    /// missing.
+    ///
+    /// An existing value stays, and `value` is dropped. A new key is added at the end.
+    ///
+    /// # Errors
+    ///
+    /// Returns a [`NoMemory`] with `value` if out of memory. An existing key takes no memory.
     pub fn or_insert(self, value: Value) -> Result<&'a mut Value, NoMemory<Value>>
         ensures* writes_back { sem 𝓛 (InlineLendsOk self.entry result) }
         ensures value { IfOk result (λ x. x.now ≡ unwrap_or (inline_value self.entry) value) }
-        // What a value that is written leaves.
+        // What the inline table is after a write through the reference.
         ensures leaves { (w : Value) → inline_slots_of (inline_with self.entry w) ≡ inline_slots_left self.entry (value_view w) }
         ensures keeps { (w : Value) → inline_fields (inline_with self.entry w) ≡ inline_fields (inline_ref self.entry).now }
         ensures present { IsSome (inline_value self.entry) → IsOk result }
@@ -196,8 +214,15 @@ impl<'a> InlineEntry<'a> {
         }
     }
 
-    /// The value that is there, or else the closure's answer, put last with the key. The closure is called for a new key alone. The only
-    /// error is want of memory, at a new key: the inline table stays as it was, and the error has the answer.
+    /// Returns a mutable reference to the value of the key, after inserting the result of `default`
+    /// if the key is missing.
+    ///
+    /// The closure is called only then. A new key is added at the end.
+    ///
+    /// # Errors
+    ///
+    /// Returns a [`NoMemory`] with the result of `default` if out of memory. An existing key takes
+    /// no memory.
     pub fn or_insert_with<F: FnOnce() -> Value>(
         self,
         default: F,
@@ -207,7 +232,7 @@ impl<'a> InlineEntry<'a> {
         requires { inline_value self ≡ None → F.pre default }
         ensures* writes_back { sem 𝓛 (InlineLendsOk self.entry result) }
         ensures value { IfOk result (λ x. UnwrapsOrElse (inline_value self.entry) (F.post default) x.now) }
-        // What a value that is written leaves.
+        // What the inline table is after a write through the reference.
         ensures leaves { (w : Value) → inline_slots_of (inline_with self.entry w) ≡ inline_slots_left self.entry (value_view w) }
         ensures keeps { (w : Value) → inline_fields (inline_with self.entry w) ≡ inline_fields (inline_ref self.entry).now }
         ensures present { IsSome (inline_value self.entry) → IsOk result }

@@ -1,4 +1,4 @@
-//! Entries of an inline table.
+//! Calls of an inline table that return an entry.
 ghost use Rattle.std.specs.Prelude.{◌≡◌, ◌<◌, IfOk, IfSome, length};
 ghost use Rattle.std.specs.Borrow.{sem};
 ghost use Rattle.toml_edit_model.specs.Keys.{new_key};
@@ -15,8 +15,16 @@ use toml_edit_key::Key;
 use toml_edit_repr::Mem;
 
 impl InlineTable {
-    /// The entry of the key's text; a new one has a key of the text alone. What stands there is made a value first, a placeholder an empty
-    /// inline table. The only error is want of memory, at a new key: the inline table stays as it was.
+    /// Returns the entry of `key`, to change its value or to insert one.
+    ///
+    /// An existing item that is no value is made one first, as by
+    /// [`Item::make_value`](crate::Item::make_value), and a placeholder an empty inline table. A
+    /// new key will have the default spelling and no decor; for another one use
+    /// [`entry_format`](Self::entry_format).
+    ///
+    /// # Errors
+    ///
+    /// Returns an `AllocError` if out of memory. An existing key takes no memory.
     pub fn entry(&mut self, key: &str) -> Mem<InlineEntry<'_>>
         ensures* refused { sem 𝓛 (InlineRestsIfRefused self.entry result) }
         ensures same_table { IfOk result (λ e. (inline_ref e).ghost_name ≡ self.entry.ghost_name) }
@@ -33,8 +41,14 @@ impl InlineTable {
         }
     }
 
-    /// The entry of the key; a new one has a copy of the key, with its spelling and decors. What stands there is made a value first, a
-    /// placeholder an empty inline table. The only error is want of memory, at a new key: the inline table stays as it was.
+    /// Returns the entry of `key`, to change its value or to insert one.
+    ///
+    /// An existing key stays as it is, and its item is made a value first, as by
+    /// [`entry`](Self::entry). A new key will be a copy of `key`, with its spelling and its decor.
+    ///
+    /// # Errors
+    ///
+    /// Returns an `AllocError` if out of memory. An existing key takes no memory.
     pub fn entry_format(&mut self, key: &Key) -> Mem<InlineEntry<'_>>
         ensures* refused { sem 𝓛 (InlineRestsIfRefused self.entry result) }
         ensures same_table { IfOk result (λ e. (inline_ref e).ghost_name ≡ self.entry.ghost_name) }
@@ -51,7 +65,7 @@ impl InlineTable {
         }
     }
 
-    /// The place of the key's slot of any kind, among keys of which no two have one text.
+    /// Finds the slot of the key, of any kind.
     pub(crate) fn place_of(&self, key: &str) -> Option<usize>
         ensures place { result ≡ place key.now (out-InlineTable self.now).items }
         ensures there { result ≡ place_seen key.now (inline_slots_of self.now) }

@@ -1,4 +1,4 @@
-//! What is done with a slot of an inline table.
+//! The methods of a slot of an inline table.
 ghost use Rattle.std.specs.Prelude.{◌≡◌, Some, option_map};
 ghost use Rattle.std.specs.Borrow.{sem};
 ghost use Rattle.toml_edit_key.specs.KeyMutView.{key_of};
@@ -17,25 +17,25 @@ use toml_edit_key::{Key, KeyMut};
 use toml_edit_repr::Decor;
 
 impl<'a> InlineSlotMut<'a> {
-    /// The key that is there.
+    /// Returns the key.
     pub fn key(&self) -> &Key
         ensures { Some result.now ≡ slot_key self.now }
     {
         &self.table.items.as_slice()[self.at].key
     }
 
-    /// The item that is there.
+    /// Returns the item, which may be of any kind.
     pub fn get(&self) -> &Item
         ensures { Some result.now ≡ slot_item self.now }
     {
         &self.table.items.as_slice()[self.at].item
     }
 
-    /// The item that is there, to be changed.
+    /// Returns a mutable reference to the item, which may be of any kind.
     pub fn get_mut(&mut self) -> &mut Item
         ensures* writes_back { sem 𝓛 (SlotLends self.entry result) }
         ensures item { Some result.now ≡ slot_item self.old }
-        // What an item that is written leaves.
+        // What the inline table is after a write through the reference.
         ensures leaves { (w : Item) → inline_slots_of (slot_ref (with_slot_item self.old w)).now
             ≡ changed_at (slot_place self.old) (with_item (item_view w)) (inline_slots_of (slot_ref self.old).now) }
         ensures keeps { (w : Item) → inline_fields (slot_ref (with_slot_item self.old w)).now ≡ inline_fields (slot_ref self.old).now }
@@ -44,11 +44,11 @@ impl<'a> InlineSlotMut<'a> {
         self.table.item_at_mut(at)
     }
 
-    /// Lends the key that is there, to change all of it but its text.
+    /// Returns the key, to change all of it but its name.
     pub fn key_mut(&mut self) -> KeyMut<'_>
         ensures* writes_back { sem 𝓛 (SlotLendsKey self.entry result) }
         ensures key { slot_key self.old ≡ Some (key_of result) }
-        // What a change of the key leaves.
+        // What the inline table is after a change of the key.
         ensures leaves { (h : Key → Key) → inline_slots_of (slot_ref (with_slot_key self.old h)).now
             ≡ changed_at (slot_place self.old) (on_key h) (inline_slots_of (slot_ref self.old).now) }
         ensures keeps { (h : Key → Key) → inline_fields (slot_ref (with_slot_key self.old h)).now ≡ inline_fields (slot_ref self.old).now }
@@ -57,11 +57,12 @@ impl<'a> InlineSlotMut<'a> {
         self.table.key_in_mut(at)
     }
 
-    /// What stands around the key where it ends a path, to be changed.
+    /// Returns a mutable reference to the decor of the key where it ends a path: the whitespace and
+    /// comments before it, and the whitespace before `=`.
     pub fn leaf_decor_mut(&mut self) -> &mut Decor
         ensures* writes_back { sem 𝓛 (SlotLendsLeaf self.entry result) }
         ensures decor { option_map (λ key. key.leaf) (slot_key self.old) ≡ Some result.now }
-        // What a change of the key leaves.
+        // What the inline table is after a change of the key.
         ensures leaves { (h : Key → Key) → inline_slots_of (slot_ref (with_slot_key self.old h)).now
             ≡ changed_at (slot_place self.old) (on_key h) (inline_slots_of (slot_ref self.old).now) }
         ensures keeps { (h : Key → Key) → inline_fields (slot_ref (with_slot_key self.old h)).now ≡ inline_fields (slot_ref self.old).now }
@@ -70,11 +71,11 @@ impl<'a> InlineSlotMut<'a> {
         self.table.leaf_decor_in_mut(at)
     }
 
-    /// What stands around the key where it ends no path, to be changed.
+    /// Returns a mutable reference to the whitespace between the key and the dots beside it.
     pub fn dotted_decor_mut(&mut self) -> &mut Decor
         ensures* writes_back { sem 𝓛 (SlotLendsDotted self.entry result) }
         ensures decor { option_map (λ key. key.dotted) (slot_key self.old) ≡ Some result.now }
-        // What a change of the key leaves.
+        // What the inline table is after a change of the key.
         ensures leaves { (h : Key → Key) → inline_slots_of (slot_ref (with_slot_key self.old h)).now
             ≡ changed_at (slot_place self.old) (on_key h) (inline_slots_of (slot_ref self.old).now) }
         ensures keeps { (h : Key → Key) → inline_fields (slot_ref (with_slot_key self.old h)).now ≡ inline_fields (slot_ref self.old).now }
@@ -83,7 +84,7 @@ impl<'a> InlineSlotMut<'a> {
         self.table.dotted_decor_in_mut(at)
     }
 
-    /// Gives the key its default spelling, and unsets its decors.
+    /// Resets the key to its default spelling, and unsets its decor.
     pub fn fmt_key(&mut self)
         ensures same_table { (slot_ref self.new).ghost_name ≡ (slot_ref self.old).ghost_name }
         ensures same_place { slot_place self.new ≡ slot_place self.old }

@@ -1,4 +1,4 @@
-//! Slots of an inline table by place or by key, and what is written in one.
+//! Calls of an inline table that return a slot of any kind, or lend a key.
 ghost use Rattle.std.specs.Prelude.{◌≡◌, ◌<◌, IfSome, IsTrue, None, Some, if◌then◌else◌, length, nat_lt, option_and_then, option_map, slice_get};
 ghost use Rattle.std.specs.Borrow.{sem};
 ghost use Rattle.toml_edit_key.specs.KeyMutView.{key_of};
@@ -19,7 +19,9 @@ use toml_edit_key::KeyMut;
 use toml_edit_repr::Decor;
 
 impl InlineTable {
-    /// The slot at the place, a placeholder too, if there is one, to change its item or what stands around its key.
+    /// Returns slot `at`, of any kind, or `None` if `at` is not below [`slots`](Self::slots).
+    ///
+    /// In a loop over numbers it takes the place of an `iter_mut`.
     pub fn key_value_at_mut(&mut self, at: usize) -> Option<InlineSlotMut<'_>>
         ensures* absent { sem 𝓛 (SlotRestsIfAbsent self.entry result) }
         ensures same_table { IfSome result (λ slot. (slot_ref slot).ghost_name ≡ self.entry.ghost_name) }
@@ -33,8 +35,11 @@ impl InlineTable {
         }
     }
 
-    /// Lends the key as it stands in the inline table, whatever stands under it, to change all of it but its text. Returns `None`
-    /// where the key has no slot.
+    /// Returns the key of this name, to change all of it but its name, or `None` if it is missing.
+    /// A key without a value is returned too.
+    ///
+    /// No contract says what the inline table is after a change of the key. Where a proof needs
+    /// that, use [`slot_mut`](Self::slot_mut).
     pub fn key_mut(&mut self, key: &str) -> Option<KeyMut<'_>>
         ensures { option_map key_of result ≡ lookup_key key.now (inline_slots_of self.old) }
     {
@@ -44,7 +49,9 @@ impl InlineTable {
         }
     }
 
-    /// Returns the key's slot, a placeholder too, or `None` where the key has no slot.
+    /// Returns the slot of `key`, of any kind, or `None` if the key is missing.
+    ///
+    /// It lends the item by `get_mut` and the key by `key_mut`, one after the other.
     pub fn slot_mut(&mut self, key: &str) -> Option<InlineSlotMut<'_>>
         ensures* absent { sem 𝓛 (SlotRestsIfAbsent self.entry result) }
         ensures same_table { IfSome result (λ slot. (slot_ref slot).ghost_name ≡ self.entry.ghost_name) }
@@ -57,8 +64,10 @@ impl InlineTable {
         }
     }
 
-    /// Returns the key's slot, to change its item or what stands around the key, or `None` where there is no slot or the slot is a
-    /// placeholder.
+    /// Returns the slot of `key`, or `None` if the key is missing or has a placeholder.
+    ///
+    /// It lends the item by `get_mut` and the key by `key_mut`, one after the other. For
+    /// placeholders too, use [`slot_mut`](Self::slot_mut).
     pub fn get_key_value_mut(&mut self, key: &str) -> Option<InlineSlotMut<'_>>
         ensures* absent { sem 𝓛 (SlotRestsIfAbsent self.entry result) }
         ensures same_table { IfSome result (λ slot. (slot_ref slot).ghost_name ≡ self.entry.ghost_name) }
@@ -72,7 +81,7 @@ impl InlineTable {
         }
     }
 
-    /// Whether there is a slot at the place.
+    /// Returns `true` if `at` is below the number of slots.
     fn has_place(&self, at: usize) -> bool
         ensures there { result ≡ nat_lt at (length (inline_slots_of self.now)) }
         ensures within { IsTrue result → at < length (out-InlineTable self.now).items }
@@ -80,7 +89,7 @@ impl InlineTable {
         at < self.items.len()
     }
 
-    /// The item at the place, to be changed.
+    /// Returns a mutable reference to the item of slot `at`.
     pub(crate) fn item_at_mut(&mut self, at: usize) -> &mut Item
         requires { at < length (out-InlineTable self.old).items }
         ensures* writes_back { sem 𝓛 (LendsInlineItemAt self.entry at result) }
@@ -89,7 +98,7 @@ impl InlineTable {
         self.items.item_mut(at)
     }
 
-    /// Lends the key at the place, to change all of it but its text.
+    /// Returns the key of slot `at`, to change all of it but its name.
     pub(crate) fn key_in_mut(&mut self, at: usize) -> KeyMut<'_>
         requires { at < length (out-InlineTable self.old).items }
         ensures* writes_back { sem 𝓛 (LendsInlineKeyAt self.entry at result) }
@@ -98,7 +107,7 @@ impl InlineTable {
         self.items.key_mut(at)
     }
 
-    /// What stands around the key at the place where it ends a path, to be changed.
+    /// Returns a mutable reference to the leaf decor of the key of slot `at`.
     pub(crate) fn leaf_decor_in_mut(&mut self, at: usize) -> &mut Decor
         requires { at < length (out-InlineTable self.old).items }
         ensures* writes_back { sem 𝓛 (LendsInlineLeafAt self.entry at result) }
@@ -107,7 +116,7 @@ impl InlineTable {
         self.items.leaf_decor_mut(at)
     }
 
-    /// What stands around the key at the place where it ends no path, to be changed.
+    /// Returns a mutable reference to the dotted decor of the key of slot `at`.
     pub(crate) fn dotted_decor_in_mut(&mut self, at: usize) -> &mut Decor
         requires { at < length (out-InlineTable self.old).items }
         ensures* writes_back { sem 𝓛 (LendsInlineDottedAt self.entry at result) }
@@ -116,7 +125,7 @@ impl InlineTable {
         self.items.dotted_decor_mut(at)
     }
 
-    /// Gives the key at the place its default spelling, and unsets its decors.
+    /// Resets the key of slot `at` to its default spelling, and unsets its decor.
     pub(crate) fn fmt_key_in(&mut self, at: usize)
         requires { at < length (out-InlineTable self.old).items }
         ensures { self.new ≡ with_inline_key at reset_key self.old }
