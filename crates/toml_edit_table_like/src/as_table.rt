@@ -1,4 +1,4 @@
-//! An item as a table of either kind.
+//! `AsTableLike`: an item as a table of either kind.
 ghost use Rattle.std.specs.Borrow.{sem};
 ghost use Rattle.std.specs.Prelude.{◌≡◌, IfSome, option_map};
 ghost use Rattle.toml_edit_model.specs.Lists.{on_slots, slots_in};
@@ -10,28 +10,33 @@ use crate::TableRef;
 use crate::table_ref_mut::TableRefMut;
 use toml_edit_tree::Item;
 
-/// What may be a table of either kind: an item.
+/// An item that may be a table of either kind: a [`Table`](toml_edit_tree::Table) or an
+/// [`InlineTable`](toml_edit_tree::InlineTable).
+///
+/// It is implemented for [`Item`], whose calls these are once the trait is imported.
 pub trait AsTableLike {
     ghost use Rattle.toml_edit_model.specs.Tree.{Node};
     ghost use Rattle.toml_edit_table_like.specs.declared.table_ref_mut.TableRefMut.{TableRefMut};
 
-    /// The item that it stands for.
+    /// The item, as contracts see it.
     ghost node: { Self → Node };
 
-    /// The table, if it is a table or an inline table.
+    /// Returns the table to read, or `None` for any other item.
     fn as_table_like(&self) -> Option<TableRef<'_>>
         ensures table { option_map ref_node result ≡ table_like_in (node self.now) }
         ensures slots { option_map ref_slots result ≡ slots_in (node self.now) };
 
-    /// The table, to be changed, if it is a table or an inline table.
+    /// Returns the table to read and change, or `None` for any other item.
+    ///
+    /// Import [`AnyTable`](crate::AnyTable) for its calls.
     fn as_table_like_mut(&mut self) -> Option<TableRefMut<'_>>
         ensures* other { sem 𝓛 (RestsIfOther Self.row self.entry result) }
         ensures same_item { IfSome result (λ t. (mut_item t).ghost_name ≡ self.entry.ghost_name) }
         ensures table { option_map mut_node result ≡ table_like_in (node self.old) }
-        // What the table leaves is its item: told by its slots and by what it has beside them.
+        // The slots and what is beside them determine the item.
         ensures whole { (t : TableRefMut) → mut_node t ≡ on_slots (λ _. mut_slots t) (mut_beside t) };
 
-    /// Whether it is a table or an inline table.
+    /// Returns `true` if the item is a table or an inline table.
     fn is_table_like(&self) -> bool
         ensures { result ≡ is_table_like (node self.now) }
     {

@@ -1,4 +1,4 @@
-//! What is found in slots: how many hold an item, and the slot of a key.
+//! Look-up in slots.
 ghost use Rattle.std.specs.Prelude.{◌≡◌, ◌<◌, IfSome, Some, length, option_and_then, option_map, slice_get};
 ghost use Rattle.toml_edit_model.specs.Iterating.{filled};
 ghost use Rattle.toml_edit_model.specs.Slots.{AreApart};
@@ -13,7 +13,7 @@ use toml_edit_slots::Slots;
 use toml_edit_tree::Item;
 use toml_edit_tree::table::is_filled;
 
-/// How many slots hold an item.
+/// Counts the slots that are no placeholders.
 pub(crate) fn filled_len(slots: &Slots<Item>) -> usize
     ensures { result ≡ length (filled (shown slots.now)) }
 {
@@ -26,7 +26,7 @@ pub(crate) fn filled_len(slots: &Slots<Item>) -> usize
     count
 }
 
-/// The key of this text and its item, which is no placeholder.
+/// Returns the key of this name and its item, unless that is a placeholder.
 pub(crate) fn filled_slot<'a>(slots: &'a Slots<Item>, key: &str) -> Option<(&'a Key, &'a Item)>
     ensures { option_map slot_read result ≡ get_slot key.now (shown slots.now) }
 {
@@ -38,7 +38,7 @@ pub(crate) fn filled_slot<'a>(slots: &'a Slots<Item>, key: &str) -> Option<(&'a 
     }
 }
 
-/// The place of the key's slot, unless it is a placeholder, among keys of which no two have one text.
+/// Finds the slot of the key, unless it is a placeholder.
 pub(crate) fn filled_place(slots: &Slots<Item>, key: &str) -> Option<usize>
     ensures held { option_map item_view (option_and_then (slice_get (items_of slots.now)) result) ≡ get key.now (shown slots.now) }
     ensures place { IfSome result (λ at. place key.now slots.now ≡ Some at) }

@@ -1,4 +1,4 @@
-//! What tables of either kind are made of.
+//! `HasSlots`: what a type gives to be a table of either kind, and what follows from it.
 ghost use Rattle.std.specs.Prelude.{◌≡◌, ◌<◌, IfSome, IsTrue, None, Some, length, nat_lt, option_and_then, option_map, slice_get};
 ghost use Rattle.std.proofs.Common.{refl};
 ghost use Rattle.std.specs.Borrow.{sem};
@@ -18,7 +18,11 @@ use toml_edit_repr::Decor;
 use toml_edit_slots::Slots;
 use toml_edit_tree::{InlineTable, Item, Table};
 
-/// What is made of slots: a table of either kind.
+/// A type made of slots, which is what an [`AnyTable`](crate::AnyTable) has to be.
+///
+/// It is implemented for [`Table`], [`InlineTable`] and [`TableRefMut`](crate::TableRefMut). An
+/// implementation gives its slots by reference, and proves that writing other slots changes nothing
+/// else. The other calls are made of these.
 pub trait HasSlots {
     ghost use Rattle.std.specs.Borrow.{GName};
     ghost use Rattle.std.specs.Prelude.{List, Option};
@@ -28,21 +32,21 @@ pub trait HasSlots {
     ghost use Rattle.toml_edit_table_like.specs.Shown.{shown};
     ghost use Rattle.toml_edit_tree.specs.declared.item.Item.{Item};
 
-    /// The slots in order.
+    /// The slots, in order.
     ghost slots_of: { Self → List (Slot Node) };
 
-    /// What there is beside them.
+    /// The table without its slots.
     ghost beside: { Self → Node };
 
-    /// The slots with their items, and it with others.
+    /// The slots of the code, and the table with other slots.
     ghost entries: { Self → List (code.Slot Item) };
 
     ghost with_entries: { List (code.Slot Item) → Self → Self };
 
-    /// Its slots are seen in these.
+    /// `entries` are the slots that `slots_of` shows.
     ghost shows: { (t : Self) → slots_of t ≡ shown (entries t) };
 
-    /// With others it has those, and nothing else changes.
+    /// Other slots replace these, and change nothing else.
     ghost takes: { (es : List (code.Slot Item)) (t : Self) → entries (with_entries es t) ≡ es };
 
     ghost keeps: { (es : List (code.Slot Item)) (t : Self) → beside (with_entries es t) ≡ beside t };
@@ -51,21 +55,22 @@ pub trait HasSlots {
 
     ghost stays: { (t : Self) → with_entries (entries t) t ≡ t };
 
-    /// The reference that it came by, where it came by one, which stays.
+    /// The mutable reference that the table was made of, if it was made of one. No call replaces
+    /// it.
     ghost origin: { Self → Option GName };
 
     ghost holds: { (es : List (code.Slot Item)) (t : Self) → origin (with_entries es t) ≡ origin t };
 
-    /// The slots.
+    /// Returns the slots.
     fn as_slots(&self) -> &Slots<Item>
         ensures { result.now ≡ entries self.now };
 
-    /// The slots, to be changed.
+    /// Returns a mutable reference to the slots.
     fn as_slots_mut(&mut self) -> &mut Slots<Item>
         ensures* writes_back { sem 𝓛 (LendsSlots Self.row with_entries self.entry result) }
         ensures slots { result.now ≡ entries self.old };
 
-    /// The item at the place, to be changed.
+    /// Returns a mutable reference to the item of slot `at`, which a contract requires to exist.
     fn item_at_mut(&mut self, at: usize) -> &mut Item
         requires { at < length (entries self.old) }
         ensures* writes_back { sem 𝓛 (LendsItemAt Self.row entries with_entries self.entry at result) }
@@ -75,7 +80,8 @@ pub trait HasSlots {
         slots.item_mut(at)
     }
 
-    /// Lends the key at the place, to change all of it but its text.
+    /// Returns the key of slot `at`, which a contract requires to exist, to change all of it but
+    /// its name.
     fn key_at_mut(&mut self, at: usize) -> KeyMut<'_>
         requires { at < length (entries self.old) }
         ensures* writes_back { sem 𝓛 (LendsKeyAt Self.row entries with_entries self.entry at result) }
@@ -85,7 +91,8 @@ pub trait HasSlots {
         slots.key_mut(at)
     }
 
-    /// What stands around the key at the place where it ends a path, to be changed.
+    /// Returns a mutable reference to the leaf decor of the key of slot `at`: the whitespace and
+    /// comments before its path, and the whitespace before `=`.
     fn leaf_decor_at_mut(&mut self, at: usize) -> &mut Decor
         requires { at < length (entries self.old) }
         ensures* writes_back { sem 𝓛 (LendsLeafAt Self.row entries with_entries self.entry at result) }
@@ -95,7 +102,8 @@ pub trait HasSlots {
         slots.leaf_decor_mut(at)
     }
 
-    /// What stands around the key at the place where it ends no path, to be changed.
+    /// Returns a mutable reference to the whitespace between the key of slot `at` and the dots
+    /// beside it.
     fn dotted_decor_at_mut(&mut self, at: usize) -> &mut Decor
         requires { at < length (entries self.old) }
         ensures* writes_back { sem 𝓛 (LendsDottedAt Self.row entries with_entries self.entry at result) }
@@ -105,7 +113,9 @@ pub trait HasSlots {
         slots.dotted_decor_mut(at)
     }
 
-    /// The place of the key's slot of any kind, among keys of which no two have one text.
+    /// Returns the number of the slot of `key`, of any kind, or `None` if the key is missing.
+    ///
+    /// No two keys have the same name.
     fn place_of(&self, key: &str) -> Option<usize>
         ensures place { result ≡ place key.now (entries self.now) }
         ensures there { result ≡ place_seen key.now (slots_of self.now) }
@@ -117,7 +127,8 @@ pub trait HasSlots {
         slots.find(key)
     }
 
-    /// The place of the key's slot, unless it is a placeholder.
+    /// Returns the number of the slot of `key`, or `None` if the key is missing or has a
+    /// placeholder.
     fn filled_place_of(&self, key: &str) -> Option<usize>
         ensures item { option_map item_view (option_and_then (slice_get (items_of (entries self.now))) result) ≡ get key.now (slots_of self.now) }
         ensures there { IfSome result (λ at. place_seen key.now (slots_of self.now) ≡ Some at) }
@@ -126,7 +137,7 @@ pub trait HasSlots {
         filled_place(self.as_slots(), key)
     }
 
-    /// Whether there is a slot at the place.
+    /// Returns `true` if `at` is below the number of slots.
     fn has_place(&self, at: usize) -> bool
         ensures there { result ≡ nat_lt at (length (slots_of self.now)) }
         ensures within { IsTrue result → at < length (entries self.now) }

@@ -1,4 +1,4 @@
-//! Items that are put into an inline table, where its own calls speak of values.
+//! Insertion of items into an inline table, whose own calls take values.
 ghost use Rattle.std.specs.Prelude.{◌≡◌, true, IfErr, IfOk, IsOk, IsTrue, OnErr, OnOk, option_and_then, option_map};
 ghost use Rattle.toml_edit_model.specs.Conversions.{into_value, made_value};
 ghost use Rattle.toml_edit_model.specs.InlineCalls.{old_value};
@@ -12,7 +12,7 @@ ghost use Rattle.toml_edit_tree.specs.View.{item_view};
 use toml_edit_slots::{NoMemory, Slots};
 use toml_edit_tree::{InlineTable, Item};
 
-/// Puts the item, which is no placeholder, under the key as a value.
+/// Inserts an item that is no placeholder, made a value, and returns the old one, made a value.
 pub(crate) fn insert_item(
     table: &mut InlineTable,
     key: &str,
@@ -35,7 +35,7 @@ pub(crate) fn insert_item(
     }
 }
 
-/// Makes what stands under the key a value.
+/// Makes the item under the key a value.
 fn make_value_under(slots: &mut Slots<Item>, key: &str)
     ensures { shown slots.new ≡ changed key.now (on_item made_value) (shown slots.old) }
 {
@@ -46,14 +46,14 @@ fn make_value_under(slots: &mut Slots<Item>, key: &str)
     }
 }
 
-/// The item that was there, if there was one, made a value, unless it is a placeholder.
+/// Makes an old item a value, and returns `None` for a placeholder.
 fn old_value_item(old: Option<Item>) -> Option<Item>
     ensures { option_map item_view result ≡ option_and_then into_value (option_map item_view old) }
 {
     value_item(old?)
 }
 
-/// The item made a value, unless it is a placeholder.
+/// Makes the item a value, and returns `None` for a placeholder.
 fn value_item(item: Item) -> Option<Item>
     ensures { option_map item_view result ≡ into_value (item_view item) }
 {

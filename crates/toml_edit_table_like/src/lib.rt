@@ -1,4 +1,5 @@
-//! Tables of either kind, through one trait.
+//! Calls that tables and inline tables share: traits for both, and references to an item that is
+//! one.
 #![tactic(auto)]
 
 mod as_table;

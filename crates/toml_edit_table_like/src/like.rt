@@ -1,4 +1,4 @@
-//! Tables of either kind.
+//! The traits of tables of either kind, and their implementations for `Table` and `InlineTable`.
 ghost use Rattle.std.specs.Borrow.{sem};
 ghost use Rattle.std.specs.Option.{option_copied, unwrap_or};
 ghost use Rattle.std.specs.Prelude.{◌≡◌, ◌<◌, ◌↔◌, [], true, IfErr, IfOk, IfSome, IsOk, IsSome, IsTrue, None, OnErr, OnOk, Some, if◌then◌else◌, length, nat_lt, option_and_then, option_map, slice_get};
@@ -33,10 +33,20 @@ use toml_edit_repr::Mem;
 use toml_edit_slots::NoMemory;
 use toml_edit_tree::{InlineTable, Item, Iter, Table, Value};
 
-/// A table of either kind, by itself or by the item that holds it: a list of slots, which may hold any item. A placeholder counts as absent,
-/// but keeps its place.
+/// A table of either kind: a [`Table`], an [`InlineTable`], or one that an item holds
+/// ([`TableRefMut`](crate::TableRefMut)).
+///
+/// It has slots in order, which may hold items of any kind. A placeholder counts as absent, but
+/// keeps its place. The two kinds differ in four points, which are said at the calls: what is
+/// inserted and removed, which keys [`contains_key`](Self::contains_key) counts, what the lines of
+/// [`get_values`](Self::get_values) are, and which tables inside [`sort_values`](Self::sort_values)
+/// enters.
+///
+/// [`TableLike`] has calls that return slots.
 pub trait AnyTable: HasSlots {
-    /// How many slots there are, placeholders too. No two keys have one text.
+    /// Returns the number of slots, placeholders included.
+    ///
+    /// [`len`](Self::len) counts them without placeholders. No two keys have the same name.
     fn slots(&self) -> usize
         ensures count { result ≡ length (Self.slots_of self.now) }
         ensures apart { AreApart (Self.slots_of self.now) }
@@ -46,28 +56,30 @@ pub trait AnyTable: HasSlots {
         slots.len()
     }
 
-    /// How many slots hold an item.
+    /// Returns the number of slots that are no placeholders, which [`iter`](Self::iter) gives.
     fn len(&self) -> usize
         ensures { result ≡ length (filled (Self.slots_of self.now)) }
     {
         filled_len(self.as_slots())
     }
 
-    /// Whether no slot holds an item.
+    /// Returns `true` if there are no slots but placeholders.
     fn is_empty(&self) -> bool
         ensures { IsTrue result ↔ (filled (Self.slots_of self.now) ≡ []) }
     {
         self.len() == 0
     }
 
-    /// The keys' texts and the items in order, without placeholders.
+    /// Iterates over the names of the keys and the items, in order and without placeholders.
+    ///
+    /// `iter` of an [`InlineTable`] gives values alone; this one gives any item.
     fn iter(&self) -> Iter<'_>
         ensures { held_left result ≡ filled_pairs (Self.slots_of self.now) }
     {
         Iter::over(self.as_slots().as_slice())
     }
 
-    /// The item under the key, which is no placeholder.
+    /// Returns the item under `key`, or `None` if the key is missing or has a placeholder.
     fn get(&self, key: &str) -> Option<&Item>
         ensures { option_map (λ x. item_view x.now) result ≡ get key.now (Self.slots_of self.now) }
     {
@@ -75,11 +87,16 @@ pub trait AnyTable: HasSlots {
         Some(item)
     }
 
-    /// The item under the key, which is no placeholder, to be changed.
+    /// Returns a mutable reference to the item under `key`, or `None` if the key is missing or has
+    /// a placeholder.
+    ///
+    /// The key keeps its spelling, its decor and its place. The comment after a value is in the
+    /// decor of the value. To insert what is missing, use [`or_insert`](Self::or_insert) or
+    /// [`entry`](Self::entry).
     fn get_mut(&mut self, key: &str) -> Option<&mut Item>
         ensures* writes_back { sem 𝓛 (LendsUnder Self.row Self.entries Self.with_entries self.entry key.now result) }
         ensures item { option_map (λ x. item_view x.now) result ≡ get key.now (Self.slots_of self.old) }
-        // What an item that is written leaves.
+        // What the table is after a write through the reference.
         ensures leaves { (w : Item) → Self.slots_of (with_item_under Self.entries Self.with_entries key.now w self.old) ≡ changed key.now (with_item (item_view w)) (Self.slots_of self.old) }
         ensures keeps { (w : Item) → Self.beside (with_item_under Self.entries Self.with_entries key.now w self.old) ≡ Self.beside self.old }
     {
@@ -89,7 +106,8 @@ pub trait AnyTable: HasSlots {
         }
     }
 
-    /// The key of this text as it stands in the table, with its spelling and decors, if it has a slot of any kind.
+    /// Returns the key of this name as the table has it, with spelling and decor, or `None` if it
+    /// is missing. A key with a placeholder is returned too.
     fn key(&self, key: &str) -> Option<&Key>
         ensures { option_copied result ≡ lookup_key key.now (Self.slots_of self.now) }
     {
@@ -97,21 +115,28 @@ pub trait AnyTable: HasSlots {
         Some(key)
     }
 
-    /// The key and the item of the slot at the place, a placeholder too, or `None` where there is no slot.
+    /// Returns the key and the item of slot `at`, a placeholder too, or `None` if `at` is not below
+    /// [`slots`](Self::slots).
     fn key_value_at(&self, at: usize) -> Option<(&Key, &Item)>
         ensures { option_map slot_read result ≡ slice_get (Self.slots_of self.now) at }
     {
         self.as_slots().key_value_at(at)
     }
 
-    /// The key of this text and its item, which is no placeholder.
+    /// Returns the key of this name and its item, or `None` if the key is missing or has a
+    /// placeholder.
     fn get_key_value(&self, key: &str) -> Option<(&Key, &Item)>
         ensures { option_map slot_read result ≡ get_slot key.now (Self.slots_of self.now) }
     {
         filled_slot(self.as_slots(), key)
     }
 
-    /// The slot at the place, a placeholder too, to change its item or what stands around its key.
+    /// Returns slot `at`, to read and change its item and the decor of its key. It may be a
+    /// placeholder.
+    ///
+    /// A contract requires that `at` is below [`slots`](Self::slots). Of a `TableRefMut`, it takes
+    /// the place of the calls of [`TableLike`]: find the number by
+    /// [`place_of`](HasSlots::place_of).
     fn slot_at(&mut self, at: usize) -> TableLikeSlot<'_, Self>
         requires { at < length (Self.slots_of self.old) }
         ensures same_table { (slot_ref result).ghost_name ≡ self.entry.ghost_name }
@@ -121,30 +146,50 @@ pub trait AnyTable: HasSlots {
         TableLikeSlot { table: self, at }
     }
 
-    /// Returns whether an item stands under the key: in a table one that is no placeholder, in an
-    /// inline table a value.
+    /// Returns `true` if `key` has an item: in a table any but a placeholder, in an inline table a
+    /// value.
     fn contains_key(&self, key: &str) -> bool
         ensures found { result ≡ like_contains_key (differences_of (Self.beside self.now)) key.now (Self.slots_of self.now) }
         // Then `get` finds it.
         ensures there { IsTrue result → IsSome (get key.now (Self.slots_of self.now)) };
 
-    /// The keys and the value of each line that is printed of it, in order. The only error is want of memory.
+    /// Returns the keys and the value of each line that the table prints, in order.
+    ///
+    /// Dotted tables and dotted inline tables give their lines in their place, after their keys;
+    /// tables with a header give none. The lines of an inline table are its pairs, and there each
+    /// table inside gives its own.
+    ///
+    /// # Errors
+    ///
+    /// Returns an `AllocError` if out of memory.
     fn get_values(&self, alloc: Global) -> Mem<Vec<(Vec<&Key>, &Value)>>
         ensures { IfOk result (λ lines. values_read lines.items ≡ like_get_values (differences_of (Self.beside self.now)) (Self.slots_of self.now)) };
 
-    /// Whether it stands for a dotted key (TOML, "Keys").
+    /// Returns `true` if the table stands for a dotted key (TOML, "Keys").
     fn is_dotted(&self) -> bool
         ensures { result ≡ stands_dotted (Self.beside self.now) };
 
-    /// Says whether it stands for a dotted key.
+    /// Sets whether the table stands for a dotted key.
+    ///
+    /// A dotted table has neither header nor braces. Its lines are printed among those of the table
+    /// around it, after its key and a dot.
     fn set_dotted(&mut self, dotted: bool)
         ensures slots { Self.slots_of self.new ≡ Self.slots_of self.old }
         ensures beside { Self.beside self.new ≡ with_dotted dotted (Self.beside self.old) }
         ensures origin { Self.origin self.new ≡ Self.origin self.old };
 
-    /// Puts the item under the key, in an inline table as a value, which a placeholder can't be made: a key that is there loses its spelling
-    /// and its decors and keeps its place, and the answer is its old item, of an inline table as a value, `None` for a placeholder; a new key
-    /// goes last. A present key takes no memory. The only error is want of memory: the slots stay, and the error has the item.
+    /// Inserts `item` under `key` and returns the item that it replaces, if any.
+    ///
+    /// An existing key keeps its place, but its spelling is reset and its decor unset. To keep
+    /// them, write through [`get_mut`](Self::get_mut). A new key is added at the end.
+    ///
+    /// In an inline table the item is made a value, so a contract requires that it is no
+    /// placeholder. The old item is made a value too, and a placeholder is returned as `None`. In a
+    /// table it is returned as it is, and a placeholder as `Some(Item::None)`.
+    ///
+    /// # Errors
+    ///
+    /// Returns a [`NoMemory`] with `item` if out of memory. Replacing never fails.
     fn insert(&mut self, key: &str, item: Item) -> Result<Option<Item>, NoMemory<Item>>
         requires { (differences_of (Self.beside self.old)).insertion.takes (item_view item) ≡ true }
         ensures old { IfOk result (λ old. option_map item_view old ≡ like_old (differences_of (Self.beside self.old)) key.now (Self.slots_of self.old)) }
@@ -155,12 +200,21 @@ pub trait AnyTable: HasSlots {
         ensures back { IfErr result (λ refused. refused.0 ≡ item) }
         ensures err { OnErr result (Self.slots_of self.new ≡ Self.slots_of self.old) };
 
-    /// The item under the key, a placeholder too, or else this one, put last with a key of the text alone. A present key takes no memory. The
-    /// only error is want of memory: the table stays as it was, and the error has the item.
+    /// Returns a mutable reference to the item under `key`, after inserting `item` if the key is
+    /// missing.
+    ///
+    /// An existing item stays, a placeholder too, and `item` is dropped. A new key has the default
+    /// spelling and is added at the end. Unlike by [`insert`](Self::insert), no item is made a
+    /// value. Unlike one from an [`entry`](Self::entry), the reference may live as long as the
+    /// borrow of the table.
+    ///
+    /// # Errors
+    ///
+    /// Returns a [`NoMemory`] with `item` if out of memory. An existing key takes no memory.
     fn or_insert(&mut self, key: &str, item: Item) -> Result<&mut Item, NoMemory<Item>>
         ensures* writes_back { sem 𝓛 (LendsPut Self.row Self.entries Self.with_entries self.entry (new_key key.now) result) }
         ensures item { IfOk result (λ lent. item_view lent.now ≡ unwrap_or (lookup key.now (Self.slots_of self.old)) (item_view item)) }
-        // What an item that is written leaves.
+        // What the table is after a write through the reference.
         ensures leaves { (w : Item) → Self.slots_of (with_item_put Self.entries Self.with_entries (new_key key.now) w self.old)
             ≡ put (with_item (item_view w)) (record { key = new_key key.now; item = item_view w }) (Self.slots_of self.old) }
         ensures keeps { (w : Item) → Self.beside (with_item_put Self.entries Self.with_entries (new_key key.now) w self.old) ≡ Self.beside self.old }
@@ -173,12 +227,19 @@ pub trait AnyTable: HasSlots {
         }
     }
 
-    /// The item under the key, a placeholder too, or else this one, put last with a copy of the key, with its spelling and decors. A present
-    /// key stays as it is, and takes no memory. The only error is want of memory: the table stays as it was, and the error has the item.
+    /// Returns a mutable reference to the item under `key`, after inserting `item` if the key is
+    /// missing.
+    ///
+    /// A new key is a copy of `key`, with its spelling and its decor, and is added at the end. An
+    /// existing one stays as it is, with its item.
+    ///
+    /// # Errors
+    ///
+    /// Returns a [`NoMemory`] with `item` if out of memory. An existing key takes no memory.
     fn or_insert_format(&mut self, key: &Key, item: Item) -> Result<&mut Item, NoMemory<Item>>
         ensures* writes_back { sem 𝓛 (LendsPut Self.row Self.entries Self.with_entries self.entry key.now result) }
         ensures item { IfOk result (λ lent. item_view lent.now ≡ unwrap_or (lookup key.now.name (Self.slots_of self.old)) (item_view item)) }
-        // What an item that is written leaves.
+        // What the table is after a write through the reference.
         ensures leaves { (w : Item) → Self.slots_of (with_item_put Self.entries Self.with_entries key.now w self.old)
             ≡ put (with_item (item_view w)) (record { key = key.now; item = item_view w }) (Self.slots_of self.old) }
         ensures keeps { (w : Item) → Self.beside (with_item_put Self.entries Self.with_entries key.now w self.old) ≡ Self.beside self.old }
@@ -191,7 +252,10 @@ pub trait AnyTable: HasSlots {
         }
     }
 
-    /// The slot of the key, if there is one, or where it would go, with a key of the text alone. It takes no memory.
+    /// Returns the entry of `key`, to insert an item if the key is missing. It takes no memory.
+    ///
+    /// A new key will have the default spelling and no decor. For another one use
+    /// [`entry_format`](Self::entry_format).
     fn entry<'a>(&'a mut self, key: &'a str) -> TableLikeEntry<'a, Self>
         ensures same_table { (entry_ref result).ghost_name ≡ self.entry.ghost_name }
         ensures table { (entry_ref result).now ≡ self.old }
@@ -203,7 +267,10 @@ pub trait AnyTable: HasSlots {
         }
     }
 
-    /// The slot of the key, if there is one, or where it would go, with a copy of the key, with its spelling and decors. It takes no memory.
+    /// Returns the entry of `key`, to insert an item if the key is missing. It takes no memory.
+    ///
+    /// A new key will be a copy of `key`, with its spelling and its decor. An existing one stays as
+    /// it is.
     fn entry_format<'a>(&'a mut self, key: &'a Key) -> TableLikeEntry<'a, Self>
         ensures same_table { (entry_ref result).ghost_name ≡ self.entry.ghost_name }
         ensures table { (entry_ref result).now ≡ self.old }
@@ -215,15 +282,18 @@ pub trait AnyTable: HasSlots {
         }
     }
 
-    /// Takes the slot of the key out, if there is one: its item, `Item::None` for a placeholder; of an inline table made a value, and `None`
-    /// for a placeholder. The others keep their order. It takes no memory.
+    /// Removes the slot of `key` and returns its item, or `None` if the key is missing.
+    ///
+    /// The other slots keep their order. The key and its comments are dropped. The item of an
+    /// inline table is made a value. A placeholder is removed as well, and returned as
+    /// `Some(Item::None)` by a table and as `None` by an inline table.
     fn remove(&mut self, key: &str) -> Option<Item>
         ensures item { option_map item_view result ≡ like_old (differences_of (Self.beside self.old)) key.now (Self.slots_of self.old) }
         ensures slots { Self.slots_of self.new ≡ without key.now (Self.slots_of self.old) }
         ensures beside { Self.beside self.new ≡ Self.beside self.old }
         ensures origin { Self.origin self.new ≡ Self.origin self.old };
 
-    /// Takes all slots out.
+    /// Removes all slots, placeholders included, and keeps all else of the table.
     fn clear(&mut self)
         ensures slots { Self.slots_of self.new ≡ [] }
         ensures beside { Self.beside self.new ≡ Self.beside self.old }
@@ -232,26 +302,41 @@ pub trait AnyTable: HasSlots {
         self.as_slots_mut().clear();
     }
 
-    /// Unsets the decors of each key that holds a value, and of the value. Spellings stay. It takes no memory.
+    /// Unsets the decor of each value and of its key, so that they print with default whitespace.
+    ///
+    /// Comments there are removed. Spellings stay, and so does all inside values and tables.
     fn fmt(&mut self)
         ensures slots { Self.slots_of self.new ≡ formatted (Self.slots_of self.old) }
         ensures beside { Self.beside self.new ≡ Self.beside self.old }
         ensures origin { Self.origin self.new ≡ Self.origin self.old };
 
-    /// Sorts the slots by the bytes of their names, and likewise those of the dotted tables of the same kind inside. The only error is want of
-    /// memory; then the slots of some tables may be sorted and others not, and none is lost.
+    /// Sorts the slots by the bytes of the names of their keys, and those of dotted tables of this
+    /// kind inside likewise.
+    ///
+    /// Each slot moves with its decors.
+    ///
+    /// # Errors
+    ///
+    /// Returns an `AllocError` if out of memory. Some of the tables may be sorted then and others
+    /// not, but no slot is lost.
     fn sort_values(&mut self) -> Mem<()>
         ensures reorders { IsDeepReorder (differences_of (Self.beside self.old)).enters (Self.slots_of self.old) (Self.slots_of self.new) }
         ensures sorted { OnOk result (LikeSorted (differences_of (Self.beside self.old)) (Self.slots_of self.old) (Self.slots_of self.new)) }
-        // The order of names is lawful, so that there is one such list.
+        // The order of names is a lawful one, so exactly one list is in order.
         ensures in_order { OnOk result (Self.slots_of self.new ≡ sorted_slots (differences_of (Self.beside self.old)).enters (slots_from (Self.slots_of self.old))) }
         ensures beside { Self.beside self.new ≡ Self.beside self.old }
         ensures origin { Self.origin self.new ≡ Self.origin self.old };
 }
 
-/// A table of either kind, which lends its slots.
+/// A table of either kind with calls that return a slot or a key, if there is one.
+///
+/// It is implemented for [`Table`] and [`InlineTable`]. A `TableRefMut` has
+/// [`slot_at`](AnyTable::slot_at) in the place of these calls.
 pub trait TableLike: AnyTable {
-    /// The slot of the key, if an item stands there which is no placeholder, to change that or what stands around the key.
+    /// Returns the slot of `key`, or `None` if the key is missing or has a placeholder.
+    ///
+    /// It lends the item by `get_mut` and the key by `key_mut`, one after the other. For
+    /// placeholders too, use [`slot_mut`](Self::slot_mut).
     fn get_key_value_mut(&mut self, key: &str) -> Option<TableLikeSlot<'_, Self>>
         ensures* absent { sem 𝓛 (RestsIfAbsent Self.row self.entry result) }
         ensures same_table { IfSome result (λ slot. (slot_ref slot).ghost_name ≡ self.entry.ghost_name) }
@@ -259,8 +344,11 @@ pub trait TableLike: AnyTable {
         ensures item { option_and_then (λ slot. option_map item_view (slot_item slot)) result ≡ get key.now (Self.slots_of self.old) }
         ensures place { IfSome result (λ slot. place key.now (Self.slots_of self.old) ≡ Some (slot_place slot)) };
 
-    /// Lends the key as it stands in the table, whatever stands under it, to change all of it but its text. Returns `None` where the
-    /// key has no slot.
+    /// Returns the key of this name, to change all of it but its name, or `None` if it is missing.
+    /// A key with a placeholder is returned too.
+    ///
+    /// No contract says what the table is after a change of the key. Where a proof needs that, use
+    /// [`slot_mut`](Self::slot_mut).
     fn key_mut(&mut self, key: &str) -> Option<KeyMut<'_>>
         ensures { option_map key_of result ≡ lookup_key key.now (Self.slots_of self.old) }
     {
@@ -270,14 +358,17 @@ pub trait TableLike: AnyTable {
         }
     }
 
-    /// Returns the key's slot, a placeholder too, or `None` where the key has no slot.
+    /// Returns the slot of `key`, a placeholder too, or `None` if the key is missing.
     fn slot_mut(&mut self, key: &str) -> Option<TableLikeSlot<'_, Self>>
         ensures* absent { sem 𝓛 (RestsIfAbsent Self.row self.entry result) }
         ensures same_table { IfSome result (λ slot. (slot_ref slot).ghost_name ≡ self.entry.ghost_name) }
         ensures slot { IfSome result (λ slot. IsSlotOf self.old slot) }
         ensures place { option_map slot_place result ≡ place key.now (Self.slots_of self.old) };
 
-    /// The slot at the place, a placeholder too, if there is one, to change its item or what stands around its key.
+    /// Returns slot `at`, a placeholder too, or `None` if `at` is not below
+    /// [`slots`](AnyTable::slots).
+    ///
+    /// In a loop over numbers it takes the place of an `iter_mut`.
     fn key_value_at_mut(&mut self, at: usize) -> Option<TableLikeSlot<'_, Self>>
         ensures* absent { sem 𝓛 (RestsIfAbsent Self.row self.entry result) }
         ensures same_table { IfSome result (λ slot. (slot_ref slot).ghost_name ≡ self.entry.ghost_name) }

@@ -1,4 +1,4 @@
-//! An item that is put under a key, where none stands.
+//! Finding the slot of a key, after adding it where it is missing.
 ghost use Rattle.std.specs.Prelude.{◌≡◌, ◌<◌, Some, IfErr, IfOk, IsOk, IsTrue, OnErr, length, option_map, slice_get};
 ghost use Rattle.std.specs.Option.{unwrap_or};
 ghost use Rattle.toml_edit_model.specs.Keys.{new_key};
@@ -13,7 +13,7 @@ use toml_edit_key::Key;
 use toml_edit_slots::{NoMemory, Slot, Slots};
 use toml_edit_tree::Item;
 
-/// The place of the key's slot, which may be new.
+/// Finds the slot of the key, after adding one with `item` at the end if the key is missing.
 pub(crate) fn place_for(
     slots: &mut Slots<Item>,
     key: &str,
@@ -47,7 +47,7 @@ pub(crate) fn place_for(
     }
 }
 
-/// The same of a key that has its spelling and decors: a new slot gets a copy of it.
+/// Finds the slot of the key, after adding one with a copy of the key if it is missing.
 pub(crate) fn place_for_key(
     slots: &mut Slots<Item>,
     key: &Key,

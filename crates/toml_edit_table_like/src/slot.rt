@@ -1,11 +1,15 @@
-//! A slot of a table of either kind.
+//! The type of a slot of a table of either kind that can be changed.
 ghost use Rattle.std.specs.Prelude.{◌<◌, length};
 
 use crate::HasSlots;
 
 mod methods;
 
-/// The slot of a key in a table of either kind. It may be a placeholder.
+/// A slot of a table of either kind, to read and change its item and the decor of its key. It may
+/// be a placeholder.
+///
+/// Returned by [`AnyTable::slot_at`](crate::AnyTable::slot_at) and by the calls of
+/// [`TableLike`](crate::TableLike).
 #[derive(Drop)]
 pub struct TableLikeSlot<'a, T: HasSlots> {
     pub(crate) table: &'a mut T,

@@ -1,4 +1,4 @@
-//! A table of either kind, to be read.
+//! A reference to a table of either kind, to read it.
 ghost use Rattle.std.specs.Option.{option_copied};
 ghost use Rattle.std.specs.Prelude.{◌≡◌, ◌↔◌, [], IfOk, IsSome, IsTrue, length, option_map, slice_get};
 ghost use Rattle.toml_edit_model.specs.Iterating.{filled, filled_pairs};
@@ -21,17 +21,23 @@ use toml_edit_repr::Mem;
 use toml_edit_slots::Slots;
 use toml_edit_tree::{InlineTable, Item, Iter, Table, Value};
 
-/// A table of either kind, to be read. A placeholder counts as absent, but keeps its place.
+/// A shared reference to a table of either kind.
+///
+/// Returned by [`AsTableLike::as_table_like`](crate::AsTableLike::as_table_like). A placeholder
+/// counts as absent, but keeps its place. To change the table, see
+/// [`TableRefMut`](crate::TableRefMut).
 #[derive(Clone, Copy)]
 pub enum TableRef<'a> {
-    /// A table.
+    /// A table with a header or of a dotted key.
     Table(&'a Table),
-    /// An inline table.
+    /// A table in braces.
     InlineTable(&'a InlineTable),
 }
 
 impl<'a> TableRef<'a> {
-    /// How many slots there are, placeholders too. No two keys have one text.
+    /// Returns the number of slots, placeholders included.
+    ///
+    /// [`len`](Self::len) counts them without placeholders. No two keys have the same name.
     pub fn slots(&self) -> usize
         ensures count { result ≡ length (ref_slots self.now) }
         ensures apart { AreApart (ref_slots self.now) }
@@ -41,28 +47,30 @@ impl<'a> TableRef<'a> {
         slots.len()
     }
 
-    /// How many slots hold an item.
+    /// Returns the number of slots that are no placeholders, which [`iter`](Self::iter) gives.
     pub fn len(&self) -> usize
         ensures { result ≡ length (filled (ref_slots self.now)) }
     {
         filled_len(self.as_slots())
     }
 
-    /// Whether no slot holds an item.
+    /// Returns `true` if there are no slots but placeholders.
     pub fn is_empty(&self) -> bool
         ensures { IsTrue result ↔ (filled (ref_slots self.now) ≡ []) }
     {
         self.len() == 0
     }
 
-    /// The keys' texts and the items in order, without placeholders.
+    /// Iterates over the names of the keys and the items, in order and without placeholders.
+    ///
+    /// `iter` of an [`InlineTable`] gives values alone; this one gives any item.
     pub fn iter(&self) -> Iter<'a>
         ensures { held_left result ≡ filled_pairs (ref_slots self.now) }
     {
         Iter::over(self.as_slots().as_slice())
     }
 
-    /// The item under the key, which is no placeholder.
+    /// Returns the item under `key`, or `None` if the key is missing or has a placeholder.
     pub fn get(&self, key: &str) -> Option<&'a Item>
         ensures { option_map (λ x. item_view x.now) result ≡ get key.now (ref_slots self.now) }
     {
@@ -70,14 +78,16 @@ impl<'a> TableRef<'a> {
         Some(item)
     }
 
-    /// The key of this text and its item, which is no placeholder.
+    /// Returns the key of this name and its item, or `None` if the key is missing or has a
+    /// placeholder.
     pub fn get_key_value(&self, key: &str) -> Option<(&'a Key, &'a Item)>
         ensures { option_map slot_read result ≡ get_slot key.now (ref_slots self.now) }
     {
         filled_slot(self.as_slots(), key)
     }
 
-    /// The key of this text as it stands in the table, with its spelling and decors, if it has a slot of any kind.
+    /// Returns the key of this name as the table has it, with spelling and decor, or `None` if it
+    /// is missing. A key with a placeholder is returned too.
     pub fn key(&self, key: &str) -> Option<&'a Key>
         ensures { option_copied result ≡ lookup_key key.now (ref_slots self.now) }
     {
@@ -85,15 +95,16 @@ impl<'a> TableRef<'a> {
         Some(key)
     }
 
-    /// The key and the item of the slot at the place, a placeholder too, or `None` where there is no slot.
+    /// Returns the key and the item of slot `at`, a placeholder too, or `None` if `at` is not below
+    /// [`slots`](Self::slots).
     pub fn key_value_at(&self, at: usize) -> Option<(&'a Key, &'a Item)>
         ensures { option_map slot_read result ≡ slice_get (ref_slots self.now) at }
     {
         self.as_slots().key_value_at(at)
     }
 
-    /// Returns whether an item stands under the key: in a table one that is no placeholder, in an
-    /// inline table a value.
+    /// Returns `true` if `key` has an item: in a table any but a placeholder, in an inline table a
+    /// value.
     pub fn contains_key(&self, key: &str) -> bool
         ensures found { result ≡ like_contains_key (differences_of (ref_node self.now)) key.now (ref_slots self.now) }
         // Then `get` finds it.
@@ -105,7 +116,15 @@ impl<'a> TableRef<'a> {
         }
     }
 
-    /// The keys and the value of each line that is printed of it, in order. The only error is want of memory.
+    /// Returns the keys and the value of each line that the table prints, in order.
+    ///
+    /// Dotted tables and dotted inline tables give their lines in their place, after their keys;
+    /// tables with a header give none. The lines of an inline table are its pairs, and there each
+    /// table inside gives its own.
+    ///
+    /// # Errors
+    ///
+    /// Returns an `AllocError` if out of memory.
     pub fn get_values(&self, alloc: Global) -> Mem<Vec<(Vec<&'a Key>, &'a Value)>>
         ensures { IfOk result (λ lines. values_read lines.items ≡ like_get_values (differences_of (ref_node self.now)) (ref_slots self.now)) }
     {
@@ -115,7 +134,7 @@ impl<'a> TableRef<'a> {
         }
     }
 
-    /// Whether it stands for a dotted key (TOML, "Keys").
+    /// Returns `true` if the table stands for a dotted key (TOML, "Keys").
     pub fn is_dotted(&self) -> bool
         ensures { result ≡ stands_dotted (ref_node self.now) }
     {
@@ -125,7 +144,7 @@ impl<'a> TableRef<'a> {
         }
     }
 
-    /// The slots.
+    /// Returns the slots.
     #[tactic(auto, using(crate::specs::Kinds::table_shows, crate::specs::Kinds::inline_shows))]
     fn as_slots(&self) -> &'a Slots<Item>
         ensures { shown result.now ≡ ref_slots self.now }

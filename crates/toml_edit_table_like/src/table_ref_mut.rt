@@ -1,4 +1,4 @@
-//! A table of either kind, lent by the item that holds it.
+//! A reference to an item that is a table of either kind, to change it.
 ghost use Rattle.std.specs.Prelude.{◌≡◌, true, is_some};
 ghost use Rattle.toml_edit_table_like.specs.InItems.{entries_in};
 
@@ -8,7 +8,11 @@ mod change;
 mod made_of;
 mod table;
 
-/// A table of either kind, lent by the item that holds it, to be read and changed. A placeholder counts as absent, but keeps its place.
+/// A mutable reference to a table of either kind, by the item that holds it.
+///
+/// Returned by [`AsTableLike::as_table_like_mut`](crate::AsTableLike::as_table_like_mut). Its calls
+/// are those of [`AnyTable`](crate::AnyTable), which has to be imported. It is no
+/// [`TableLike`](crate::TableLike): [`slot_at`](crate::AnyTable::slot_at) returns its slots.
 #[derive(Drop)]
 pub struct TableRefMut<'a> {
     pub(crate) item: &'a mut Item,

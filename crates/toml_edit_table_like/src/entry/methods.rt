@@ -1,4 +1,4 @@
-//! What is done with an entry of a table of either kind.
+//! The methods of an entry of a table of either kind.
 ghost use Rattle.std.specs.Borrow.{sem};
 ghost use Rattle.std.specs.Option.{unwrap_or, UnwrapsOrElse};
 ghost use Rattle.std.specs.Prelude.{◌≡◌, ◌<◌, IfErr, IfOk, IfSome, IsOk, IsTrue, None, OnErr, Some, length, option_map, slice_get};
@@ -17,7 +17,7 @@ use toml_edit_slots::NoMemory;
 use toml_edit_tree::Item;
 
 impl<'a, T: HasSlots> TableLikeEntry<'a, T> {
-    /// The text of the key.
+    /// Returns the name of the key, present or new.
     pub fn key(&self) -> &str
         ensures { result.now ≡ (entry_key self.now).name }
     {
@@ -27,26 +27,33 @@ impl<'a, T: HasSlots> TableLikeEntry<'a, T> {
         }
     }
 
-    /// Whether the key has a slot, which may be a placeholder.
+    /// Returns `true` if the key has a slot, which may be a placeholder.
     pub fn is_occupied(&self) -> bool
         ensures { result ≡ has_slot (entry_key self.now).name (T.slots_of (entry_ref self.now).now) }
     {
         self.find().is_some()
     }
 
-    /// The item that is there, which may be a placeholder.
+    /// Returns the item of the key, a placeholder too, or `None` if the key is missing.
     pub fn get(&self) -> Option<&Item>
         ensures { option_map (λ x. item_view x.now) result ≡ lookup (entry_key self.now).name (T.slots_of (entry_ref self.now).now) }
     {
         self.table.as_slots().get(self.key())
     }
 
-    /// The item that is there, a placeholder too, or else this one, put last with the key. A present key stays as it is, and takes no memory. The
-    /// only error is want of memory: the table stays as it was, and the error has the item.
+    /// Returns a mutable reference to the item of the key, after inserting `item` if the key is
+    /// missing.
+    ///
+    /// An existing item stays, a placeholder too, and `item` is dropped. A new key is added at the
+    /// end. In an inline table no item is made a value.
+    ///
+    /// # Errors
+    ///
+    /// Returns a [`NoMemory`] with `item` if out of memory. An existing key takes no memory.
     pub fn or_insert(&mut self, item: Item) -> Result<&mut Item, NoMemory<Item>>
         ensures* writes_back { sem 𝓛 (EntryLends T.row T.entries T.with_entries self.entry result) }
         ensures item { IfOk result (λ lent. item_view lent.now ≡ unwrap_or (lookup (entry_key self.old).name (T.slots_of (entry_ref self.old).now)) (item_view item)) }
-        // What an item that is written leaves.
+        // What the table is after a write through the reference.
         ensures leaves { (w : Item) → T.slots_of (with_item_put T.entries T.with_entries (entry_key self.old) w (entry_ref self.old).now)
             ≡ put (with_item (item_view w)) (record { key = entry_key self.old; item = item_view w }) (T.slots_of (entry_ref self.old).now) }
         ensures keeps { (w : Item) → T.beside (with_item_put T.entries T.with_entries (entry_key self.old) w (entry_ref self.old).now) ≡ T.beside (entry_ref self.old).now }
@@ -59,9 +66,16 @@ impl<'a, T: HasSlots> TableLikeEntry<'a, T> {
         }
     }
 
-    /// The item that is there, a placeholder too, or else the closure's answer, put last with the key. The closure is called for a new key
-    /// alone. A present key stays as it is, and takes no memory. The only error is want of memory: the table stays as it was, and the error has
-    /// the answer.
+    /// Returns a mutable reference to the item of the key, after inserting the result of `default`
+    /// if the key is missing.
+    ///
+    /// The closure is called only then. An existing item stays, a placeholder too. A new key is
+    /// added at the end.
+    ///
+    /// # Errors
+    ///
+    /// Returns a [`NoMemory`] with the result of `default` if out of memory. An existing key takes
+    /// no memory.
     pub fn or_insert_with<F: FnOnce() -> Item>(
         &mut self,
         default: F,
@@ -71,7 +85,7 @@ impl<'a, T: HasSlots> TableLikeEntry<'a, T> {
         requires { lookup (entry_key self.old).name (T.slots_of (entry_ref self.old).now) ≡ None → F.pre default }
         ensures* writes_back { sem 𝓛 (EntryLends T.row T.entries T.with_entries self.entry result) }
         ensures item { IfOk result (λ lent. UnwrapsOrElse (lookup (entry_key self.old).name (T.slots_of (entry_ref self.old).now)) (IsViewOf (F.post default)) (item_view lent.now)) }
-        // What an item that is written leaves.
+        // What the table is after a write through the reference.
         ensures leaves { (w : Item) → T.slots_of (with_item_put T.entries T.with_entries (entry_key self.old) w (entry_ref self.old).now)
             ≡ put (with_item (item_view w)) (record { key = entry_key self.old; item = item_view w }) (T.slots_of (entry_ref self.old).now) }
         ensures keeps { (w : Item) → T.beside (with_item_put T.entries T.with_entries (entry_key self.old) w (entry_ref self.old).now) ≡ T.beside (entry_ref self.old).now }
@@ -84,7 +98,7 @@ impl<'a, T: HasSlots> TableLikeEntry<'a, T> {
         }
     }
 
-    /// The place of the slot, if there is one.
+    /// Finds the slot of the key.
     fn find(&self) -> Option<usize>
         ensures place { result ≡ place (entry_key self.now).name (T.entries (entry_ref self.now).now) }
         ensures there { result ≡ place_seen (entry_key self.now).name (T.slots_of (entry_ref self.now).now) }
@@ -94,7 +108,7 @@ impl<'a, T: HasSlots> TableLikeEntry<'a, T> {
         self.table.place_of(self.key())
     }
 
-    /// The place of the slot, which may be new.
+    /// Finds the slot of the key, after adding one with `item` if the key is missing.
     fn place(&mut self, item: Item) -> Result<usize, NoMemory<Item>>
         ensures same { self.new ≡ with_table (entry_ref self.new).now self.old }
         ensures within { IfOk result (λ at. at < length (T.entries (entry_ref self.new).now)) }
@@ -114,7 +128,8 @@ impl<'a, T: HasSlots> TableLikeEntry<'a, T> {
         }
     }
 
-    /// The same of the closure's answer, which is asked for a new key alone.
+    /// Finds the slot of the key, after adding one with the result of `default` if the key is
+    /// missing.
     fn place_with<F: FnOnce() -> Item>(&mut self, default: F) -> Result<usize, NoMemory<Item>>
     where
         F: Drop,

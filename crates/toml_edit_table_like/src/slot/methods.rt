@@ -1,4 +1,4 @@
-//! What is done with a slot of a table of either kind.
+//! The methods of a slot of a table of either kind.
 ghost use Rattle.std.specs.Prelude.{◌≡◌, IfSome, Some, option_map};
 ghost use Rattle.std.specs.Borrow.{sem};
 ghost use Rattle.toml_edit_key.specs.KeyMutView.{key_of};
@@ -17,25 +17,25 @@ use toml_edit_repr::Decor;
 use toml_edit_tree::Item;
 
 impl<'a, T: HasSlots> TableLikeSlot<'a, T> {
-    /// The key that is there.
+    /// Returns the key.
     pub fn key(&self) -> &Key
         ensures { Some result.now ≡ slot_key self.now }
     {
         &self.table.as_slots().as_slice()[self.at].key
     }
 
-    /// The item that is there, which may be a placeholder.
+    /// Returns the item, which may be a placeholder.
     pub fn get(&self) -> &Item
         ensures { Some result.now ≡ slot_item self.now }
     {
         &self.table.as_slots().as_slice()[self.at].item
     }
 
-    /// The item that is there, to be changed.
+    /// Returns a mutable reference to the item, which may be a placeholder.
     pub fn get_mut(&mut self) -> &mut Item
         ensures* writes_back { sem 𝓛 (SlotLends T.row self.entry result) }
         ensures item { Some result.now ≡ slot_item self.old }
-        // What an item that is written leaves.
+        // What the table is after a write through the reference.
         ensures leaves { (w : Item) → T.slots_of (slot_ref (with_slot_item self.old w)).now
             ≡ changed_at (slot_place self.old) (with_item (item_view w)) (T.slots_of (slot_ref self.old).now) }
         ensures keeps { (w : Item) → T.beside (slot_ref (with_slot_item self.old w)).now ≡ T.beside (slot_ref self.old).now }
@@ -44,7 +44,7 @@ impl<'a, T: HasSlots> TableLikeSlot<'a, T> {
         self.table.item_at_mut(at)
     }
 
-    /// Lends the key that is there, to change all of it but its text.
+    /// Returns the key, to change all of it but its name.
     pub fn key_mut(&mut self) -> KeyMut<'_>
         ensures* writes_back { sem 𝓛 (SlotLendsKey T.row self.entry result) }
         ensures key { slot_key self.old ≡ Some (key_of result) }
@@ -53,11 +53,12 @@ impl<'a, T: HasSlots> TableLikeSlot<'a, T> {
         self.table.key_at_mut(at)
     }
 
-    /// What stands around the key where it ends a path, to be changed.
+    /// Returns a mutable reference to the decor of the key where it ends a path: the whitespace and
+    /// comments before its path, and the whitespace before `=`.
     pub fn leaf_decor_mut(&mut self) -> &mut Decor
         ensures* writes_back { sem 𝓛 (SlotLendsLeaf T.row self.entry result) }
         ensures decor { option_map (λ key. key.leaf) (slot_key self.old) ≡ Some result.now }
-        // What a change of the key leaves.
+        // What the table is after a change of the key.
         ensures leaves { (h : Key → Key) → T.slots_of (slot_ref (with_slot_key self.old h)).now
             ≡ changed_at (slot_place self.old) (on_key h) (T.slots_of (slot_ref self.old).now) }
         ensures keeps { (h : Key → Key) → T.beside (slot_ref (with_slot_key self.old h)).now ≡ T.beside (slot_ref self.old).now }
@@ -66,11 +67,11 @@ impl<'a, T: HasSlots> TableLikeSlot<'a, T> {
         self.table.leaf_decor_at_mut(at)
     }
 
-    /// What stands around the key where it ends no path, to be changed.
+    /// Returns a mutable reference to the whitespace between the key and the dots beside it.
     pub fn dotted_decor_mut(&mut self) -> &mut Decor
         ensures* writes_back { sem 𝓛 (SlotLendsDotted T.row self.entry result) }
         ensures decor { option_map (λ key. key.dotted) (slot_key self.old) ≡ Some result.now }
-        // What a change of the key leaves.
+        // What the table is after a change of the key.
         ensures leaves { (h : Key → Key) → T.slots_of (slot_ref (with_slot_key self.old h)).now
             ≡ changed_at (slot_place self.old) (on_key h) (T.slots_of (slot_ref self.old).now) }
         ensures keeps { (h : Key → Key) → T.beside (slot_ref (with_slot_key self.old h)).now ≡ T.beside (slot_ref self.old).now }
@@ -79,7 +80,7 @@ impl<'a, T: HasSlots> TableLikeSlot<'a, T> {
         self.table.dotted_decor_at_mut(at)
     }
 
-    /// Gives the key its default spelling, and unsets its decors.
+    /// Resets the key to its default spelling, and unsets its decor.
     pub fn fmt_key(&mut self)
         ensures same_table { (slot_ref self.new).ghost_name ≡ (slot_ref self.old).ghost_name }
         ensures same_place { slot_place self.new ≡ slot_place self.old }
@@ -89,7 +90,9 @@ impl<'a, T: HasSlots> TableLikeSlot<'a, T> {
         self.table.as_slots_mut().fmt_key(at);
     }
 
-    /// Puts another item here, and answers the one that was there.
+    /// Replaces the item and returns the old one. The key keeps its spelling and its decor.
+    ///
+    /// In an inline table no item is made a value.
     pub fn insert(&mut self, item: Item) -> Item
         ensures same_table { (slot_ref self.new).ghost_name ≡ (slot_ref self.old).ghost_name }
         ensures same_place { slot_place self.new ≡ slot_place self.old }
@@ -100,7 +103,10 @@ impl<'a, T: HasSlots> TableLikeSlot<'a, T> {
         self.table.as_slots_mut().replace_item(at, item)
     }
 
-    /// Takes the slot out, and answers its item. The others keep their order. It takes no memory.
+    /// Removes the slot and returns its item, keeping the order of the others. The key and its
+    /// comments are dropped.
+    ///
+    /// In an inline table the item is not made a value.
     pub fn remove(self) -> Item
         ensures item { Some result ≡ slot_item self.entry }
         ensures removed { IfSome (slot_key self.entry) (λ key. T.slots_of self.exit.0.now ≡ without key.name (T.slots_of (slot_ref self.entry).now)) }

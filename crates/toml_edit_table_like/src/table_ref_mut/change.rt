@@ -1,4 +1,4 @@
-//! What is changed of a table of either kind that an item is.
+//! The calls that change an item which is a table of either kind.
 ghost use Rattle.std.specs.Prelude.{◌≡◌, true, IfErr, IfOk, IsOk, IsTrue, OnErr, OnOk, is_some, option_map};
 ghost use Rattle.toml_edit_model.specs.Conversions.{formatted};
 ghost use Rattle.toml_edit_model.specs.Lists.{slots_from};
@@ -14,7 +14,7 @@ use toml_edit_repr::Mem;
 use toml_edit_slots::NoMemory;
 use toml_edit_tree::Item;
 
-/// Puts the item under the key.
+/// Inserts the item under the key, as `AnyTable::insert` does.
 pub(crate) fn insert_in(
     table: &mut Item,
     key: &str,
@@ -39,7 +39,7 @@ pub(crate) fn insert_in(
     }
 }
 
-/// Takes the slot of the key out.
+/// Removes the slot of the key, as `AnyTable::remove` does.
 pub(crate) fn remove_in(table: &mut Item, key: &str) -> Option<Item>
     requires { is_some (entries_in table.old) ≡ true }
     ensures item { option_map item_view result ≡ like_old (differences_of (beside_in table.old)) key.now (slots_seen table.old) }
@@ -56,7 +56,7 @@ pub(crate) fn remove_in(table: &mut Item, key: &str) -> Option<Item>
     }
 }
 
-/// Unsets the decors of each key that holds a value, and of the value.
+/// Unsets the decor of each value and of its key.
 pub(crate) fn format_in(table: &mut Item)
     requires { is_some (entries_in table.old) ≡ true }
     ensures slots { slots_seen table.new ≡ formatted (slots_seen table.old) }
@@ -72,7 +72,7 @@ pub(crate) fn format_in(table: &mut Item)
     }
 }
 
-/// Sorts the slots by the bytes of their names, and likewise those of the dotted tables of the same kind inside.
+/// Sorts the slots by name, as `AnyTable::sort_values` does.
 pub(crate) fn sort_in(table: &mut Item) -> Mem<()>
     requires { is_some (entries_in table.old) ≡ true }
     ensures reorders { IsDeepReorder (differences_of (beside_in table.old)).enters (slots_seen table.old) (slots_seen table.new) }
@@ -90,7 +90,7 @@ pub(crate) fn sort_in(table: &mut Item) -> Mem<()>
     }
 }
 
-/// Says whether it stands for a dotted key.
+/// Sets whether the table stands for a dotted key.
 pub(crate) fn set_dotted_in(table: &mut Item, dotted: bool)
     requires { is_some (entries_in table.old) ≡ true }
     ensures slots { slots_seen table.new ≡ slots_seen table.old }

@@ -1,4 +1,4 @@
-//! What a table that an item lends is made of: the slots of the item's table.
+//! `HasSlots` of a `TableRefMut`: the slots of the table that the item is.
 ghost use Rattle.std.specs.Borrow.{sem};
 ghost use Rattle.std.specs.Prelude.{◌≡◌, Some, true, is_some};
 ghost use Rattle.toml_edit_table_like.specs.InItems.{entries_in, entries_in_value};
@@ -12,7 +12,7 @@ use toml_edit_repr::Decor;
 use toml_edit_slots::Slots;
 use toml_edit_tree::{Item, Value};
 
-/// The slots of the table that the item is.
+/// Returns the slots of an item that is a table of either kind.
 pub(crate) fn own_slots(item: &Item) -> &Slots<Item>
     requires { is_some (entries_in item.now) ≡ true }
     ensures { entries_in item.now ≡ Some result.now }
@@ -24,7 +24,7 @@ pub(crate) fn own_slots(item: &Item) -> &Slots<Item>
     }
 }
 
-/// The same, to be changed.
+/// Returns a mutable reference to the slots of an item that is a table of either kind.
 pub(crate) fn own_slots_mut(item: &mut Item) -> &mut Slots<Item>
     requires { is_some (entries_in item.old) ≡ true }
     ensures* writes_back { sem 𝓛 (LendsOwnSlots item.entry result) }
@@ -37,7 +37,7 @@ pub(crate) fn own_slots_mut(item: &mut Item) -> &mut Slots<Item>
     }
 }
 
-/// The slots of the inline table that the value is, to be changed.
+/// Returns a mutable reference to the slots of a value that is an inline table.
 fn value_slots_mut(value: &mut Value) -> &mut Slots<Item>
     requires { is_some (entries_in_value (out-Value value.old)) ≡ true }
     ensures* writes_back { sem 𝓛 (LendsValueSlots value.entry result) }

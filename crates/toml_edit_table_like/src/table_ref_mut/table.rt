@@ -1,4 +1,4 @@
-//! The calls of a table that an item lends.
+//! `AnyTable` of a `TableRefMut`.
 ghost use Rattle.std.specs.Prelude.{◌≡◌};
 ghost use Rattle.toml_edit_table_like.specs.MutRefs.{mut_node, mut_slots};
 ghost use Rattle.toml_edit_table_like.specs.Refs.{ref_node, ref_slots};
@@ -16,7 +16,7 @@ use toml_edit_slots::NoMemory;
 use toml_edit_tree::{Item, Value};
 
 impl<'a> TableRefMut<'a> {
-    /// The table, to be read alone.
+    /// Returns a shared reference to the table.
     pub fn as_table_ref(&self) -> TableRef<'_>
         ensures node { ref_node result ≡ mut_node self.now }
         ensures slots { ref_slots result ≡ mut_slots self.now }
