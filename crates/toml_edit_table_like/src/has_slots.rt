@@ -80,8 +80,7 @@ pub trait HasSlots {
         slots.item_mut(at)
     }
 
-    /// Returns the key of slot `at`, which a contract requires to exist, to change all of it but
-    /// its name.
+    /// Returns a [`KeyMut`] of the key of slot `at`, which a contract requires to exist.
     fn key_at_mut(&mut self, at: usize) -> KeyMut<'_>
         requires { at < length (entries self.old) }
         ensures* writes_back { sem 𝓛 (LendsKeyAt Self.row entries with_entries self.entry at result) }

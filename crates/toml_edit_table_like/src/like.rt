@@ -165,14 +165,14 @@ pub trait AnyTable: HasSlots {
     fn get_values(&self, alloc: Global) -> Mem<Vec<(Vec<&Key>, &Value)>>
         ensures { IfOk result (λ lines. values_read lines.items ≡ like_get_values (differences_of (Self.beside self.now)) (Self.slots_of self.now)) };
 
-    /// Returns `true` if the table stands for a dotted key (TOML, "Keys").
+    /// Returns `true` if the table is written by dotted keys (TOML, "Keys").
     fn is_dotted(&self) -> bool
         ensures { result ≡ stands_dotted (Self.beside self.now) };
 
-    /// Sets whether the table stands for a dotted key.
+    /// Sets whether the table is written by dotted keys.
     ///
     /// A dotted table has neither header nor braces. Its lines are printed among those of the table
-    /// around it, after its key and a dot.
+    /// around it, each after its key and a dot.
     fn set_dotted(&mut self, dotted: bool)
         ensures slots { Self.slots_of self.new ≡ Self.slots_of self.old }
         ensures beside { Self.beside self.new ≡ with_dotted dotted (Self.beside self.old) }
@@ -344,11 +344,11 @@ pub trait TableLike: AnyTable {
         ensures item { option_and_then (λ slot. option_map item_view (slot_item slot)) result ≡ get key.now (Self.slots_of self.old) }
         ensures place { IfSome result (λ slot. place key.now (Self.slots_of self.old) ≡ Some (slot_place slot)) };
 
-    /// Returns the key of this name, to change all of it but its name, or `None` if it is missing.
-    /// A key with a placeholder is returned too.
+    /// Returns a [`KeyMut`] of the key of this name, or `None` if it is missing. A key with a
+    /// placeholder is returned too.
     ///
-    /// No contract says what the table is after a change of the key. Where a proof needs that, use
-    /// [`slot_mut`](Self::slot_mut).
+    /// It changes the decors of the key and can reset its spelling. No contract says what the table
+    /// is after a change of the key. Where a proof needs that, use [`slot_mut`](Self::slot_mut).
     fn key_mut(&mut self, key: &str) -> Option<KeyMut<'_>>
         ensures { option_map key_of result ≡ lookup_key key.now (Self.slots_of self.old) }
     {

@@ -134,7 +134,7 @@ impl<'a> TableRef<'a> {
         }
     }
 
-    /// Returns `true` if the table stands for a dotted key (TOML, "Keys").
+    /// Returns `true` if the table is written by dotted keys (TOML, "Keys").
     pub fn is_dotted(&self) -> bool
         ensures { result ≡ stands_dotted (ref_node self.now) }
     {

@@ -249,17 +249,17 @@ impl InlineTable {
         }
     }
 
-    /// Returns `true` if the inline table stands for a dotted key (TOML, "Keys").
+    /// Returns `true` if the inline table is written by dotted keys (TOML, "Keys").
     ///
-    /// It has no braces then. Its pairs are printed among those of the table around it, after its
-    /// key and a dot.
+    /// It has no braces then. Its pairs are printed among those of the table around it, each after
+    /// its key and a dot.
     pub fn is_dotted(&self) -> bool
         ensures { result ≡ (inline_view self.now).fields.is_dotted }
     {
         self.dotted
     }
 
-    /// Sets whether the inline table stands for a dotted key.
+    /// Sets whether the inline table is written by dotted keys.
     ///
     /// In an array it is printed in braces in any case.
     pub fn set_dotted(&mut self, dotted: bool)

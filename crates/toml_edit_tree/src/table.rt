@@ -244,17 +244,17 @@ impl Table {
         self.implicit = implicit;
     }
 
-    /// Returns `true` if the table stands for a dotted key (TOML, "Keys").
+    /// Returns `true` if the table is written by dotted keys (TOML, "Keys").
     ///
-    /// It has no header then. Its lines are printed among those of the table around it, after its
-    /// key and a dot.
+    /// It has no header then. Its lines are printed among those of the table around it, each after
+    /// its key and a dot.
     pub fn is_dotted(&self) -> bool
         ensures { result ≡ (fields_view self.now).is_dotted }
     {
         self.dotted
     }
 
-    /// Sets whether the table stands for a dotted key.
+    /// Sets whether the table is written by dotted keys.
     ///
     /// The root and the elements of an array of tables must not be dotted: `fits` of the document
     /// is `false` then.

@@ -211,8 +211,7 @@ impl Value {
         }
     }
 
-    /// Returns `true` if the value is a boolean. The value itself is that of
-    /// [`as_bool`](Self::as_bool).
+    /// Returns `true` if the value is a boolean, whether `true` or `false`.
     pub fn is_bool(&self) -> bool
         ensures { result ≡ is_some (truth_in (value_view self.now)) }
     {

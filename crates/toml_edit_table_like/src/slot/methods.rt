@@ -44,7 +44,7 @@ impl<'a, T: HasSlots> TableLikeSlot<'a, T> {
         self.table.item_at_mut(at)
     }
 
-    /// Returns the key, to change all of it but its name.
+    /// Returns a [`KeyMut`] of the key, which changes its decors and can reset its spelling.
     pub fn key_mut(&mut self) -> KeyMut<'_>
         ensures* writes_back { sem 𝓛 (SlotLendsKey T.row self.entry result) }
         ensures key { slot_key self.old ≡ Some (key_of result) }

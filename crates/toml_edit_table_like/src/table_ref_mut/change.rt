@@ -90,7 +90,7 @@ pub(crate) fn sort_in(table: &mut Item) -> Mem<()>
     }
 }
 
-/// Sets whether the table stands for a dotted key.
+/// Sets whether the table is written by dotted keys.
 pub(crate) fn set_dotted_in(table: &mut Item, dotted: bool)
     requires { is_some (entries_in table.old) ≡ true }
     ensures slots { slots_seen table.new ≡ slots_seen table.old }

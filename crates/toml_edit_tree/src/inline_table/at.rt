@@ -52,7 +52,7 @@ impl InlineTable {
         item.own_value_mut()
     }
 
-    /// Returns the key of slot `at`, to change all of it but its name.
+    /// Returns a [`KeyMut`] of the key of slot `at`.
     pub(crate) fn key_at_mut(&mut self, at: usize) -> KeyMut<'_>
         requires { has_value_at at (out-InlineTable self.old).items ≡ true }
         ensures* writes_back { sem 𝓛 (LendsInlineKeyAt self.entry at result) }

@@ -93,7 +93,7 @@ impl Item {
         }
     }
 
-    /// Returns `true` if the item is a boolean. Its value is that of [`as_bool`](Self::as_bool).
+    /// Returns `true` if the item is a boolean, whether `true` or `false`.
     pub fn is_bool(&self) -> bool
         ensures { result ≡ is_some (truth_in (item_view self.now)) }
     {
@@ -144,7 +144,7 @@ impl Item {
         }
     }
 
-    /// Returns `true` if the item is an array. An array of tables is none.
+    /// Returns `true` if the item is an array. An array of tables is not.
     pub fn is_array(&self) -> bool
         ensures { result ≡ is_some (array_in (item_view self.now)) }
     {
@@ -175,7 +175,7 @@ impl Item {
         }
     }
 
-    /// Returns `true` if the item is an inline table. A [`Table`](crate::Table) is none.
+    /// Returns `true` if the item is an inline table. A [`Table`](crate::Table) is not.
     pub fn is_inline_table(&self) -> bool
         ensures { result ≡ is_some (inline_in (item_view self.now)) }
     {

@@ -24,7 +24,7 @@ impl Table {
         self.slots.item_mut(at)
     }
 
-    /// Returns the key of slot `at`, to change all of it but its name.
+    /// Returns a [`KeyMut`] of the key of slot `at`.
     pub(crate) fn key_at_mut(&mut self, at: usize) -> KeyMut<'_>
         requires { at < length (out-Table self.old).slots }
         ensures* writes_back { sem 𝓛 (LendsKeyAt self.entry at result) }

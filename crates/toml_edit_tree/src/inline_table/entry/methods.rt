@@ -67,7 +67,7 @@ impl<'a> InlineOccupiedEntry<'a> {
         self.table.value_at_mut(at)
     }
 
-    /// Returns the key, to change all of it but its name.
+    /// Returns a [`KeyMut`] of the key, which changes its decors and can reset its spelling.
     pub fn key_mut(&mut self) -> KeyMut<'_>
         ensures* writes_back { sem 𝓛 (InlineOccupiedLendsKey self.entry result) }
         ensures key { inline_key (Occupied self.old) ≡ Some (key_of result) }

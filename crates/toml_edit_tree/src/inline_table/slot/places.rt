@@ -35,11 +35,12 @@ impl InlineTable {
         }
     }
 
-    /// Returns the key of this name, to change all of it but its name, or `None` if it is missing.
-    /// A key without a value is returned too.
+    /// Returns a [`KeyMut`] of the key of this name, or `None` if it is missing. A key without a
+    /// value is returned too.
     ///
-    /// No contract says what the inline table is after a change of the key. Where a proof needs
-    /// that, use [`slot_mut`](Self::slot_mut).
+    /// It changes the decors of the key and can reset its spelling. No contract says what the
+    /// inline table is after a change of the key. Where a proof needs that, use
+    /// [`slot_mut`](Self::slot_mut).
     pub fn key_mut(&mut self, key: &str) -> Option<KeyMut<'_>>
         ensures { option_map key_of result ≡ lookup_key key.now (inline_slots_of self.old) }
     {
@@ -98,7 +99,7 @@ impl InlineTable {
         self.items.item_mut(at)
     }
 
-    /// Returns the key of slot `at`, to change all of it but its name.
+    /// Returns a [`KeyMut`] of the key of slot `at`.
     pub(crate) fn key_in_mut(&mut self, at: usize) -> KeyMut<'_>
         requires { at < length (out-InlineTable self.old).items }
         ensures* writes_back { sem 𝓛 (LendsInlineKeyAt self.entry at result) }

@@ -65,7 +65,7 @@ impl<'a> OccupiedEntry<'a> {
         self.table.item_at_mut(at)
     }
 
-    /// Returns the key, to change all of it but its name.
+    /// Returns a [`KeyMut`] of the key, which changes its decors and can reset its spelling.
     pub fn key_mut(&mut self) -> KeyMut<'_>
         ensures* writes_back { sem 𝓛 (OccupiedLendsKey self.entry result) }
         ensures key { entry_key (Occupied self.old) ≡ Some (key_of result) }

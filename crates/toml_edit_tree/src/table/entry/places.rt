@@ -88,11 +88,11 @@ impl Table {
         }
     }
 
-    /// Returns the key of this name, to change all of it but its name, or `None` if it is missing.
-    /// A key with a placeholder is returned too.
+    /// Returns a [`KeyMut`] of the key of this name, or `None` if it is missing. A key with a
+    /// placeholder is returned too.
     ///
-    /// No contract says what the table is after a change of the key. Where a proof needs that, use
-    /// [`slot_mut`](Self::slot_mut).
+    /// It changes the decors of the key and can reset its spelling. No contract says what the table
+    /// is after a change of the key. Where a proof needs that, use [`slot_mut`](Self::slot_mut).
     pub fn key_mut(&mut self, key: &str) -> Option<KeyMut<'_>>
         ensures { option_map key_of result ≡ lookup_key key.now (slots_of self.old) }
     {
