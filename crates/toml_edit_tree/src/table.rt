@@ -307,7 +307,7 @@ impl Table {
     /// Returns the byte range of the header in the source, both brackets included.
     ///
     /// A table that has no header of its own spans the key that implied it, and the root has an
-    /// empty range. It is `None` for a table that was made, and in a `DocumentMut`: ask before
+    /// empty range. It is `None` for a table that was made, and in a `DocumentMut`: read it before
     /// `into_mut`.
     pub fn span(&self) -> Option<Range<usize>>
         ensures { result ≡ range_in (fields_view self.now).extent }
