@@ -37,8 +37,8 @@ use toml_edit_tree::{InlineTable, Item, Iter, Table, Value};
 /// ([`TableRefMut`](crate::TableRefMut)).
 ///
 /// It has slots in order, which may hold items of any kind. A placeholder counts as absent, but
-/// keeps its place. The two kinds differ in four points, which are said at the calls: what is
-/// inserted and removed, which keys [`contains_key`](Self::contains_key) counts, what the lines of
+/// keeps its place. The two kinds differ in four points, described at the calls: what is inserted
+/// and removed, which keys [`contains_key`](Self::contains_key) counts, what the lines of
 /// [`get_values`](Self::get_values) are, and which tables inside [`sort_values`](Self::sort_values)
 /// enters.
 ///

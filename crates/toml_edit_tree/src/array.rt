@@ -247,7 +247,7 @@ impl Array {
 
     /// Returns the byte range of the array in the source, both brackets included.
     ///
-    /// It is `None` for an array that was made, and in a `DocumentMut`: ask before `into_mut`.
+    /// It is `None` for an array that was made, and in a `DocumentMut`: read it before `into_mut`.
     pub fn span(&self) -> Option<Range<usize>>
         ensures { result ≡ range_in (array_view self.now).fields.extent }
     {

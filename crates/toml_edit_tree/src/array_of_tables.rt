@@ -147,7 +147,7 @@ impl ArrayOfTables {
 
     /// Returns the byte range from the first header to the last in the source, brackets included.
     ///
-    /// It is `None` for an array that was made, and in a `DocumentMut`: ask before `into_mut`.
+    /// It is `None` for an array that was made, and in a `DocumentMut`: read it before `into_mut`.
     pub fn span(&self) -> Option<Range<usize>>
         ensures { result ≡ range_in (tables_view self.now).extent }
     {

@@ -22,8 +22,8 @@ impl Item {
     /// Converts the item into a value: a table into an inline table, and an array of tables into an
     /// array.
     ///
-    /// So are the items below them. A value is returned as it is. Of a table, the decors of keys
-    /// and values are unset and the header is dropped, so its comments are removed.
+    /// The items below them are converted too. A value is returned as it is. Of a table, the decors
+    /// of keys and values are unset and the header is dropped, so its comments are removed.
     ///
     /// # Errors
     ///

@@ -19,7 +19,7 @@ use toml_edit_slots::NoMemory;
 mod lent;
 pub(crate) mod slots;
 
-/// Why `index_or_insert` returns no item.
+/// The error of [`Item::index_or_insert`] and [`Table::index_or_insert`].
 #[derive(Clone, Copy, Debug, PartialEq, Eq, Hash)]
 pub enum IndexFault {
     /// The item is neither a table, an inline table nor a placeholder.

@@ -321,7 +321,7 @@ impl InlineTable {
     /// Returns the byte range of the inline table in the source, both braces included.
     ///
     /// A dotted one spans its key. It is `None` for an inline table that was made, and in a
-    /// `DocumentMut`: ask before `into_mut`.
+    /// `DocumentMut`: read it before `into_mut`.
     pub fn span(&self) -> Option<Range<usize>>
         ensures { result ≡ range_in (inline_view self.now).fields.extent }
     {

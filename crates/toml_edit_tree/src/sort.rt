@@ -20,7 +20,7 @@ impl Table {
     /// likewise.
     ///
     /// Each slot moves with its decors. Tables inside that have a header keep their order of slots.
-    /// Headers with a position are printed by it, whatever the order of slots.
+    /// Headers that have a position are printed by that, whatever the order of slots.
     ///
     /// # Errors
     ///

@@ -363,7 +363,7 @@ impl Value {
     /// Returns the byte range of the value in the source, without its decor.
     ///
     /// It is that of the spelling of a scalar, and from bracket to bracket of an array or an inline
-    /// table. It is `None` for a value that was made, and in a `DocumentMut`: ask before
+    /// table. It is `None` for a value that was made, and in a `DocumentMut`: read it before
     /// `into_mut`.
     pub fn span(&self) -> Option<Range<usize>>
         ensures { result ≡ span_in (value_view self.now) }

@@ -22,7 +22,7 @@ impl Array {
     /// Removes the value at index `at` and returns it, keeping the order of the others.
     ///
     /// Its decor comes with it, so a comment after the comma before it goes too. A contract
-    /// requires that there is a value: ask [`get`](Self::get).
+    /// requires that there is a value: check with [`get`](Self::get).
     pub fn remove(&mut self, at: usize) -> Value
         requires { IsSome (value_at at (items_of self.old)) }
         ensures value { Some (value_view result) ≡ value_at at (items_of self.old) }
@@ -35,7 +35,7 @@ impl Array {
     /// Replaces the value at index `at` and returns the old one.
     ///
     /// The new value keeps its own decor. To give it that of the old one, use
-    /// [`replace`](Self::replace). A contract requires that there is a value: ask
+    /// [`replace`](Self::replace). A contract requires that there is a value: check with
     /// [`get`](Self::get).
     pub fn replace_formatted(&mut self, at: usize, value: Value) -> Value
         requires { IsSome (value_at at (items_of self.old)) }

@@ -16,7 +16,7 @@ impl Array {
     ///
     /// The new value gets a copy of the old one's decor, so the whitespace and comments around it
     /// stay. To keep its own, use [`replace_formatted`](Self::replace_formatted). A contract
-    /// requires that there is a value: ask [`get`](Self::get).
+    /// requires that there is a value: check with [`get`](Self::get).
     ///
     /// # Errors
     ///

@@ -29,7 +29,7 @@ impl ArrayOfTables {
 
     /// Removes the table at index `at` and returns it, keeping the order of the others.
     ///
-    /// A contract requires that there is a table: ask [`get`](Self::get).
+    /// A contract requires that there is a table: check with [`get`](Self::get).
     pub fn remove(&mut self, at: usize) -> Table
         requires { IsSome (table_at at (tables_of self.old)) }
         ensures table { Some (table_node (table_view result)) ≡ table_at at (tables_of self.old) }
@@ -42,7 +42,7 @@ impl ArrayOfTables {
     /// Replaces the table at index `at` and returns the old one.
     ///
     /// The new table keeps its own decor and position. A contract requires that there is a table:
-    /// ask [`get`](Self::get).
+    /// check with [`get`](Self::get).
     pub fn replace(&mut self, at: usize, table: Table) -> Table
         requires { IsSome (table_at at (tables_of self.old)) }
         ensures table { Some (table_node (table_view result)) ≡ table_at at (tables_of self.old) }

@@ -1,4 +1,4 @@
-//! The calls of an item that ask what its value is, and where it is in the source.
+//! The calls of an item that return what its value is, and its span in the source.
 ghost use Rattle.std.specs.Prelude.{◌≡◌, is_some, option_map};
 ghost use Rattle.std.specs.Borrow.{sem};
 ghost use Rattle.toml_edit_datetime.specs.DatetimeView.{datetime_view};
@@ -188,7 +188,7 @@ impl Item {
     /// Returns the byte range of the item in the source, or `None` if it was made or has no span.
     ///
     /// It is that of the value, of a table's header with its brackets, or from the first header of
-    /// an array of tables to the last. A `DocumentMut` has no spans: ask before `into_mut`.
+    /// an array of tables to the last. A `DocumentMut` has no spans: read them before `into_mut`.
     ///
     /// # Examples
     ///
