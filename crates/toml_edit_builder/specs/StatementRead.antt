@@ -82,7 +82,7 @@ pub record AreHeaderParts (mode : Mode) (h : Header) (end : Text) (start : ℕ) 
       (start + length h.leading + length (opening_brackets h.is_array) + length h.opening) h.path parts.path
   pub trailing : parts.trailing ≡ span_at (start + length h.leading + length (brackets_text h)) (with_return mode h.trailing end)
 
--- the names of a path's keys; nothing but want of memory stands in the way
+-- the names of a path's keys; reading them fails only if memory runs out
 abbrev pub ReadsNames : List Segment → Result (Vec (String Global) Global) ParseFault → Type 0
 ReadsNames p (Ok v) = names v.items ≡ map (λ s. s.key) p
 ReadsNames p (Err e) = IfToml e (λ r. ⊥)

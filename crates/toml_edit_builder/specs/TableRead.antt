@@ -68,7 +68,7 @@ pub record IsKeyOf (mode : Mode) (s : Source) (passes : Bool) (m : Mention Sourc
 
 -- ---- what is done
 
--- What was to be done is done, or the report is of the text and names what stands in the way; want of memory may come at any time.
+-- What was to be done is done, or the report is of the text and names what is in the way; memory may run out at any time.
 abbrev pub Goes : {A X : Type 0} → Text → Option X → Option (Mention Source × Node) → X → Result A ParseFault → Type 0
 Goes t want way new (Ok x) = want ≡ Some new
 Goes t want way new (Err e) = IfToml e (λ r. (r.input ≡ t) × (option_map table_way_fault way ≡ Some (fault_of r)))

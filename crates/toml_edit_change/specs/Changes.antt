@@ -18,7 +18,7 @@ names path = map (λ k. k.name) path
 abbrev pub pairs : List (repr.Slot Item) → List Slot
 pairs es = slot_list (slots_view es)
 
--- What is done leaves what is meant. A refusal is the one that is meant, and leaves all as it was, as want of memory does.
+-- What is done leaves what is meant. A refusal is the one that is meant, and leaves all as it was, as running out of memory does.
 abbrev pub Changes : {A : Type 0} → Answer A → A → A → Result (Unit {0}) ChangeFault → Type 0
 Changes meant old new (Ok u) = meant ≡ done new
 Changes meant old new (Err NoSuchPath) = (meant ≡ refused no_such_path) × (new ≡ old)

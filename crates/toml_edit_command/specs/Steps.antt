@@ -38,7 +38,7 @@ status_of Memory = 3
 status_of ReadFailed = 4
 status_of WriteFailed = 4
 
--- what is told of it
+-- the message for it
 abbrev pub TellsStop : Stop → Option Text → Option Text → Bool → Type 0
 TellsStop (Mistaken m) old new failed = Tells old new failed (mistake_line m)
 TellsStop NotUtf8 old new failed = Tells old new failed encoding_line

@@ -155,7 +155,7 @@ module _ (mode : Mode) where
   IsStatementNode start (key_line f v end) n = IsValueNode (spanned_in mode) v (start + value_start (spanned_in mode) f) f.after_equals (with_return mode f.trailing end) n
   IsStatementNode start (header h end) n = Unit {0}
 
-  -- The builder stands behind these statements, the first of the document: each is right after those before it, and the slots are those
+  -- The builder is after these statements, the first of the document: each is right after those before it, and the slots are those
   -- of all their mentions.
   pub record IsBehind (d : Document) (done : List Statement) (b : Builder) : Type 0 where
     pub right : all_right_after [] (done_places d done) ≡ true
@@ -165,7 +165,7 @@ module _ (mode : Mode) where
     pub slots : AreSlotsOf (spanned_in mode) (flat_map (λ s. s.mentions) (done_places d done)) (kept (flat_map (λ s. s.mentions) (done_places d done))) b.slots
 
   -- What a statement does behind these: it stops the builder by a fault of its own, or by what stands in its way; else it is added, and
-  -- the builder stands behind it. The table of its block is there.
+  -- the builder is after it. The table of its block is there.
   pub record IsStep (d : Document) (done : List Statement) (s : Statement) (b : Builder) : Type 0 where
     pub faulty : (f : Fault) → Contains (own_faults b.start s) f → Stops d done s f
     pub clashes : (x : Mention Source × Node) → clash_at b s ≡ Some x → Stops d done s (table_way_fault x)
@@ -191,7 +191,7 @@ module _ (mode : Mode) where
 
   -- ---- all statements
 
-  -- Of the statements of the document these are left, and the builder stands behind the others.
+  -- Of the statements of the document these are left, and the builder is after the others.
   pub record StandsBefore (d : Document) (rest : List Statement) (b : Builder) : Type 0 where
     pub done : List Statement
     pub split : d.statements ≡ done ++ rest

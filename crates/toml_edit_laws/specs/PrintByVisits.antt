@@ -293,7 +293,7 @@ module _ (mode : Mode) where
       ++ (root_lines t.root t.slots
       ++ (headers_text (begins t.root t.slots) (sorted_by by_place (headed_tables t.root t.slots)) ++ (root_suffix mode t ++ shown_raw mode t.trailing)))
 
-  -- The print of a tree is what stands before its root, the root's lines, the headers in order of place, each with its lines, and what
-  -- stands behind.
+  -- The print of a tree is the text before its root, the root's lines, the headers in order of place, each with its lines, and the text
+  -- after them.
   abbrev pub PrintByVisits : Type 0
   PrintByVisits = (t : Tree) → print_in mode false t ≡ written_print t

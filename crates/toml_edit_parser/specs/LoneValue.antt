@@ -35,7 +35,7 @@ pub record IsLoneRefusalIn (version : Version) (t : Text) (r : Report) : Type 0 
   pub syntax : ((v : Value) → IsLoneValue t v → ⊥) → IsSyntaxFault (fault_of r) ⊎ ValueOpensTooMany t
   pub refused : (v : Value) → IsLoneValue t v → is_accepted_value_in version v ≡ false
 
--- What reading a lone value answers: a reading of the text; nothing but want of memory where the text is an accepted value; a report.
+-- What reading a lone value answers: a reading of the text; out of memory alone where the text is an accepted value; a report.
 pub record ReadsLoneIn (version : Version) (t : Text) (r : Result code.Value ParseFault) : Type 0 where
   pub read : IfOk r (λ v. IsLoneReadingIn version t (value_view v))
   pub every : (v : Value) → IsLoneValue t v → is_accepted_value_in version v ≡ true → IsOk r ⊎ IsErrOf r ParseFault.Memory

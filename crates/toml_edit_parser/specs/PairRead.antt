@@ -59,7 +59,7 @@ key_events start f =
     let key = start + length f.leading in
     path_events key f.path ++ (event Equals (key + length (path_text f.path) + length f.before_equals) (codes "=") ∷ [])
 
--- what stands behind the last key of a path, of a key line or of a header
+-- what follows the last key of a path, of a key line or of a header
 abbrev pub ends_path : EventKind → Bool
 ends_path Equals = true
 ends_path AfterKey = true
@@ -119,7 +119,7 @@ abbrev pub key_with : Text → Span → Decor → Raw → Raw → Key
 key_with name at own before after =
     record { name = name; spelling = Some (span at.start at.end); leaf = own; dotted = record { prefix = Some before; suffix = Some after } }
 
--- the keys of a path, from one of them on, are spelled, and nothing stands behind the last
+-- the keys of a path, from one of them on, are spelled, and nothing follows the last
 pub record IsEndOfPath (p : List Segment) : Type 0 where
   pub some : is_empty p ≡ false
   pub ends : ends_unspaced p ≡ true

@@ -32,7 +32,7 @@ abbrev pub IsFirstKey : Decor → ℕ → List Segment → PathKey → Type 0
 IsFirstKey own start [] r = ⊥
 IsFirstKey own start (s ∷ p) r = (r.span ≡ span_at (start + length s.before) s.spelled) × IsKeyBefore own start s p r.key r.rest
 
--- what reading it answers; nothing but want of memory stands in the way
+-- the result of reading it, which fails only if memory runs out
 abbrev pub ReadsKey : Decor → ℕ → List Segment → Result PathKey ParseFault → Type 0
 ReadsKey own start p (Ok r) = IsFirstKey own start p r
 ReadsKey own start p (Err e) = IfToml e (λ r. ⊥)

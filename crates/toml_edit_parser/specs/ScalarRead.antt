@@ -12,7 +12,7 @@ use Rattle.toml_edit_error.specs.declared.toml_error.ParseFault.{ParseFault}
 use Rattle.toml_edit_tree.specs.declared.value.Value as code
 use Rattle.toml_edit_tree.specs.View.{value_view}
 
--- the text of a key that was read; nothing but want of memory stands in the way
+-- the text of a key that was read; reading it fails only if memory runs out
 abbrev pub ReadsName : Text → Result (String Global) ParseFault → Type 0
 ReadsName k (Ok s) = string_bytes s ≡ k
 ReadsName k (Err e) = IfToml e (λ r. ⊥)

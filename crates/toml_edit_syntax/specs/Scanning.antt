@@ -48,7 +48,7 @@ equals_at t =
 
 -- ---- the brackets of headers
 
--- whether two brackets open the header at the front, and what stands behind the one or the two
+-- whether two brackets open the header at the front, and what follows the one or the two
 unfoldable pub opening_at : Text → Bool × Text
 opening_at t = if slice_index t 1 == 0x5B then (true, drop 2 t) else (false, drop 1 t)
 

@@ -77,7 +77,7 @@ frame_at leading t =
       trailing = [];
     }) (reading (equals_at rest)))
 
--- what stands behind an opening bracket inside so many, unless that bracket is one too many
+-- what follows an opening bracket inside so many, unless that bracket is one too many
 abbrev pub inside : {A : Type 0} → EventKind → Text → ℕ → ℕ → Reading A → Reading A
 inside kind bracket level at r =
     if level == nesting_limit then deep (event TooDeep at bracket ∷ []) else behind (event kind at bracket ∷ []) r

@@ -19,7 +19,7 @@ use Rattle.toml_edit_tree.specs.Containers.{ArrayView, InlineView, range_in}
 use Rattle.toml_edit_tree.specs.contracts.value.Value.{the_row as value_row}
 use Rattle.toml_edit_repr.specs.contracts.repr.Decor.{the_row as decor_row}
 
--- the string, integer, float (its text), truth value or date-time that a value is, if it is one
+-- the string, integer, float (its text), boolean or date-time that a value is, if it is one
 abbrev pub text_in : Node → Option Text
 text_in (leaf (string v) spelling d) = Some v
 text_in n = None

@@ -73,7 +73,7 @@ parts_at part_at c (suc n) t =
     else if nat_lt 0 (newline_len t) then prepend (take (newline_len t) t) (parts_at part_at c n (drop (newline_len t) t))
     else option_and_then (λ p. prepend p.0 (parts_at part_at c n p.1)) (part_at t)
 
--- what stands behind the opening quotes and a newline there
+-- what follows the opening quotes and a newline there
 abbrev pub inside : Text → Text
 inside t = drop (newline_len (drop 3 t)) (drop 3 t)
 

@@ -12,7 +12,7 @@ Read A = Option (A × Text)
 abbrev pub first : Text → ℕ
 first t = slice_index t 0
 
--- a byte of a number, a truth value, a date or a time
+-- a byte of a number, a boolean, a date or a time
 abbrev pub is_word_byte : ℕ → Bool
 is_word_byte c = is_bare_byte c || ((c == 0x2B || c == 0x2E) || c == 0x3A)
 
