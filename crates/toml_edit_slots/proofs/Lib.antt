@@ -1,5 +1,5 @@
 -- Lemmas of this crate.
-pub mod PlacesLaws
+pub mod ChainLaws
 pub mod IndexLaws
 pub mod NewLaws
 pub mod SlotLaws

@@ -14,9 +14,10 @@ use Rattle.toml_edit_laws.specs.PlaceOrder.{key_place}
 use Rattle.toml_edit_slots.specs.declared.slots.Slot.{Slot}
 use Rattle.toml_edit_slots.specs.Slots.{is_at, names, AreApart, place, place_in}
 use Rattle.toml_edit_slots.specs.SlotIndex.{IsIndexed, MayIndex}
-use Rattle.toml_edit_slots.specs.declared.places.Places.{Places}
+use Rattle.toml_edit_slots.specs.declared.index.Index.{Index}
 use Rattle.toml_edit_slots.specs.InPlace.{by_place, replaced}
 use Rattle.toml_edit_slots.proofs.SlotLaws.{some_next}
+use Rattle.toml_edit_slots.proofs.KeptLaws.{may_index}
 
 -- one of the texts is this one
 abbrev has : Text → List Text → Bool
@@ -133,10 +134,11 @@ module _ {T : Type 0} where
       apart-inserted s (sorted_by by_place es) (all-sorted (λ y. same_text s.key.name y ≡ false) es h.0) (apart-sorted es h.1)
 
   -- the index has their names still
-  pub texts-sorted : (o : Option (Box Places)) (es : List (Slot T)) → IsIndexed o (names es)
+  pub texts-sorted : (o : Option (Box Index)) (es : List (Slot T)) → IsIndexed o (names es)
       → MayIndex o (names (sorted_by by_place es))
-  texts-sorted None es h = let e = long-sorted es in omega (arith, e, h)
-  texts-sorted (Some m) es h = λ t some. ap is_some (h t) ∙ sym (has-sorted t es) ∙ some
+  texts-sorted o es h =
+      let long : length (names (sorted_by by_place es)) ≤ length (names es) = omega (arith, long-sorted es) in
+      may_index o (names es) (names (sorted_by by_place es)) h long (λ t some. sym (has-sorted t es) ∙ some)
 
   -- ---- a slot in the place of another
 

@@ -1,12 +1,12 @@
 -- The calls on the code's slots, as the definitions see them.
-use Rattle.std.proofs.Common.{◌≡◌, ℕ, zero, suc, List, [], ◌∷◌, ◌++◌, map, Option, None, Some, option_map, refl, sym, ap, subst, ◌∙◌, inl, inr, set, get_or, remove, length, slice_get, nat_lt, cond, not, ◌+◌}
+use Rattle.std.proofs.Common.{◌≡◌, ℕ, zero, suc, List, [], ◌∷◌, ◌++◌, map, Option, None, Some, option_map, refl, sym, ap, subst, ◌∙◌, inl, inr, set, get_or, remove, length, nat_lt, cond, not, ◌+◌}
 use Rattle.std.proofs.lemmas.Bool.{cases_Bool}
 use Rattle.std.proofs.lemmas.List.{map-set, map-append}
-use Rattle.std.specs.List.{IsDistinct, position, position_or_len, prefix_len}
-use Rattle.toml_edit_model.specs.Text.{Text, same_text, one}
+use Rattle.std.specs.List.{IsDistinct, position_or_len, prefix_len}
+use Rattle.toml_edit_model.specs.Text.{Text, same_text}
 use Rattle.toml_edit_model.specs.Tree.{Key}
 use Rattle.toml_edit_model.specs.Slots as model
-use Rattle.toml_edit_laws.proofs.slots.Places.{lookup_slot-at, lookup_slot-none, none_at, put-at, put-new, without-at, without-none}
+use Rattle.toml_edit_laws.proofs.slots.Places.{none_at, put-at, put-new, without-at, without-none}
 use Rattle.toml_edit_slots.specs.declared.slots.Slot.{Slot}
 use Rattle.toml_edit_slots.specs.Slots.{AreApart, is_at, names, place, lookup, lookup_slot, put, without, with_item}
 use Rattle.toml_edit_slots.specs.Seen.{pair_seen, seen, slot_seen}

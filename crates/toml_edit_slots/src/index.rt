@@ -1,101 +1,74 @@
 //! The index of a table's slots: from the name of each key to the place of its slot.
-ghost use Rattle.std.specs.Prelude.{◌≡◌, ◌<◌, ◌++◌, ◌∷◌, [], None, Some, true, is_some, length, position, remove, IfOk, OnOk, OnErr};
+ghost use Rattle.std.specs.Prelude.{◌≡◌, ◌<◌, ◌≤◌, ◌++◌, ◌∷◌, [], None, Some, true, is_some, length, position, remove, IfOk, OnOk, OnErr};
 ghost use Rattle.toml_edit_model.specs.Text.{Text};
 ghost use Rattle.toml_edit_slots.specs.Slots.{AreApart, is_at, names, place, place_in};
-ghost use Rattle.toml_edit_slots.specs.SlotIndex.{IsIndexed, IsIndexOf, IsRightBefore, IsPutAt, HasTexts, MayIndex, place_of, with_text};
+ghost use Rattle.toml_edit_slots.specs.SlotIndex.{HasRoom, IsIndex, IsIndexed, IsIndexOf, IsRightBefore, IsPutAt, HasTexts, MayIndex, place_of, with_text};
 
+use crate::chains::{Chains, hash_of};
 use crate::places::Places;
 use crate::slots::Slot;
 use std::alloc::Global;
-use std::mem;
 use toml_edit_repr::Mem;
 
-/// How many slots need no index: so few are found as fast one by one.
+/// The most slots that have no index: so few are found as fast one by one.
 const FEW: usize = 8;
 
-/// The place of the slot of the name, if there is one.
+/// The most slots in a chain. By chance no chain gets so long: the names must have been chosen for
+/// it.
+const LONGEST: usize = 16;
+
+/// The index of a table's slots.
+#[derive(Debug, Drop)]
+pub(crate) enum Index {
+    /// Finds a place by the hash of the name.
+    Chained(Chains),
+    /// Finds a place by the name itself, in a tree. Replaces the chains once one of them would be
+    /// too long.
+    Sorted(Places),
+}
+
+/// Returns the place of the slot with the name, or `None` if no slot has it.
 pub(crate) fn find_place<T>(
-    index: &Option<Box<Places>>,
+    index: &Option<Box<Index>>,
     entries: &[Slot<T>],
     name: &str,
 ) -> Option<usize>
-    requires { IsIndexed index.now (names entries.now) }
+    requires apart { AreApart entries.now }
+    requires indexed { IsIndexed index.now (names entries.now) }
     ensures { result ≡ place name.now entries.now }
 {
     match index {
-        Some(places) => places.get(name),
+        Some(index) => find_in(index, entries, name),
         None => walk(entries, name),
     }
 }
 
-/// The place of the first slot of the name, if there is one.
+/// Looks a name up in an index.
+#[inline]
+fn find_in<T>(index: &Index, entries: &[Slot<T>], name: &str) -> Option<usize>
+    requires apart { AreApart entries.now }
+    requires indexed { IsIndex index.now (names entries.now) }
+    ensures { result ≡ place name.now entries.now }
+{
+    match index {
+        Index::Chained(chains) => chains.find(entries, name),
+        Index::Sorted(places) => places.get(name),
+    }
+}
+
+/// Looks a name up in the slots one by one.
 fn walk<T>(entries: &[Slot<T>], name: &str) -> Option<usize>
     ensures { result ≡ position (is_at name.now) entries.now }
 {
     entries.iter().position(|slot| name == slot.key.get())
 }
 
-/// Notes that the slot of a new name comes behind the others, which have room for so many. The only error is want of memory: the index
-/// stays.
-fn add_place<T>(
-    index: &mut Option<Box<Places>>,
-    alloc: Global,
-    entries: &[Slot<T>],
-    room: usize,
-    name: &str,
-) -> Mem<()>
-    requires apart { AreApart entries.now }
-    requires indexed { IsIndexed index.old (names entries.now) }
-    requires new { place name.now entries.now ≡ None }
-    ensures ok { OnOk result (IsIndexed index.new (names entries.now ++ name.now ∷ [])) }
-    ensures err { OnErr result (IsIndexed index.new (names entries.now)) }
-{
-    if let Some(places) = index {
-        places.insert(alloc, name, entries.len())?;
-        return Ok(());
-    }
-    if entries.len() < FEW {
-        return Ok(());
-    }
-    let places = index_of(alloc, entries, room, name)?;
-    drop(mem::replace(index, Some(Box::new(alloc, places)?)));
-    Ok(())
-}
-
-/// Returns the index of these slots and of a new name behind them, with room for so many. Fails only if memory runs out.
-fn index_of<T>(alloc: Global, entries: &[Slot<T>], room: usize, name: &str) -> Mem<Places>
-    requires apart { AreApart entries.now }
-    requires new { place name.now entries.now ≡ None }
-    ensures { IfOk result (λ places. IsIndexOf places (names entries.now ++ name.now ∷ [])) }
-{
-    let mut places = Places::with_room(alloc, room)?;
-    match note_all(&mut places, alloc, entries, name) {
-        Ok(()) => Ok(places),
-        Err(refused) => {
-            drop(places);
-            Err(refused)
-        }
-    }
-}
-
-/// Puts the places of these slots, and of a new name behind them, into an empty index. Fails only if memory runs out.
-fn note_all<T>(places: &mut Places, alloc: Global, entries: &[Slot<T>], name: &str) -> Mem<()>
-    requires apart { AreApart entries.now }
-    requires new { place name.now entries.now ≡ None }
-    requires empty { IsIndexOf places.old [] }
-    ensures { OnOk result (IsIndexOf places.new (names entries.now ++ name.now ∷ [])) }
-{
-    for at in 0..entries.len() {
-        places.insert(alloc, entries[at].key.get(), at)?;
-    }
-    places.insert(alloc, name, entries.len())?;
-    Ok(())
-}
-
-/// Notes that the slot of a name comes behind the others, which have room for so many, if the name is new; the answer is the place where it
-/// stands already, if it does. The only error is want of memory, at a new name: the index stays.
+/// Adds the place behind these slots for a new name, and returns `None`.
+///
+/// If a slot has the name already, returns its place and changes nothing. A new index gets room for
+/// `room` slots. Fails only if memory runs out at a new name; the index then stays as it was.
 pub(crate) fn add_new_place<T>(
-    index: &mut Option<Box<Places>>,
+    index: &mut Option<Box<Index>>,
     alloc: Global,
     entries: &[Slot<T>],
     room: usize,
@@ -108,44 +81,104 @@ pub(crate) fn add_new_place<T>(
     ensures new { OnErr result (place name.now entries.now ≡ None) }
     ensures err { OnErr result (IsIndexed index.new (names entries.now)) }
 {
-    if let Some(places) = index {
-        return put_new_place(places, alloc, name, entries.len());
+    if let Some(index) = index {
+        return put_new_place(index, alloc, entries, name);
     }
     match walk(entries, name) {
         Some(at) => Ok(Some(at)),
         None => {
-            add_place(index, alloc, entries, room, name)?;
+            if entries.len() >= FEW {
+                *index = Some(index_with(alloc, entries, room, name)?);
+            }
             Ok(None)
         }
     }
 }
 
-/// Puts the place of a name into an index, if the name is new; the answer is the place that it has already, if it does. The only error
-/// is want of memory, at a new name. The name is hashed once where it is new and there is memory.
+/// Returns the first index of a table: that of these slots, and of a new name behind them, with
+/// room for `room` slots. Fails only if memory runs out.
+fn index_with<T>(alloc: Global, entries: &[Slot<T>], room: usize, name: &str) -> Mem<Box<Index>>
+    ensures { IfOk result (λ index. IsIndex index.value (names entries.now ++ name.now ∷ [])) }
+{
+    let mut chains = Chains::of(alloc, entries, room)?;
+    chains.push(entries, hash_of(name))?;
+    Ok(Box::new(alloc, Index::Chained(chains))?)
+}
+
+/// Does what `add_new_place` does, in an index.
 #[inline(always)]
-fn put_new_place(places: &mut Places, alloc: Global, name: &str, at: usize) -> Mem<Option<usize>>
+fn put_new_place<T>(
+    index: &mut Index,
+    alloc: Global,
+    entries: &[Slot<T>],
+    name: &str,
+) -> Mem<Option<usize>>
+    requires apart { AreApart entries.now }
+    requires indexed { IsIndex index.old (names entries.now) }
+    ensures place { IfOk result (λ there. there ≡ place name.now entries.now) }
+    ensures ok { OnOk result (IsIndex index.new (with_text name.now (names entries.now))) }
+    ensures new { OnErr result (place name.now entries.now ≡ None) }
+    ensures err { OnErr result (IsIndex index.new (names entries.now)) }
+{
+    match index {
+        Index::Chained(chains) => {
+            let hash = hash_of(name);
+            match chains.seek(entries, name, hash) {
+                Ok(at) => Ok(Some(at)),
+                Err(steps) => {
+                    if steps < LONGEST {
+                        chains.push(entries, hash)?;
+                    } else {
+                        *index = Index::Sorted(places_with(alloc, entries, name)?);
+                    }
+                    Ok(None)
+                }
+            }
+        }
+        Index::Sorted(places) => put_new_name(places, alloc, name, entries.len()),
+    }
+}
+
+/// Returns the places of these slots, and of a new name behind them, by their names. Fails only if
+/// memory runs out.
+#[cold]
+#[inline(never)]
+fn places_with<T>(alloc: Global, entries: &[Slot<T>], name: &str) -> Mem<Places>
+    requires apart { AreApart entries.now }
+    requires new { place name.now entries.now ≡ None }
+    ensures { IfOk result (λ places. IsIndexOf places (names entries.now ++ name.now ∷ [])) }
+{
+    let mut places = Places::new(alloc);
+    for at in 0..entries.len() {
+        places.insert(alloc, entries[at].key.get(), at)?;
+    }
+    places.insert(alloc, name, entries.len())?;
+    Ok(places)
+}
+
+/// Adds the place of a new name, and returns `None`.
+///
+/// If the name has a place already, returns it and changes nothing. Fails only if memory runs out
+/// at a new name.
+#[inline(never)]
+fn put_new_name(places: &mut Places, alloc: Global, name: &str, at: usize) -> Mem<Option<usize>>
     ensures place { IfOk result (λ there. there ≡ place_of places.old name.now) }
     ensures put { OnOk result (place_of places.old name.now ≡ None → IsPutAt at name.now places.old places.new) }
     ensures new { OnErr result (place_of places.old name.now ≡ None) }
     ensures stays { OnErr result ((t : Text) → place_of places.new t ≡ place_of places.old t) }
     ensures present { is_some (place_of places.old name.now) ≡ true → (t : Text) → place_of places.new t ≡ place_of places.old t }
 {
-    match places.insert(alloc, name, at) {
-        Ok(None) => Ok(None),
-        Ok(Some(there)) => {
-            places.set(name, there);
-            Ok(Some(there))
-        }
-        Err(refused) => match places.get(name) {
-            Some(there) => Ok(Some(there)),
-            None => Err(refused),
-        },
+    if let Some(there) = places.get(name) {
+        return Ok(Some(there));
     }
+    places.insert(alloc, name, at)?;
+    Ok(None)
 }
 
-/// Takes out the place of a name whose slot is about to be taken out, and moves the places behind it down by one. It takes no memory.
+/// Removes the place of a slot that is about to be removed, and moves the places behind it down by
+/// one. Allocates nothing.
 pub(crate) fn close_gap<T>(
-    index: &mut Option<Box<Places>>,
+    index: &mut Option<Box<Index>>,
     entries: &[Slot<T>],
     name: &str,
     gap: usize,
@@ -155,13 +188,28 @@ pub(crate) fn close_gap<T>(
     requires gap { place name.now entries.now ≡ Some gap }
     ensures { IsIndexed index.new (remove (names entries.now) gap) }
 {
-    if let Some(places) = index {
-        places.remove(name);
-        move_down(places, entries, gap);
+    if let Some(index) = index {
+        close_in(index, entries, name, gap);
     }
 }
 
-/// Moves the places behind the gap down by one. The index has all names but the one at the gap.
+/// Does what `close_gap` does, in an index.
+fn close_in<T>(index: &mut Index, entries: &[Slot<T>], name: &str, gap: usize)
+    requires apart { AreApart entries.now }
+    requires indexed { IsIndex index.old (names entries.now) }
+    requires gap { place name.now entries.now ≡ Some gap }
+    ensures { IsIndex index.new (remove (names entries.now) gap) }
+{
+    match index {
+        Index::Chained(chains) => chains.close_gap(entries, gap),
+        Index::Sorted(places) => {
+            places.remove(name);
+            move_down(places, entries, gap);
+        }
+    }
+}
+
+/// Moves the places behind the gap down by one. The places are of all names but the one at the gap.
 fn move_down<T>(places: &mut Places, entries: &[Slot<T>], gap: usize)
     requires apart { AreApart entries.now }
     requires gap { gap < length entries.now }
@@ -174,19 +222,33 @@ fn move_down<T>(places: &mut Places, entries: &[Slot<T>], gap: usize)
     }
 }
 
-/// Makes it the index of these slots: it has their names, and may have more. It takes no memory.
-pub(crate) fn index_those<T>(index: &mut Option<Box<Places>>, entries: &[Slot<T>])
+/// Updates the index after its slots were sorted, or some of them removed. Allocates nothing.
+pub(crate) fn index_those<T>(index: &mut Option<Box<Index>>, entries: &[Slot<T>])
     requires apart { AreApart entries.now }
     requires named { MayIndex index.old (names entries.now) }
     ensures { IsIndexed index.new (names entries.now) }
 {
-    if let Some(places) = index {
-        renumber(places, entries);
-        places.drop_others(entries);
+    if let Some(index) = index {
+        index_anew(index, entries);
     }
 }
 
-/// Puts the places of these slots right. The index has their names.
+/// Does what `index_those` does, in an index.
+fn index_anew<T>(index: &mut Index, entries: &[Slot<T>])
+    requires apart { AreApart entries.now }
+    requires named { HasRoom index.old (names entries.now) }
+    ensures { IsIndex index.new (names entries.now) }
+{
+    match index {
+        Index::Chained(chains) => chains.link_all(entries),
+        Index::Sorted(places) => {
+            renumber(places, entries);
+            places.drop_others(entries);
+        }
+    }
+}
+
+/// Gives each name of these slots its present place.
 fn renumber<T>(places: &mut Places, entries: &[Slot<T>])
     requires apart { AreApart entries.now }
     requires named { HasTexts places.old (names entries.now) }

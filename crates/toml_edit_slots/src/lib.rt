@@ -1,10 +1,10 @@
-//! The container of a table's slots.
+//! The container that tables store their keys and items in.
 #![tactic(auto)]
 
+mod chains;
 mod index;
 mod order;
 mod places;
-mod short_name;
 pub mod slots;
 
 pub use slots::entry::{Entry, OccupiedEntry, VacantEntry};

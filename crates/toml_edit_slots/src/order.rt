@@ -1,4 +1,4 @@
-//! Slots in the order of their places: of where the spellings of their keys begin in the source.
+//! The order of slots by where their keys begin in the source.
 ghost use Rattle.std.specs.Prelude.{◌≡◌, OnOk, OnErr};
 ghost use Rattle.toml_edit_model.specs.Order.{is_sorted_by, sorted_by};
 ghost use Rattle.toml_edit_laws.specs.PlaceOrder.{key_place};
@@ -7,7 +7,7 @@ ghost use Rattle.toml_edit_slots.specs.InPlace.{by_place};
 use crate::slots::Slot;
 use toml_edit_repr::Mem;
 
-/// Where the spelling of the slot's key begins; 0 where that is no span.
+/// Returns where the key begins in the source, or 0 if it was not in the source.
 fn place_of<T>(slot: &Slot<T>) -> usize
     ensures { result ≡ key_place slot.now.key }
 {
@@ -17,7 +17,7 @@ fn place_of<T>(slot: &Slot<T>) -> usize
     }
 }
 
-/// Whether the slots stand in the order of their places.
+/// Returns whether the slots are in the order of their keys in the source.
 pub(crate) fn is_in_order<T>(entries: &[Slot<T>]) -> bool
     ensures { result ≡ is_sorted_by by_place entries.now }
 {
@@ -32,7 +32,8 @@ pub(crate) fn is_in_order<T>(entries: &[Slot<T>]) -> bool
     true
 }
 
-/// Puts the slots in the order of their places. The only error is want of memory: the slots stay.
+/// Sorts the slots by where their keys begin in the source. Fails only if memory runs out; the
+/// slots then stay as they were.
 pub(crate) fn sort_entries<T>(entries: &mut Vec<Slot<T>>) -> Mem<()>
     ensures ok { OnOk result (entries.new.items ≡ sorted_by by_place entries.old.items) }
     ensures err { OnErr result (entries.new.items ≡ entries.old.items) }

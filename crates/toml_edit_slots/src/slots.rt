@@ -1,10 +1,9 @@
-//! The slots of a table: keys with their items, in order, where no two keys have one name.
+//! The slots of a table: its keys with their items, in order.
 ghost use Rattle.std.specs.Prelude.{◌≡◌, ◌<◌, ◌↔◌, ℕ, IsTrue, [], ◌∷◌, ◌++◌, None, Some, IsSome, IsOk, length, IfOk, IfErr, IfSome, OnOk, OnErr, slice_get, option_and_then, option_map, take};
 ghost use Rattle.std.specs.Option.{ForSome, option_copied, option_copied_mut};
 
-use crate::index::{add_new_place, close_gap, find_place, index_those};
+use crate::index::{Index, add_new_place, close_gap, find_place, index_those};
 use crate::order::{is_in_order, sort_entries};
-use crate::places::Places;
 use std::alloc::{AllocError, Global};
 use std::error::Error;
 use std::marker::Model;
@@ -18,7 +17,7 @@ mod insert;
 mod unset;
 mod whole;
 
-/// Want of memory, with the value that found no place.
+/// The error of a call that ran out of memory, with the value that could not be stored.
 #[derive(Debug, Drop)]
 pub struct NoMemory<T>(pub T);
 
@@ -41,12 +40,12 @@ impl<T: Drop> From<NoMemory<T>> for AllocError {
     }
 }
 
-/// Why a slot was not put in, with the slot.
+/// The error of [`Slots::try_push`], with the slot that was not added.
 #[derive(Debug, Drop)]
 pub enum Refused<T> {
-    /// A slot of its name stands already, at this place.
+    /// The slot at this place has the name already.
     Present(usize, T),
-    /// Want of memory.
+    /// Memory ran out.
     NoMemory(T),
 }
 
@@ -54,7 +53,9 @@ impl<T> Refused<T> {
     ghost use Rattle.std.specs.Prelude.{Option};
     ghost use Rattle.toml_edit_slots.specs.Refusals.{IsRefusal};
 
-    /// The place of the slot that has the name, if that is why. The slot that comes back goes.
+    /// Returns the place of the slot that has the name already, or `None` if memory ran out.
+    ///
+    /// Drops the slot that was not added.
     pub fn place(self) -> Option<usize>
     where
         T: Drop,
@@ -72,12 +73,12 @@ impl<T> Refused<T> {
 pub struct Slot<T> {
     /// The key.
     pub key: Key,
-    /// What stands under it.
+    /// The value, table or array under the key.
     pub item: T,
 }
 
 impl<T> Slot<T> {
-    /// The item, without its key.
+    /// Returns the item, and drops the key.
     pub fn into_item(self) -> T
         ensures { result ≡ self.item }
     {
@@ -87,12 +88,12 @@ impl<T> Slot<T> {
     }
 }
 
-/// The slots of a table, in order. No two keys have one name.
+/// The slots of a table, in order. No two keys have the same name.
 #[derive(Debug)]
 pub struct Slots<T> {
     entries: Vec<Slot<T>>,
-    // From the name of each key to the place of its slot. Few slots have none.
-    index: Option<Box<Places>>,
+    // From the name of each key to the place of its slot; `None` where there are few slots.
+    index: Option<Box<Index>>,
 }
 
 impl<T: Drop> Drop for Slots<T> {
@@ -133,7 +134,7 @@ impl<T> Slots<T> {
     ghost use Rattle.toml_edit_model.specs.Slots.{inserted, without as without_seen};
     ghost use Rattle.toml_edit_slots.specs.Seen.{seen};
 
-    /// No slots, which take no memory yet.
+    /// Creates an empty container. Allocates nothing.
     pub fn new(alloc: Global) -> Slots<T>
         ensures { result ≡ [] }
     {
@@ -143,7 +144,9 @@ impl<T> Slots<T> {
         }
     }
 
-    /// No slots, with room for so many, where there is the memory for it.
+    /// Creates an empty container with room for `count` slots.
+    ///
+    /// If there is no memory for that room, the container has none.
     pub fn with_room(alloc: Global, count: usize) -> Slots<T>
         ensures { result ≡ [] }
     {
@@ -156,12 +159,12 @@ impl<T> Slots<T> {
         }
     }
 
-    /// The allocator that they were made with, and by which they grow.
+    /// Returns the allocator that the container was created with, and that it grows by.
     pub fn allocator(&self) -> Global {
         *self.entries.allocator()
     }
 
-    /// The slots in order.
+    /// Returns the slots in order.
     pub fn as_slice(&self) -> &[Slot<T>]
         ensures slots { result.now ≡ self.now }
         // No slot has the name of one before it.
@@ -170,21 +173,21 @@ impl<T> Slots<T> {
         self.entries.as_slice()
     }
 
-    /// How many slots there are.
+    /// Returns the number of slots.
     pub fn len(&self) -> usize
         ensures { result ≡ length self.now }
     {
         self.entries.len()
     }
 
-    /// Whether there are none.
+    /// Returns `true` if there are no slots.
     pub fn is_empty(&self) -> bool
         ensures { IsTrue result ↔ (self.now ≡ []) }
     {
         self.entries.is_empty()
     }
 
-    /// The place of the slot whose key has the name, if there is one.
+    /// Returns the place of the slot whose key has the name, or `None` if no key has it.
     pub fn find(&self, text: &str) -> Option<usize>
         ensures place { result ≡ place text.now self.now }
         ensures slot { option_and_then (slice_get self.now) result ≡ lookup_slot text.now self.now }
@@ -193,7 +196,7 @@ impl<T> Slots<T> {
         find_place(&self.index, &self.entries, text)
     }
 
-    /// The item under the name, if there is one.
+    /// Returns the item whose key has the name, or `None` if no key has it.
     pub fn get(&self, text: &str) -> Option<&T>
         ensures { option_copied result ≡ lookup text.now self.now }
     {
@@ -201,7 +204,7 @@ impl<T> Slots<T> {
         Some(&self.entries[at].item)
     }
 
-    /// The item at the place, to be changed.
+    /// Returns a mutable reference to the item at the place.
     pub fn item_mut(&mut self, at: usize) -> &mut T
         requires { at < length self.old }
         ensures* writes_back { sem 𝓛 (LendsItem T.row self.entry at result) }
@@ -211,7 +214,7 @@ impl<T> Slots<T> {
         &mut lent.item
     }
 
-    /// The item under the name, to be changed, if there is one.
+    /// Returns a mutable reference to the item whose key has the name, or `None` if no key has it.
     pub fn get_mut(&mut self, text: &str) -> Option<&mut T>
         ensures* writes_back { sem 𝓛 (LendsFound T.row self.entry text.now result) }
         ensures item { option_copied_mut result ≡ lookup text.now self.old }
@@ -222,7 +225,12 @@ impl<T> Slots<T> {
         }
     }
 
-    /// Puts a slot with a new name last. The only error is want of memory: the slots stay, and the error has the slot.
+    /// Adds a slot with a new name behind the others.
+    ///
+    /// # Errors
+    ///
+    /// Fails only if memory runs out. The slots then stay as they were, and the error returns the
+    /// new one.
     pub fn push(&mut self, slot: Slot<T>) -> Result<(), NoMemory<Slot<T>>>
         requires { place slot.key.name self.old ≡ None }
         ensures slots { OnOk result (self.new ≡ self.old ++ slot ∷ []) }
@@ -236,8 +244,12 @@ impl<T> Slots<T> {
         }
     }
 
-    /// Puts a slot last if its name is new, which takes one look-up. The errors are the place of a slot that has the name already, and want
-    /// of memory at a new name: the slots stay, and the error has the slot.
+    /// Adds a slot behind the others if its name is new. Looks the name up only once.
+    ///
+    /// # Errors
+    ///
+    /// Fails if a slot has the name already, or if the name is new and memory runs out. The slots
+    /// then stay as they were, and the error returns the new one.
     #[inline(always)]
     pub fn try_push(&mut self, slot: Slot<T>) -> Result<(), Refused<Slot<T>>>
         ensures slots { OnOk result (self.new ≡ self.old ++ slot ∷ []) }
@@ -260,7 +272,7 @@ impl<T> Slots<T> {
         }
     }
 
-    /// Why a slot is not put in where there is no memory: its name may stand already.
+    /// Returns the error for a slot for which there is no memory. Its name may be there already.
     #[cold]
     #[inline(never)]
     fn refused(&self, slot: Slot<T>) -> Refused<Slot<T>>
@@ -272,8 +284,15 @@ impl<T> Slots<T> {
         }
     }
 
-    /// Puts the item under the name: a key that is there is reset and keeps its place, and the answer is its old item; a new one
-    /// goes last. The only error is want of memory, at a new name: the slots stay, and the error has the item.
+    /// Inserts an item under a name, and returns the item that was there.
+    ///
+    /// A key that is there keeps its place, and loses its formatting. A new key goes behind the
+    /// others.
+    ///
+    /// # Errors
+    ///
+    /// Fails only if the name is new and memory runs out. The slots then stay as they were, and the
+    /// error returns the item.
     pub fn insert(&mut self, text: &str, item: T) -> Result<Option<T>, NoMemory<T>>
         ensures old { IfOk result (λ old. old ≡ lookup text.now self.old) }
         ensures slots { OnOk result (self.new ≡ put text.now item self.old) }
@@ -300,7 +319,9 @@ impl<T> Slots<T> {
         }
     }
 
-    /// Takes the slot of the name out, if there is one. The others keep their order.
+    /// Removes the slot with the name, and returns it, or `None` if no slot has the name.
+    ///
+    /// The others keep their order.
     pub fn remove(&mut self, text: &str) -> Option<Slot<T>>
         ensures slot { result ≡ lookup_slot text.now self.old }
         ensures slots { self.new ≡ without text.now self.old }
@@ -312,7 +333,7 @@ impl<T> Slots<T> {
         Some(self.entries.remove(at))
     }
 
-    /// Puts a slot in the place of that of its name, which is the answer.
+    /// Replaces the slot with the same name, and returns the old one.
     pub fn replace(&mut self, at: usize, slot: Slot<T>) -> Slot<T>
         requires { place slot.key.name self.old ≡ Some at }
         ensures slot { Some result ≡ slice_get self.old at }
@@ -321,8 +342,13 @@ impl<T> Slots<T> {
         mem::replace(&mut self.entries[at], slot)
     }
 
-    /// Puts the slots in the order in which the spellings of their keys begin in the source; those that begin nowhere come first. Slots
-    /// that stand so take one pass. The only error is want of memory: the slots stay.
+    /// Sorts the slots by where their keys begin in the source.
+    ///
+    /// Keys that were not in the source come first. Slots that are in order already take one pass.
+    ///
+    /// # Errors
+    ///
+    /// Fails only if memory runs out; the slots then stay as they were.
     pub fn sort_by_place(&mut self) -> Mem<()>
         ensures ok { OnOk result (self.new ≡ sorted_by by_place self.old) }
         ensures err { OnErr result (self.new ≡ self.old) }
@@ -335,8 +361,12 @@ impl<T> Slots<T> {
         Ok(())
     }
 
-    /// Turns the spans of `source` in the key at the place into the texts that stand there. The only error is want of memory, and
-    /// then spans may be left: the document that the slots are of is to be given up.
+    /// Replaces the spans in the key at the place by the texts of `source` that they span.
+    ///
+    /// # Errors
+    ///
+    /// Fails only if memory runs out. Some of the spans may then be left, and the whole document
+    /// must be dropped.
     pub fn despan_key(&mut self, at: usize, alloc: Global, source: &str) -> Mem<()>
         requires at { at < length self.old }
         requires fits { ForSome (slice_get self.old at) (λ slot. KeyFits source.now slot.key) }

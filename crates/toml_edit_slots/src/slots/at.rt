@@ -1,4 +1,4 @@
-//! Slots by their places: what is written in a key, and a slot that is taken out.
+//! Access to a key, and removal of a slot, by its place.
 ghost use Rattle.std.specs.Prelude.{◌≡◌, ◌<◌, Some, length, option_map, remove, slice_get};
 ghost use Rattle.std.specs.Borrow.{sem};
 ghost use Rattle.toml_edit_key.specs.KeyMutView.{key_of};
@@ -14,7 +14,8 @@ use toml_edit_key::KeyMut;
 use toml_edit_repr::Decor;
 
 impl<T> Slots<T> {
-    /// What stands around the key at the place where it ends a path, to be changed.
+    /// Returns a mutable reference to the decor that the key at the place has as the last key of a
+    /// path.
     pub fn leaf_decor_mut(&mut self, at: usize) -> &mut Decor
         requires { at < length self.old }
         ensures* writes_back { sem 𝓛 (LendsLeafAt T.row self.entry at result) }
@@ -24,7 +25,7 @@ impl<T> Slots<T> {
         slot.key.leaf_decor_mut()
     }
 
-    /// What stands around the key at the place where it ends no path, to be changed.
+    /// Returns a mutable reference to the decor that the key at the place has before a dot.
     pub fn dotted_decor_mut(&mut self, at: usize) -> &mut Decor
         requires { at < length self.old }
         ensures* writes_back { sem 𝓛 (LendsDottedAt T.row self.entry at result) }
@@ -34,7 +35,7 @@ impl<T> Slots<T> {
         slot.key.dotted_decor_mut()
     }
 
-    /// Lends the key at the place, to change all of it but its name.
+    /// Returns a mutable view of the key at the place. Its name cannot be changed.
     pub fn key_mut(&mut self, at: usize) -> KeyMut<'_>
         requires { at < length self.old }
         ensures* writes_back { sem 𝓛 (LendsKeyAt T.row self.entry at result) }
@@ -44,7 +45,7 @@ impl<T> Slots<T> {
         slot.key.as_mut()
     }
 
-    /// Gives the key at the place its default spelling, and unsets its decors.
+    /// Removes the formatting of the key at the place: its spelling and its decors.
     pub fn fmt_key(&mut self, at: usize)
         requires { at < length self.old }
         ensures { self.new ≡ on_key at reset_key self.old }
@@ -53,7 +54,8 @@ impl<T> Slots<T> {
         slot.key.fmt();
     }
 
-    /// Takes the slot at the place out. The others keep their order. It takes no memory.
+    /// Removes the slot at the place, and returns it. The others keep their order. Allocates
+    /// nothing.
     pub fn remove_at(&mut self, at: usize) -> Slot<T>
         requires { at < length self.old }
         ensures slot { slice_get self.old at ≡ Some result }

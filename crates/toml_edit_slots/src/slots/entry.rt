@@ -1,4 +1,4 @@
-//! The slot of a key, or where one would go.
+//! The entry of a key: its slot, or the place for a new one.
 ghost use Rattle.std.specs.Prelude.{◌≡◌, ◌<◌, None, length};
 ghost use Rattle.toml_edit_slots.specs.Slots.{place};
 
@@ -7,16 +7,16 @@ use toml_edit_key::Key;
 
 mod methods;
 
-/// The slot of a key, or where one would go.
+/// The entry of a key: its slot, or the place for a new one.
 #[derive(Drop)]
 pub enum Entry<'a, T> {
-    /// The key is there.
+    /// A slot has the key.
     Occupied(OccupiedEntry<'a, T>),
-    /// The key isn't there.
+    /// No slot has the key.
     Vacant(VacantEntry<'a, T>),
 }
 
-/// The slot of a key.
+/// The entry of a key that a slot has.
 #[derive(Drop)]
 pub struct OccupiedEntry<'a, T> {
     slots: &'a mut Slots<T>,
@@ -24,7 +24,7 @@ pub struct OccupiedEntry<'a, T> {
     ghost within: { at < length slots.now },
 }
 
-/// A new key, and where its slot would go.
+/// The entry of a key that no slot has.
 #[derive(Drop)]
 pub struct VacantEntry<'a, T> {
     slots: &'a mut Slots<T>,

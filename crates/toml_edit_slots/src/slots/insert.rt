@@ -1,4 +1,4 @@
-//! Slots that are put in and taken out by a key.
+//! Insertion, removal and look-up by a key.
 ghost use Rattle.std.specs.Prelude.{◌≡◌, ◌<◌, OnOk, OnErr, IfOk, IfErr, None, Some, length, option_map, slice_get};
 ghost use Rattle.toml_edit_model.specs.Slots.{AreApart, inserted_formatted, lookup, lookup_slot, place, put, with_item, without};
 ghost use Rattle.toml_edit_slots.specs.Seen.{pair_read, pair_seen, seen};
@@ -10,8 +10,16 @@ use toml_edit_key::Key;
 use toml_edit_repr::Mem;
 
 impl<T> Slots<T> {
-    /// Puts the item under a copy of the key: a key that is there becomes that copy and keeps its place, and the answer is its old item; a
-    /// new one goes last. The only error is want of memory: the slots stay, and the error has the item.
+    /// Inserts an item under a copy of the key with its formatting, and returns the item that was
+    /// there.
+    ///
+    /// A key that is there keeps its place, and is replaced by the copy. A new key goes behind the
+    /// others.
+    ///
+    /// # Errors
+    ///
+    /// Fails only if memory runs out. The slots then stay as they were, and the error returns the
+    /// item.
     pub fn insert_formatted(&mut self, key: &Key, item: T) -> Result<Option<T>, NoMemory<T>>
         ensures old { IfOk result (λ old. old ≡ lookup key.now.name (seen self.old)) }
         ensures slots { OnOk result (seen self.new ≡ inserted_formatted key.now item (seen self.old)) }
@@ -33,7 +41,10 @@ impl<T> Slots<T> {
         }
     }
 
-    /// Takes the slot of the name out, if there is one: its key and its item. The others keep their order.
+    /// Removes the slot with the name, and returns its key and its item, or `None` if no slot has
+    /// the name.
+    ///
+    /// The others keep their order.
     pub fn remove_entry(&mut self, name: &str) -> Option<(Key, T)>
         ensures slot { option_map pair_seen result ≡ lookup_slot name.now (seen self.old) }
         ensures slots { seen self.new ≡ without name.now (seen self.old) }
@@ -43,8 +54,15 @@ impl<T> Slots<T> {
         Some((key, item))
     }
 
-    /// Puts the item under the key: a key that is there stays with its place, and gets the item; a new one goes last. The only error is want
-    /// of memory: the slots stay, and key and item are gone.
+    /// Inserts an item under a key.
+    ///
+    /// A key that is there keeps its place and its formatting, and only its item is replaced. A new
+    /// key goes behind the others.
+    ///
+    /// # Errors
+    ///
+    /// Fails only if memory runs out. The slots then stay as they were; the key and the item are
+    /// dropped.
     pub fn extend_one(&mut self, key: Key, item: T) -> Mem<()>
     where
         T: Drop,
@@ -64,7 +82,7 @@ impl<T> Slots<T> {
         }
     }
 
-    /// Puts another item into the slot at the place, and answers the one that was there.
+    /// Replaces the item at the place, and returns the old one.
     pub fn replace_item(&mut self, at: usize, item: T) -> T
         requires { at < length self.old }
         ensures old { slice_get (code.items_of self.old) at ≡ Some result }
@@ -74,7 +92,7 @@ impl<T> Slots<T> {
         mem::replace(&mut slot.item, item)
     }
 
-    /// The key and the item of the slot at the place, if there is one.
+    /// Returns the key and the item at the place, or `None` if it is behind the last slot.
     pub fn key_value_at(&self, at: usize) -> Option<(&Key, &T)>
         ensures { option_map pair_read result ≡ slice_get (seen self.now) at }
     {
@@ -82,7 +100,7 @@ impl<T> Slots<T> {
         Some((&slot.key, &slot.item))
     }
 
-    /// The key of the name with its item, if there is one.
+    /// Returns the key with the name, and its item, or `None` if no key has the name.
     pub fn get_key_value(&self, name: &str) -> Option<(&Key, &T)>
         ensures slot { option_map pair_read result ≡ lookup_slot name.now (seen self.now) }
         // No two keys have one name.

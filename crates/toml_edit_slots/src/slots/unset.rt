@@ -1,4 +1,4 @@
-//! The decors of a slot's key, unset.
+//! Removal of the decors of a key.
 ghost use Rattle.std.specs.Prelude.{◌≡◌, ◌<◌, length};
 ghost use Rattle.toml_edit_model.specs.Keys.{cleared_key};
 ghost use Rattle.toml_edit_slots.specs.Slots.{on_key};
@@ -7,7 +7,7 @@ use super::Slots;
 use toml_edit_key::Key;
 
 impl<T> Slots<T> {
-    /// Unsets the decors of the key at the place, which keeps its spelling. It takes no memory.
+    /// Removes the decors of the key at the place, which keeps its spelling. Allocates nothing.
     pub fn clear_decors(&mut self, at: usize)
         requires { at < length self.old }
         ensures { self.new ≡ on_key at cleared_key self.old }
@@ -17,7 +17,7 @@ impl<T> Slots<T> {
     }
 }
 
-/// Unsets the decors of a key.
+/// Removes the decors of a key.
 fn clear_key(key: &mut Key)
     ensures { key.new ≡ cleared_key key.old }
 {

@@ -1,4 +1,4 @@
-//! Calls that go over all slots.
+//! Calls that concern all slots.
 ghost use Rattle.std.specs.Prelude.{◌≡◌, not, List, [], IsPermutation, IfOk, OnOk, OnErr};
 ghost use Rattle.std.specs.Iterator.{Drains, ExtendsWithItems, IsFinite};
 ghost use Rattle.toml_edit_model.specs.Order.{sorted_by};
@@ -14,7 +14,9 @@ use std::cmp::Ordering;
 use toml_edit_key::Key;
 
 impl<T> Slots<T> {
-    /// Keeps the slots of which the closure says `true` at the name and the item. The others go, and the order stays. It takes no memory.
+    /// Keeps the slots for whose name and item the closure returns `true`, and removes the others.
+    ///
+    /// The slots keep their order. Allocates nothing.
     pub fn retain<F: Fn(&str, &T) -> bool>(&mut self, keep: F)
     where
         T: Drop,
@@ -26,8 +28,12 @@ impl<T> Slots<T> {
         index_those(&mut self.index, &self.entries);
     }
 
-    /// Sorts the slots by the closure, which sees keys and items. Ties keep their order. The only error is want of memory, and then the slots
-    /// stay.
+    /// Sorts the slots by a closure that compares keys and items. Slots that it calls equal keep
+    /// their order.
+    ///
+    /// # Errors
+    ///
+    /// Fails only if memory runs out; the slots then stay as they were.
     pub fn sort_by<F: FnMut(&Slot<T>, &Slot<T>) -> Ordering>(
         &mut self,
         compare: F,
@@ -44,7 +50,11 @@ impl<T> Slots<T> {
         sorted
     }
 
-    /// Sorts the slots by the bytes of their names. The only error is want of memory, and then the slots stay.
+    /// Sorts the slots by the bytes of their names.
+    ///
+    /// # Errors
+    ///
+    /// Fails only if memory runs out; the slots then stay as they were.
     pub fn sort_by_name(&mut self) -> Result<(), AllocError>
         ensures permutation { IsPermutation (seen self.old) (seen self.new) }
         ensures sorted { OnOk result (IsSortOf name_lt (seen self.old) (seen self.new)) }
@@ -55,7 +65,7 @@ impl<T> Slots<T> {
         self.sort_by(|one, other| one.key.cmp(&other.key))
     }
 
-    /// Takes all slots out.
+    /// Removes all slots.
     pub fn clear(&mut self)
     where
         T: Drop,
@@ -65,8 +75,12 @@ impl<T> Slots<T> {
         self.index = None;
     }
 
-    /// Puts pairs in, one after another: a key that is there stays with its place, and gets the item; a new one goes last. The only error is
-    /// want of memory: then some first pairs are there, and the others are gone.
+    /// Inserts pairs of keys and items one after another, as [`extend_one`](Slots::extend_one)
+    /// does.
+    ///
+    /// # Errors
+    ///
+    /// Fails only if memory runs out. The first pairs may then be inserted; the others are dropped.
     #[tactic(auto, using(crate::proofs::SeenLaws::extended_last))]
     pub fn extend<U: IntoIterator<Item = (Key, T)>>(&mut self, pairs: U) -> Result<(), AllocError>
     where
@@ -80,8 +94,12 @@ impl<T> Slots<T> {
         Ok(())
     }
 
-    /// The slots of these pairs, put in one after another: a key that is there stays with its place, and gets the item; a new one goes
-    /// last. The only error is want of memory.
+    /// Creates a container of pairs, inserted one after another as
+    /// [`extend_one`](Slots::extend_one) does.
+    ///
+    /// # Errors
+    ///
+    /// Fails only if memory runs out.
     pub fn from_iter<U: IntoIterator<Item = (Key, T)>>(
         alloc: Global,
         pairs: U,
@@ -96,7 +114,7 @@ impl<T> Slots<T> {
         Ok(slots)
     }
 
-    /// All slots in their order.
+    /// Returns the slots in order as a vector.
     pub fn into_vec(self) -> Vec<Slot<T>>
         ensures { result.items ≡ self }
     {
@@ -106,7 +124,7 @@ impl<T> Slots<T> {
     }
 }
 
-/// Keeps the slots that pass, in a list of its own.
+/// Keeps the slots for which the closure returns `true`, in a function of its own for its proof.
 fn retain_entries<T: Drop, F: Fn(&str, &T) -> bool>(entries: &mut Vec<Slot<T>>, keep: F)
 where
     F: Drop,

@@ -1,4 +1,4 @@
-//! What is done with an entry.
+//! Creation of entries, and their methods.
 ghost use Rattle.std.specs.Prelude.{◌≡◌, None, Some, IsSome, IsOk, IfOk, IfErr, IfSome, if◌then◌else◌, length, nat_lt, option_map};
 ghost use Rattle.std.specs.Borrow.{sem};
 ghost use Rattle.std.specs.Option.{unwrap_or, UnwrapsOrElse};
@@ -16,7 +16,11 @@ use toml_edit_key::{Key, KeyMut};
 use toml_edit_repr::{Decor, Mem};
 
 impl<T> Slots<T> {
-    /// The entry of the name; a new one has a key of the name alone. The only error is want of memory, at a new name: the slots stay.
+    /// Returns the entry of the name. If it is vacant, its key has the name and no formatting.
+    ///
+    /// # Errors
+    ///
+    /// Fails only if the name is new and memory runs out; the slots then stay as they were.
     pub fn entry(&mut self, name: &str) -> Mem<Entry<'_, T>>
         ensures* refused { sem 𝓛 (RestsIfRefused T.row self.entry result) }
         ensures same_slots { IfOk result (λ e. (entry_ref e).ghost_name ≡ self.entry.ghost_name) }
@@ -32,7 +36,12 @@ impl<T> Slots<T> {
         }
     }
 
-    /// The entry of the key's name; a new one has a copy of the key. The only error is want of memory, at a new name: the slots stay.
+    /// Returns the entry of the key's name. If it is vacant, it has a copy of the key with its
+    /// formatting.
+    ///
+    /// # Errors
+    ///
+    /// Fails only if the name is new and memory runs out; the slots then stay as they were.
     pub fn entry_format(&mut self, key: &Key) -> Mem<Entry<'_, T>>
         ensures* refused { sem 𝓛 (RestsIfRefused T.row self.entry result) }
         ensures same_slots { IfOk result (λ e. (entry_ref e).ghost_name ≡ self.entry.ghost_name) }
@@ -50,7 +59,7 @@ impl<T> Slots<T> {
 }
 
 impl<T> Slots<T> {
-    /// The entry of the slot at the place, if there is one, to change its item or what stands around its key.
+    /// Returns the entry of the slot at the place, or `None` if it is behind the last slot.
     pub fn key_value_at_mut(&mut self, at: usize) -> Option<OccupiedEntry<'_, T>>
         ensures* absent { sem 𝓛 (RestsIfAbsent T.row self.entry result) }
         ensures same_slots { IfSome result (λ e. (entry_ref (Occupied e)).ghost_name ≡ self.entry.ghost_name) }
@@ -64,7 +73,7 @@ impl<T> Slots<T> {
         }
     }
 
-    /// The same of the slot of the name, if there is one.
+    /// Returns the entry of the slot with the name, or `None` if no slot has the name.
     pub fn get_key_value_mut(&mut self, name: &str) -> Option<OccupiedEntry<'_, T>>
         ensures* absent { sem 𝓛 (RestsIfAbsent T.row self.entry result) }
         ensures same_slots { IfSome result (λ e. (entry_ref (Occupied e)).ghost_name ≡ self.entry.ghost_name) }
@@ -79,21 +88,21 @@ impl<T> Slots<T> {
 }
 
 impl<'a, T> OccupiedEntry<'a, T> {
-    /// Returns the name of the key that is there.
+    /// Returns the name of the key.
     pub fn key(&self) -> &str
         ensures { Some result.now ≡ option_map (λ key. key.name) (entry_key (Occupied self.now)) }
     {
         self.slots.as_slice()[self.at].key.get()
     }
 
-    /// The item that is there.
+    /// Returns a reference to the item.
     pub fn get(&self) -> &T
         ensures { Some result.now ≡ entry_item (Occupied self.now) }
     {
         &self.slots.as_slice()[self.at].item
     }
 
-    /// The item that is there, to be changed, for as long as the slots are lent.
+    /// Returns a mutable reference to the item that lives as long as the borrow of the slots.
     pub fn into_mut(self) -> &'a mut T
         ensures* writes_back { sem 𝓛 (EntryLends T.row (Occupied self.entry) result) }
         ensures item { Some result.now ≡ entry_item (Occupied self.entry) }
@@ -102,7 +111,7 @@ impl<'a, T> OccupiedEntry<'a, T> {
         slots.item_mut(at)
     }
 
-    /// The item that is there, to be changed.
+    /// Returns a mutable reference to the item.
     pub fn get_mut(&mut self) -> &mut T
         ensures* writes_back { sem 𝓛 (OccupiedLends T.row self.entry result) }
         ensures item { Some result.now ≡ entry_item (Occupied self.old) }
@@ -111,7 +120,7 @@ impl<'a, T> OccupiedEntry<'a, T> {
         self.slots.item_mut(at)
     }
 
-    /// Lends the key that is there, to change all of it but its name.
+    /// Returns a mutable view of the key. Its name cannot be changed.
     pub fn key_mut(&mut self) -> KeyMut<'_>
         ensures* writes_back { sem 𝓛 (OccupiedLendsKey T.row self.entry result) }
         ensures key { entry_key (Occupied self.old) ≡ Some (key_of result) }
@@ -120,7 +129,7 @@ impl<'a, T> OccupiedEntry<'a, T> {
         self.slots.key_mut(at)
     }
 
-    /// What stands around the key where it ends a path, to be changed.
+    /// Returns a mutable reference to the decor that the key has as the last key of a path.
     pub fn leaf_decor_mut(&mut self) -> &mut Decor
         ensures* writes_back { sem 𝓛 (OccupiedLendsLeaf T.row self.entry result) }
         ensures decor { option_map (λ key. key.leaf) (entry_key (Occupied self.old)) ≡ Some result.now }
@@ -129,7 +138,7 @@ impl<'a, T> OccupiedEntry<'a, T> {
         self.slots.leaf_decor_mut(at)
     }
 
-    /// What stands around the key where it ends no path, to be changed.
+    /// Returns a mutable reference to the decor that the key has before a dot.
     pub fn dotted_decor_mut(&mut self) -> &mut Decor
         ensures* writes_back { sem 𝓛 (OccupiedLendsDotted T.row self.entry result) }
         ensures decor { option_map (λ key. key.dotted) (entry_key (Occupied self.old)) ≡ Some result.now }
@@ -138,7 +147,7 @@ impl<'a, T> OccupiedEntry<'a, T> {
         self.slots.dotted_decor_mut(at)
     }
 
-    /// Gives the key its default spelling, and unsets its decors.
+    /// Removes the formatting of the key: its spelling and its decors.
     pub fn fmt_key(&mut self)
         ensures same_slots { (entry_ref (Occupied self.new)).ghost_name ≡ (entry_ref (Occupied self.old)).ghost_name }
         ensures same_place { entry_place (Occupied self.new) ≡ entry_place (Occupied self.old) }
@@ -147,7 +156,7 @@ impl<'a, T> OccupiedEntry<'a, T> {
         self.slots.fmt_key(self.at);
     }
 
-    /// Takes the slot out, and answers its item. The others keep their order. It takes no memory.
+    /// Removes the slot, and returns its item. The others keep their order. Allocates nothing.
     pub fn remove(self) -> T
         ensures item { Some result ≡ entry_item (Occupied self.entry) }
         ensures removed { IfSome (entry_key (Occupied self.entry)) (λ key. seen self.exit.0.now ≡ without key.name (seen (entry_ref (Occupied self.entry)).now)) }
@@ -156,7 +165,7 @@ impl<'a, T> OccupiedEntry<'a, T> {
         self.slots.remove_at(at).into_item()
     }
 
-    /// Puts another item here, and answers the one that was there.
+    /// Replaces the item, and returns the old one.
     pub fn insert(&mut self, item: T) -> T
         ensures same_slots { (entry_ref (Occupied self.new)).ghost_name ≡ (entry_ref (Occupied self.old)).ghost_name }
         ensures same_place { entry_place (Occupied self.new) ≡ entry_place (Occupied self.old) }
@@ -169,14 +178,20 @@ impl<'a, T> OccupiedEntry<'a, T> {
 }
 
 impl<'a, T> VacantEntry<'a, T> {
-    /// Returns the name of the key that a slot would get.
+    /// Returns the name of the key that a new slot would have.
     pub fn key(&self) -> &str
         ensures { Some result.now ≡ option_map (λ key. key.name) (entry_key (Vacant self.now)) }
     {
         self.key.get()
     }
 
-    /// Puts the key last with the item, which it lends. The only error is want of memory: the slots stay, and the error has the item.
+    /// Adds a slot of the key and the item behind the others, and returns a mutable reference to
+    /// the item.
+    ///
+    /// # Errors
+    ///
+    /// Fails only if memory runs out. The slots then stay as they were, and the error returns the
+    /// item.
     pub fn insert(self, item: T) -> Result<&'a mut T, NoMemory<T>>
         ensures* writes_back { sem 𝓛 (EntryLendsOk T.row (Vacant self.entry) result) }
         ensures item { IfOk result (λ x. x.now ≡ item) }
@@ -192,7 +207,7 @@ impl<'a, T> VacantEntry<'a, T> {
 }
 
 impl<'a, T> Entry<'a, T> {
-    /// Returns the name of the key that is there, or that a slot would get.
+    /// Returns the name of the key.
     pub fn key(&self) -> &str
         ensures { Some result.now ≡ option_map (λ key. key.name) (entry_key self.now) }
     {
@@ -202,8 +217,13 @@ impl<'a, T> Entry<'a, T> {
         }
     }
 
-    /// The item that is there, or else this one, put last with the key. The only error is want of memory, at a new key: the slots stay, and
-    /// the error has the item.
+    /// Returns a mutable reference to the item of the key. A new key is added behind the others
+    /// with `item`.
+    ///
+    /// # Errors
+    ///
+    /// Fails only if the key is new and memory runs out. The slots then stay as they were, and the
+    /// error returns the item.
     pub fn or_insert(self, item: T) -> Result<&'a mut T, NoMemory<T>>
     where
         T: Drop,
@@ -220,8 +240,14 @@ impl<'a, T> Entry<'a, T> {
             Entry::Vacant(entry) => entry.insert(item),
         }
     }
-    /// The item that is there, or else the closure's answer, put last with the key. The closure is called for a new key alone. The only
-    /// error is want of memory, at a new key: the slots stay, and the error has the answer.
+
+    /// Returns a mutable reference to the item of the key. A new key is added behind the others
+    /// with the item that the closure returns. It is called only for a new key.
+    ///
+    /// # Errors
+    ///
+    /// Fails only if the key is new and memory runs out. The slots then stay as they were, and the
+    /// error returns the item.
     pub fn or_insert_with<F: FnOnce() -> T>(self, default: F) -> Result<&'a mut T, NoMemory<T>>
     where
         F: Drop,

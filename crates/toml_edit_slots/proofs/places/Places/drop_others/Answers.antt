@@ -1,6 +1,6 @@
 -- What fits stays.
-use Rattle.std.proofs.Common.{rules, arith, string_bytes}
-use Rattle.indexmap.proofs.CallerLemmas.{filter-RetainsPairs}
+use Rattle.std.proofs.Common.{rules, arith}
+use Rattle.std.proofs.lemmas.Map.Made.{filter_same_pairs}
 use Rattle.toml_edit_slots.specs.Slots.{names}
 use Rattle.toml_edit_slots.proofs.IndexLaws.{length-names}
 use Rattle.toml_edit_slots.proofs.KeptLaws.{fits, index-fitting}
@@ -9,7 +9,6 @@ use Rattle.toml_edit_slots.proofs.places.Places.drop_others.Goals as goal
 pub returns : goal.returns
 returns g c =
     let us = names c.args.entries.now in
-    index-fitting us c.args.self.now (record { short = c.retain.new.self; long = c.retain-2.new.self })
+    index-fitting us c.args.self.now (record { names = c.retain.new.self })
     (λ k t below there. c.requires k t (omega (arith, below, length-names c.args.entries.now)) there)
-    (filter-RetainsPairs _ (fits (λ t. t) us) _ (λ k v b w f' h. search rules) _ _ c.retain.ensures.filtered)
-    (filter-RetainsPairs _ (fits string_bytes us) _ (λ k v b w f' h. search rules) _ _ c.retain-2.ensures.filtered)
+    (filter_same_pairs _ (fits us) _ (λ k v b w f' h. search rules) _ _ c.retain.ensures.filtered)

@@ -1,11 +1,7 @@
--- A long name, taken out.
-use Rattle.std.proofs.Common.{None, refl, rules}
-use Rattle.std.proofs.lemmas.Map.Text.{hash_map_updates_text}
-use Rattle.toml_edit_slots.proofs.PlacesLaws.{long-changed}
+-- A name, taken out.
+use Rattle.std.proofs.Common.{None}
+use Rattle.std.proofs.lemmas.Map.Text.{btree_map_updates_text}
 use Rattle.toml_edit_slots.proofs.places.Places.remove.Goals as goal
 
-pub returns-in-None : goal.returns-in-None
-returns-in-None c =
-    let m = c.args.self.now in
-    long-changed m (record { short = m.short; long = c.swap_remove-in-None.new.self }) c.args.name.now None refl (search rules)
-    (λ t. hash_map_updates_text c.args.name.now m.long c.swap_remove-in-None.new.self None c.swap_remove-in-None.ensures.updates t)
+pub returns : goal.returns
+returns c t = btree_map_updates_text c.args.name.now c.args.self.now.names c.remove.new.self None c.remove.ensures.updates t

@@ -1,15 +1,9 @@
--- Another place of a long name.
-use Rattle.std.proofs.Common.{◌≡◌, false, Some, refl, rules}
-use Rattle.std.proofs.lemmas.Map.Text.{hash_map_updates_text}
-use Rattle.toml_edit_slots.specs.ShortNames.{is_short}
-use Rattle.toml_edit_slots.proofs.PlacesLaws.{long-changed}
+-- Another place of a name.
+use Rattle.std.proofs.Common.{Some}
+use Rattle.std.proofs.lemmas.Map.Text.{btree_map_updates_text}
 use Rattle.toml_edit_slots.proofs.places.Places.set.Goals as goal
 
-pub returns-in-Some-get_mut-2 : goal.returns-in-Some-get_mut-2
-returns-in-Some-get_mut-2 c =
-    let m = c.args.self.now in
+pub returns-in-Some : goal.returns-in-Some
+returns-in-Some c t =
     let at = c.args.at in
-    let new = c.get_mut-in-None.follows.lender at in
-    let long : is_short c.args.name.now ≡ false = search rules in
-    long-changed m (record { short = m.short; long = new }) c.args.name.now (Some at) refl long
-    (λ t. hash_map_updates_text c.args.name.now m.long new (Some at) ((c.get_mut-in-None.follows.holds at).3 (rw long at c.requires)) t)
+    btree_map_updates_text c.args.name.now c.args.self.now.names (c.get_mut.follows.lender at) (Some at) ((c.get_mut.follows.holds at).3 c.requires) t

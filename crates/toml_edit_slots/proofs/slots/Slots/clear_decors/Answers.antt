@@ -1,5 +1,5 @@
 -- A key without decors.
-use Rattle.std.proofs.Common.{◌≡◌, rules, refl, sym, ap, subst, set, ◌∙◌}
+use Rattle.std.proofs.Common.{sym, ap, subst, ◌∙◌}
 use Rattle.toml_edit_model.specs.Keys.{cleared_key}
 use Rattle.toml_edit_slots.specs.Slots.{on_key}
 use Rattle.toml_edit_slots.specs.SlotIndex.{IsIndexed}

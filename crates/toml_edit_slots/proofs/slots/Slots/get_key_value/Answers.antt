@@ -1,5 +1,5 @@
 -- A key with its item.
-use Rattle.std.proofs.Common.{◌≡◌, rules, subst, sym, ap, ◌∙◌, option_map}
+use Rattle.std.proofs.Common.{rules, subst, sym, ap, ◌∙◌, option_map}
 use Rattle.std.proofs.lemmas.Option.{slice_get-map}
 use Rattle.toml_edit_slots.specs.Slots.{AreApart}
 use Rattle.toml_edit_slots.proofs.SeenLaws.{apart-seen, lookup_slot-seen, one_seen}

@@ -4,7 +4,7 @@ use Rattle.toml_edit_model.specs.Slots as model
 use Rattle.toml_edit_slots.specs.declared.slots.Slot.{Slot}
 use Rattle.toml_edit_slots.specs.Seen.{seen}
 use Rattle.toml_edit_slots.specs.SlotIndex.{IsIndexed}
-use Rattle.toml_edit_slots.specs.Slots.{AreApart, place}
+use Rattle.toml_edit_slots.specs.Slots.{place}
 use Rattle.toml_edit_slots.proofs.SeenLaws.{lookup-seen, one_seen, put-new-seen, put-seen}
 use Rattle.toml_edit_slots.proofs.SlotLaws.{apart-set, lookup_slot-absent, lookup_slot-present, named-at, names-set}
 use Rattle.toml_edit_slots.proofs.slots.Slots.insert_formatted.Goals as goal

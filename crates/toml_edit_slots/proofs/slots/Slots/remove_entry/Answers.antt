@@ -1,5 +1,5 @@
 -- A key with its item, taken out.
-use Rattle.std.proofs.Common.{◌≡◌, rules, sym, ap, ◌∙◌, option_map}
+use Rattle.std.proofs.Common.{rules, sym, ap, ◌∙◌, option_map}
 use Rattle.toml_edit_slots.proofs.SeenLaws.{lookup_slot-seen, one_seen, place-seen}
 use Rattle.toml_edit_slots.proofs.slots.Slots.remove_entry.Goals as goal
 

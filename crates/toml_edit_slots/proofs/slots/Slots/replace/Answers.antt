@@ -1,7 +1,7 @@
 -- A slot in the place of another.
 use Rattle.std.proofs.Common.{◌≡◌, Some, sym, ap, subst, ◌∙◌, rules, arith, length, slice_get, vec_len}
 use Rattle.std.proofs.lemmas.Option.{slice_get-get_or}
-use Rattle.toml_edit_slots.specs.Slots.{names, place}
+use Rattle.toml_edit_slots.specs.Slots.{place}
 use Rattle.toml_edit_slots.specs.SlotIndex.{IsIndexed}
 use Rattle.toml_edit_slots.proofs.SlotLaws.{place-within, names-set, apart-set}
 use Rattle.toml_edit_slots.proofs.OrderLaws.{name-at, replaced-set}

@@ -1,5 +1,5 @@
 -- The slots that are kept.
-use Rattle.std.proofs.Common.{◌≡◌, arith, sym, subst, Bool}
+use Rattle.std.proofs.Common.{arith, sym, subst}
 use Rattle.toml_edit_laws.proofs.slots.Retains.{retains-seen}
 use Rattle.toml_edit_model.specs.Retaining.{RetainsBy}
 use Rattle.toml_edit_slots.specs.declared.slots.Slot.{Slot}

@@ -1,5 +1,5 @@
 -- The slots in another order.
-use Rattle.std.proofs.Common.{◌≡◌, arith, ap, sym, subst, ◌∙◌, IsPermutation}
+use Rattle.std.proofs.Common.{arith, sym, subst, ◌∙◌, IsPermutation}
 use Rattle.std.proofs.lemmas.List.Sorted.{IsPermutation-map}
 use Rattle.toml_edit_laws.proofs.slots.Sorts.{sorts-seen}
 use Rattle.toml_edit_slots.specs.Seen.{seen, slot_seen}

@@ -1,5 +1,5 @@
 -- Slots in order of place.
-use Rattle.std.proofs.Common.{◌≡◌, sym, ap, subst, ◌∙◌}
+use Rattle.std.proofs.Common.{sym, ap, subst, ◌∙◌}
 use Rattle.toml_edit_model.specs.Order.{is_sorted_by}
 use Rattle.toml_edit_slots.specs.Slots.{AreApart, names}
 use Rattle.toml_edit_slots.specs.SlotIndex.{MayIndex, IsIndexed}

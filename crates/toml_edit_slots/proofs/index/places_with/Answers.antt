@@ -1,10 +1,10 @@
--- The index of slots, one by one, and of a new name behind them.
+-- The index of slots by their names, one by one.
 use Rattle.std.proofs.Common.{◌<◌, Some, get_or, length, ap, sym, subst, ◌∙◌, arith}
 use Rattle.std.proofs.lemmas.Option.{slice_get-get_or}
 use Rattle.toml_edit_slots.specs.Slots.{names}
 use Rattle.toml_edit_slots.specs.SlotIndex.{IsIndexOf}
 use Rattle.toml_edit_slots.proofs.IndexLaws.{index-next, index-slot, length-names, names-get, take-all}
-use Rattle.toml_edit_slots.proofs.index.note_all.Goals as goal
+use Rattle.toml_edit_slots.proofs.index.places_with.Goals as goal
 
 pub loop-at-preserved : goal.loop-at-preserved
 loop-at-preserved g c =
@@ -18,5 +18,5 @@ loop-at-preserved g c =
 pub returns : goal.returns
 returns g c =
     let es = c.args.entries.now in
-    let all : IsIndexOf c.loop-at.places (names es) = subst (IsIndexOf c.loop-at.places) (take-all (names es) c.loop-at.at (omega (arith, length-names es))) c.loop-at.invariant in
+    let all = subst (IsIndexOf c.loop-at.places) (take-all (names es) c.loop-at.at (omega (arith, length-names es))) c.loop-at.invariant in
     index-slot es c.loop-at.places c.insert-2.new.self c.args.name.now c.requires.new all c.in_ok-insert-2.ensures.ok
