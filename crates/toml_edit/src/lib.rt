@@ -35,7 +35,7 @@
 //!   index in range, is a `requires` clause.
 //! - **Spans.** A *span* is a range of bytes of the source. Keys, scalars, decors, arrays and
 //!   tables of a [`Document`] have one where they were read. [`Document::into_mut`] replaces spans
-//!   by copies of their texts, so nothing of a [`DocumentMut`] has a span.
+//!   by copies of their texts, so nothing of the [`DocumentMut`] that it gives has a span.
 //! - **Decor.** The whitespace and the comments before and after a key, a value or a header are its
 //!   *decor* ([`Decor`]). A comment above a key belongs to the key, one after a value to the value.
 //!   A side that is unset prints as the default for its place, such as one space beside `=`; an
