@@ -1,4 +1,4 @@
-//! The spelling of a string or a key that has none of its own.
+//! Writing the default spelling of a string or a key.
 ghost use Rattle.std.specs.Prelude.{◌≡◌, ◌+◌, ◌<◌, false, length, drop, slice_index};
 ghost use Rattle.std.specs.Fmt.{WritesOnOk};
 ghost use Rattle.std.specs.List.{list_all};
