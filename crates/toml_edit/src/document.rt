@@ -541,7 +541,7 @@ impl DocumentMut {
         self.trailing = trailing;
     }
 
-    /// Returns true if line endings are kept: decors and the trailing text print with their
+    /// Returns `true` if line endings are kept: decors and the trailing text print with their
     /// carriage returns (CR).
     pub fn is_exact(&self) -> bool
         ensures { result ≡ model.is_exact (mode_owned self.now) }
@@ -561,7 +561,7 @@ impl DocumentMut {
         self.mode = if exact { Mode::Exact } else { Mode::Plain };
     }
 
-    /// Returns true if the end is open: the last statement is printed without its newline.
+    /// Returns `true` if the end is open: the last statement is printed without its newline.
     ///
     /// It has an effect only where line endings are kept ([`is_exact`](Self::is_exact)) and nothing
     /// is printed after the last statement.
@@ -601,7 +601,7 @@ impl DocumentMut {
         })
     }
 
-    /// Returns true if the document prints as valid TOML that means what its tree shows.
+    /// Returns `true` if the document prints as valid TOML that means what its tree shows.
     ///
     /// Documents that were parsed fit. An edit can break that:
     ///

@@ -42,7 +42,7 @@ fn cut_short(
     }
 }
 
-/// Returns true if the last statement has no newline: the text after the statements begins right
+/// Returns `true` if the last statement has no newline: the text after the statements begins right
 /// where the last statement's own text ends.
 fn ends_open(events: &[Event]) -> bool
     ensures { (d : Document) → events.now ≡ events_of d → result ≡ has_open_end d.statements }

@@ -42,7 +42,7 @@ pub(crate) struct Building {
     pub(crate) item: Item,
 }
 
-/// Returns true if a statement comes first.
+/// Returns `true` if a statement comes first.
 fn starts_statement(events: &[Event]) -> bool
     ensures { result ≡ is_some (split_leading events.now) }
 {

@@ -42,7 +42,7 @@ pub enum Kind {
     Element(Span),
 }
 
-/// Returns true if it is a key line.
+/// Returns `true` if it is a key line.
 fn is_line(kind: Kind) -> bool
     ensures { result ≡ spec.is_line kind }
 {

@@ -50,7 +50,7 @@ fn leads_with_zero(text: &[u8]) -> bool
     matches!(text, [b'0', b'0'..=b'9' | b'_', ..])
 }
 
-// Returns true if the text is `e` or `E`, an optional sign and digits.
+// Returns `true` if the text is `e` or `E`, an optional sign and digits.
 fn is_exponent(text: &[u8]) -> bool
     ensures { result ≡ spec.is_exponent text.now }
 {
@@ -60,7 +60,7 @@ fn is_exponent(text: &[u8]) -> bool
     }
 }
 
-// Returns true if the text is a point and digits, an exponent, or both.
+// Returns `true` if the text is a point and digits, an exponent, or both.
 fn is_fraction_or_exponent(text: &[u8]) -> bool
     ensures { result ≡ spec.is_fraction_or_exponent text.now }
 {
@@ -73,7 +73,7 @@ fn is_fraction_or_exponent(text: &[u8]) -> bool
     }
 }
 
-// Returns true if the text is digits without a leading 0, and a fraction, an exponent or both.
+// Returns `true` if the text is digits without a leading 0, and a fraction, an exponent or both.
 fn is_decimal_float(text: &[u8]) -> bool
     ensures { result ≡ spec.is_decimal_float text.now }
 {
@@ -86,14 +86,14 @@ fn is_decimal_float(text: &[u8]) -> bool
     }
 }
 
-// Returns true if the text is `inf`, `nan` or a decimal float, without a sign.
+// Returns `true` if the text is `inf`, `nan` or a decimal float, without a sign.
 fn is_unsigned_float(text: &[u8]) -> bool
     ensures { result ≡ spec.is_unsigned_float text.now }
 {
     text == b"inf".as_slice() || text == b"nan".as_slice() || is_decimal_float(text)
 }
 
-/// Returns true if the text is a TOML float, whatever its magnitude.
+/// Returns `true` if the text is a TOML float, whatever its magnitude.
 ///
 /// That is decimal digits with a fraction, an exponent or both, or `inf` or `nan`, with an optional
 /// sign. (TOML, "Float".)

@@ -17,7 +17,7 @@ use crate::reading;
 use crate::time::Time;
 use std::str::FromStr;
 
-/// Returns true if the text spells a date, a time of day or both, with an offset or without, in
+/// Returns `true` if the text spells a date, a time of day or both, with an offset or without, in
 /// range or not.
 pub fn is_datetime(text: &str) -> bool
     ensures spelled { IsTrue result ↔ ((d : DatetimeRecord) × SpellsDatetime d text.now) }

@@ -27,14 +27,14 @@ fn root_marks(root: &Table) -> Marks
     }
 }
 
-/// Returns true if each element's headers, its own first, come before the next element's.
+/// Returns `true` if each element's headers, its own first, come before the next element's.
 fn headers_are_ordered(root: &Table) -> bool
     ensures { result ≡ is_some (tests.order_slots None (tests.root_marks (fields_view root.now)) (table_slots root.now)) }
 {
     order_slots(None, root_marks(root), &root.slots).is_some()
 }
 
-/// Returns true if the document with this root and this trailing text fits in the mode.
+/// Returns `true` if the document with this root and this trailing text fits in the mode.
 ///
 /// See `DocumentMut::fits`. Takes no memory, and time linear in the size of the tree.
 #[doc(hidden)]

@@ -16,7 +16,7 @@ pub(crate) struct Marks {
     pub(crate) highest: Option<isize>,
 }
 
-/// Returns true if the place is not before this one, if there is one.
+/// Returns `true` if the place is not before this one, if there is one.
 fn reaches(low: Option<isize>, place: isize) -> bool
     ensures { result ≡ tests.reaches low place }
 {

@@ -28,7 +28,7 @@ pub(crate) fn no_keys() -> Route
     }
 }
 
-/// Returns true if the key may end the path.
+/// Returns `true` if the key may end the path.
 pub(crate) fn key_fits(mode: Mode, route: Route, key: &Key) -> bool
     ensures { result ≡ tests.key_fits (mode_of mode) route key.now }
 {
@@ -47,7 +47,7 @@ pub(crate) fn then_key(mode: Mode, route: Route, key: &Key) -> Route
     }
 }
 
-/// Returns true if the suffix of a value suits its place, where so many more brackets may be
+/// Returns `true` if the suffix of a value suits its place, where so many more brackets may be
 /// opened: trivia in brackets, else the end of a line.
 fn may_follow(mode: Mode, room: usize, decor: &Decor) -> bool
     ensures { result ≡ tests.may_follow (mode_of mode) room decor.now }
@@ -59,7 +59,7 @@ fn may_follow(mode: Mode, room: usize, decor: &Decor) -> bool
     }
 }
 
-/// Returns true if the decor around a key and its value suits its place, and the path has few
+/// Returns `true` if the decor around a key and its value suits its place, and the path has few
 /// enough keys.
 pub(crate) fn pair_fits(mode: Mode, room: usize, route: Route, key: &Key, decor: &Decor) -> bool
     ensures { result ≡ tests.pair_fits (mode_of mode) room route key.now decor.now }
@@ -72,7 +72,7 @@ pub(crate) fn pair_fits(mode: Mode, room: usize, route: Route, key: &Key, decor:
         && may_follow(mode, room, decor)
 }
 
-/// Returns true if the decor around an element of an array is trivia.
+/// Returns `true` if the decor around an element of an array is trivia.
 pub(crate) fn element_fits(mode: Mode, decor: &Decor) -> bool
     ensures { result ≡ tests.element_fits (mode_of mode) decor.now }
 {

@@ -31,14 +31,14 @@ fn line_text(text: &str) -> &str
     text.strip_suffix('\r').unwrap_or(text)
 }
 
-/// Returns true if the text has a line feed (LF).
+/// Returns `true` if the text has a line feed (LF).
 fn has_feed(text: &str) -> bool
     ensures { result ≡ has_byte line_feed text.now }
 {
     text.as_bytes().contains(&b'\n')
 }
 
-/// Returns true if a CR before these bytes is skipped.
+/// Returns `true` if a CR before these bytes is skipped.
 fn passes_return(mode: Mode, after: &[u8]) -> bool
     ensures { result ≡ tests.passes_return (mode_of mode) after.now }
 {
@@ -83,14 +83,14 @@ fn open_after(mode: Mode, text: &str) -> Option<bool>
     Some(is_open)
 }
 
-/// Returns true if the side has a newline. Its LF prints in each mode.
+/// Returns `true` if the side has a newline. Its LF prints in each mode.
 pub(crate) fn has_newline(side: Option<&RawString>) -> bool
     ensures { (mode : ModelMode) → result ≡ has_byte line_feed (shown_side mode [] (option_copied side.entry)) }
 {
     has_feed(text_of(side))
 }
 
-/// Returns true if the side is whitespace alone.
+/// Returns `true` if the side is whitespace alone.
 pub(crate) fn is_white(mode: Mode, side: Option<&RawString>) -> bool
     ensures { result ≡ tests.is_white (shown_side (mode_of mode) [] (option_copied side.entry)) }
 {
@@ -104,14 +104,14 @@ pub(crate) fn is_white(mode: Mode, side: Option<&RawString>) -> bool
     true
 }
 
-/// Returns true if the side is whitespace, newlines, and comments that each end in a newline.
+/// Returns `true` if the side is whitespace, newlines, and comments that each end in a newline.
 pub(crate) fn is_whole(mode: Mode, side: Option<&RawString>) -> bool
     ensures { result ≡ tests.is_whole (shown_side (mode_of mode) [] (option_copied side.entry)) }
 {
     matches!(open_after(mode, text_of(side)), Some(false))
 }
 
-/// Returns true if the side is whitespace, newlines, and comments that each end in a newline, but
+/// Returns `true` if the side is whitespace, newlines, and comments that each end in a newline, but
 /// for one at the end.
 pub(crate) fn is_final(mode: Mode, side: Option<&RawString>) -> bool
     ensures { result ≡ tests.is_final (shown_side (mode_of mode) [] (option_copied side.entry)) }
@@ -119,8 +119,8 @@ pub(crate) fn is_final(mode: Mode, side: Option<&RawString>) -> bool
     open_after(mode, text_of(side)).is_some()
 }
 
-/// Returns true if the side is whitespace, and then perhaps a comment. In the exact mode it may end
-/// in the CR of the line's newline.
+/// Returns `true` if the side is whitespace, and then perhaps a comment. In the exact mode it may
+/// end in the CR of the line's newline.
 pub(crate) fn ends_line(mode: Mode, side: Option<&RawString>) -> bool
     ensures { result ≡ tests.ends_line (mode_of mode) (shown_side (mode_of mode) [] (option_copied side.entry)) }
 {

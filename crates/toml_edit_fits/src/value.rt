@@ -11,8 +11,8 @@ use toml_edit_repr::Mode;
 use toml_edit_slots::Slots;
 use toml_edit_tree::{Item, Value};
 
-/// Returns true if the decors inside a value suit their places, no more than so many brackets open
-/// in it, and its paths have few enough keys.
+/// Returns `true` if the decors inside a value suit their places, no more than so many brackets
+/// open in it, and its paths have few enough keys.
 #[cycle(value)]
 pub(crate) fn value_fits(mode: Mode, room: usize, value: &Value) -> bool
     ensures { result ≡ tests.value_fits (mode_of mode) room (value_view value.now) }
@@ -36,7 +36,7 @@ pub(crate) fn value_fits(mode: Mode, room: usize, value: &Value) -> bool
     }
 }
 
-/// Returns true if the elements of an array fit.
+/// Returns `true` if the elements of an array fit.
 #[cycle(value)]
 fn items_fit(mode: Mode, room: usize, items: &Vec<Item>) -> bool
     ensures { result ≡ tests.items_fit (mode_of mode) room (items_view items.now.items) }
@@ -49,7 +49,7 @@ fn items_fit(mode: Mode, room: usize, items: &Vec<Item>) -> bool
     true
 }
 
-/// Returns true if an item of an array fits. One that is no value is not printed.
+/// Returns `true` if an item of an array fits. One that is no value is not printed.
 #[cycle(value)]
 fn item_fits(mode: Mode, room: usize, item: &Item) -> bool
     ensures { result ≡ tests.item_fits (mode_of mode) room (item_view item.now) }
@@ -60,7 +60,7 @@ fn item_fits(mode: Mode, room: usize, item: &Item) -> bool
     }
 }
 
-/// Returns true if the pairs in an inline table fit, with the keys so far.
+/// Returns `true` if the pairs in an inline table fit, with the keys so far.
 #[cycle(value)]
 fn inside_fits(mode: Mode, room: usize, route: Route, slots: &Slots<Item>) -> bool
     ensures { result ≡ tests.inside_fits (mode_of mode) room route (slots_view slots.now) }
@@ -74,7 +74,7 @@ fn inside_fits(mode: Mode, room: usize, route: Route, slots: &Slots<Item>) -> bo
     true
 }
 
-/// Returns true if a slot of an inline table fits: its pair, or the pairs in a table.
+/// Returns `true` if a slot of an inline table fits: its pair, or the pairs in a table.
 #[cycle(value)]
 fn pair_slot_fits(mode: Mode, room: usize, route: Route, key: &Key, item: &Item) -> bool
     ensures { result ≡ tests.pair_slot_fits (mode_of mode) room route key.now (item_view item.now) }
@@ -86,7 +86,7 @@ fn pair_slot_fits(mode: Mode, room: usize, route: Route, key: &Key, item: &Item)
     }
 }
 
-/// Returns true if the pair of a value fits, or those in a dotted inline table.
+/// Returns `true` if the pair of a value fits, or those in a dotted inline table.
 #[cycle(value)]
 fn pair_value_fits(mode: Mode, room: usize, route: Route, key: &Key, value: &Value) -> bool
     ensures { result ≡ tests.pair_slot_fits (mode_of mode) room route key.now (value_view value.now) }
@@ -110,7 +110,7 @@ fn pair_value_fits(mode: Mode, room: usize, route: Route, key: &Key, value: &Val
     }
 }
 
-/// Returns true if the lines of a table fit, with the keys so far.
+/// Returns `true` if the lines of a table fit, with the keys so far.
 #[cycle(lines)]
 pub(crate) fn lines_fit(mode: Mode, route: Route, slots: &Slots<Item>) -> bool
     ensures { result ≡ tests.lines_fit (mode_of mode) route (slots_view slots.now) }
@@ -124,7 +124,7 @@ pub(crate) fn lines_fit(mode: Mode, route: Route, slots: &Slots<Item>) -> bool
     true
 }
 
-/// Returns true if the lines of a slot of a table fit: of a value, or of a dotted table.
+/// Returns `true` if the lines of a slot of a table fit: of a value, or of a dotted table.
 #[cycle(lines)]
 fn slot_fits(mode: Mode, route: Route, key: &Key, item: &Item) -> bool
     ensures { result ≡ tests.slot_fits (mode_of mode) route key.now (item_view item.now) }

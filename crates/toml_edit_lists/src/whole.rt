@@ -5,7 +5,8 @@ ghost use Rattle.toml_edit_model.specs.Retaining.{RetainsBy};
 
 use crate::holds::Holds;
 
-/// Keeps the elements for which the closure returns true, in their order. Items that hold none go.
+/// Keeps the elements for which the closure returns `true`, in their order. Items that hold none
+/// go.
 pub fn retain<T: Holds<E>, E, F: Fn(&E) -> bool>(items: &mut Vec<T>, keep: F)
 where
     F: Drop,

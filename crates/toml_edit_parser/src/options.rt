@@ -71,7 +71,7 @@ impl ParseOptions {
         self.version
     }
 
-    /// Returns true if line endings are kept.
+    /// Returns `true` if line endings are kept.
     #[doc(hidden)]
     pub fn is_exact(self) -> bool
         ensures { result ≡ model.is_exact (mode_of self) }

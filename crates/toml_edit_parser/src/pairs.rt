@@ -172,7 +172,7 @@ pub(crate) fn path_end(events: &[Event]) -> Option<usize>
     events.iter().position(|event| ends_path(event.kind))
 }
 
-/// Returns true if an event of this kind follows the last key of a path.
+/// Returns `true` if an event of this kind follows the last key of a path.
 fn ends_path(kind: EventKind) -> bool
     ensures { result ≡ spec.ends_path kind }
 {

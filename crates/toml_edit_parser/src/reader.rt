@@ -39,7 +39,7 @@ pub(crate) struct Close {
     pub(crate) end: usize,
 }
 
-/// Returns true if the events of a text are cut short, at a bracket that is one too many.
+/// Returns `true` if the events of a text are cut short, at a bracket that is one too many.
 #[doc(hidden)]
 pub fn are_cut_short(events: &[Event]) -> bool
     ensures { result ≡ are_deep events.now }
@@ -212,7 +212,7 @@ pub(crate) fn read_value<'a>(
     }
 }
 
-/// Returns true if these are the events of an element that is a scalar.
+/// Returns `true` if these are the events of an element that is a scalar.
 fn is_scalar_element(events: &[Event]) -> bool {
     match events {
         [_, value, _] => matches!(value.kind, EventKind::Scalar),

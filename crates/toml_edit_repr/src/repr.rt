@@ -210,7 +210,7 @@ impl Decor {
     /// Sets the whitespace and the comments before the key, value or header.
     ///
     /// The text is not checked here. If it does not suit its place, such as a comment with no
-    /// newline before a key, `DocumentMut::fits` returns false.
+    /// newline before a key, `DocumentMut::fits` returns `false`.
     pub fn set_prefix(&mut self, prefix: RawString)
         ensures { self.new ≡ record self.old { prefix = Some prefix } }
     {
@@ -235,7 +235,7 @@ impl Decor {
     /// Sets the whitespace and the comments after the key, value or header.
     ///
     /// The text is not checked here. If it does not suit its place, such as a newline after a key,
-    /// `DocumentMut::fits` returns false.
+    /// `DocumentMut::fits` returns `false`.
     pub fn set_suffix(&mut self, suffix: RawString)
         ensures { self.new ≡ record self.old { suffix = Some suffix } }
     {

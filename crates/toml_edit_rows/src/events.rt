@@ -20,7 +20,7 @@ pub fn last_lone(text: &str, out: &mut Answer) {
     last_shown(lone_events(out.alloc, text), out);
 }
 
-/// The events: of each its kind and its span.
+/// Writes the events: the kind and the span of each.
 fn shown(found: Found, out: &mut Answer) {
     match found {
         Ok(events) => list(events.as_slice(), out),

@@ -25,7 +25,7 @@ fn key_text(decoded: Mem<Option<String>>, out: &mut Answer) {
     }
 }
 
-/// What the token says: its kind and its value.
+/// Writes what the token means: its kind and its value.
 fn scalar(decoded: Mem<Option<Scalar>>, out: &mut Answer) {
     match decoded {
         Ok(Some(scalar)) => scalar_text(&scalar, out),

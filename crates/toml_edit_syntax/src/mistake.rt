@@ -106,7 +106,7 @@ pub(crate) fn behind_value(value: &str, rest: &str, otherwise: Mistake) -> (Mist
     (at(rest, otherwise), rest.len())
 }
 
-/// Returns true if `s` begins as a date does, by a year and `-` or `/`, or as a time does, by an
+/// Returns `true` if `s` begins as a date does, by a year and `-` or `/`, or as a time does, by an
 /// hour and `:`.
 fn is_dated(s: &str) -> bool {
     let digits = s

@@ -30,7 +30,7 @@ fn key_line<'a>(
     end(events, whole, text, rest)
 }
 
-/// Returns true if two brackets open the header at the front, and the text after the one or the
+/// Returns `true` if two brackets open the header at the front, and the text after the one or the
 /// two.
 #[tactic(auto, unfolding(crate::specs::Scanning::opening_at))]
 fn opened(s: &str) -> (bool, &str)

@@ -72,7 +72,7 @@ impl Brackets {
     }
 }
 
-/// Returns true if no trivia begins with the byte.
+/// Returns `true` if no trivia begins with the byte.
 fn is_solid(byte: u8) -> bool
     ensures { (next : ℕ) → result ≡ true → turn false byte next ≡ None }
 {

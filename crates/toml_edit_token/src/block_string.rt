@@ -80,7 +80,7 @@ fn quote_len(bytes: &[u8], delimiter: u8) -> usize
     bytes.iter().take_while(|b| **b == delimiter).count()
 }
 
-/// Returns true if `byte`, which `next` follows, is whitespace or part of a newline.
+/// Returns `true` if `byte`, which `next` follows, is whitespace or part of a newline.
 fn is_gap_byte(byte: u8, next: u8) -> bool
     ensures { result ≡ spec.is_gap_byte byte next }
 {

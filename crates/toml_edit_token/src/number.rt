@@ -5,7 +5,7 @@ ghost use Rattle.toml_edit_model.specs.Spelling.{plus, minus, unsigned};
 
 use crate::run::byte_of;
 
-/// Returns true if these are digits of the base, with single underscores between them.
+/// Returns `true` if these are digits of the base, with single underscores between them.
 fn is_natural(digits: &[u8], base: u32) -> bool
     requires low { 2 ≤ base }
     requires high { base ≤ 16 }
@@ -30,7 +30,7 @@ fn leads_with_zero(digits: &[u8]) -> bool
     byte_of(digits, 0) == b'0' && digits.len() > 1
 }
 
-/// Returns true if these are decimal digits, without a leading 0.
+/// Returns `true` if these are decimal digits, without a leading 0.
 #[tactic(auto, unfolding(toml_edit_laws::specs::reading::Tokens::decimal_of))]
 fn is_decimal(digits: &[u8]) -> bool
     ensures plus { result ≡ is_some (spec.decimal_of plus digits.now) }
@@ -40,7 +40,7 @@ fn is_decimal(digits: &[u8]) -> bool
     !leads_with_zero(digits) && is_natural(digits, 10)
 }
 
-/// Returns true if a word spells an integer, however large.
+/// Returns `true` if a word spells an integer, however large.
 #[tactic(auto, unfolding(toml_edit_laws::specs::reading::Tokens::integer_of, toml_edit_laws::specs::reading::Tokens::prefixed_of))]
 pub(crate) fn is_integer(word: &[u8]) -> bool
     ensures { result ≡ is_some (spec.integer_of word.now) }

@@ -41,7 +41,7 @@ pub fn skip(s: &str, n: usize) -> &str
     &s[n..]
 }
 
-/// Returns true if there is a line feed (LF) among the bytes.
+/// Returns `true` if there is a line feed (LF) among the bytes.
 pub(crate) fn has_line_feed(bytes: &[u8]) -> bool
     ensures { result ≡ has_byte line_feed bytes.now }
 {
@@ -65,28 +65,28 @@ pub enum Class {
     Word,
 }
 
-/// Returns true for a space and a tab.
+/// Returns `true` for a space and a tab.
 pub fn is_blank(byte: u8) -> bool
     ensures { result ≡ trivia.is_blank byte }
 {
     byte == b' ' || byte == b'\t'
 }
 
-/// Returns true for all but control characters, and for tab.
+/// Returns `true` for all but control characters, and for tab.
 pub fn is_visible(byte: u8) -> bool
     ensures { result ≡ trivia.is_visible byte }
 {
     byte == b'\t' || (byte >= 0x20 && byte != 0x7F)
 }
 
-/// Returns true if the byte may be in a bare key.
+/// Returns `true` if the byte may be in a bare key.
 pub fn is_bare(byte: u8) -> bool
     ensures { result ≡ spelling.is_bare_byte byte }
 {
     byte.is_ascii_alphanumeric() || byte == b'-' || byte == b'_'
 }
 
-/// Returns true if the byte may be in a number, a boolean, a date or a time.
+/// Returns `true` if the byte may be in a number, a boolean, a date or a time.
 pub fn is_word(byte: u8) -> bool
     ensures { result ≡ is_word_byte byte }
 {
@@ -117,7 +117,7 @@ static CLASSES: [u8; 256] = *b"\
     NNNNNNNNNNNNNNNNNNNNNNNNNNNNNNNN\
     NNNNNNNNNNNNNNNNNNNNNNNNNNNNNNNN";
 
-/// Returns true if the byte is of the class. Looking into the table takes a third of the
+/// Returns `true` if the byte is of the class. Looking into the table takes a third of the
 /// instructions of comparisons.
 fn is_in(class: Class, byte: u8) -> bool
     ensures { result ≡ class_test class byte }

@@ -64,7 +64,7 @@ fn split_word(s: &str) -> (&str, &str)
     s.split_at(word_len(s))
 }
 
-/// Returns true if a word spells a boolean, a number, a date or a time, in range or not.
+/// Returns `true` if a word spells a boolean, a number, a date or a time, in range or not.
 #[tactic(auto, unfolding(toml_edit_laws::specs::reading::ScalarReading::word_scalar))]
 fn is_scalar_word(word: &str) -> bool
     ensures { result ≡ is_some (scalar.word_scalar word.now) }
@@ -76,7 +76,7 @@ fn is_scalar_word(word: &str) -> bool
         || is_datetime(word)
 }
 
-/// Returns true if three quotes of one kind are at the front.
+/// Returns `true` if three quotes of one kind are at the front.
 pub(crate) fn opens_block(s: &str) -> bool
     ensures { result ≡ block.opens_block s.now }
 {

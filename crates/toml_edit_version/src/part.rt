@@ -16,8 +16,8 @@ fn cut(source: &str, span: Span) -> &str
     &source[span.start..span.end]
 }
 
-/// Returns true if what is before these events belongs to an inline table, as its own trivia or as
-/// its comma.
+/// Returns `true` if what is before these events belongs to an inline table, as its own trivia or
+/// as its comma.
 fn is_in_inline_table(events: &[Event]) -> bool
     ensures { result ≡ spec.is_in_inline_table events.now }
 {

@@ -63,7 +63,7 @@ pub(crate) fn late_escape(start: usize, text: &str) -> Option<Span>
     }
 }
 
-/// Returns true if the time in this spelling of a date or a time has no seconds.
+/// Returns `true` if the time in this spelling of a date or a time has no seconds.
 fn lacks_seconds(text: &[u8]) -> bool
     ensures { result ≡ spec.lacks_seconds text.now }
 {
