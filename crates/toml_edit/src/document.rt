@@ -52,8 +52,8 @@ impl SourceText for String {
 
 /// A document as it was parsed: a tree whose spellings and decors are spans of its source.
 ///
-/// It can be read and asked for spans. To change and print it, use [`into_mut`](Self::into_mut), or
-/// parse with [`DocumentMut::from_str`] from the start.
+/// Its items and keys can be read, and say where they are in the source. To change or print it, use
+/// [`into_mut`](Self::into_mut), or parse with [`DocumentMut::from_str`] from the start.
 #[derive(Debug)]
 pub struct Document<S: SourceText> {
     raw: S,
@@ -342,6 +342,8 @@ impl Document<String> {
 
 /// A document that owns its texts, and can be changed and printed.
 ///
+/// # Examples
+///
 /// ```rust,ignore
 /// let mut doc = DocumentMut::from_str(rt.alloc(), text.as_str())?;
 /// set_version(rt.alloc(), &mut doc, "0.4.0")?;
@@ -409,6 +411,8 @@ impl DocumentMut {
     /// [`ParseFault::Toml`] if the text is refused, as [`Document::parse`] says, and
     /// [`ParseFault::Memory`] if memory runs out.
     ///
+    /// # Examples
+    ///
     /// ```rust,ignore
     /// match DocumentMut::from_str(alloc, text) {
     ///     Ok(_document) => Ok(String::new(alloc)),
@@ -432,6 +436,8 @@ impl DocumentMut {
     /// # Errors
     ///
     /// As [`Document::parse_with`].
+    ///
+    /// # Examples
     ///
     /// ```rust,ignore
     /// DocumentMut::from_str_with(alloc, text, ParseOptions::new().version(Version::V1_0))
@@ -615,7 +621,9 @@ impl DocumentMut {
     ///
     /// # Errors
     ///
-    /// None: it takes no memory. The allocator and the `Result` are for later.
+    /// None: it takes no memory, and the allocator is unused.
+    ///
+    /// # Examples
     ///
     /// ```rust,ignore
     /// if document.fits(alloc)? {

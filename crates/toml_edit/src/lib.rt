@@ -30,9 +30,9 @@
 //! - **Failure.** A call that fails leaves its receiver unchanged, with these exceptions. `extend`
 //!   keeps a beginning of what it adds. `sort_values` and `sort_values_by` of a [`Table`] or an
 //!   [`InlineTable`] may leave some tables sorted and others not, but lose nothing. `print_to` may
-//!   have written a beginning. A call that takes its receiver by value, such as
-//!   [`Document::into_mut`], drops it. No call panics: what must hold of an argument, such as an
-//!   index in range, is a `requires` clause.
+//!   have written a beginning. A call that takes its receiver by value gives it back in the error,
+//!   as [`Item::into_value`] does, or drops it, as [`Document::into_mut`] does. No call panics:
+//!   what must hold of an argument, such as an index in range, is a `requires` clause.
 //! - **Spans.** A *span* is a range of bytes of the source. Keys, scalars, decors, arrays and
 //!   tables of a [`Document`] have one where they were read. [`Document::into_mut`] replaces spans
 //!   by copies of their texts, so nothing of the [`DocumentMut`] that it gives has a span.

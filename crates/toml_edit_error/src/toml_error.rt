@@ -16,6 +16,8 @@ use std::ops::Range;
 /// It owns a copy of the text, of which `Display` shows the line with the span marked below it.
 /// docs/ERRORS.md lists the messages.
 ///
+/// # Examples
+///
 /// ```rust,ignore
 /// match DocumentMut::from_str(alloc, text) {
 ///     Ok(_document) => Ok(String::new(alloc)),

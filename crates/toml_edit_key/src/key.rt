@@ -25,6 +25,8 @@ pub use key_mut::KeyMut;
 /// Keys are equal, ordered and hashed by their names. The spelling always spells the name, so a key
 /// is renamed by making another one.
 ///
+/// # Examples
+///
 /// ```rust,ignore
 /// let leaf = key.leaf_decor().clone(alloc)?;
 /// let dotted = key.dotted_decor().clone(alloc)?;

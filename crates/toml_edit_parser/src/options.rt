@@ -11,6 +11,8 @@ use toml_edit_version::Version;
 
 /// Options of parsing: the version of TOML, and whether line endings are kept.
 ///
+/// # Examples
+///
 /// ```rust,ignore
 /// DocumentMut::from_str_with(alloc, text, ParseOptions::new().exact(true))
 /// ```
@@ -36,7 +38,7 @@ impl ParseOptions {
 
     /// Returns the options with this version of TOML. What the version lacks is refused.
     ///
-    /// For TOML 1.0:
+    /// # Examples
     ///
     /// ```rust,ignore
     /// DocumentMut::from_str_with(alloc, text, ParseOptions::new().version(Version::V1_0))

@@ -11,6 +11,14 @@ use std::marker::Model;
 use std::ops::Range;
 
 /// The result of a call that fails only when memory runs out.
+///
+/// # Examples
+///
+/// ```rust,ignore
+/// let version = Value::string(alloc, version)?;
+/// ```
+///
+/// From `add_dependency` of the guide, docs/GUIDE.md.
 pub type Mem<T> = Result<T, AllocError>;
 
 #[derive(Debug, Drop)]
@@ -27,6 +35,8 @@ enum Inner {
 ///
 /// It is either a text of its own or, in a `Document`, a span of the source in bytes. What is made
 /// is a text; `Document::into_mut` turns spans into texts.
+///
+/// # Examples
 ///
 /// ```rust,ignore
 /// let prefix = RawString::from(format!(in alloc; "{comment}\n{indent}")?);
@@ -112,7 +122,7 @@ impl RawString {
 
     /// Returns the text, or `None` for a span.
     ///
-    /// For a span see [`span`](Self::span). Nothing of a `DocumentMut` that was parsed is a span.
+    /// For a span see [`span`](Self::span). In a `DocumentMut` that was parsed, all are texts.
     pub fn as_str(&self) -> Option<&str>
         ensures { option_copied result ≡ text_of self.now }
     {

@@ -118,6 +118,8 @@ impl Hash for Repr {
 /// header. A side that is set prints as it is, an empty one as nothing. In a document that was
 /// parsed, the sides that print are set. (TOML, "Comment" and "Key/Value Pair".)
 ///
+/// # Examples
+///
 /// ```rust,ignore
 /// mem::swap(old.decor_mut(), value.decor_mut());
 /// mem::swap(old, &mut value);

@@ -5,6 +5,8 @@
 /// TOML 1.1 adds to 1.0 the escapes `\e` and `\xHH`, times without seconds, and newlines, comments
 /// and a comma after the last pair in inline tables.
 ///
+/// # Examples
+///
 /// ```rust,ignore
 /// DocumentMut::from_str_with(alloc, text, ParseOptions::new().version(Version::V1_0))
 /// ```
