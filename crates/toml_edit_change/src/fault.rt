@@ -32,6 +32,7 @@ impl fmt::Display for ChangeFault {
 
 impl Error for ChangeFault {}
 
+/// Returns `ChangeFault::Memory`, so that `?` passes on that memory ran out.
 impl From<AllocError> for ChangeFault {
     ghost use Rattle.std.specs.Prelude.{◌≡◌};
     ghost use Rattle.toml_edit_change.specs.declared.fault.ChangeFault.TheVariants.{Memory};

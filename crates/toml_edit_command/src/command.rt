@@ -13,6 +13,7 @@ use super::words::Command;
 use std::alloc::Global;
 use toml_edit_stream::{Input, Output};
 
+/// The exit status of a command that is done.
 const DONE: u8 = 0;
 
 /// Runs the command that the words say, which are the arguments after the program's name, and

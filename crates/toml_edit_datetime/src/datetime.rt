@@ -96,6 +96,7 @@ impl Datetime {
     }
 }
 
+/// Makes a date-time of a date alone.
 impl From<Date> for Datetime {
     ghost use Rattle.std.specs.Prelude.{Some, None};
     ghost use Rattle.toml_edit_datetime.specs.DatetimeView.{datetime_view};
@@ -111,6 +112,7 @@ impl From<Date> for Datetime {
     }
 }
 
+/// Makes a date-time of a time of day alone.
 impl From<Time> for Datetime {
     ghost use Rattle.std.specs.Prelude.{Some, None};
     ghost use Rattle.toml_edit_datetime.specs.DatetimeView.{datetime_view};

@@ -14,7 +14,7 @@ use std::fmt;
 use std::hash::{Hash, Hasher};
 use std::marker::Model;
 
-// Returns the text after an optional sign.
+/// Returns the text after an optional sign.
 fn without_sign(text: &[u8]) -> &[u8]
     ensures { result.now ≡ spec.without_sign text.now }
 {
@@ -24,8 +24,8 @@ fn without_sign(text: &[u8]) -> &[u8]
     }
 }
 
-// Returns the text after decimal digits with single underscores between them, or `None` if it does
-// not begin with such digits.
+/// Returns the text after decimal digits with single underscores between them, or `None` if it does
+/// not begin with such digits.
 fn after_digits(text: &[u8]) -> Option<&[u8]>
     ensures { option_copied result ≡ spec.after_digits false text.now }
 {
@@ -44,13 +44,14 @@ fn after_digits(text: &[u8]) -> Option<&[u8]>
     if after_digit { Some(&[]) } else { None }
 }
 
+/// Returns `true` if a 0 leads other digits.
 fn leads_with_zero(text: &[u8]) -> bool
     ensures { result ≡ spec.leads_with_zero text.now }
 {
     matches!(text, [b'0', b'0'..=b'9' | b'_', ..])
 }
 
-// Returns `true` if the text is `e` or `E`, an optional sign and digits.
+/// Returns `true` if the text is `e` or `E`, an optional sign and digits.
 fn is_exponent(text: &[u8]) -> bool
     ensures { result ≡ spec.is_exponent text.now }
 {
@@ -60,7 +61,7 @@ fn is_exponent(text: &[u8]) -> bool
     }
 }
 
-// Returns `true` if the text is a point and digits, an exponent, or both.
+/// Returns `true` if the text is a point and digits, an exponent, or both.
 fn is_fraction_or_exponent(text: &[u8]) -> bool
     ensures { result ≡ spec.is_fraction_or_exponent text.now }
 {
@@ -73,7 +74,7 @@ fn is_fraction_or_exponent(text: &[u8]) -> bool
     }
 }
 
-// Returns `true` if the text is digits without a leading 0, and a fraction, an exponent or both.
+/// Returns `true` if the text is digits without a leading 0, and a fraction, an exponent or both.
 fn is_decimal_float(text: &[u8]) -> bool
     ensures { result ≡ spec.is_decimal_float text.now }
 {
@@ -86,7 +87,7 @@ fn is_decimal_float(text: &[u8]) -> bool
     }
 }
 
-// Returns `true` if the text is `inf`, `nan` or a decimal float, without a sign.
+/// Returns `true` if the text is `inf`, `nan` or a decimal float, without a sign.
 fn is_unsigned_float(text: &[u8]) -> bool
     ensures { result ≡ spec.is_unsigned_float text.now }
 {

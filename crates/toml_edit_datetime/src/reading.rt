@@ -56,6 +56,7 @@ fn after_date(date: DateParts, text: &[u8]) -> Option<Parts>
     })
 }
 
+/// Reads `YYYY-MM-DD`.
 #[tactic(auto, unfolding(toml_edit_laws::specs::reading::DatetimeReading::date_at))]
 fn read_date(text: &[u8]) -> Option<(DateParts, &[u8])>
     ensures { read_as date_parts_view result ≡ spec.date_at text.now }
@@ -72,6 +73,7 @@ fn read_date(text: &[u8]) -> Option<(DateParts, &[u8])>
     Some((date, rest))
 }
 
+/// Reads `hh:mm`, and then perhaps `:ss` and a fraction.
 #[tactic(auto, unfolding(toml_edit_laws::specs::reading::DatetimeReading::time_at))]
 fn read_time(text: &[u8]) -> Option<(TimeParts, &[u8])>
     ensures { read_as time_parts_view result ≡ spec.time_at text.now }
@@ -143,6 +145,7 @@ fn nanoseconds_of(digits: &[u8]) -> u32
     value
 }
 
+/// Returns the number of decimal digits at the front.
 fn digits_len(text: &[u8]) -> usize
     ensures len { result ≡ prefix_len is_ascii_digit text.now }
     ensures within { result ≤ length text.now }
@@ -188,6 +191,7 @@ fn shift(all: i16, hours: u8, minutes: u8) -> OffsetParts
     }
 }
 
+/// Reads two decimal digits.
 #[tactic(auto, unfolding(toml_edit_laws::specs::reading::DatetimeReading::two_at))]
 fn two_digits(text: &[u8]) -> Option<(u8, &[u8])>
     ensures value { read_of result ≡ spec.two_at text.now }
@@ -201,6 +205,7 @@ fn two_digits(text: &[u8]) -> Option<(u8, &[u8])>
     }
 }
 
+/// Returns the text after this byte at the front.
 fn after_byte(text: &[u8], byte: u8) -> Option<&[u8]>
     ensures { option_copied result ≡ spec.after_byte byte text.now }
 {
@@ -210,6 +215,7 @@ fn after_byte(text: &[u8], byte: u8) -> Option<&[u8]>
     }
 }
 
+/// Returns what was read if nothing is left.
 fn whole<T: Copy>(read: Option<(T, &[u8])>) -> Option<T>
     ensures { result ≡ spec.whole (read_of read.entry) }
 {

@@ -40,6 +40,7 @@ impl Drop for TomlError {
     }
 }
 
+/// The parts of an error, which are boxed.
 #[derive(Debug, Drop)]
 struct Parts {
     message: String,
@@ -211,6 +212,7 @@ impl fmt::Display for ParseFault {
 
 impl Error for ParseFault {}
 
+/// Returns `ParseFault::Memory`, so that `?` passes on that memory ran out.
 impl From<AllocError> for ParseFault {
     ghost use Rattle.std.specs.Prelude.{◌≡◌};
     ghost use Rattle.toml_edit_error.specs.declared.toml_error.ParseFault.TheVariants.{Memory};
@@ -222,6 +224,7 @@ impl From<AllocError> for ParseFault {
     }
 }
 
+/// Returns `ParseFault::Memory`, and drops what found no memory.
 impl<T: Drop> From<AllocFailed<T>> for ParseFault {
     ghost use Rattle.std.specs.Prelude.{◌≡◌};
     ghost use Rattle.toml_edit_error.specs.declared.toml_error.ParseFault.TheVariants.{Memory};
@@ -248,6 +251,7 @@ pub fn refusal(alloc: Global, text: &str, message: &str, span: Option<(usize, us
     }
 }
 
+/// Makes an error of copies of text and message. Fails if memory runs out.
 fn error(
     alloc: Global,
     text: &str,

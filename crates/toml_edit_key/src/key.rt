@@ -82,7 +82,7 @@ impl Key {
     ghost use Rattle.toml_edit_repr.specs.Views.{range_of};
     ghost use Rattle.toml_edit_model.specs.OwnedForm.{KeyFits, owned_raw, owned_key};
 
-    // Returns the name, and drops the rest.
+    /// Returns the name, and drops the rest.
     pub(crate) fn into_text(self) -> String
         ensures { string_bytes result ≡ self.name }
     {

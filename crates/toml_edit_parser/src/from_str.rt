@@ -62,6 +62,7 @@ pub trait FromStrWith: Sized {
         ensures { answers_with options text.now result };
 }
 
+/// Parses a lone value, such as `[1, 2]`.
 impl FromStr for Value {
     ghost answers = { ReadsLone };
 
@@ -86,6 +87,7 @@ impl FromStr for Value {
     }
 }
 
+/// Parses a lone value in a version of TOML.
 impl FromStrWith for Value {
     ghost answers_with = { ReadsLoneWith };
 
@@ -107,6 +109,7 @@ impl FromStrWith for Value {
     }
 }
 
+/// Parses a lone value as an item.
 impl FromStr for Item {
     ghost answers = { ReadsLoneItem };
 

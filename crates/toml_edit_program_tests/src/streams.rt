@@ -13,6 +13,7 @@ pub struct Drip<'a> {
 }
 
 impl<'a> Drip<'a> {
+    /// Makes a reader of these bytes that fails after so many calls.
     pub fn of(rest: &'a [u8], calls_until_fault: usize) -> Drip<'a> {
         Drip {
             rest,
@@ -43,6 +44,7 @@ pub struct Short<'a> {
 }
 
 impl<'a> Short<'a> {
+    /// Makes a writer with so much room, whose bytes go to `held`.
     pub fn of(held: &'a mut Vec<u8>, room: usize) -> Short<'a> {
         Short {
             held,

@@ -21,6 +21,7 @@ use std::ops::Range;
 /// From `add_dependency` of the guide, docs/GUIDE.md.
 pub type Mem<T> = Result<T, AllocError>;
 
+/// The forms of a raw text. Short texts are stored in place.
 #[derive(Debug, Drop)]
 enum Inner {
     // these three take no memory
@@ -201,6 +202,7 @@ impl RawString {
     }
 }
 
+/// Makes a raw text of the string, without a copy.
 impl From<String> for RawString {
     ghost from_gives = { λ text raw. raw ≡ owned (string_bytes text) };
 
@@ -211,6 +213,7 @@ impl From<String> for RawString {
     }
 }
 
+/// Makes the empty raw text.
 impl Default for RawString {
     ghost is_default = { λ raw. raw ≡ owned [] };
 

@@ -274,6 +274,7 @@ impl fmt::Debug for Decor {
     }
 }
 
+/// Makes a decor with both sides unset.
 impl Default for Decor {
     ghost is_default = { λ d. d ≡ unset };
 
@@ -417,13 +418,14 @@ impl<T: ScalarValue> fmt::Display for Spelled<'_, T> {
     }
 }
 
-// Returns the default spelling as a text.
+/// Returns the default spelling as a text.
 fn default_text<T: ScalarValue>(alloc: Global, value: &T) -> Mem<String>
     ensures { IfOk result (λ text. string_bytes text ≡ default_spelling (T.scalar value.now)) }
 {
     format!(in alloc; "{}", Spelled(value))
 }
 
+/// Returns the default spelling as a spelling that is a text.
 pub(crate) fn default_repr_of<T: ScalarValue>(alloc: Global, value: &T) -> Mem<Repr>
     ensures { IfOk result (λ repr. repr ≡ owned (default_spelling (T.scalar value.now))) }
 {

@@ -4,18 +4,22 @@ use toml_edit_syntax::{Event, SyntaxFault, events, lone_events};
 
 type Found = Result<Vec<Event>, SyntaxFault>;
 
+/// Writes the events of a text.
 pub fn all(text: &str, out: &mut Answer) {
     shown(events(out.alloc, text), out);
 }
 
+/// Writes the events of a lone value.
 pub fn all_lone(text: &str, out: &mut Answer) {
     shown(lone_events(out.alloc, text), out);
 }
 
+/// Writes the last event of a text.
 pub fn last(text: &str, out: &mut Answer) {
     last_shown(events(out.alloc, text), out);
 }
 
+/// Writes the last event of a lone value.
 pub fn last_lone(text: &str, out: &mut Answer) {
     last_shown(lone_events(out.alloc, text), out);
 }

@@ -5,6 +5,7 @@ use std::alloc::Global;
 use toml_edit::Mem;
 use toml_edit_rows_read::{Answer, Row, items_of, text_of};
 
+/// Answers rows on runs of the program.
 pub fn answer(row: Row<'_>, out: &mut Answer) {
     let words = words(out.alloc, items_of(row.subject()));
     run_of(words, row, out);

@@ -5,6 +5,7 @@ use toml_edit_datetime::{is_datetime, is_float};
 use toml_edit_rows_read::{Answer, Row};
 use toml_edit_token::{Scalar, after_key, after_scalar, decode_key, decode_scalar};
 
+/// Answers rows on tokens.
 pub fn answer(row: Row<'_>, out: &mut Answer) {
     let text = row.text();
     match row.question {

@@ -73,7 +73,7 @@ impl Report {
         }
     }
 
-    // Reports a row that does not hold, and what came instead.
+    /// Reports a row that does not hold, and what came instead.
     fn tell(&mut self, line: &str, came: &str) {
         self.told.text(line);
         self.told.text("\n    ");

@@ -56,6 +56,7 @@ impl Answer {
         self.is_roomy
     }
 
+    /// Returns the answer so far.
     pub fn as_str(&self) -> &str {
         self.text.as_str()
     }
@@ -132,18 +133,21 @@ impl Answer {
         self.text.clear();
     }
 
+    /// Writes a text.
     pub fn text(&mut self, text: &str) {
         if !self.is_refused && self.text.push_str(text).is_err() {
             self.is_refused = true;
         }
     }
 
+    /// Writes what displays.
     pub fn shown<T: Display>(&mut self, shown: &T) {
         if !self.is_refused && write!(self.text, "{shown}").is_err() {
             self.is_refused = true;
         }
     }
 
+    /// Writes what `Debug` shows.
     pub fn debugged<T: Debug>(&mut self, shown: &T) {
         if !self.is_refused && write!(self.text, "{shown:?}").is_err() {
             self.is_refused = true;
@@ -158,6 +162,7 @@ impl Answer {
         }
     }
 
+    /// Writes a boolean.
     pub fn truth(&mut self, holds: bool) {
         self.text(truth(holds));
     }
@@ -170,10 +175,12 @@ impl Answer {
         }
     }
 
+    /// Writes the text, or `none`.
     pub fn text_or_none(&mut self, found: Option<&str>) {
         self.text(found.unwrap_or("none"));
     }
 
+    /// Writes what displays, or `none`.
     pub fn shown_or_none<T: Display>(&mut self, found: Option<&T>) {
         match found {
             Some(shown) => self.shown(shown),
@@ -181,6 +188,7 @@ impl Answer {
         }
     }
 
+    /// Writes the span, or `none`.
     pub fn span(&mut self, found: Option<Range<usize>>) {
         match found {
             Some(range) => self.range(range.start, range.end),
@@ -188,6 +196,7 @@ impl Answer {
         }
     }
 
+    /// Writes the span from `start` up to `end`.
     pub fn range(&mut self, start: usize, end: usize) {
         self.shown(&start);
         self.text("..");
@@ -246,6 +255,7 @@ impl Answer {
         }
     }
 
+    /// Writes the spelling that was made, if there was memory for it.
     pub fn repr(&mut self, made: Mem<Repr>) {
         match made {
             Ok(repr) => self.raw_text(repr.as_raw()),
@@ -253,6 +263,7 @@ impl Answer {
         }
     }
 
+    /// Writes that there is no such call or question.
     pub fn no_such(&mut self, call: &str) {
         self.text("no such call or question: ");
         self.text(call);

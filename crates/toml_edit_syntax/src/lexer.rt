@@ -35,6 +35,7 @@ pub(crate) enum Stop {
     TooDeep,
 }
 
+/// Returns `Stop::Memory`.
 impl From<AllocError> for Stop {
     ghost use Rattle.std.specs.Prelude.{◌≡◌};
     ghost use Rattle.toml_edit_syntax.specs.declared.lexer.Stop.TheVariants.{Memory};
@@ -46,6 +47,7 @@ impl From<AllocError> for Stop {
     }
 }
 
+/// Returns `Stop::Memory`.
 impl<T: Drop> From<AllocFailed<T>> for Stop {
     ghost use Rattle.std.specs.Prelude.{◌≡◌};
     ghost use Rattle.toml_edit_syntax.specs.declared.lexer.Stop.TheVariants.{Memory};

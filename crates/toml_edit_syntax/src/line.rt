@@ -12,6 +12,8 @@ use crate::lexer::{Stop, part};
 use crate::mistake::{Mistake, behind_value};
 use toml_edit_token::run::{Class, byte_at, first, is_blank, is_visible, run_len, skip, split_run};
 
+/// Returns whether trivia is inside a comment after this byte, or `None` if the trivia ends before
+/// it.
 fn turn(inside: bool, byte: u8, next: u8) -> Option<bool>
     ensures { result ≡ spec.turn inside byte next }
 {

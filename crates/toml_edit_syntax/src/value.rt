@@ -26,6 +26,7 @@ enum Brackets {
 }
 
 impl Brackets {
+    /// Returns the brackets that this byte opens, if it opens any.
     fn opened_by(byte: u8) -> Option<Brackets>
         ensures { read.OpenedBy byte result }
     {
@@ -36,6 +37,7 @@ impl Brackets {
         }
     }
 
+    /// Returns the kind of the opening bracket.
     fn opening(self) -> EventKind
         ensures { result ≡ read.opening self }
     {
@@ -45,6 +47,7 @@ impl Brackets {
         }
     }
 
+    /// Returns the kind of the closing bracket.
     fn closing(self) -> EventKind
         ensures { result ≡ read.closing self }
     {
@@ -62,6 +65,7 @@ impl Brackets {
         }
     }
 
+    /// Returns the closing bracket.
     fn closing_byte(self) -> u8
         ensures { result ≡ read.closing_byte self }
     {

@@ -28,6 +28,7 @@ enum Piece<'a> {
     Last(&'a str),
 }
 
+/// Returns the quote of the form.
 fn delimiter(form: Form) -> u8
     ensures { result ≡ pieces.delimiter_of form }
 {
@@ -37,6 +38,7 @@ fn delimiter(form: Form) -> u8
     }
 }
 
+/// Returns the class of the bytes that mean themselves in the form.
 fn class(form: Form) -> Class
     ensures { result ≡ pieces.class_of form }
 {
@@ -46,6 +48,7 @@ fn class(form: Form) -> Class
     }
 }
 
+/// Returns `true` if three of the delimiter are at the front.
 fn has_three(s: &str, delimiter: u8) -> bool
     ensures { result ≡ spec.has_three delimiter s.now }
 {

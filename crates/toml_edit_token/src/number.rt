@@ -24,6 +24,7 @@ fn is_natural(digits: &[u8], base: u32) -> bool
     follows_digit
 }
 
+/// Returns `true` if a 0 leads other digits.
 fn leads_with_zero(digits: &[u8]) -> bool
     ensures { result ≡ spec.leads_with_zero digits.now }
 {

@@ -26,6 +26,7 @@ pub fn after_key(s: &str) -> Option<&str>
     behind_key(s)
 }
 
+/// Returns the text after the simple key at the front.
 #[tactic(auto, unfolding(toml_edit_laws::specs::reading::Tokens::key_at))]
 fn behind_key(s: &str) -> Option<&str>
     ensures rest { option_map (λ r. r.now) result ≡ option_map (λ p. p.1) (spec.key_at s.now) }
@@ -97,6 +98,7 @@ pub fn after_scalar(s: &str) -> Option<&str>
     behind_scalar(s)
 }
 
+/// Returns the text after the scalar at the front.
 #[tactic(auto, unfolding(toml_edit_laws::specs::reading::ScalarReading::scalar_at))]
 fn behind_scalar(s: &str) -> Option<&str>
     ensures rest { option_map (λ r. r.now) result ≡ option_map (λ p. p.1) (scalar.scalar_at s.now) }

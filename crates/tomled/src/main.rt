@@ -34,7 +34,7 @@ fn main(rt: HostRuntime) -> ExitCode {
     ExitCode::from(status)
 }
 
-// Returns the arguments after the program's name.
+/// Returns the arguments after the program's name.
 fn words_of(rt: &HostRuntime) -> io::Result<Vec<String>> {
     let mut words = Vec::new(rt.alloc());
     for word in env::args(&(AfterName(rt), rt.alloc()))? {
@@ -43,7 +43,7 @@ fn words_of(rt: &HostRuntime) -> io::Result<Vec<String>> {
     Ok(words)
 }
 
-// The environment of the host without the program's name, which need not be UTF-8 and is not read.
+/// The environment of the host without the program's name, which need not be UTF-8 and is not read.
 #[derive(Drop)]
 struct AfterName<'a, R>(&'a R);
 

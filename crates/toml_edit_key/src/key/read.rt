@@ -108,6 +108,7 @@ fn key_fault(text: &str) -> Misread<'_> {
     }
 }
 
+/// Makes a key with this spelling and no decor.
 fn spelled_key(alloc: Global, name: String, spelling: &str) -> Mem<Key>
     requires { ∥ SpellsKey (string_bytes name) spelling.now ∥₁ }
     ensures { IfOk result (λ key. key ≡ lone_key (string_bytes name) spelling.now) }
@@ -124,6 +125,7 @@ fn spelled_key(alloc: Global, name: String, spelling: &str) -> Mem<Key>
     })
 }
 
+/// Returns the text after a dot at the front.
 fn after_dot(s: &str) -> Option<&str>
     ensures rest { option_map (λ r. r.now) result ≡ spec.after_dot s.now }
     ensures within { IfSome result (λ r. length r.now < length s.now) }

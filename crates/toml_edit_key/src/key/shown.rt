@@ -45,7 +45,7 @@ impl Key {
     }
 }
 
-// Returns the default spelling of the name.
+/// Returns the default spelling of the name.
 pub(crate) fn default_spelling(alloc: Global, name: &str) -> Mem<Repr>
     ensures default { IfOk result (λ repr. repr ≡ owned (key_spelling name.now)) }
     ensures spelled { SpellsKey name.now (key_spelling name.now) }
@@ -54,7 +54,7 @@ pub(crate) fn default_spelling(alloc: Global, name: &str) -> Mem<Repr>
     Ok(Repr::new(RawString::from(spelling)))
 }
 
-// Returns the spelling if it is a text, else the default one of the name.
+/// Returns the spelling if it is a text, else the default one of the name.
 pub(crate) fn displayed<'a>(alloc: Global, name: &'a str, repr: Option<&'a Repr>) -> Mem<CowStr<'a>>
     ensures text { IfOk result (λ text. cow_str_bytes text ≡ shown_spelling (key_spelling name.now) (option_copied repr.entry)) }
     ensures free { IsSome (option_and_then text_of (option_copied repr.entry)) → IsOkAnd result IsBorrowedStr }
@@ -77,7 +77,7 @@ impl fmt::Display for Key {
     }
 }
 
-// A name that displays as its default spelling.
+/// A name that displays as its default spelling.
 #[derive(Drop)]
 struct DefaultSpelling<'a> {
     name: &'a str,
