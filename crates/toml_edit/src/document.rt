@@ -199,8 +199,9 @@ impl<S: SourceText> Document<S> {
     /// Returns the root table as an item, and drops the source and the trailing text.
     ///
     /// Its spellings and decors stay spans, so what is printed of it has default ones. To keep
-    /// them, call [`into_mut`](Self::into_mut) first. As the root of a document it fits, and prints
-    /// a text that means what the source means.
+    /// them, call [`into_mut`](Self::into_mut) first. As the root of a document that keeps line
+    /// endings as this one does, or keeps none, it fits and prints a text that means what the
+    /// source means.
     pub fn into_item(self) -> Item
         ensures root { item_view result ≡ root_node (tree_read self) }
         // As the root of a document with the mode of this one, its print means what the source
@@ -227,8 +228,9 @@ impl<S: SourceText> Document<S> {
     /// Returns the root table, and drops the source and the trailing text.
     ///
     /// Its spellings and decors stay spans, so what is printed of it has default ones. To keep
-    /// them, call [`into_mut`](Self::into_mut) first. As the root of a document it fits, and prints
-    /// a text that means what the source means.
+    /// them, call [`into_mut`](Self::into_mut) first. As the root of a document that keeps line
+    /// endings as this one does, or keeps none, it fits and prints a text that means what the
+    /// source means.
     pub fn into_table(self) -> Table
         ensures fields { fields_view result ≡ (tree_read self).root }
         ensures slots { table_slots result ≡ (tree_read self).slots }

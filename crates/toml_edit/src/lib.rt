@@ -22,11 +22,12 @@
 //!
 //! What holds of every call unless its comment says otherwise.
 //!
-//! - **Memory.** A call that makes a new value takes an allocator, first after `self`. A container
-//!   keeps the allocator that it was made with, and its calls that take none, such as `insert` and
-//!   `push`, grow by that one. A call that can run out of memory returns [`Mem<T>`](Mem), whose
-//!   error is `AllocError`, or [`NoMemory<T>`](NoMemory), which gives back what found no place.
-//!   Those that can fail in other ways too have [`ParseFault`], [`IndexFault`] or [`PrintFault`].
+//! - **Memory.** A call that needs memory for a new value takes an allocator, first after `self`. A
+//!   container keeps the allocator that it was made with; its calls that take none, such as
+//!   `insert`, `push` and `sort_by`, use that one. A call that can run out of memory returns
+//!   [`Mem<T>`](Mem), whose error is `AllocError`, or a `Result` whose error
+//!   [`NoMemory<T>`](NoMemory) gives back what found no memory. Those that can fail in other ways
+//!   too have the errors [`ParseFault`], [`IndexFault`] and [`PrintFault`].
 //! - **Failure.** A call that fails leaves its receiver unchanged, with these exceptions. `extend`
 //!   keeps a beginning of what it adds. `sort_values` and `sort_values_by` of a [`Table`] or an
 //!   [`InlineTable`] may leave some tables sorted and others not, but lose nothing. `print_to` may
@@ -37,10 +38,10 @@
 //!   tables of a [`Document`] have one where they were read. [`Document::into_mut`] replaces spans
 //!   by copies of their texts, so nothing of the [`DocumentMut`] that it gives has a span.
 //! - **Decor.** The whitespace and the comments before and after a key, a value or a header are its
-//!   *decor* ([`Decor`]). A comment above a key belongs to the key, one after a value to the value.
-//!   A side that is unset prints as the default for its place, such as one space beside `=`; an
-//!   empty one prints as nothing. A key has two decors: the *leaf* decor where it ends a path, and
-//!   the *dotted* decor beside dots.
+//!   *decor* ([`Decor`]). A comment above a key belongs to the key, one after a value to the value;
+//!   in an array, one after a comma belongs to the next value. A side that is unset prints as the
+//!   default for its place, such as one space beside `=`; an empty one prints as nothing. A key has
+//!   two decors: the *leaf* decor where it ends a path, and the *dotted* decor beside dots.
 //! - **Spelling.** The *representation* ([`Repr`]) or spelling of a key or a scalar is how it is
 //!   written, as `0xFF` for 255. What was parsed keeps its own; what is made prints in the default
 //!   one. `fmt` of a [`Key`] or a [`Formatted`] resets it.
