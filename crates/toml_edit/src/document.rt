@@ -54,6 +54,16 @@ impl SourceText for String {
 ///
 /// Its items and keys can be read, and say where they are in the source. To change or print it, use
 /// [`into_mut`](Self::into_mut), or parse with [`DocumentMut::from_str`] from the start.
+///
+/// # Examples
+///
+/// Where a value is in the source, with `document.as_item()` as `root`:
+///
+/// ```rust,ignore
+/// root.get(key)?.span()
+/// ```
+///
+/// From `span_at` of the guide, docs/GUIDE.md.
 #[derive(Debug)]
 pub struct Document<S: SourceText> {
     raw: S,

@@ -186,7 +186,7 @@ impl fmt::Display for TomlError {
 
 impl Error for TomlError {}
 
-/// The error of a call that parses a text.
+/// The error of a call that parses a text. See the example of [`TomlError`].
 #[derive(Debug, Drop)]
 pub enum ParseFault {
     /// The text is refused.

@@ -111,8 +111,8 @@ pub(crate) fn is_whole(mode: Mode, side: Option<&RawString>) -> bool
     matches!(open_after(mode, text_of(side)), Some(false))
 }
 
-/// Returns `true` if the side is whitespace, newlines, and comments that each end in a newline, but
-/// for one at the end.
+/// Returns `true` if the side is whitespace, newlines, and comments that each end in a newline,
+/// except perhaps one at the end.
 pub(crate) fn is_final(mode: Mode, side: Option<&RawString>) -> bool
     ensures { result ≡ tests.is_final (shown_side (mode_of mode) [] (option_copied side.entry)) }
 {
