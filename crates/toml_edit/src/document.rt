@@ -359,6 +359,7 @@ impl Document<String> {
 /// ```rust,ignore
 /// let mut doc = DocumentMut::from_str(rt.alloc(), text.as_str())?;
 /// set_version(rt.alloc(), &mut doc, "0.4.0")?;
+/// add_dependency(rt.alloc(), &mut doc, "rand", "0.9")?;
 /// print!(rt; "{doc}")?;
 /// ```
 ///
