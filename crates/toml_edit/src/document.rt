@@ -1,4 +1,4 @@
-//! Documents: as they were read, over their text, and as they can be printed.
+//! Documents: as they were parsed, over their source, and as they can be changed and printed.
 ghost use Rattle.std.specs.Prelude.{◌≡◌, true};
 ghost use Rattle.toml_edit.specs.Roots.{is_table, tree_under};
 ghost use Rattle.toml_edit_model.specs.OwnedForm.{IsOver};
@@ -18,14 +18,16 @@ mod print;
 
 pub use print::PrintFault;
 
-/// What holds the text of a document: the same text each time.
+/// A type that holds the text of a document, and gives the same text each time.
+///
+/// It is implemented for `&str`, which takes no copy, and for `String`.
 pub trait SourceText: Drop {
     ghost use Rattle.std.specs.Prelude.{◌≡◌, List, ℕ};
 
     /// The text.
     ghost content: { Self → List ℕ };
 
-    /// The text.
+    /// Returns the text.
     fn text(&self) -> &str
         ensures { result.now ≡ content self.now };
 }
@@ -48,7 +50,20 @@ impl SourceText for String {
     }
 }
 
-/// A document as it was read: its keys and scalars are spans of its text.
+/// A document as it was parsed: a tree whose spellings and decors are spans of its source.
+///
+/// Its items and keys can be read, and say where they are in the source. To change or print it, use
+/// [`into_mut`](Self::into_mut), or parse with [`DocumentMut::from_str`] from the start.
+///
+/// # Examples
+///
+/// Where a value is in the source, with `document.as_item()` as `root`:
+///
+/// ```rust,ignore
+/// root.get(key)?.span()
+/// ```
+///
+/// From `span_at` of the guide, docs/GUIDE.md.
 #[derive(Debug)]
 pub struct Document<S: SourceText> {
     raw: S,
@@ -57,7 +72,7 @@ pub struct Document<S: SourceText> {
     mode: Mode,
     open_end: bool,
     ghost rooted: { is_table root ≡ true },
-    // Each span cuts a text from the source, and each spelling so cut is true.
+    // Each span cuts a text from the source, and a spelling that is cut spells its key or scalar.
     ghost over: { ∥ IsOver (S.content raw) (tree_under root trailing) ∥₁ },
 }
 
@@ -94,14 +109,16 @@ impl<S: SourceText> Document<S> {
     ghost use Rattle.toml_edit_model.specs.Lists.{slot_list};
     ghost use Rattle.toml_edit_tree.specs.View.{item_view, table_slots, tree_view, fields_view};
 
-    /// Reads a text, whose line endings are not kept.
+    /// Parses a text as TOML 1.1. Line endings are not kept.
+    ///
+    /// For TOML 1.0, or to keep line endings, use [`parse_with`](Self::parse_with).
     ///
     /// # Errors
     ///
-    /// Returns a `TomlError` for a text that is refused, and an error where there is not enough
-    /// memory. The `TomlError` names a fault of the first faulty statement, or what is wrong with the
-    /// syntax of a text outside the grammar. Its message is one of a fixed list. Its span lies in the
-    /// text; a message about a limit may have none.
+    /// [`ParseFault::Toml`] if the text is refused. Its message and span are about a fault of the
+    /// first faulty statement, or about the mistake if the syntax is wrong. The span is in bytes
+    /// and lies in the text; a message about a limit may have none. [`ParseFault::Memory`] if
+    /// memory runs out.
     pub fn parse(alloc: Global, raw: S) -> Result<Document<S>, ParseFault>
         ensures accepted { IfOk result (λ x. IsReading (S.content raw) (tree_read x)) }
         ensures source { IfOk result (λ x. source x ≡ S.content raw) }
@@ -113,9 +130,17 @@ impl<S: SourceText> Document<S> {
         Document::parse_with(alloc, raw, ParseOptions::new())
     }
 
-    /// Reads a text as these options say, as `parse` does otherwise. What the version of TOML lacks is a fault of its statement
-    /// (`needs TOML 1.1`), and marked. Where line endings are kept, the carriage return before a statement's line feed is read into what
-    /// stands behind the statement, and a last statement without a newline leaves the document's end open.
+    /// Parses a text by the options: in which version of TOML, and whether line endings are kept.
+    ///
+    /// In TOML 1.0, what only 1.1 has is refused as a fault of its statement. Where line endings
+    /// are kept, the carriage return (CR) of a statement's newline becomes the end of the decor
+    /// after that statement, and a last statement without newline leaves the end open (see
+    /// [`DocumentMut::open_end`]).
+    ///
+    /// # Errors
+    ///
+    /// As [`parse`](Self::parse). What TOML 1.0 lacks has the message `needs TOML 1.1`, and its
+    /// span.
     pub fn parse_with(
         alloc: Global,
         raw: S,
@@ -140,14 +165,14 @@ impl<S: SourceText> Document<S> {
         })
     }
 
-    /// The root table, as an item.
+    /// Returns the root table, as an item.
     pub fn as_item(&self) -> &Item
         ensures { item_view result.now ≡ root_node (tree_read self.now) }
     {
         &self.root
     }
 
-    /// The root table.
+    /// Returns the root table.
     pub fn as_table(&self) -> &Table
         ensures fields { fields_view result.now ≡ (tree_read self.now).root }
         ensures slots { table_slots result.now ≡ (tree_read self.now).slots }
@@ -158,36 +183,43 @@ impl<S: SourceText> Document<S> {
         }
     }
 
-    /// The keys' texts and the items of the root in order, without placeholders.
+    /// Returns an iterator over the names of the root's keys and their items, in order.
+    ///
+    /// Placeholders are skipped.
     pub fn iter(&self) -> Iter<'_>
         ensures { held_left result ≡ filled_pairs (slot_list (tree_read self.now).slots) }
     {
         self.as_table().iter()
     }
 
-    /// What follows the last statement.
+    /// Returns the whitespace and the comments after the last statement.
     pub fn trailing(&self) -> &RawString
         ensures { result.now ≡ (tree_read self.now).trailing }
     {
         &self.trailing
     }
 
-    /// The text that was read.
+    /// Returns the text that was parsed.
     pub fn raw(&self) -> &str
         ensures { result.now ≡ source self.now }
     {
         self.raw.text()
     }
 
-    /// The root table alone, as an item. Its texts stay spans, for which a print has the default spellings and decors. Made the root of a
-    /// document, which keeps line endings as this one does or keeps none, it prints a text that means what the text that was read means.
+    /// Returns the root table as an item, and drops the source and the trailing text.
+    ///
+    /// Its spellings and decors stay spans, so what is printed of it has default ones. To keep
+    /// them, call [`into_mut`](Self::into_mut) first. As the root of a document that keeps line
+    /// endings as this one does, or keeps none, it fits and prints a text that means what the
+    /// source means.
     pub fn into_item(self) -> Item
         ensures root { item_view result ≡ root_node (tree_read self) }
-        // Made the root of a document that keeps line endings as this one does, it prints a text that means what the text that was read
+        // As the root of a document with the mode of this one, its print means what the source
         // means.
         ensures print { (d : Cut) → AcceptedAs (source self) d → IsTreeOf (spanned_in (mode_read self)) d (tree_read self)
             → PrintsMeaningOf (mode_read self) d (record (tree_read self) { trailing = owned [] }) }
-        // So it does in a document that `DocumentMut::from` makes, whose line endings are not kept.
+        // So does its print in a document that `DocumentMut::from` makes, which keeps no line
+        // endings.
         ensures print_plain { (d : Cut) → AcceptedAs (source self) d → IsTreeOf (spanned_in (mode_read self)) d (tree_read self)
             → PrintsMeaningOf model.plain d (record (tree_read self) { trailing = owned [] }) }
     {
@@ -203,16 +235,21 @@ impl<S: SourceText> Document<S> {
         root
     }
 
-    /// The root table alone. Its texts stay spans, for which a print has the default spellings and decors. Made the root of a document,
-    /// which keeps line endings as this one does or keeps none, it prints a text that means what the text that was read means.
+    /// Returns the root table, and drops the source and the trailing text.
+    ///
+    /// Its spellings and decors stay spans, so what is printed of it has default ones. To keep
+    /// them, call [`into_mut`](Self::into_mut) first. As the root of a document that keeps line
+    /// endings as this one does, or keeps none, it fits and prints a text that means what the
+    /// source means.
     pub fn into_table(self) -> Table
         ensures fields { fields_view result ≡ (tree_read self).root }
         ensures slots { table_slots result ≡ (tree_read self).slots }
-        // Made the root of a document that keeps line endings as this one does, it prints a text that means what the text that was read
+        // As the root of a document with the mode of this one, its print means what the source
         // means.
         ensures print { (d : Cut) → AcceptedAs (source self) d → IsTreeOf (spanned_in (mode_read self)) d (tree_read self)
             → PrintsMeaningOf (mode_read self) d (tree_view result (owned [])) }
-        // So it does in a document that `DocumentMut::from` makes, whose line endings are not kept.
+        // So does its print in a document that `DocumentMut::from` makes, which keeps no line
+        // endings.
         ensures print_plain { (d : Cut) → AcceptedAs (source self) d → IsTreeOf (spanned_in (mode_read self)) d (tree_read self)
             → PrintsMeaningOf model.plain d (tree_view result (owned [])) }
     {
@@ -228,14 +265,21 @@ impl<S: SourceText> Document<S> {
         table_of(root)
     }
 
-    /// The document with its spans turned into the texts that they cut, which keeps its line endings and an open end as the document
-    /// does. The only error is want of memory, which gives the document up.
+    /// Converts the document into one that owns its texts and can be changed.
+    ///
+    /// Each span is replaced by a copy of the text that it cuts, so no span is left: ask for spans
+    /// before. It keeps line endings and an open end if this document does.
+    ///
+    /// # Errors
+    ///
+    /// Fails if memory runs out, and then drops the document.
     pub fn into_mut(self, alloc: Global) -> Mem<DocumentMut>
         ensures owned { IfOk result (λ m. tree_owned m ≡ owned_tree (source self) (tree_read self)) }
         ensures kept { IfOk result (λ m. (mode_owned m ≡ mode_read self) × (open_owned m ≡ open_read self)) }
-        // The tree of an accepted text stays its tree, fits, and prints as the normal text, which is accepted, means the same and is
-        // settled. A settled text is its own normal text. A version of TOML that accepts the text accepts the print too. The tree fits
-        // in each mode; the rest is said in the mode that the document was read in.
+        // The tree of an accepted text stays its tree, fits and is steady. It prints as the normal
+        // form, which is accepted, means what the text means, and prints as itself. A version of
+        // TOML that accepts the text accepts the print. The tree fits in each mode; the rest is of
+        // the mode of reading.
         ensures normal { IfOk result (λ m. (d : Cut) → AcceptedAs (source self) d
             → IsTreeOf (spanned_in (mode_read self)) d (tree_read self)
             → IsOwnedTreeWith (mode_read self) (source self) d (tree_owned m)) }
@@ -264,7 +308,7 @@ impl Document<&'static str> {
     ghost use Rattle.toml_edit.specs.DocumentView.{IsPlainRead, source, tree_read};
     ghost use Rattle.toml_edit.specs.Documents.{new_tree};
 
-    /// No text, and a root without slots, which is the first of all headers.
+    /// Returns the document of an empty text. Its root has no slots and the position 0.
     pub fn new(alloc: Global) -> Document<&'static str>
         ensures source { source result ≡ [] }
         ensures tree { tree_read result ≡ new_tree }
@@ -290,7 +334,11 @@ impl Document<String> {
     ghost use Rattle.toml_edit.specs.DocumentView.{IsPlainRead, source, tree_read};
     ghost use Rattle.toml_edit.specs.Documents.{IsReading, IsRefusal};
 
-    /// Reads a text, of which it holds a copy. The errors are those of `parse`.
+    /// Parses a copy of the text, which the document holds.
+    ///
+    /// # Errors
+    ///
+    /// As [`parse`](Self::parse).
     pub fn from_str(alloc: Global, text: &str) -> Result<Document<String>, ParseFault>
         ensures accepted { IfOk result (λ x. IsReading text.now (tree_read x)) }
         ensures source { IfOk result (λ x. source x ≡ text.now) }
@@ -304,7 +352,18 @@ impl Document<String> {
     }
 }
 
-/// A document that holds its own texts.
+/// A document that owns its texts, and can be changed and printed.
+///
+/// # Examples
+///
+/// ```rust,ignore
+/// let mut doc = DocumentMut::from_str(rt.alloc(), text.as_str())?;
+/// set_version(rt.alloc(), &mut doc, "0.4.0")?;
+/// add_dependency(rt.alloc(), &mut doc, "rand", "0.9")?;
+/// print!(rt; "{doc}")?;
+/// ```
+///
+/// From `main` of the crate `toml_edit_example`.
 #[derive(Debug)]
 pub struct DocumentMut {
     root: Item,
@@ -345,7 +404,7 @@ impl DocumentMut {
     ghost use Rattle.toml_edit_model.specs.Lists.{slot_list};
     ghost use Rattle.toml_edit_tree.specs.View.{item_view, table_slots, fields_view};
 
-    /// A root without slots, which is the first of all headers, and nothing behind it.
+    /// Returns an empty document. Its root has no slots and the position 0.
     pub fn new(alloc: Global) -> DocumentMut
         ensures tree { tree_owned result ≡ new_tree }
         ensures plain { IsPlain result }
@@ -355,7 +414,26 @@ impl DocumentMut {
         DocumentMut::from(root)
     }
 
-    /// Reads a text, whose line endings are not kept. The errors are those of `Document::parse`.
+    /// Parses a text as TOML 1.1 into a document that owns its texts. Line endings are not kept.
+    ///
+    /// For TOML 1.0, or to keep line endings, use [`from_str_with`](Self::from_str_with). For
+    /// spans, use [`Document::parse`].
+    ///
+    /// # Errors
+    ///
+    /// [`ParseFault::Toml`] if the text is refused, as [`Document::parse`] says, and
+    /// [`ParseFault::Memory`] if memory runs out.
+    ///
+    /// # Examples
+    ///
+    /// ```rust,ignore
+    /// match DocumentMut::from_str(alloc, text) {
+    ///     Ok(_document) => Ok(String::new(alloc)),
+    ///     Err(fault) => fault.to_string(alloc),
+    /// }
+    /// ```
+    ///
+    /// From `report` of the guide, docs/GUIDE.md.
     pub fn from_str(alloc: Global, text: &str) -> Result<DocumentMut, ParseFault>
         ensures accepted { IfOk result (λ m. IsOwnedReading text.now (tree_owned m)) }
         ensures plain { IfOk result (λ m. IsPlain m) }
@@ -366,7 +444,19 @@ impl DocumentMut {
         DocumentMut::from_str_with(alloc, text, ParseOptions::new())
     }
 
-    /// Reads a text as these options say, and makes the document own its texts. The errors are those of `Document::parse_with`.
+    /// Parses a text by the options into a document that owns its texts.
+    ///
+    /// # Errors
+    ///
+    /// As [`Document::parse_with`].
+    ///
+    /// # Examples
+    ///
+    /// ```rust,ignore
+    /// DocumentMut::from_str_with(alloc, text, ParseOptions::new().version(Version::V1_0))
+    /// ```
+    ///
+    /// From `read_strictly` of the guide, docs/GUIDE.md.
     pub fn from_str_with(
         alloc: Global,
         text: &str,
@@ -383,14 +473,14 @@ impl DocumentMut {
         Ok(owned)
     }
 
-    /// The root table, as an item.
+    /// Returns the root table, as an item.
     pub fn as_item(&self) -> &Item
         ensures { item_view result.now ≡ root_node (tree_owned self.now) }
     {
         &self.root
     }
 
-    /// The root table.
+    /// Returns the root table.
     pub fn as_table(&self) -> &Table
         ensures fields { fields_view result.now ≡ (tree_owned self.now).root }
         ensures slots { table_slots result.now ≡ (tree_owned self.now).slots }
@@ -401,7 +491,9 @@ impl DocumentMut {
         }
     }
 
-    /// The root table, to be changed.
+    /// Returns a mutable reference to the root table.
+    ///
+    /// The trailing text and how the document is printed stay, whatever is written.
     pub fn as_table_mut(&mut self) -> &mut Table
         ensures* writes_back { sem 𝓛 (LendsRoot self.entry result) }
         ensures fields { fields_view result.now ≡ (tree_owned self.old).root }
@@ -413,7 +505,7 @@ impl DocumentMut {
         }
     }
 
-    /// The root table alone, as an item.
+    /// Returns the root table as an item, and drops the trailing text.
     pub fn into_item(self) -> Item
         ensures { item_view result ≡ root_node (tree_owned self) }
     {
@@ -427,7 +519,7 @@ impl DocumentMut {
         root
     }
 
-    /// The root table alone.
+    /// Returns the root table, and drops the trailing text.
     pub fn into_table(self) -> Table
         ensures fields { fields_view result ≡ (tree_owned self).root }
         ensures slots { table_slots result ≡ (tree_owned self).slots }
@@ -442,21 +534,25 @@ impl DocumentMut {
         table_of(root)
     }
 
-    /// The keys' texts and the items of the root in order, without placeholders.
+    /// Returns an iterator over the names of the root's keys and their items, in order.
+    ///
+    /// Placeholders are skipped.
     pub fn iter(&self) -> Iter<'_>
         ensures { held_left result ≡ filled_pairs (slot_list (tree_owned self.now).slots) }
     {
         self.as_table().iter()
     }
 
-    /// What follows the last statement.
+    /// Returns the whitespace and the comments after the last statement.
     pub fn trailing(&self) -> &RawString
         ensures { result.now ≡ (tree_owned self.now).trailing }
     {
         &self.trailing
     }
 
-    /// Puts another text behind the last statement.
+    /// Sets the whitespace and the comments after the last statement.
+    ///
+    /// With any other text the document no longer [`fits`](Self::fits).
     pub fn set_trailing(&mut self, trailing: RawString)
         ensures tree { tree_owned self.new ≡ record (tree_owned self.old) { trailing = trailing } }
         ensures printed { IsPrintedAs self.new self.old }
@@ -464,14 +560,18 @@ impl DocumentMut {
         self.trailing = trailing;
     }
 
-    /// Whether line endings are kept: decors, and the text behind the last statement, are printed with their carriage returns.
+    /// Returns `true` if line endings are kept: decors and the trailing text print with their
+    /// carriage returns (CR).
     pub fn is_exact(&self) -> bool
         ensures { result ≡ model.is_exact (mode_owned self.now) }
     {
         matches!(self.mode, Mode::Exact)
     }
 
-    /// Keeps line endings from now on, or no longer. The texts that the document holds, and whether its end is open, stay.
+    /// Sets whether line endings are kept from now on.
+    ///
+    /// The texts that the document holds stay, and so does [`open_end`](Self::open_end). What was
+    /// parsed without [`ParseOptions::exact`] has lost the CR of each statement's newline.
     pub fn set_exact(&mut self, exact: bool)
         ensures mode { mode_owned self.new ≡ (if exact then model.exact else model.plain) }
         ensures open_end { open_owned self.new ≡ open_owned self.old }
@@ -480,15 +580,19 @@ impl DocumentMut {
         self.mode = if exact { Mode::Exact } else { Mode::Plain };
     }
 
-    /// Whether the end is open: where line endings are kept, and nothing is printed behind the last statement, that statement is printed
-    /// without its newline. Where line endings are not kept, this has no effect.
+    /// Returns `true` if the end is open: the last statement is printed without its newline.
+    ///
+    /// It has an effect only where line endings are kept ([`is_exact`](Self::is_exact)) and nothing
+    /// is printed after the last statement.
     pub fn open_end(&self) -> bool
         ensures { result ≡ open_owned self.now }
     {
         self.open_end
     }
 
-    /// Leaves the end open, or no longer. The texts that the document holds, and whether line endings are kept, stay.
+    /// Sets whether the end is open. See [`open_end`](Self::open_end).
+    ///
+    /// The texts that the document holds stay, and so does [`is_exact`](Self::is_exact).
     pub fn set_open_end(&mut self, open_end: bool)
         ensures open_end { open_owned self.new ≡ open_end }
         ensures mode { mode_owned self.new ≡ mode_owned self.old }
@@ -497,7 +601,11 @@ impl DocumentMut {
         self.open_end = open_end;
     }
 
-    /// An equal copy, which keeps line endings and an open end as this document does. The only error is want of memory.
+    /// Returns an equal copy, which prints as this document does.
+    ///
+    /// # Errors
+    ///
+    /// Fails if memory runs out.
     pub fn clone(&self, alloc: Global) -> Mem<DocumentMut>
         ensures tree { IfOk result (λ copy. tree_owned copy ≡ tree_owned self.now) }
         ensures printed { IfOk result (λ copy. IsPrintedAs copy self.now) }
@@ -512,14 +620,36 @@ impl DocumentMut {
         })
     }
 
-    /// Whether the document fits: what is printed around keys, values and headers suits its place; neither the root nor an element of an
-    /// array of tables is dotted; in the order of headers each element's, its own first, stand before the next element's; a path has at
-    /// most 80 keys, and no more than 80 brackets of a value are open at once (TOML, "Key/Value Pair" to "Array of Tables"). Where line
-    /// endings are kept, carriage returns count: each one of a decor is followed by a line feed there, or ends the line. The print of a
-    /// document that fits is accepted, and means what its tree shows. This takes no memory: there is no error.
+    /// Returns `true` if the document prints as valid TOML that means what its tree shows.
+    ///
+    /// Documents that were parsed fit. An edit can break that:
+    ///
+    /// - by a decor that does not suit its place: it holds `x`, say, or a comment above a key with
+    ///   no newline after it, or, where line endings are kept, a CR that no line feed (LF) follows;
+    /// - by a root or an element of an array of tables that is dotted;
+    /// - by positions that mix the headers of two elements of one array of tables;
+    /// - by a path of more than 80 keys, or a value with more than 80 brackets open at once.
+    ///
+    /// (TOML, "Key/Value Pair" to "Array of Tables".)
+    ///
+    /// # Errors
+    ///
+    /// None: it takes no memory, and the allocator is unused.
+    ///
+    /// # Examples
+    ///
+    /// ```rust,ignore
+    /// if document.fits(alloc)? {
+    ///     Ok(Some(document.print(alloc)?))
+    /// } else {
+    ///     Ok(None)
+    /// }
+    /// ```
+    ///
+    /// From `print_if_fits` of the guide, docs/GUIDE.md.
     pub fn fits(&self, _alloc: Global) -> Mem<bool>
         ensures fits { IfOk result (λ fits. IsTrue fits ↔ FitsIn (mode_owned self.now) (tree_owned self.now)) }
-        // What `print` writes then is accepted, and means what the tree shows.
+        // The print is accepted then, and means what the tree shows.
         ensures reparse { IfOk result (λ fits. IsTrue fits
             → ∥ MeansWhatIsShown (mode_owned self.now) (open_owned self.now) (tree_owned self.now) ∥₁) }
         ensures free { IsOk result }
@@ -527,8 +657,16 @@ impl DocumentMut {
         Ok(tree_fits(self.mode, self.as_table(), &self.trailing))
     }
 
-    /// The text of the document: with its line endings where they are kept, and else with line feeds alone and a newline behind the last
-    /// statement. The only error is want of memory.
+    /// Returns the text of the document.
+    ///
+    /// Where line endings are kept it has them. Else it has line feeds (LF) alone, and a newline
+    /// after the last statement. What was parsed and not changed gives the normal form of its
+    /// source. `Display` writes this text too, and [`print_to`](Self::print_to) writes it to an
+    /// [`Output`](crate::Output). [`fits`](Self::fits) checks that it is valid.
+    ///
+    /// # Errors
+    ///
+    /// Fails if memory runs out.
     pub fn print(&self, alloc: Global) -> Mem<String>
         ensures { IfOk result (λ s. string_bytes s ≡ print_of self.now) }
     {
@@ -542,7 +680,7 @@ impl DocumentMut {
     }
 }
 
-/// The document with this root, and nothing behind its last statement. Its line endings are not kept.
+/// Returns a document with this root and no trailing text. Line endings are not kept.
 impl From<Table> for DocumentMut {
     ghost use Rattle.std.specs.Prelude.{◌≡◌, []};
     ghost use Rattle.toml_edit_model.specs.Tree.{owned};

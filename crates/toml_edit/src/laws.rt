@@ -1,3 +1,6 @@
-//! The laws of prints, normal texts and edits, over the definitions alone. Each function takes and answers nothing: its contract is the law.
+//! The laws of prints, normal forms and edits, for proofs.
+//!
+//! Each function takes nothing and does nothing: its contract is the law, over the definitions
+//! alone. docs/LAWS.md says in words what each one states.
 
 pub use toml_edit_laws::{added, agree, cut, normal, removed, reparse, replaced};

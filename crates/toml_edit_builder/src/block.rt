@@ -1,4 +1,4 @@
-//! The slots of the table of a block, taken out and put back.
+//! Taking out the slots of the table that key lines are added to, and putting them back.
 ghost use Rattle.std.specs.Prelude.{◌≡◌, List, None, Some, map, option_and_then, option_map, string_bytes};
 ghost use Rattle.toml_edit_model.specs.Tree.{no_items, item as item_of, table as table_of, tables as tables_of};
 ghost use Rattle.toml_edit_laws.specs.AddPath.{put_along, put_in, put_last};
@@ -11,7 +11,7 @@ use std::mem;
 use toml_edit_slots::Slots;
 use toml_edit_tree::{ArrayOfTables, Item, Table};
 
-/// The first name, and those behind it.
+/// Splits off the first name.
 fn split_name(block: &[String]) -> Option<(&str, &[String])>
     ensures { option_map (λ p. (p.0.now, names p.1.now)) result ≡ split_name (names block.now) }
 {
@@ -21,7 +21,7 @@ fn split_name(block: &[String]) -> Option<(&str, &[String])>
     Some((first.as_str(), rest))
 }
 
-/// Exchanges other slots with those of the table at these names; where there is no such table both stay as they are.
+/// Swaps `others` with the slots of the table at these names. If there is no such table, both stay.
 #[cycle(swap)]
 pub fn swap_block(block: &[String], others: &mut Slots<Item>, slots: &mut Slots<Item>)
     ensures { Swaps (slots_along (names block.now) (slots_view slots.old)) (slots_view others.old) (slots_view slots.old)
@@ -36,7 +36,7 @@ pub fn swap_block(block: &[String], others: &mut Slots<Item>, slots: &mut Slots<
     }
 }
 
-/// The same in the item at a name.
+/// Swaps `others` with the slots of the table at these names in the item.
 #[cycle(swap)]
 fn swap_item(block: &[String], others: &mut Slots<Item>, holder: &mut Item)
     ensures { Swaps (option_and_then (slots_along (names block.now)) (slots_in (item_view holder.old))) (slots_view others.old) (item_view holder.old)
@@ -49,7 +49,7 @@ fn swap_item(block: &[String], others: &mut Slots<Item>, holder: &mut Item)
     }
 }
 
-/// The same in a table.
+/// Swaps `others` with the slots of the table at these names in the table.
 #[cycle(swap)]
 fn swap_table(block: &[String], others: &mut Slots<Item>, table: &mut Table)
     ensures { Swaps (slots_along (names block.now) (table_view table.old).slots) (slots_view others.old) (table_node (table_view table.old))
@@ -59,7 +59,7 @@ fn swap_table(block: &[String], others: &mut Slots<Item>, table: &mut Table)
     swap_block(block, others, table.slots_mut())
 }
 
-/// The same in the last element of an array of tables.
+/// Swaps `others` with the slots of the table at these names in the last element.
 #[cycle(swap)]
 fn swap_tables(block: &[String], others: &mut Slots<Item>, tables: &mut ArrayOfTables)
     ensures { Swaps (option_and_then (slots_along (names block.now)) (last_slots (tables_view tables.old).items)) (slots_view others.old)
@@ -73,7 +73,7 @@ fn swap_tables(block: &[String], others: &mut Slots<Item>, tables: &mut ArrayOfT
     }
 }
 
-/// The same in an element, if it is a table.
+/// Swaps `others` with the slots of the table at these names in the element, if it is a table.
 #[cycle(swap)]
 fn swap_last(block: &[String], others: &mut Slots<Item>, holder: &mut Item)
     ensures { Swaps (option_and_then (slots_along (names block.now)) (last_slots (item_of (item_view holder.old) no_items))) (slots_view others.old)

@@ -22,7 +22,7 @@ use toml_edit_syntax::{Event, SyntaxFault, events};
 use toml_edit_tree::Item;
 use toml_edit_version::Version;
 
-/// What is wrong with a text whose events are cut short.
+/// Returns the error of a text whose events are cut short.
 fn cut_short(
     alloc: Global,
     source: &str,
@@ -42,7 +42,8 @@ fn cut_short(
     }
 }
 
-/// Whether the last statement has no newline: the text after the statements begins right where the last statement's own text ends.
+/// Returns `true` if the last statement has no newline: the text after the statements begins right
+/// where the last statement's own text ends.
 fn ends_open(events: &[Event]) -> bool
     ensures { (d : Document) → events.now ≡ events_of d → result ≡ has_open_end d.statements }
 {
@@ -53,7 +54,8 @@ fn ends_open(events: &[Event]) -> bool
     }
 }
 
-/// The slots of a text all of whose events are read, the text after the last statement, and whether that statement has no newline.
+/// Reads a text whose events are whole. Returns its slots, the text after the last statement, and
+/// whether that statement has no newline.
 fn read_all(
     alloc: Global,
     source: &str,
@@ -72,7 +74,8 @@ fn read_all(
     Ok((slots, trailing, ends_open(events)))
 }
 
-/// The slots of a text with these events, the text after the last statement, and whether that statement has no newline.
+/// Reads a text with these events. Returns its slots, the text after the last statement, and
+/// whether that statement has no newline.
 fn parse_events(
     alloc: Global,
     source: &str,
@@ -93,9 +96,11 @@ fn parse_events(
     }
 }
 
-/// The slots of the root of a text's tree, whose keys and values are spans of the text, the text after the last statement, and whether that
-/// statement has no newline, where this version of the grammar accepts the text, with its line endings in this mode. The errors are a
-/// `TomlError` for a text that is refused, and want of memory.
+/// Parses a text in this version of the grammar, with its line endings in this mode.
+///
+/// Returns the slots of the root, whose keys and values are spans of the text, the text after the
+/// last statement, and whether that statement has no newline. Fails if the text is refused, or if
+/// memory runs out.
 #[doc(hidden)]
 pub fn parse_with(
     alloc: Global,
@@ -110,7 +115,7 @@ pub fn parse_with(
 {
     match events(alloc, source) {
         Ok(mut events) => {
-            // The tree is made beside them, so they take no more room than they need.
+            // The tree is made after them, so they take no more room than they need.
             events.shrink_to_fit();
             parse_events(alloc, source, events.as_slice(), version, mode)
         }

@@ -1,4 +1,4 @@
-//! What is refused because its key is there already.
+//! The error about a key that exists already.
 ghost use Rattle.std.specs.Prelude.{◌≡◌, Some};
 ghost use Rattle.toml_edit_model.specs.Faults as faults;
 ghost use Rattle.toml_edit_error.specs.Fault.{IfToml};
@@ -10,7 +10,7 @@ use toml_edit_error::ParseFault;
 use toml_edit_parser::refusal;
 use toml_edit_syntax::Span;
 
-/// Returns the error about a key at this span that is there already.
+/// Returns the error about a key at this span that exists already.
 #[cold]
 #[inline(never)]
 pub(crate) fn duplicate_key(alloc: Global, source: &str, span: Span) -> ParseFault

@@ -1,4 +1,4 @@
-//! The last key of a path: what is put there, and what stands in its way.
+//! Adding what a statement states at the last key of its path.
 ghost use Rattle.std.specs.Prelude.{◌≡◌, ◌<◌, false, None, Some, OnOk, IfErr, length};
 ghost use Rattle.toml_edit_model.specs.Mode.{Mode};
 ghost use Rattle.toml_edit_model.specs.Paths.{Mention, Source};
@@ -29,7 +29,7 @@ use toml_edit_slots::{Slot, Slots};
 use toml_edit_syntax::Span;
 use toml_edit_tree::{ArrayOfTables, Item, Table};
 
-/// Adds an item at the last key of a path; what is left in its place is not said.
+/// Adds an item at the last key of a path. What is left in its place is unspecified.
 #[inline(always)]
 pub(crate) fn put_last(
     alloc: Global,
@@ -53,8 +53,9 @@ pub(crate) fn put_last(
     }
 }
 
-/// Puts the table of a header last, or in the place of the table that is there, with its slots, if that was only passed through so far.
-// Stands apart, since what calls it pays at entry for the locals of all that is put into it.
+/// Puts the table of a header last, or in the place of a table that was only passed through so far,
+/// whose slots it takes.
+// Not inlined, so that its locals stay out of the caller's frame.
 #[inline(never)]
 fn put_table(
     alloc: Global,
@@ -79,8 +80,10 @@ fn put_table(
     }
 }
 
-/// Puts the table of a header in the place of the table that stands at its key, with its slots, if that was only passed through so far. So
-/// no slot moves: the slots are put in order behind all statements.
+/// Puts the table of a header in the place of the table at its key, with the slots of that, if it
+/// was only passed through so far.
+///
+/// No slot moves: the slots are put in order after all statements.
 fn put_opened(
     alloc: Global,
     source: &str,
@@ -103,7 +106,7 @@ fn put_opened(
     Ok(())
 }
 
-/// Puts a slot in the place of that of its name, which goes.
+/// Puts a slot in the place of the one of its name, which is dropped.
 fn put_slot(key: Key, there: usize, item: Item, slots: &mut Slots<Item>)
     requires { place key.name slots.old ≡ Some there }
     ensures { slots_view slots.new ≡ replace_slot key.name key (item_view item) (slots_view slots.old) }
@@ -112,7 +115,8 @@ fn put_slot(key: Key, there: usize, item: Item, slots: &mut Slots<Item>)
     drop(past);
 }
 
-/// Moves the slots of what stands at the key of a header into the header's table, if it is a table that was only passed through so far.
+/// Moves the slots of the item at the key of a header into the header's table, if it is a table
+/// that was only passed through so far.
 fn open_item(
     alloc: Global,
     source: &str,
@@ -132,7 +136,7 @@ fn open_item(
     }
 }
 
-/// The same of a table.
+/// Moves the slots of a table into the header's table, if it was only passed through so far.
 fn open_table(
     alloc: Global,
     source: &str,
@@ -154,7 +158,7 @@ fn open_table(
     }
 }
 
-/// The slots of a table, taken out of it.
+/// Takes the slots out of a table.
 fn taken_slots(alloc: Global, table: &mut Table) -> Slots<Item>
     ensures { slots_view result ≡ (table_view table.old).slots }
 {
@@ -177,8 +181,9 @@ fn fill_table(table: &mut Table, slots: Slots<Item>)
     *table.slots_mut() = slots;
 }
 
-/// Adds the table of a header in double brackets to the array of tables at its key, which is made where the key is new.
-// Stands apart, since what calls it pays at entry for the locals of all that is put into it.
+/// Adds the table of a header in double brackets to the array of tables at its key, which is made
+/// if the key is new.
+// Not inlined, so that its locals stay out of the caller's frame.
 #[inline(never)]
 fn put_element(
     alloc: Global,
@@ -204,7 +209,7 @@ fn put_element(
     }
 }
 
-/// Puts an array of this one table last.
+/// Pushes an array of this one table.
 fn put_tables(
     alloc: Global,
     brackets: Span,
@@ -221,7 +226,8 @@ fn put_tables(
     push_item(slots, key, Item::ArrayOfTables(tables))
 }
 
-/// Adds the table of a header in double brackets to what stands at its key, if that is an array of tables.
+/// Adds the table of a header in double brackets to the item at its key, if that is an array of
+/// tables.
 fn add_element(
     alloc: Global,
     source: &str,

@@ -1,4 +1,4 @@
-//! The tree of a document, built statement by statement.
+//! The tree of a document, built statement by statement, and its first faulty statement refused.
 #![tactic(auto)]
 
 mod block;

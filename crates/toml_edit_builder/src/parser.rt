@@ -27,9 +27,12 @@ use toml_edit_syntax::{Event, EventKind, Span};
 use toml_edit_tree::{Item, put_in_order};
 use toml_edit_version::Version;
 
-/// What is held of a tree between statements: the slots of the root, without those of the table that key lines are added to, which are held
-/// by themselves; the keys of that table, and how many headers there were. So a key line costs nothing for the path of its table. The
-/// item is the one on its way into the tree, and counts for nothing between statements.
+/// The tree between two statements: the slots of the root, without those of the table that key
+/// lines are added to, which are held apart, with the names of that table's path and the number of
+/// headers.
+///
+/// So a key line costs nothing for the path of its table. The item is the one that is being read,
+/// and is unspecified between statements.
 #[derive(Drop)]
 pub(crate) struct Building {
     pub(crate) root: Slots<Item>,
@@ -39,7 +42,7 @@ pub(crate) struct Building {
     pub(crate) item: Item,
 }
 
-/// Whether a statement comes first.
+/// Returns `true` if a statement comes first.
 fn starts_statement(events: &[Event]) -> bool
     ensures { result ≡ is_some (split_leading events.now) }
 {
@@ -49,7 +52,7 @@ fn starts_statement(events: &[Event]) -> bool
     }
 }
 
-/// The slots of the root, which are still to be put in order.
+/// Returns the slots of the root, which are still to be put in order.
 fn whole(building: Building) -> Slots<Item>
     ensures { (b : Builder) → IsHeld b building → slots_by_place (slots_view result) ≡ b.slots }
 {
@@ -65,7 +68,7 @@ fn whole(building: Building) -> Slots<Item>
     root
 }
 
-/// The text after the last statement, which alone is left.
+/// Returns the text after the last statement, which alone is left.
 fn trailing(events: &[Event]) -> RawString
     ensures { (start : ℕ) (t : Text) → events.now ≡ event Final start t ∷ [] → result ≡ span_of start t }
 {
@@ -75,7 +78,7 @@ fn trailing(events: &[Event]) -> RawString
     }
 }
 
-/// The span, or the empty text where nothing stands there.
+/// Makes a raw text of the span, empty if nothing is there.
 fn spanned(span: Span) -> RawString
     ensures { (t : Text) → span.end ≡ span.start + length t → result ≡ span_of span.start t }
 {
@@ -86,7 +89,8 @@ fn spanned(span: Span) -> RawString
     }
 }
 
-/// How many slots the key lines before the next header make at least, unless two keys are one: a line whose key has no dot makes one.
+/// Returns the least number of slots that the key lines before the next header make, unless two
+/// keys are one: a line whose key has no dot makes one.
 #[inline(never)]
 pub(crate) fn slot_count(events: &[Event]) -> usize {
     let mut count: usize = 0;
@@ -101,7 +105,8 @@ pub(crate) fn slot_count(events: &[Event]) -> usize {
     count
 }
 
-/// The slots of the statements, each of them one of this version of the grammar, and the text after the last.
+/// Reads the statements, each in this version of the grammar. Returns their slots and the text
+/// after the last.
 pub(crate) fn build(
     alloc: Global,
     source: &str,

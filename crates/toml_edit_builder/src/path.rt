@@ -1,4 +1,4 @@
-//! What a statement adds at the end of its path: down the path, key by key.
+//! Adding what a statement states at the end of its path: down the path, key by key.
 ghost use Rattle.std.specs.Prelude.{◌≡◌, true, List, None, Some, Contains, IfErr, option_map};
 ghost use Rattle.toml_edit_model.specs.Messages.{fault_messages};
 ghost use Rattle.toml_edit_model.specs.Mode.{Mode};
@@ -38,19 +38,21 @@ pub enum Kind {
     Line,
     /// A header: its table.
     Table,
-    /// A header in double brackets, which stand at this span: an element of an array of tables.
+    /// A header in double brackets, which are at this span: an element of an array of tables.
     Element(Span),
 }
 
-/// Whether it is a key line.
+/// Returns `true` if it is a key line.
 fn is_line(kind: Kind) -> bool
     ensures { result ≡ spec.is_line kind }
 {
     matches!(kind, Kind::Line)
 }
 
-/// Adds an item at the end of a path; what is left in its place is not said. The errors are a `TomlError` that names the key in the way,
-/// and want of memory; the slots are then left as they may be, and the document is to be given up.
+/// Adds an item at the end of a path. What is left in its place is unspecified.
+///
+/// Fails if a key is in the way, which the error marks, or if memory runs out. The slots are
+/// unspecified then: drop the document.
 #[cycle(path)]
 pub fn add_path(
     alloc: Global,
@@ -76,8 +78,10 @@ pub fn add_path(
     }
 }
 
-/// Adds the value of a key line at the end of its path; what is left in the value's place is not said. Most paths are one key: that is put
-/// there with none of the room that a longer one takes. The errors are those of `add_path`.
+/// Adds the value of a key line at the end of its path. What is left in its place is unspecified.
+///
+/// Most paths are one key, which takes none of the room that a longer one does. Fails as
+/// [`add_path`] does.
 #[inline(always)]
 pub(crate) fn add_value(
     alloc: Global,
@@ -102,9 +106,9 @@ pub(crate) fn add_value(
     }
 }
 
-/// Adds an item at the end of what is left of a path, below a new key.
+/// Adds an item at the end of the rest of a path, below a new key.
 #[cycle(path)]
-// Stands apart, since what calls it pays at entry for the locals of all that is put into it.
+// Not inlined, so that its locals stay out of the caller's frame.
 #[inline(never)]
 fn add_below(
     alloc: Global,
@@ -131,16 +135,16 @@ fn add_below(
     Ok(())
 }
 
-/// The table of a key that a path passes through.
+/// Makes the table of a key that a path passes through.
 fn passed_item(dotted: bool, span: Span, slots: Slots<Item>) -> Item
     ensures { item_view result ≡ table_of (made_by_path spanned_form dotted (Some (span.start, span.end))) (slots_view slots) }
 {
     Item::Table(Table::passed(slots, dotted, span.start, span.end))
 }
 
-/// Adds an item at the end of what is left of a path, below a key that is there with this item.
+/// Adds an item at the end of the rest of a path, below an existing key with this item.
 #[cycle(path)]
-// Stands apart, since what calls it pays at entry for the locals of all that is put into it.
+// Not inlined, so that its locals stay out of the caller's frame.
 #[inline(never)]
 fn add_in_item(
     alloc: Global,
@@ -169,10 +173,10 @@ fn add_in_item(
     }
 }
 
-/// What to say of a key of a path that goes on, where this value stands.
+/// Returns the message about a path that goes on through this value.
 fn extend_message(value: &Value) -> &'static str
     ensures message { (later : Role) → extends later ≡ true → result.now ≡ table_way_message later (value_view value.now) }
-    // It is one of those that there are.
+    // It is one of the listed messages.
     ensures listed { Contains fault_messages result.now }
 {
     match value {
@@ -186,7 +190,8 @@ fn extend_message(value: &Value) -> &'static str
     }
 }
 
-/// The same below a key that is there with this table: a key line goes on in a table that has no header, which is dotted from then on.
+/// Adds an item at the end of the rest of a path, below an existing key with this table. A key line
+/// goes on in a table that has no header, which is dotted from then on.
 #[cycle(path)]
 fn add_in_table(
     alloc: Global,
@@ -214,7 +219,8 @@ fn add_in_table(
     add_path(alloc, source, kind, path, item, table.slots_mut())
 }
 
-/// The same below a key that is there with this array of tables: a header goes on in the last element.
+/// Adds an item at the end of the rest of a path, below an existing key with this array of tables.
+/// A header goes on in the last element.
 #[cycle(path)]
 fn add_in_tables(
     alloc: Global,
@@ -242,7 +248,7 @@ fn add_in_tables(
     }
 }
 
-/// The same in this element, if it is a table.
+/// Adds an item at the end of the rest of a path in this element, if it is a table.
 #[cycle(path)]
 fn add_in_element(
     alloc: Global,
@@ -268,7 +274,7 @@ fn add_in_element(
     }
 }
 
-/// The same in the slots of this table.
+/// Adds an item at the end of the rest of a path in the slots of this table.
 #[cycle(path)]
 fn add_in_slots(
     alloc: Global,

@@ -1,4 +1,4 @@
-//! One statement after another, from its events into the tables of a document.
+//! Reading one statement after another into the tree.
 ghost use Rattle.std.specs.Prelude.{◌≡◌, ◌+◌, ◌-◌, ◌<◌, ◌≤◌, ◌^◌, ◌++◌, ◌∷◌, Bool, true, false, List, ℕ, suc, pos, length, Contains, IfErr, IfOk, IfSome, IsNone, IsSome, OnOk, option_map};
 ghost use Rattle.toml_edit_model.specs.Syntax as syntax;
 ghost use Rattle.toml_edit_model.specs.Syntax.{Frame, Header, Segment, Statement, brackets_text, key_line, opening_brackets, path_text, statement_text};
@@ -38,7 +38,8 @@ use toml_edit_syntax::{Event, EventKind, Span};
 use toml_edit_tree::{Item, Table};
 use toml_edit_version::{Version, late_part_of_statement};
 
-/// Where the parts of a header stand: the text before it, its brackets, the key inside them, and the text behind them.
+/// Where the parts of a header are: the text before it, its brackets, the key inside them, and the
+/// text after them.
 #[derive(Clone, Copy)]
 pub(crate) struct HeaderParts<'a> {
     pub(crate) leading: Span,
@@ -48,8 +49,8 @@ pub(crate) struct HeaderParts<'a> {
     pub(crate) trailing: Span,
 }
 
-/// The first part that the version lacks of the statement that comes first; where its value is too deep, one before the bracket that is one
-/// too many.
+/// Returns the first part of the statement at the front that the version lacks. If its value is too
+/// deep, only what is before the bracket that is one too many counts.
 fn late_part(source: &str, version: Version, events: &[Event]) -> Option<Span>
     requires { AreIn source.now events.now }
     ensures found { (s : Statement) (start : ℕ) (more : List Event) → IsWhole s → Stands source.now start (statement_text s)
@@ -59,7 +60,7 @@ fn late_part(source: &str, version: Version, events: &[Event]) -> Option<Span>
         → events.now ≡ shortened 0 (statement_events start s ++ more) → has_deep_value s ≡ false → IsNone result
         → is_of_version (grammar version) s ≡ true }
     ensures span { IfSome result (λ span. IsSpanOf source.now span) }
-    // TOML 1.1 lacks none.
+    // TOML 1.1 lacks nothing.
     ensures early { IsSome result → grammar version ≡ v1_0 }
 {
     match version {
@@ -68,8 +69,8 @@ fn late_part(source: &str, version: Version, events: &[Event]) -> Option<Span>
     }
 }
 
-/// Adds the statement that comes first, where it is one of this version of the grammar, and gives the events behind it. After an error what
-/// is held is to be given up.
+/// Adds the statement at the front, if it is one of this version of the grammar. Returns the rest
+/// of the events. After an error, drop the tree.
 pub(crate) fn read_in_version<'a>(
     alloc: Global,
     source: &str,
@@ -94,7 +95,7 @@ pub(crate) fn read_in_version<'a>(
     }
 }
 
-/// Adds the statement that comes first, and gives the events behind it. After an error what is held is to be given up.
+/// Adds the statement at the front. Returns the rest of the events. After an error, drop the tree.
 fn read_statement<'a>(
     alloc: Global,
     source: &str,
@@ -143,7 +144,7 @@ fn read_statement<'a>(
     }
 }
 
-/// Adds the key line behind this text, and gives the events behind it.
+/// Adds the key line after this text. Returns the rest of the events.
 fn add_line<'a>(
     alloc: Global,
     source: &str,
@@ -169,8 +170,9 @@ fn add_line<'a>(
     Ok(rest)
 }
 
-/// Adds the header behind this text and its opening brackets, and gives the events behind it. The key lines that follow are its table's.
-// Stands apart, since what calls it pays at entry for the locals of all that is put into it.
+/// Adds the header after this text and its opening brackets. Returns the rest of the events. The
+/// key lines that follow are its table's.
+// Not inlined, so that its locals stay out of the caller's frame.
 #[inline(never)]
 fn add_header<'a>(
     alloc: Global,
@@ -210,8 +212,8 @@ fn add_header<'a>(
     Ok(rest)
 }
 
-/// Adds the table of a header to the whole, and takes the table's slots out of it. There is room for so many, where there is the memory for
-/// it.
+/// Adds the table of a header to the tree, and takes the table's slots out of it. Makes room for so
+/// many slots, if there is the memory.
 fn open_block(
     alloc: Global,
     source: &str,
@@ -258,7 +260,7 @@ fn open_block(
     Ok(())
 }
 
-/// What a header adds.
+/// Returns what a header adds.
 fn header_kind(header: HeaderParts<'_>) -> Kind
     ensures { result ≡ kind_of header.entry.is_array header.entry.brackets }
 {
@@ -269,7 +271,8 @@ fn header_kind(header: HeaderParts<'_>) -> Kind
     }
 }
 
-/// Puts the table of a header, the one of this number, in the item's place, as yet without slots, but with room for so many.
+/// Puts the table of the header of this number in the item's place, without slots, but with room
+/// for so many.
 fn head_item(alloc: Global, header: HeaderParts<'_>, position: isize, room: usize, item: &mut Item)
     ensures { (mode : modes.Mode) (b : Builder) (h : Header) (end : Text) → AreHeaderParts mode h end b.start header.entry → position ≡ pos (suc b.headers)
         → IsHeaded mode (source_at b (syntax.header h end)) (item_view item.new) }
@@ -277,7 +280,7 @@ fn head_item(alloc: Global, header: HeaderParts<'_>, position: isize, room: usiz
     put(item, headed_item(alloc, header, position, room));
 }
 
-/// The table of a header, the one of this number, as yet without slots, but with room for so many.
+/// Makes the table of the header of this number, without slots, but with room for so many.
 fn headed_item(alloc: Global, header: HeaderParts<'_>, position: isize, room: usize) -> Item
     ensures { (mode : modes.Mode) (b : Builder) (h : Header) (end : Text) → AreHeaderParts mode h end b.start header.entry → position ≡ pos (suc b.headers)
         → IsHeaded mode (source_at b (syntax.header h end)) (item_view result) }
@@ -288,7 +291,7 @@ fn headed_item(alloc: Global, header: HeaderParts<'_>, position: isize, room: us
     Item::Table(Table::headed(slots, decor, position, start, end))
 }
 
-/// The names of the keys of a path.
+/// Reads the names of the keys of a path.
 fn read_names(alloc: Global, source: &str, path: KeyPath<'_>) -> Result<Vec<String>, ParseFault>
     requires { AreIn source.now path.events.now }
     ensures names { (own : Decor) (p : List Segment) (start : ℕ) → IsEndOfPath p → Stands source.now start (path_text p)

@@ -1,4 +1,4 @@
-//! The element of an array, or of an array of tables, that a segment of a path names.
+//! Finding the element of an array, or of an array of tables, that a segment of a path names.
 ghost use Rattle.std.specs.Prelude.{◌≡◌, ◌<◌, IfSome, length};
 ghost use Rattle.toml_edit_model.specs.Tree.{is_value_node};
 ghost use Rattle.toml_edit_laws.specs.Locality.{is_table};
@@ -7,8 +7,8 @@ ghost use Rattle.toml_edit_change.specs.Elements.{IsNumberOf, nodes, place_named
 use toml_edit_key::Key;
 use toml_edit_tree::Item;
 
-/// The place that the text names: what it spells as a decimal number without leading zeros, or `None` for any other text and for a number that
-/// is too large for any place.
+/// Returns the number that the text spells in decimal digits without leading zeros, or `None` for
+/// any other text, or a number that is too large for a place.
 pub fn number_of(text: &str) -> Option<usize>
     ensures { IsNumberOf text.now result }
 {
@@ -22,7 +22,7 @@ pub fn number_of(text: &str) -> Option<usize>
     text.parse().ok()
 }
 
-/// The place of the value that the key names, if one stands there.
+/// Returns the place of the value that the key names, if there is one.
 pub(crate) fn value_named(items: &[Item], key: &Key) -> Option<usize>
     ensures place { result ≡ place_named is_value_node key.now.name (nodes items.now) }
     ensures within { IfSome result (λ at. at < length items.now) }
@@ -35,7 +35,7 @@ pub(crate) fn value_named(items: &[Item], key: &Key) -> Option<usize>
     }
 }
 
-/// The place of the table that the key names, if one stands there.
+/// Returns the place of the table that the key names, if there is one.
 pub(crate) fn table_named(items: &[Item], key: &Key) -> Option<usize>
     ensures place { result ≡ place_named is_table key.now.name (nodes items.now) }
     ensures within { IfSome result (λ at. at < length items.now) }

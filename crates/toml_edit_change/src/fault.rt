@@ -1,16 +1,16 @@
-//! Why a change is refused.
+//! The error of a change that is refused.
 use std::alloc::AllocError;
 use std::error::Error;
 use std::fmt;
 
-/// Why nothing is put at a path, or taken out there.
+/// The error of [`set`](crate::set) and [`remove`](crate::remove).
 #[derive(Clone, Copy, Debug, PartialEq, Eq, Hash)]
 pub enum ChangeFault {
-    /// A segment names no element, or an item that is to be taken out is not there.
+    /// A segment names no element, or there is no item to remove.
     NoSuchPath,
-    /// A table or an array of tables stands at the end of the path, or a scalar before it.
+    /// A table or an array of tables is at the end of the path, or a scalar before it.
     WrongKind,
-    /// No memory was left.
+    /// Memory ran out.
     Memory,
 }
 
@@ -32,6 +32,7 @@ impl fmt::Display for ChangeFault {
 
 impl Error for ChangeFault {}
 
+/// Returns `ChangeFault::Memory`, so that `?` passes on that memory ran out.
 impl From<AllocError> for ChangeFault {
     ghost use Rattle.std.specs.Prelude.{◌≡◌};
     ghost use Rattle.toml_edit_change.specs.declared.fault.ChangeFault.TheVariants.{Memory};

@@ -1,4 +1,5 @@
-//! Values put at a path of keys, and items taken out there, as the program's commands `set` and `remove` do.
+//! Putting a value at a path of keys, and removing an item there, as the commands `set` and
+//! `remove` do.
 #![tactic(auto)]
 
 mod element;

@@ -1,4 +1,4 @@
-//! A value put at a path.
+//! Putting a value at a path.
 ghost use Rattle.std.specs.Prelude.{◌≡◌, ◌<◌, ◌∷◌, ◌++◌, [], Bool, true, None, IfSome, OnErr, OnOk, length};
 ghost use Rattle.toml_edit_model.specs.Conversions.{with_decor};
 ghost use Rattle.toml_edit_model.specs.Keys.{new_key};
@@ -22,10 +22,18 @@ use toml_edit_repr::Mem;
 use toml_edit_slots::{Slot, Slots};
 use toml_edit_tree::{Array, ArrayOfTables, InlineTable, Item, Table, Value};
 
-/// Puts the value at the path below the root. A value that stands there goes, and its decor stays; a placeholder is filled; a key that is
-/// missing is put last in its table, with inline tables down to the value. A segment below an array or an array of tables is the number of
-/// an element, as `number_of` reads it. The errors are `NoSuchPath` where it names no element, `WrongKind` for a table or an array of tables
-/// at the end of the path and a scalar before it, and want of memory: the root is as it was.
+/// Puts the value at the path below the root.
+///
+/// A value that is there is replaced, and its decor stays; a placeholder is filled. A missing key
+/// is added at the end of its table, with inline tables down to the value if more are missing. A
+/// segment below an array or an array of tables is the number of an element, as
+/// [`number_of`](crate::number_of) reads it.
+///
+/// # Errors
+///
+/// Fails with `NoSuchPath` if a segment names no element, with `WrongKind` for a table or an array
+/// of tables at the end of the path or a scalar before it, and with `Memory` if memory runs out.
+/// The root is unchanged then.
 pub fn set(alloc: Global, root: &mut Table, path: &[Key], value: Value) -> Result<(), ChangeFault>
     ensures { Changes (set_below (value_view value) (names path.now) (table_node (table_view root.old))) (table_node (table_view root.old))
         (table_node (table_view root.new)) result }
@@ -36,7 +44,7 @@ pub fn set(alloc: Global, root: &mut Table, path: &[Key], value: Value) -> Resul
     outcome
 }
 
-/// The same; what is left in the value's place is not said.
+/// Puts the value at the path below the root. What is left in the value's place is unspecified.
 fn set_in_root(
     alloc: Global,
     root: &mut Table,
@@ -52,7 +60,8 @@ fn set_in_root(
     }
 }
 
-/// Puts the value at the path below the item; what is left in the value's place is not said. The errors are those of `set`.
+/// Puts the value at the path below the item. What is left in the value's place is unspecified.
+/// Fails as [`set`] does.
 #[cycle(set)]
 fn set_in_item(
     alloc: Global,
@@ -73,7 +82,7 @@ fn set_in_item(
     }
 }
 
-/// The same below the key of a value.
+/// Puts the value at the path below a value.
 #[cycle(set)]
 fn set_in_value(
     alloc: Global,
@@ -92,7 +101,7 @@ fn set_in_value(
     }
 }
 
-/// The same below the key of a table.
+/// Puts the value at the path below a table.
 #[cycle(set)]
 fn set_in_table(
     alloc: Global,
@@ -107,7 +116,7 @@ fn set_in_table(
     set_in_slots(alloc, table.slots_mut(), key, rest, value)
 }
 
-/// The same below the key of an inline table.
+/// Puts the value at the path below an inline table.
 #[cycle(set)]
 fn set_in_inline(
     alloc: Global,
@@ -122,7 +131,7 @@ fn set_in_inline(
     set_in_slots(alloc, table.slots_mut(), key, rest, value)
 }
 
-/// The same below the key of an array, which names an element.
+/// Puts the value at the path below an array, where the key names an element.
 #[cycle(set)]
 fn set_in_array(
     alloc: Global,
@@ -138,7 +147,7 @@ fn set_in_array(
     set_in_element(alloc, &mut array.values, at, rest, value)
 }
 
-/// The same below the key of an array of tables, which names an element.
+/// Puts the value at the path below an array of tables, where the key names an element.
 #[cycle(set)]
 fn set_in_tables(
     alloc: Global,
@@ -154,7 +163,7 @@ fn set_in_tables(
     set_in_element(alloc, &mut tables.values, at, rest, value)
 }
 
-/// The same below the element at the place, if there is one.
+/// Puts the value at the rest of the path below the element at the place, if there is one.
 #[cycle(set)]
 fn set_in_element(
     alloc: Global,
@@ -174,7 +183,8 @@ fn set_in_element(
     }
 }
 
-/// The same below the slot of the key, which is made where there is none.
+/// Puts the value at the rest of the path below the slot of the key, which is made if it is
+/// missing.
 #[cycle(set)]
 fn set_in_slots(
     alloc: Global,
@@ -196,7 +206,8 @@ fn set_in_slots(
     }
 }
 
-/// Puts the value in the item's place, in the decor of the value there. The only error is `WrongKind`.
+/// Puts the value in the item's place, in the decor of the value there. Fails with `WrongKind`
+/// alone.
 fn set_here(item: &mut Item, value: &mut Item) -> Result<(), ChangeFault>
     ensures { Changes (set_here (item_view value.old) (item_view item.old)) (item_view item.old) (item_view item.new) result }
 {
@@ -209,7 +220,7 @@ fn set_here(item: &mut Item, value: &mut Item) -> Result<(), ChangeFault>
     Ok(())
 }
 
-/// Gives the new value the decor of the old one, which is to go.
+/// Gives the new value the decor of the old one, which is about to be dropped.
 fn keep_decor(old: &mut Value, value: &mut Item)
     ensures { item_view value.new ≡ with_decor (node_decor (value_view old.old)) (item_view value.old) }
 {
@@ -218,14 +229,14 @@ fn keep_decor(old: &mut Value, value: &mut Item)
     }
 }
 
-/// Gives each of two values the decor of the other.
+/// Swaps the decors of two values.
 fn swap_decors(old: &mut Value, new: &mut Value)
     ensures { value_view new.new ≡ with_decor (node_decor (value_view old.old)) (value_view new.old) }
 {
     mem::swap(old.decor_mut(), new.decor_mut());
 }
 
-/// Fills a placeholder with inline tables down the path to the value. The only error is want of memory.
+/// Fills a placeholder with inline tables down the path to the value. Fails if memory runs out.
 fn fill_below(
     alloc: Global,
     item: &mut Item,
@@ -240,7 +251,8 @@ fn fill_below(
     Ok(())
 }
 
-/// Makes a value the inline tables down the path that hold it alone. The only error is want of memory, and then what is left is not said.
+/// Wraps a value in inline tables down the path to it. If memory runs out, what is left is
+/// unspecified.
 fn make_below(alloc: Global, path: &[Key], value: &mut Item) -> Mem<()>
     ensures { OnOk result (item_view value.new ≡ made_below (names path.now) (item_view value.old)) }
 {
@@ -253,7 +265,8 @@ fn make_below(alloc: Global, path: &[Key], value: &mut Item) -> Mem<()>
     }
 }
 
-/// Makes a value an inline table with it under the key. The only error is want of memory, and then what is left is not said.
+/// Wraps a value in an inline table that has it under the key. If memory runs out, what is left is
+/// unspecified.
 fn wrap(alloc: Global, key: &str, value: &mut Item) -> Mem<()>
     ensures { OnOk result (item_view value.new ≡ made_below (key.now ∷ []) (item_view value.old)) }
 {
@@ -270,8 +283,8 @@ fn wrap(alloc: Global, key: &str, value: &mut Item) -> Mem<()>
     }
 }
 
-/// Puts the item last, under a new key of the text alone; what is left in its place is not said. The only error is want of memory: the
-/// slots stay.
+/// Pushes the item under a new key of this name. What is left in its place is unspecified. If
+/// memory runs out, the slots are unchanged.
 fn push_new(slots: &mut Slots<Item>, key: &str, item: &mut Item) -> Mem<()>
     requires { place key.now slots.old ≡ None }
     ensures made { OnOk result (pairs slots.new ≡ pairs slots.old ++ ((new_key key.now, item_view item.old) ∷ [])) }

@@ -1,4 +1,4 @@
-//! An item taken out at a path.
+//! Removing an item at a path.
 ghost use Rattle.std.specs.Prelude.{◌≡◌, ◌<◌, ◌∷◌, Bool, IfErr, IfSome, length};
 ghost use Rattle.toml_edit_model.specs.SlotLists.{slot_of};
 ghost use Rattle.toml_edit_model.specs.Text.{Text};
@@ -16,9 +16,15 @@ use toml_edit_key::Key;
 use toml_edit_slots::Slots;
 use toml_edit_tree::{Array, ArrayOfTables, InlineTable, Item, Table, Value};
 
-/// Takes out what stands at the path below the root: the slot of a table with its key, which is no placeholder, the value of an array, or the
-/// table of an array of tables. A segment below one of the latter two is the number of an element, as `number_of` reads it. The only error is
-/// `NoSuchPath`: the root is as it was. It takes no memory.
+/// Removes the item at the path below the root: the slot of a table with its key, the value of an
+/// array, or the table of an array of tables. Takes no memory.
+///
+/// A placeholder is not found. A segment below an array or an array of tables is the number of an
+/// element, as [`number_of`](crate::number_of) reads it.
+///
+/// # Errors
+///
+/// Fails with `NoSuchPath` if there is no such item. The root is unchanged then.
 pub fn remove(root: &mut Table, path: &[Key]) -> Result<(), ChangeFault>
     ensures changes { Changes (remove_below (names path.now) (table_node (table_view root.old))) (table_node (table_view root.old))
         (table_node (table_view root.new)) result }
@@ -30,7 +36,7 @@ pub fn remove(root: &mut Table, path: &[Key]) -> Result<(), ChangeFault>
     }
 }
 
-/// Takes out what stands at the path below the item. The only error is `NoSuchPath`.
+/// Removes the item at the path below the item. Fails with `NoSuchPath` alone.
 #[cycle(remove)]
 fn remove_in_item(item: &mut Item, path: &[Key]) -> Result<(), ChangeFault>
     ensures changes { Changes (remove_below (names path.now) (item_view item.old)) (item_view item.old) (item_view item.new) result }
@@ -47,7 +53,7 @@ fn remove_in_item(item: &mut Item, path: &[Key]) -> Result<(), ChangeFault>
     }
 }
 
-/// The same below the key of a value.
+/// Removes the item at the path below a value.
 #[cycle(remove)]
 fn remove_in_value(holder: &mut Value, key: &Key, rest: &[Key]) -> Result<(), ChangeFault>
     ensures changes { Changes (remove_below (key.now.name ∷ names rest.now) (value_view holder.old)) (value_view holder.old) (value_view holder.new) result }
@@ -60,7 +66,7 @@ fn remove_in_value(holder: &mut Value, key: &Key, rest: &[Key]) -> Result<(), Ch
     }
 }
 
-/// The same below the key of a table.
+/// Removes the item at the path below a table.
 #[cycle(remove)]
 fn remove_in_table(table: &mut Table, key: &Key, rest: &[Key]) -> Result<(), ChangeFault>
     ensures changes { Changes (remove_below (key.now.name ∷ names rest.now) (table_node (table_view table.old))) (table_node (table_view table.old))
@@ -70,7 +76,7 @@ fn remove_in_table(table: &mut Table, key: &Key, rest: &[Key]) -> Result<(), Cha
     remove_in_slots(table.slots_mut(), key, rest)
 }
 
-/// The same below the key of an inline table.
+/// Removes the item at the path below an inline table.
 #[cycle(remove)]
 fn remove_in_inline(table: &mut InlineTable, key: &Key, rest: &[Key]) -> Result<(), ChangeFault>
     ensures changes { Changes (remove_below (key.now.name ∷ names rest.now) (inline_node (inline_view table.old))) (inline_node (inline_view table.old))
@@ -80,7 +86,7 @@ fn remove_in_inline(table: &mut InlineTable, key: &Key, rest: &[Key]) -> Result<
     remove_in_slots(table.slots_mut(), key, rest)
 }
 
-/// The same below the key of an array, which names an element.
+/// Removes the item at the path below an array, where the key names an element.
 #[cycle(remove)]
 fn remove_in_array(array: &mut Array, key: &Key, rest: &[Key]) -> Result<(), ChangeFault>
     ensures changes { Changes (remove_below (key.now.name ∷ names rest.now) (array_node (array_view array.old))) (array_node (array_view array.old))
@@ -91,7 +97,7 @@ fn remove_in_array(array: &mut Array, key: &Key, rest: &[Key]) -> Result<(), Cha
     remove_in_element(&mut array.values, at, rest)
 }
 
-/// The same below the key of an array of tables, which names an element.
+/// Removes the item at the path below an array of tables, where the key names an element.
 #[cycle(remove)]
 fn remove_in_tables(tables: &mut ArrayOfTables, key: &Key, rest: &[Key]) -> Result<(), ChangeFault>
     ensures changes { Changes (remove_below (key.now.name ∷ names rest.now) (tables_node (tables_view tables.old))) (tables_node (tables_view tables.old))
@@ -102,7 +108,7 @@ fn remove_in_tables(tables: &mut ArrayOfTables, key: &Key, rest: &[Key]) -> Resu
     remove_in_element(&mut tables.values, at, rest)
 }
 
-/// Takes out the element at the place, if there is one, or what stands at the rest of the path below it.
+/// Removes the element at the place, if there is one, or the item at the rest of the path below it.
 #[cycle(remove)]
 fn remove_in_element(
     items: &mut Vec<Item>,
@@ -124,7 +130,7 @@ fn remove_in_element(
     }
 }
 
-/// Takes out the slot of the key, or what stands at the rest of the path below it.
+/// Removes the slot of the key, or the item at the rest of the path below it.
 #[cycle(remove)]
 fn remove_in_slots(slots: &mut Slots<Item>, key: &Key, rest: &[Key]) -> Result<(), ChangeFault>
     ensures changes { Changes (removed_slot key.now.name (names rest.now) (pairs slots.old)) (pairs slots.old) (pairs slots.new) result }
@@ -139,7 +145,7 @@ fn remove_in_slots(slots: &mut Slots<Item>, key: &Key, rest: &[Key]) -> Result<(
     }
 }
 
-/// Takes out the slot of the key, unless it is a placeholder.
+/// Removes the slot of the key, unless it is a placeholder.
 fn take_slot(slots: &mut Slots<Item>, key: &str) -> Result<(), ChangeFault>
     ensures changes { Changes (drop_slot key.now (pairs slots.old) (present (slot_of key.now (pairs slots.old)))) (pairs slots.old) (pairs slots.new) result }
     ensures fault { IfErr result (λ fault. fault ≡ NoSuchPath) }

@@ -1,4 +1,4 @@
-// What is done with a document.
+//! Running a command on the document that the input holds.
 ghost use Rattle.std.specs.Prelude.{◌≡◌, false, IfErr, OnOk};
 ghost use Rattle.std.specs.Io.KnownBytes.{IsAtEnd};
 ghost use Rattle.toml_edit_command.specs.Steps.{HasReadAll, StopsActing, StopsDoing, Wrote, WroteRead, action_of};
@@ -15,7 +15,7 @@ use std::alloc::Global;
 use toml_edit::{DocumentMut, ParseOptions, PrintFault};
 use toml_edit_stream::{Input, Output};
 
-// Reads the document that the input holds, by these options, and does what the command says.
+/// Reads the document from the input, by these options, and runs the command on it.
 pub fn perform<I: Input, O: Output>(
     alloc: Global,
     command: Command,
@@ -48,7 +48,7 @@ pub fn perform<I: Input, O: Output>(
     }
 }
 
-// Does what the command says with the document.
+/// Runs the command on the document.
 fn act<O: Output>(
     alloc: Global,
     command: Command,
@@ -72,7 +72,7 @@ fn act<O: Output>(
     }
 }
 
-// Prints the document.
+/// Prints the document.
 pub fn print<O: Output>(alloc: Global, document: &DocumentMut, output: &mut O) -> Result<(), Stop>
     requires { O.has_failed output.old ≡ false }
     ensures wrote { OnOk result (Wrote printing (held document.now) (O.contents output.old) (O.contents output.new)) }

@@ -1,3 +1,4 @@
+//! The program as one function.
 ghost use Rattle.std.specs.Prelude.{◌≡◌, ◌≤◌, ◌↔◌, ◌⊎◌, false, true, map, IfSome, IsUtf8, string_bytes};
 ghost use Rattle.std.specs.Io.KnownBytes.{IsAtEnd};
 ghost use Rattle.toml_edit_command.specs.declared.stop.Mistake.{Mistake};
@@ -12,39 +13,42 @@ use super::words::Command;
 use std::alloc::Global;
 use toml_edit_stream::{Input, Output};
 
+/// The exit status of a command that is done.
 const DONE: u8 = 0;
 
-/// Runs the command that the words are, the arguments after the program's name, and answers the
-/// exit status. Each command reads the input to its end:
+/// Runs the command that the words say, which are the arguments after the program's name, and
+/// returns the exit status.
 ///
-/// - `print` writes the print of the document that it holds;
-/// - `get PATH` writes the item at the path: a value as it stands, without what stands around it,
-///   or the lines of a table, or an array of tables as the array that it would be;
-/// - `set PATH VALUE` writes the print with the value at the path. A key that is missing is made,
-///   below others that are missing in an inline table. A value that stands there goes, and what
-///   stands around it stays;
+/// Each command reads the input to its end:
+///
+/// - `print` writes the print of the document;
+/// - `get PATH` writes the item at the path: a value as it is spelled, without the decor around it,
+///   the lines of a table, or an array of tables as an array;
+/// - `set PATH VALUE` writes the print with the value at the path. A missing key is made, below
+///   other missing keys in an inline table. A value that is there is replaced, and its decor stays;
 /// - `remove PATH` writes the print without the item at the path.
 ///
-/// In an array, or an array of tables, a segment of a path is the decimal number of an element.
+/// In an array, or an array of tables, a segment of PATH is the decimal number of an element.
 ///
-/// The word `strict` in front of a command asks for TOML 1.0: the input and VALUE are read as that,
-/// and as TOML 1.1 without it.
+/// The word `strict` before the command reads the input and VALUE as TOML 1.0 instead of 1.1.
 ///
-/// The word `exact` in front of both asks for the line endings of the input: what `print`, `set` and
-/// `remove` write keeps its carriage returns, and its last statement has no newline where that of the
-/// input has none; else a new statement ends in a line feed. Without the word, carriage returns outside
-/// strings are dropped, and each statement ends in a line feed. `get` writes the same with it.
+/// The word `exact` before both keeps the line endings of the input: `print`, `set` and `remove`
+/// write its carriage returns (CR), and no newline after the last statement if the input has none.
+/// A new statement ends in a line feed (LF) even then. Without the word, CRs outside strings are
+/// dropped, and each statement ends in an LF. `get` writes the same text with it.
 ///
-/// | Status | When | What is told to `errors` |
-/// |---|---|---|
-/// | 0 | done | nothing |
-/// | 1 | the input is not TOML, or not UTF-8 | the error's text |
-/// | 2 | the words are no command; PATH is no path; VALUE is no value; nothing is at the path; what is there cannot be set; the document would not fit | the usage; which |
-/// | 3 | there is not enough memory | so |
-/// | 4 | the input or the output has failed | which |
+/// # Exit status
 ///
-/// Of several faults the first in the order of this is told: words, PATH, VALUE, reading, the text,
-/// the path in it, whether it fits, writing. A fault in writing to `errors` is passed over.
+/// - 0: done. Nothing is written to `errors`.
+/// - 1: the input is not TOML, or not UTF-8. `errors` gets the error's text.
+/// - 2: the words are no command; PATH is no path; VALUE is no value; nothing is at the path; what
+///   is there cannot be set; or the document would not fit. `errors` gets the usage, or which of
+///   these it is.
+/// - 3: out of memory. `errors` gets that message.
+/// - 4: the input or the output has failed. `errors` gets which one.
+///
+/// Of several faults, the first in this order counts: words, PATH, VALUE, reading, the text, the
+/// path in it, whether it fits, writing. A fault in writing to `errors` is ignored.
 pub fn run<I: Input, O: Output, E: Output>(
     alloc: Global,
     words: &[String],
@@ -57,31 +61,32 @@ pub fn run<I: Input, O: Output, E: Output>(
     ensures status { result ≤ 4 }
     ensures done { result ≡ 0 → DoesCommand (asked (map string_bytes words.now)) (I.remaining input.old) (O.contents output.old) (O.contents output.new) }
     ensures quiet { result ≡ 0 → errors.new ≡ errors.old }
-    // What ends otherwise than for its words, or for want of memory, is a command.
+    // What ends otherwise than for its words, or out of memory, is a command.
     ensures said { (result ≡ 0) ⊎ (result ≡ 1) ⊎ (result ≡ 4) → (a : Action) × Says (asked (map string_bytes words.now)) a }
     ensures refused { result ≡ 1 → IfSome (I.remaining input.old) (IsNotAccepted (asked (map string_bytes words.now)).version) }
     ensures encoding { result ≡ 1 → IfSome (I.remaining input.old) (λ bytes. ¬ (IsUtf8 bytes) →
         Tells (E.contents errors.old) (E.contents errors.new) (E.has_failed errors.new) encoding_line) }
     ensures excerpt { result ≡ 1 → IfSome (I.remaining input.old) (λ bytes. IsUtf8 bytes →
         TellsRefusal (asked (map string_bytes words.now)).version bytes (E.contents errors.old) (E.contents errors.new) (E.has_failed errors.new)) }
-    // The words are mistaken, or what they say of what was read.
+    // The words are mistaken, or what they say of the document.
     ensures mistaken { result ≡ 2 → TellsMistake (asked (map string_bytes words.now)) (I.remaining input.old)
         (E.contents errors.old) (E.contents errors.new) (E.has_failed errors.new) }
     ensures wrong_words { ¬ (IsCommand (asked (map string_bytes words.now)).command) → (result ≡ 2)
         × Tells (E.contents errors.old) (E.contents errors.new) (E.has_failed errors.new) usage_line }
-    // All of the input was read before it is done or refused, and before what the words say of it is mistaken.
+    // All of the input was read before the command is done or the text refused, and before a
+    // mistake about the document.
     ensures end { (result ≡ 0) ⊎ (result ≡ 1) → IsAtEnd (I.remaining input.new) }
     ensures mistaken_end { result ≡ 2 → ((m : Mistake) × InWords (asked (map string_bytes words.now)) m) ⊎ IsAtEnd (I.remaining input.new) }
     ensures print { IsPrint (asked (map string_bytes words.now)).command → ¬ (result ≡ 2) }
-    // Where the words are, nothing is read.
+    // If the mistake is in the words, nothing is read.
     ensures untouched { (m : Mistake) → InWords (asked (map string_bytes words.now)) m
         → ((result ≡ 2) ⊎ (result ≡ 3)) × (input.new ≡ input.old) × (output.new ≡ output.old) }
     ensures memory { result ≡ 3 → Tells (E.contents errors.old) (E.contents errors.new) (E.has_failed errors.new) memory_line }
     ensures failed { (result ≡ 4) ↔ ((I.has_failed input.new ≡ true) ⊎ (O.has_failed output.new ≡ true)) }
-    // The input that failed is told of, and nothing was written.
+    // The message names the input that failed, and nothing was written.
     ensures read_fault { I.has_failed input.new ≡ true → Tells (E.contents errors.old) (E.contents errors.new) (E.has_failed errors.new) read_line }
     ensures unread { I.has_failed input.new ≡ true → (O.contents output.new ≡ O.contents output.old) × (O.has_failed output.new ≡ false) }
-    // The output that failed is told of, and holds a beginning of what was to be written at most.
+    // The message names the output that failed, which holds at most a beginning of the text.
     ensures write_fault { O.has_failed output.new ≡ true → Tells (E.contents errors.old) (E.contents errors.new) (E.has_failed errors.new) write_line }
     ensures beginning { O.has_failed output.new ≡ true
         → BeginsCommand (asked (map string_bytes words.now)) (I.remaining input.old) (O.contents output.old) (O.contents output.new) }
@@ -97,8 +102,8 @@ pub fn run<I: Input, O: Output, E: Output>(
     }
 }
 
-/// Tells `errors` that there is not enough memory, as where the words of a command find no place, and answers the exit status for
-/// that, which is 3. A fault in writing to `errors` is passed over.
+/// Writes to `errors` that memory ran out, for a caller that cannot hold the words of a command,
+/// and returns the exit status 3. A fault in writing is ignored.
 pub fn end_without_memory<E: Output>(errors: &mut E) -> u8
     ensures status { result ≡ 3 }
     ensures told { Tells (E.contents errors.old) (E.contents errors.new) (E.has_failed errors.new) memory_line }

@@ -1,4 +1,4 @@
-// What `set` and `remove` do.
+//! The commands `set` and `remove`.
 ghost use Rattle.std.specs.Prelude.{◌≡◌, false, IfErr, OnOk};
 ghost use Rattle.toml_edit.specs.DocumentView.{IsPrintedAs, tree_owned};
 ghost use Rattle.toml_edit_laws.specs.Commands.{remove_at, set_at};
@@ -15,7 +15,7 @@ use toml_edit::{DocumentMut, Key, Value};
 use toml_edit_change::ChangeFault;
 use toml_edit_stream::Output;
 
-// Puts the value at the path, and writes the document.
+/// Puts the value at the path, and writes the document.
 pub fn set<O: Output>(
     alloc: Global,
     document: &mut DocumentMut,
@@ -38,7 +38,7 @@ pub fn set<O: Output>(
     }
 }
 
-// Removes what is at the path, and writes the document.
+/// Removes the item at the path, and writes the document.
 pub fn remove<O: Output>(
     alloc: Global,
     document: &mut DocumentMut,
@@ -60,7 +60,7 @@ pub fn remove<O: Output>(
     }
 }
 
-// Puts the value at the path.
+/// Puts the value at the path.
 fn set_value(
     alloc: Global,
     document: &mut DocumentMut,
@@ -73,7 +73,7 @@ fn set_value(
     toml_edit_change::set(alloc, document.as_table_mut(), path, value)
 }
 
-// Removes what is at the path.
+/// Removes the item at the path.
 fn remove_item(document: &mut DocumentMut, path: &[Key]) -> Result<(), ChangeFault>
     ensures changes { Changes (remove_at (names path.now) (tree_owned document.old)) (tree_owned document.old) (tree_owned document.new) result }
     ensures printed { IsPrintedAs document.new document.old }
@@ -81,7 +81,7 @@ fn remove_item(document: &mut DocumentMut, path: &[Key]) -> Result<(), ChangeFau
     toml_edit_change::remove(document.as_table_mut(), path)
 }
 
-// Why a run stops that can't change the document.
+/// Returns why a run stops that cannot change the document.
 fn stop_of(fault: ChangeFault) -> Stop
     ensures { result ≡ stop_for fault }
 {
@@ -92,7 +92,7 @@ fn stop_of(fault: ChangeFault) -> Stop
     }
 }
 
-// Prints the document, if it fits.
+/// Prints the document, if it fits.
 fn write_fitting<O: Output>(
     alloc: Global,
     document: &DocumentMut,

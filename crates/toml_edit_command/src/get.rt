@@ -1,4 +1,4 @@
-// What `get` does.
+//! The command `get`.
 ghost use Rattle.std.specs.Prelude.{◌≡◌, ◌++◌, false, IfErr, IfOk, OnOk, option_and_then, option_map, string_bytes};
 ghost use Rattle.toml_edit_model.specs.Indexing as indexing;
 ghost use Rattle.toml_edit_model.specs.Indexing.{indexed, number};
@@ -22,7 +22,7 @@ use toml_edit::{DocumentMut, Item, Key, Mem, Value};
 use toml_edit_change::number_of;
 use toml_edit_stream::{Output, write_all};
 
-// Writes the text of the item at the path.
+/// Writes the text of the item at the path.
 pub fn get<O: Output>(
     alloc: Global,
     document: &DocumentMut,
@@ -50,7 +50,7 @@ pub fn get<O: Output>(
     }
 }
 
-// The item at the path below this one.
+/// Returns the item at the path below this one.
 fn item_below<'d>(item: &'d Item, path: &[Key]) -> Option<&'d Item>
     ensures { option_map (λ x. item_view x.now) result ≡ commands.item_below (names path.now) (item_view item.now) }
 {
@@ -61,7 +61,8 @@ fn item_below<'d>(item: &'d Item, path: &[Key]) -> Option<&'d Item>
     Some(found)
 }
 
-// The item that a segment of a path leads to: under a key, or the value or the table at a place.
+/// Returns the item that a segment of a path leads to: under a key, or the value or the table at a
+/// place.
 fn child<'d>(item: &'d Item, segment: &str) -> Option<&'d Item>
     ensures { option_map (λ x. item_view x.now) result ≡ commands.child segment.now (item_view item.now) }
 {
@@ -74,7 +75,7 @@ fn child<'d>(item: &'d Item, segment: &str) -> Option<&'d Item>
     item_under(item, segment)
 }
 
-// The item under a key of a table or an inline table, which is no placeholder.
+/// Returns the item under a key of a table or an inline table, unless it is a placeholder.
 fn item_under<'d>(item: &'d Item, key: &str) -> Option<&'d Item>
     ensures { option_map (λ x. item_view x.now) result ≡ option_and_then (only is_item) (indexing.item_under key.now (item_view item.now)) }
 {
@@ -82,7 +83,7 @@ fn item_under<'d>(item: &'d Item, key: &str) -> Option<&'d Item>
     if found.is_none() { None } else { Some(found) }
 }
 
-// The place that a segment names among so many.
+/// Returns the place that a segment names among so many.
 fn place_among(count: usize, segment: &str) -> Option<usize>
     ensures { result ≡ among count (commands.number_of segment.now) }
 {
@@ -90,7 +91,7 @@ fn place_among(count: usize, segment: &str) -> Option<usize>
     if at < count { Some(at) } else { None }
 }
 
-// The item at a place of an array, if it is a value.
+/// Returns the item at a place of an array, if it is a value.
 fn value_at(item: &Item, at: usize) -> Option<&Item>
     ensures { option_map (λ x. item_view x.now) result ≡ option_and_then (only is_value_node) (indexed (number at) (item_view item.now)) }
 {
@@ -98,7 +99,7 @@ fn value_at(item: &Item, at: usize) -> Option<&Item>
     if found.is_value() { Some(found) } else { None }
 }
 
-// The item at a place of an array of tables, if it is a table.
+/// Returns the item at a place of an array of tables, if it is a table.
 fn table_at(item: &Item, at: usize) -> Option<&Item>
     ensures { option_map (λ x. item_view x.now) result ≡ option_and_then (only is_table) (indexed (number at) (item_view item.now)) }
 {
@@ -106,7 +107,8 @@ fn table_at(item: &Item, at: usize) -> Option<&Item>
     if found.is_table() { Some(found) } else { None }
 }
 
-// The text of an item: a value without what stands around it, or an array of tables, and a line's end; or the lines of a table.
+/// Returns the text of an item: a value without the decor around it, or an array of tables, and a
+/// newline; or the lines of a table.
 fn shown_item(alloc: Global, item: &Item) -> Mem<String>
     ensures { IfOk result (λ s. string_bytes s ≡ commands.shown_item (item_view item.now)) }
 {
@@ -121,7 +123,7 @@ fn shown_item(alloc: Global, item: &Item) -> Mem<String>
     }
 }
 
-// The text of a value without what stands around it.
+/// Returns the text of a value without the decor around it.
 fn shown_value(alloc: Global, value: &Value) -> Mem<String>
     ensures { IfOk result (λ s. string_bytes s ≡ value_text (value_of plain (value_view value.now))) }
 {
@@ -132,7 +134,7 @@ fn shown_value(alloc: Global, value: &Value) -> Mem<String>
     text
 }
 
-// The text and a line's end.
+/// Returns the text with a newline after it.
 fn with_newline(text: String) -> Mem<String>
     ensures { IfOk result (λ s. string_bytes s ≡ string_bytes text ++ newline) }
 {

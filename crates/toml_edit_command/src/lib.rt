@@ -1,4 +1,4 @@
-//! The command `tomled`, over any streams: its words, its steps and its exit status.
+//! The program `tomled`, over any streams: its words, its steps and its exit status.
 #![tactic(auto)]
 
 mod act;

@@ -1,4 +1,4 @@
-// What the input holds.
+//! Reading the document from the input.
 ghost use Rattle.std.specs.Prelude.{◌≡◌, false, IfSome, IfOk, IfErr, OnOk, string_bytes};
 ghost use Rattle.std.specs.Io.KnownBytes.{IsAtEnd};
 ghost use Rattle.toml_edit_error.specs.Fault.{IfToml};
@@ -15,7 +15,7 @@ use std::alloc::Global;
 use toml_edit::{Document, DocumentMut, ParseFault, ParseOptions};
 use toml_edit_stream::{Input, ReadFault, read_to_end};
 
-// Reads the input to its end, and by these options the document that it holds.
+/// Reads the input to its end, and parses the document that it holds by these options.
 pub fn read_document<I: Input>(
     alloc: Global,
     input: &mut I,
@@ -40,7 +40,7 @@ pub fn read_document<I: Input>(
     }
 }
 
-// The text that the input holds.
+/// Reads the text of the input.
 fn text_of<I: Input>(alloc: Global, input: &mut I) -> Result<String, Stop>
     requires { I.has_failed input.old ≡ false }
     ensures text { IfOk result (λ s. IfSome (I.remaining input.old) (λ bytes. string_bytes s ≡ bytes)) }
@@ -60,7 +60,7 @@ fn text_of<I: Input>(alloc: Global, input: &mut I) -> Result<String, Stop>
     }
 }
 
-// The document that the text is by these options.
+/// Parses the text by these options.
 fn document_of(alloc: Global, text: &str, options: ParseOptions) -> Result<DocumentMut, ParseFault>
     ensures ok { IfOk result (λ m. IsHeldOf (mode_of options) (version_of options) text.now (held m)) }
     ensures mode { IfOk result (λ m. mode_owned m ≡ mode_of options) }

@@ -1,25 +1,27 @@
-// What is wrong with the words of a command, or with what they say of the document.
+//! Why a run ends, and the mistakes that it can report.
+
+/// What is wrong with the words of a command, or with what they say of the document.
 #[derive(Clone, Copy, Debug)]
 pub enum Mistake {
-    // the words are no command
+    /// The words are no command.
     Words,
-    // PATH is no lone path
+    /// PATH is no path.
     Path,
-    // VALUE is no lone value
+    /// VALUE is no value.
     Value,
     NoSuchPath,
     WrongKind,
-    // the changed document doesn't fit
+    /// The changed document does not fit.
     Unfit,
 }
 
-// Why a run ends before it is done.
+/// Why a run ends before it is done.
 #[derive(Debug, Drop)]
 pub enum Stop {
     Mistaken(Mistake),
-    // the bytes are no text
+    /// The bytes are not UTF-8.
     NotUtf8,
-    // the text is not TOML: what is shown of the error
+    /// The text is not TOML. Holds the text of the error.
     Refused(String),
     Memory,
     ReadFailed,

@@ -1,3 +1,4 @@
+//! Reporting how a run ended.
 ghost use Rattle.std.specs.Prelude.{◌≡◌};
 ghost use Rattle.toml_edit_command.specs.Mistakes.{mistake_line};
 ghost use Rattle.toml_edit_command.specs.Run.{Tells};
@@ -6,7 +7,7 @@ ghost use Rattle.toml_edit_command.specs.Steps.{TellsStop, status_of};
 use super::stop::{Mistake, Stop};
 use toml_edit_stream::{Output, write_all};
 
-// Tells why a run stopped, and answers its status.
+/// Writes to `errors` why a run stopped, and returns its exit status.
 pub fn end<E: Output>(stop: &Stop, errors: &mut E) -> u8
     ensures status { result ≡ status_of stop.now }
     ensures told { TellsStop stop.now (E.contents errors.old) (E.contents errors.new) (E.has_failed errors.new) }
@@ -39,7 +40,7 @@ pub fn end<E: Output>(stop: &Stop, errors: &mut E) -> u8
     }
 }
 
-// What is told of a mistake.
+/// Returns the message about a mistake.
 fn mistake_text(mistake: Mistake) -> &'static str
     ensures { result.now ≡ mistake_line mistake }
 {
@@ -55,7 +56,7 @@ fn mistake_text(mistake: Mistake) -> &'static str
     }
 }
 
-// Writes what is told. A fault in that is passed over.
+/// Writes a message to `errors`. A fault in that is ignored.
 fn tell<E: Output>(errors: &mut E, text: &str)
     ensures { Tells (E.contents errors.old) (E.contents errors.new) (E.has_failed errors.new) text.now }
 {

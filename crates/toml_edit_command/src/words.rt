@@ -1,4 +1,4 @@
-// What the words of a command say.
+//! Reading the words of a command.
 ghost use Rattle.std.specs.Prelude.{◌≡◌, [], ◌∷◌, IfErr, IfOk, map, if◌then◌else◌, string_bytes};
 ghost use Rattle.toml_edit_model.specs.Mode as model;
 ghost use Rattle.toml_edit_change.specs.Changes.{names};
@@ -12,7 +12,7 @@ use super::stop::{Mistake, Stop};
 use std::alloc::Global;
 use toml_edit::{FromStrWith, Key, ParseFault, ParseOptions, Value, Version};
 
-// What is done to the document that is read.
+/// What is done to the document that is read.
 #[derive(Drop)]
 pub enum Command {
     Print,
@@ -21,7 +21,7 @@ pub enum Command {
     Remove(Vec<Key>),
 }
 
-// The words of a command, by its name.
+/// The words of a command, by its name.
 #[derive(Clone, Copy)]
 enum Form<'a> {
     Print,
@@ -31,7 +31,7 @@ enum Form<'a> {
 }
 
 impl Command {
-    // The command that the words are, and how it reads its input.
+    /// Reads the command that the words say, and how it parses its input.
     pub fn of_words(alloc: Global, words: &[String]) -> Result<(Command, ParseOptions), Stop>
         ensures said { IfOk result (λ r. Says (asked (map string_bytes words.now)) (action_of r.0)) }
         ensures mode { IfOk result (λ r. mode_of r.1 ≡ (asked (map string_bytes words.now)).mode) }
@@ -45,7 +45,7 @@ impl Command {
         }
     }
 
-    // The command that the words are, with VALUE read by these options.
+    /// Reads the command that the words say, with VALUE parsed by these options.
     fn read_by(alloc: Global, words: &[String], options: ParseOptions) -> Result<Command, Stop>
         ensures said { IfOk result (λ command. Says (asked_by options (map string_bytes words.now)) (action_of command)) }
         ensures stops { IfErr result (StopsInWords (asked_by options (map string_bytes words.now))) }
@@ -63,7 +63,7 @@ impl Command {
     }
 }
 
-// How texts are read by the words, and the words without those that say so.
+/// Splits off the words `exact` and `strict`, as options of parsing.
 fn options_of(words: &[String]) -> (ParseOptions, &[String])
     ensures { asked_by result.0 (map string_bytes result.1.now) ≡ asked (map string_bytes words.now) }
 {
@@ -73,7 +73,7 @@ fn options_of(words: &[String]) -> (ParseOptions, &[String])
     }
 }
 
-// The same of words that follow `exact`, or don't.
+/// Splits off the word `strict`, of words that follow `exact` or do not.
 fn options_in(exact: bool, words: &[String]) -> (ParseOptions, &[String])
     ensures { asked_by result.0 (map string_bytes result.1.now) ≡ asked_in (if exact then model.exact else model.plain) (map string_bytes words.now) }
 {
@@ -86,7 +86,7 @@ fn options_in(exact: bool, words: &[String]) -> (ParseOptions, &[String])
     }
 }
 
-// The words by the command's name, if they are a command.
+/// Returns the words by the command's name, if they are a command.
 fn form_of(words: &[String]) -> Option<Form<'_>>
     ensures { IsForm (map string_bytes words.now) result }
 {
@@ -98,7 +98,7 @@ fn form_of(words: &[String]) -> Option<Form<'_>>
     }
 }
 
-// A command of no operands.
+/// Returns the form of a command of no operands.
 fn form_alone(name: &str) -> Option<Form<'_>>
     ensures { IsForm (name.now ∷ []) result }
 {
@@ -108,7 +108,7 @@ fn form_alone(name: &str) -> Option<Form<'_>>
     }
 }
 
-// A command of one.
+/// Returns the form of a command of one operand.
 fn form_with_path<'a>(name: &str, path: &'a str) -> Option<Form<'a>>
     ensures { IsForm (name.now ∷ path.now ∷ []) result }
 {
@@ -119,7 +119,7 @@ fn form_with_path<'a>(name: &str, path: &'a str) -> Option<Form<'a>>
     }
 }
 
-// A command of two.
+/// Returns the form of a command of two operands.
 fn form_with_value<'a>(name: &str, path: &'a str, value: &'a str) -> Option<Form<'a>>
     ensures { IsForm (name.now ∷ path.now ∷ value.now ∷ []) result }
 {
@@ -129,7 +129,7 @@ fn form_with_value<'a>(name: &str, path: &'a str, value: &'a str) -> Option<Form
     }
 }
 
-// The keys of PATH.
+/// Parses PATH.
 fn path_of(alloc: Global, text: &str) -> Result<Vec<Key>, Stop>
     ensures spelled { IfOk result (λ keys. SpellsPath text.now (names keys.items)) }
     ensures stops { IfErr result (MayStopPath text.now) }
@@ -141,7 +141,7 @@ fn path_of(alloc: Global, text: &str) -> Result<Vec<Key>, Stop>
     }
 }
 
-// The value that VALUE is.
+/// Parses VALUE.
 fn value_of(alloc: Global, text: &str, options: ParseOptions) -> Result<Value, Stop>
     ensures spelled { IfOk result (λ value. SpellsValue (version_of options) text.now (value_view value)) }
     ensures stops { IfErr result (MayStopValue (version_of options) text.now) }

@@ -1,4 +1,4 @@
-//! Dates with times of day, and their offsets.
+//! Date-times, and their offsets from UTC.
 ghost use Rattle.std.specs.Prelude.{◌≡◌, true, option_map};
 ghost use Rattle.toml_edit_model.specs.Tree.{has_real_parts};
 ghost use Rattle.toml_edit_datetime.specs.DateView.{date_view};
@@ -10,16 +10,16 @@ use crate::time::Time;
 use std::error::Error;
 use std::fmt;
 
-/// How far a local time is from Coordinated Universal Time.
+/// The offset of a local time from Coordinated Universal Time. (TOML, "Offset Date-Time".)
 #[derive(Clone, Copy, Debug, PartialEq, Eq, Hash)]
 pub enum Offset {
     /// The offset 0, written `Z`.
     Z,
-    /// So many minutes ahead, or behind where they are negative.
+    /// An offset in minutes, positive ahead of UTC: 120 for `+02:00`, -60 for `-01:00`.
     Custom { minutes: i16 },
 }
 
-/// A text that is no date or time, or one out of range.
+/// The error of a text that is no date-time, or one out of range.
 #[derive(Clone, Copy, Debug, PartialEq, Eq, Hash)]
 pub struct DatetimeFault;
 
@@ -36,7 +36,8 @@ impl fmt::Display for DatetimeFault {
 
 impl Error for DatetimeFault {}
 
-/// A date, a time of day, or both, and then perhaps an offset of less than a day.
+/// A date, a time of day, or both, then perhaps with an offset of less than a day. (TOML, "Offset
+/// Date-Time", "Local Date-Time", "Local Date", "Local Time".)
 #[derive(Clone, Copy, Debug, PartialEq, Eq, Hash)]
 pub struct Datetime {
     date: Option<Date>,
@@ -49,8 +50,10 @@ impl Datetime {
     ghost use Rattle.std.specs.Prelude.{if◌then◌else◌, Some, None};
     ghost use Rattle.toml_edit_datetime.specs.DatetimeView.{datetime_view};
 
-    /// The date-time with these parts. `None` if there is neither a date nor a time, if there is an offset without both, or if the
-    /// offset has more than 1439 minutes either way.
+    /// Makes a date-time of its parts.
+    ///
+    /// Returns `None` if there is neither a date nor a time, if there is an offset without both, or
+    /// if the offset is more than 1439 minutes either way.
     pub fn new(date: Option<Date>, time: Option<Time>, offset: Option<Offset>) -> Option<Datetime>
         ensures { option_map datetime_view result
             ≡ (if has_real_parts (option_map date_view date) (option_map time_view time) (option_map offset_view offset)
@@ -70,21 +73,22 @@ impl Datetime {
         }
     }
 
-    /// The date.
+    /// Returns the date, or `None` if this is a time alone.
     pub fn date(&self) -> Option<Date>
         ensures { option_map date_view result ≡ (datetime_view self.now).date }
     {
         self.date
     }
 
-    /// The time of day.
+    /// Returns the time of day, or `None` if this is a date alone.
     pub fn time(&self) -> Option<Time>
         ensures { option_map time_view result ≡ (datetime_view self.now).time }
     {
         self.time
     }
 
-    /// The offset, which stands only with a date and a time.
+    /// Returns the offset, or `None` if this is a local date-time, a date or a time. A date-time
+    /// with an offset has both a date and a time.
     pub fn offset(&self) -> Option<Offset>
         ensures { option_map offset_view result ≡ (datetime_view self.now).offset }
     {
@@ -92,6 +96,7 @@ impl Datetime {
     }
 }
 
+/// Makes a date-time of a date alone.
 impl From<Date> for Datetime {
     ghost use Rattle.std.specs.Prelude.{Some, None};
     ghost use Rattle.toml_edit_datetime.specs.DatetimeView.{datetime_view};
@@ -107,6 +112,7 @@ impl From<Date> for Datetime {
     }
 }
 
+/// Makes a date-time of a time of day alone.
 impl From<Time> for Datetime {
     ghost use Rattle.std.specs.Prelude.{Some, None};
     ghost use Rattle.toml_edit_datetime.specs.DatetimeView.{datetime_view};

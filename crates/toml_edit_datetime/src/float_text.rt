@@ -14,7 +14,7 @@ use std::fmt;
 use std::hash::{Hash, Hasher};
 use std::marker::Model;
 
-// The text behind an optional sign.
+/// Returns the text after an optional sign.
 fn without_sign(text: &[u8]) -> &[u8]
     ensures { result.now ≡ spec.without_sign text.now }
 {
@@ -24,7 +24,8 @@ fn without_sign(text: &[u8]) -> &[u8]
     }
 }
 
-// The text behind decimal digits with single underscores between them, or `None` if it doesn't begin with such digits.
+/// Returns the text after decimal digits with single underscores between them, or `None` if it does
+/// not begin with such digits.
 fn after_digits(text: &[u8]) -> Option<&[u8]>
     ensures { option_copied result ≡ spec.after_digits false text.now }
 {
@@ -43,13 +44,14 @@ fn after_digits(text: &[u8]) -> Option<&[u8]>
     if after_digit { Some(&[]) } else { None }
 }
 
+/// Returns `true` if a 0 leads other digits.
 fn leads_with_zero(text: &[u8]) -> bool
     ensures { result ≡ spec.leads_with_zero text.now }
 {
     matches!(text, [b'0', b'0'..=b'9' | b'_', ..])
 }
 
-// Whether the text is `e` or `E`, an optional sign and digits.
+/// Returns `true` if the text is `e` or `E`, an optional sign and digits.
 fn is_exponent(text: &[u8]) -> bool
     ensures { result ≡ spec.is_exponent text.now }
 {
@@ -59,7 +61,7 @@ fn is_exponent(text: &[u8]) -> bool
     }
 }
 
-// Whether the text is a point and digits, an exponent, or both.
+/// Returns `true` if the text is a point and digits, an exponent, or both.
 fn is_fraction_or_exponent(text: &[u8]) -> bool
     ensures { result ≡ spec.is_fraction_or_exponent text.now }
 {
@@ -72,7 +74,7 @@ fn is_fraction_or_exponent(text: &[u8]) -> bool
     }
 }
 
-// Whether the text is digits of which no 0 leads, and a fraction, an exponent or both.
+/// Returns `true` if the text is digits without a leading 0, and a fraction, an exponent or both.
 fn is_decimal_float(text: &[u8]) -> bool
     ensures { result ≡ spec.is_decimal_float text.now }
 {
@@ -85,15 +87,17 @@ fn is_decimal_float(text: &[u8]) -> bool
     }
 }
 
-// Whether the text is `inf`, `nan` or a decimal float, without a sign.
+/// Returns `true` if the text is `inf`, `nan` or a decimal float, without a sign.
 fn is_unsigned_float(text: &[u8]) -> bool
     ensures { result ≡ spec.is_unsigned_float text.now }
 {
     text == b"inf".as_slice() || text == b"nan".as_slice() || is_decimal_float(text)
 }
 
-/// Whether the text is a TOML float: decimal digits with a fraction, an exponent or both, or `inf` or `nan`, with an optional sign.
-/// How large the number is does not matter.
+/// Returns `true` if the text is a TOML float, whatever its magnitude.
+///
+/// That is decimal digits with a fraction, an exponent or both, or `inf` or `nan`, with an optional
+/// sign. (TOML, "Float".)
 #[tactic(auto, unfolding(toml_edit_laws::specs::reading::FloatReading::is_float_text))]
 pub fn is_float(text: &str) -> bool
     ensures test { result ≡ spec.is_float_text text.now }
@@ -102,7 +106,11 @@ pub fn is_float(text: &str) -> bool
     is_unsigned_float(without_sign(text.as_bytes()))
 }
 
-/// A float as the text that spells it, as `6.626e-34`, of any magnitude. A contract sees it as that text.
+/// A float, kept as the text that spells it, such as `6.626e-34`, of any magnitude and never
+/// rounded. (TOML, "Float".)
+///
+/// Floats are equal if their texts are: `1.0` and `1.00` differ. A contract sees a float as its
+/// text.
 #[derive(Debug, Drop)]
 pub struct FloatText {
     text: String,
@@ -121,7 +129,11 @@ impl Model for FloatText {
 }
 
 impl FloatText {
-    /// The float that the text spells. A text that spells none is given back.
+    /// Makes a float of the text that spells it.
+    ///
+    /// # Errors
+    ///
+    /// Returns the text if it spells no float.
     pub fn new(text: String) -> Result<FloatText, String>
         ensures cases { IsOk result ↔ IsFloat (string_bytes text) }
         ensures ok { IfOk result (λ float. float ≡ string_bytes text) }
@@ -134,7 +146,12 @@ impl FloatText {
         }
     }
 
-    /// The float that the text spells, which is copied, or `None` if it spells none. The only error is want of memory.
+    /// Makes a float of a copy of the text that spells it, or returns `None` if the text spells
+    /// none.
+    ///
+    /// # Errors
+    ///
+    /// Fails if memory runs out.
     pub fn from_text(alloc: Global, text: &str) -> Result<Option<FloatText>, AllocError>
         ensures float { IfOk result (λ o. IsSome o ↔ IsFloat text.now) }
         ensures same { IfOk result (λ o. o ≡ (if spec.is_float_text text.now then Some text.now else None)) }
@@ -147,7 +164,7 @@ impl FloatText {
         }))
     }
 
-    /// The text.
+    /// Returns the text that spells the float.
     pub fn as_str(&self) -> &str
         ensures text { result.now ≡ self.now }
         ensures float { IsFloat self.now }
@@ -155,7 +172,11 @@ impl FloatText {
         self.text.as_str()
     }
 
-    /// An equal copy. The only error is want of memory.
+    /// Returns an equal copy.
+    ///
+    /// # Errors
+    ///
+    /// Fails if memory runs out.
     pub fn clone(&self, alloc: Global) -> Result<FloatText, AllocError>
         ensures { IfOk result (λ copy. copy ≡ self.now) }
     {

@@ -1,4 +1,4 @@
-//! Reading a date-time that is in range.
+//! Parsing date-times, and checking that they are in range.
 ghost use Rattle.std.specs.Prelude.{◌≡◌, ◌↔◌, ◌==◌, IsTrue, Some, None, is_some, if◌then◌else◌, option_map};
 ghost use Rattle.std.specs.Result.{result_ok};
 ghost use Rattle.toml_edit_model.specs.Scalars.{Datetime as DatetimeRecord, is_absent_or, is_real_date, is_real_time};
@@ -17,7 +17,8 @@ use crate::reading;
 use crate::time::Time;
 use std::str::FromStr;
 
-/// Whether a text spells a date, a time of day or both with an offset or without, in range or not.
+/// Returns `true` if the text spells a date, a time of day or both, with an offset or without, in
+/// range or not.
 pub fn is_datetime(text: &str) -> bool
     ensures spelled { IsTrue result ↔ ((d : DatetimeRecord) × SpellsDatetime d text.now) }
     ensures read { result ≡ is_some (spec.datetime_of text.now) }
@@ -25,8 +26,11 @@ pub fn is_datetime(text: &str) -> bool
     reading::read(text.as_bytes()).is_some()
 }
 
-/// Reads a date, a time of day, or both with an offset or without. Digits of a fraction past the ninth are dropped, and an offset
-/// of `-00:00` is one of 0 minutes.
+/// Parses a date, a time of day, or both, then with an offset or without.
+///
+/// Digits of a fraction after the ninth are dropped, and the offset `-00:00` is one of 0 minutes.
+/// The error is [`DatetimeFault`], of a text that spells no date-time, or one that does not exist.
+/// (TOML, "Offset Date-Time", "Local Date-Time", "Local Date", "Local Time".)
 impl FromStr for Datetime {
     ghost use Rattle.toml_edit_datetime.specs.ReadsDatetime.{ReadsDatetime};
 
@@ -39,7 +43,7 @@ impl FromStr for Datetime {
     }
 }
 
-/// The date-time that a text spells and that exists.
+/// Returns the date-time that a text spells, if it exists.
 fn real_datetime(text: &str) -> Result<Datetime, DatetimeFault>
     ensures { option_map datetime_view (result_ok result) ≡ spec.ranged_of text.now }
 {
@@ -50,7 +54,7 @@ fn real_datetime(text: &str) -> Result<Datetime, DatetimeFault>
     Datetime::new(date, time, offset).ok_or(DatetimeFault)
 }
 
-/// The date, if there is one, unless the calendar has no such day.
+/// Returns the date, if there is one. Fails if the calendar has no such day.
 fn real_date(parts: Option<DateParts>) -> Result<Option<Date>, DatetimeFault>
     ensures { option_map (option_map date_view) (result_ok result)
         ≡ (if is_absent_or is_real_date (option_map date_parts_view parts) then Some (option_map date_parts_view parts) else None) }
@@ -62,7 +66,7 @@ fn real_date(parts: Option<DateParts>) -> Result<Option<Date>, DatetimeFault>
     Ok(Some(date))
 }
 
-/// The time, if there is one, unless no day has it.
+/// Returns the time, if there is one. Fails if no day has it.
 fn real_time(parts: Option<TimeParts>) -> Result<Option<Time>, DatetimeFault>
     ensures { option_map (option_map time_view) (result_ok result)
         ≡ (if is_absent_or is_real_time (option_map time_parts_view parts) then Some (option_map time_parts_view parts) else None) }
@@ -76,7 +80,7 @@ fn real_time(parts: Option<TimeParts>) -> Result<Option<Time>, DatetimeFault>
     Ok(Some(time))
 }
 
-/// The offset, if there is one, unless its hours or minutes are not those of a day.
+/// Returns the offset, if there is one. Fails if its hours or minutes are not those of a day.
 fn real_offset(parts: Option<OffsetParts>) -> Result<Option<Offset>, DatetimeFault>
     ensures { option_map (option_map offset_view) (result_ok result)
         ≡ (if is_absent_or (λ o. o.is_real) (option_map offset_parts_view parts) then Some (option_map (λ o. o.offset) (option_map offset_parts_view parts)) else None) }

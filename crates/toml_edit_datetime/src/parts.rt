@@ -2,7 +2,7 @@
 
 use crate::datetime::Offset;
 
-/// What `YYYY-MM-DD` writes.
+/// The fields of `YYYY-MM-DD`.
 #[derive(Clone, Copy)]
 pub(crate) struct DateParts {
     pub(crate) year: u16,
@@ -10,7 +10,7 @@ pub(crate) struct DateParts {
     pub(crate) day: u8,
 }
 
-/// What `hh:mm`, `hh:mm:ss` or that with a fraction writes.
+/// The fields of `hh:mm`, of `hh:mm:ss`, or of that with a fraction.
 #[derive(Clone, Copy)]
 pub(crate) struct TimeParts {
     pub(crate) hour: u8,

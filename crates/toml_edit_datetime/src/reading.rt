@@ -1,4 +1,5 @@
-//! Reading a date-time. Each function here reads a part from the front of the text, and gives it with the rest.
+//! Reading a date-time from its bytes. Most functions here split a part off the front of the text,
+//! and return it with the rest.
 ghost use Rattle.std.specs.Prelude.{◌≡◌, ℕ, ◌<◌, ◌≤◌, true, length, is_some, slice_index, IfSome, option_map};
 ghost use Rattle.std.specs.List.{prefix_len};
 ghost use Rattle.std.specs.Option.{option_copied};
@@ -10,7 +11,7 @@ ghost use Rattle.toml_edit_datetime.specs.PartsView.{date_parts_view, time_parts
 use crate::datetime::Offset;
 use crate::parts::{DateParts, OffsetParts, Parts, TimeParts};
 
-/// What a text reads as that is a date-time, in range or not.
+/// Reads a text that is a date-time, in range or not.
 #[tactic(auto, unfolding(toml_edit_laws::specs::reading::DatetimeReading::parts_of))]
 pub(crate) fn read(text: &[u8]) -> Option<Parts>
     ensures { option_map parts_view result ≡ spec.parts_of text.now }
@@ -27,7 +28,7 @@ pub(crate) fn read(text: &[u8]) -> Option<Parts>
     after_date(date, rest)
 }
 
-/// What follows a date: nothing, or a time and perhaps an offset.
+/// Reads what follows a date: nothing, or a time and perhaps an offset.
 #[tactic(auto, unfolding(toml_edit_laws::specs::reading::DatetimeReading::after_date))]
 fn after_date(date: DateParts, text: &[u8]) -> Option<Parts>
     ensures { option_map parts_view result ≡ spec.after_date (date_parts_view date) text.now }
@@ -55,6 +56,7 @@ fn after_date(date: DateParts, text: &[u8]) -> Option<Parts>
     })
 }
 
+/// Reads `YYYY-MM-DD`.
 #[tactic(auto, unfolding(toml_edit_laws::specs::reading::DatetimeReading::date_at))]
 fn read_date(text: &[u8]) -> Option<(DateParts, &[u8])>
     ensures { read_as date_parts_view result ≡ spec.date_at text.now }
@@ -71,6 +73,7 @@ fn read_date(text: &[u8]) -> Option<(DateParts, &[u8])>
     Some((date, rest))
 }
 
+/// Reads `hh:mm`, and then perhaps `:ss` and a fraction.
 #[tactic(auto, unfolding(toml_edit_laws::specs::reading::DatetimeReading::time_at))]
 fn read_time(text: &[u8]) -> Option<(TimeParts, &[u8])>
     ensures { read_as time_parts_view result ≡ spec.time_at text.now }
@@ -86,7 +89,7 @@ fn read_time(text: &[u8]) -> Option<(TimeParts, &[u8])>
     Some((time, rest))
 }
 
-/// `hh:mm`.
+/// Reads `hh:mm`.
 #[tactic(auto, unfolding(toml_edit_laws::specs::reading::DatetimeReading::clock_at))]
 fn read_clock(text: &[u8]) -> Option<((u8, u8), &[u8])>
     ensures value { read_of result ≡ spec.clock_at text.now }
@@ -97,7 +100,7 @@ fn read_clock(text: &[u8]) -> Option<((u8, u8), &[u8])>
     Some(((hour, minute), rest))
 }
 
-/// Nothing, or `:ss` and perhaps a fraction.
+/// Reads nothing, or `:ss` and perhaps a fraction.
 #[tactic(auto, unfolding(toml_edit_laws::specs::reading::DatetimeReading::seconds_at))]
 fn read_seconds(text: &[u8]) -> Option<((Option<u8>, Option<u32>), &[u8])>
     ensures { read_of result ≡ spec.seconds_at text.now }
@@ -113,7 +116,7 @@ fn read_seconds(text: &[u8]) -> Option<((Option<u8>, Option<u32>), &[u8])>
     Some(((Some(second), Some(nanosecond)), rest))
 }
 
-/// The digits behind a point, as nanoseconds.
+/// Reads the digits after a point, as nanoseconds.
 #[tactic(auto, unfolding(toml_edit_laws::specs::reading::DatetimeReading::fraction_at))]
 fn read_fraction(text: &[u8]) -> Option<(u32, &[u8])>
     ensures { read_of result ≡ spec.fraction_at text.now }
@@ -126,7 +129,7 @@ fn read_fraction(text: &[u8]) -> Option<(u32, &[u8])>
     Some((nanoseconds_of(digits), rest))
 }
 
-/// The number of nine digits: the first of these, and then zeros.
+/// Returns the number of nine digits: the first of these, and then zeros.
 fn nanoseconds_of(digits: &[u8]) -> u32
     requires { (k : ℕ) → k < length digits.now → is_ascii_digit (slice_index digits.now k) ≡ true }
     ensures { result ≡ nanoseconds digits.now }
@@ -142,6 +145,7 @@ fn nanoseconds_of(digits: &[u8]) -> u32
     value
 }
 
+/// Returns the number of decimal digits at the front.
 fn digits_len(text: &[u8]) -> usize
     ensures len { result ≡ prefix_len is_ascii_digit text.now }
     ensures within { result ≤ length text.now }
@@ -150,7 +154,7 @@ fn digits_len(text: &[u8]) -> usize
     text.iter().take_while(|b| b.is_ascii_digit()).count()
 }
 
-/// `Z`, `z`, or a sign and `hh:mm`.
+/// Reads `Z`, `z`, or a sign and `hh:mm`.
 #[tactic(auto, unfolding(toml_edit_laws::specs::reading::DatetimeReading::offset_at))]
 fn read_offset(text: &[u8]) -> Option<(OffsetParts, &[u8])>
     ensures { read_as offset_parts_view result ≡ spec.offset_at text.now }
@@ -177,7 +181,7 @@ fn read_offset(text: &[u8]) -> Option<(OffsetParts, &[u8])>
     }
 }
 
-/// So many minutes, written by these hours and minutes.
+/// Makes an offset of so many minutes, written by these hours and minutes.
 fn shift(all: i16, hours: u8, minutes: u8) -> OffsetParts
     ensures { offset_parts_view result ≡ spec.shift_parts all hours minutes }
 {
@@ -187,6 +191,7 @@ fn shift(all: i16, hours: u8, minutes: u8) -> OffsetParts
     }
 }
 
+/// Reads two decimal digits.
 #[tactic(auto, unfolding(toml_edit_laws::specs::reading::DatetimeReading::two_at))]
 fn two_digits(text: &[u8]) -> Option<(u8, &[u8])>
     ensures value { read_of result ≡ spec.two_at text.now }
@@ -200,6 +205,7 @@ fn two_digits(text: &[u8]) -> Option<(u8, &[u8])>
     }
 }
 
+/// Returns the text after this byte at the front.
 fn after_byte(text: &[u8], byte: u8) -> Option<&[u8]>
     ensures { option_copied result ≡ spec.after_byte byte text.now }
 {
@@ -209,6 +215,7 @@ fn after_byte(text: &[u8], byte: u8) -> Option<&[u8]>
     }
 }
 
+/// Returns what was read if nothing is left.
 fn whole<T: Copy>(read: Option<(T, &[u8])>) -> Option<T>
     ensures { result ≡ spec.whole (read_of read.entry) }
 {

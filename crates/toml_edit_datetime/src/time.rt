@@ -2,7 +2,8 @@
 ghost use Rattle.std.specs.Prelude.{◌≡◌, true};
 ghost use Rattle.toml_edit_model.specs.Scalars.{is_real_time};
 
-/// A time of day. A fraction of a second stands only with a second, which may be 60.
+/// A time of day, to the nanosecond. The second may be missing, and may be 60. (TOML, "Local
+/// Time".)
 #[derive(Clone, Copy, Debug, PartialEq, Eq, Hash)]
 pub struct Time {
     hour: u8,
@@ -16,8 +17,10 @@ impl Time {
     ghost use Rattle.std.specs.Prelude.{if◌then◌else◌, Some, None, option_map};
     ghost use Rattle.toml_edit_datetime.specs.TimeView.{time_view};
 
-    /// The time with these parts. `None` if the hour is above 23, the minute above 59, the second above 60 or the nanosecond above
-    /// 999,999,999, or if there is a nanosecond and no second.
+    /// Makes a time of its parts.
+    ///
+    /// Returns `None` if the hour is above 23, the minute above 59, the second above 60 or the
+    /// nanosecond above 999,999,999, or if there is a nanosecond but no second.
     pub fn new(hour: u8, minute: u8, second: Option<u8>, nanosecond: Option<u32>) -> Option<Time>
         ensures { option_map time_view result
             ≡ (if is_real_time (record { hour = hour; minute = minute; second = second; nanosecond = nanosecond })
@@ -40,28 +43,29 @@ impl Time {
         }
     }
 
-    /// The hour, from 0 to 23.
+    /// Returns the hour, from 0 to 23.
     pub fn hour(&self) -> u8
         ensures { result ≡ (time_view self.now).hour }
     {
         self.hour
     }
 
-    /// The minute, from 0 to 59.
+    /// Returns the minute, from 0 to 59.
     pub fn minute(&self) -> u8
         ensures { result ≡ (time_view self.now).minute }
     {
         self.minute
     }
 
-    /// The second, from 0 to 60.
+    /// Returns the second, from 0 to 60, or `None` if the time was written without one (`07:30`).
     pub fn second(&self) -> Option<u8>
         ensures { result ≡ (time_view self.now).second }
     {
         self.second
     }
 
-    /// The nanosecond within the second, below 1,000,000,000.
+    /// Returns the nanosecond within the second, below 1,000,000,000, or `None` if the time has no
+    /// fraction of a second.
     pub fn nanosecond(&self) -> Option<u32>
         ensures { result ≡ (time_view self.now).nanosecond }
     {

@@ -1,4 +1,4 @@
-//! The excerpt of a text that is shown with an error.
+//! Writing the excerpt of a text that an error shows.
 ghost use Rattle.std.specs.Prelude.{◌≡◌, ◌≤◌, ◌+◌, ◌++◌, Some, codes, decimal, length, replicate, slice_index};
 ghost use Rattle.std.specs.Fmt.{WritesOnOk};
 ghost use Rattle.toml_edit_model.specs.Excerpt.{excerpt_at, spaces};
@@ -89,7 +89,7 @@ fn write_repeated<W: Write>(f: &mut Formatter<W>, character: &str, count: usize)
     Ok(())
 }
 
-/// How many digits a number has.
+/// Returns the number of decimal digits of a number.
 fn digit_count(number: usize) -> usize
     ensures digits { result ≡ length (decimal number) }
     ensures bound { result ≤ 20 }

@@ -1,4 +1,4 @@
-//! The error of a text that is refused.
+//! The error of a text that is refused, and the excerpt of the text that it shows.
 #![tactic(auto)]
 
 mod excerpt;

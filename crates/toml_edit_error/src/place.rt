@@ -1,4 +1,4 @@
-//! Where in a text a span begins, and what of its line is marked.
+//! Finding the line and the column of a span, and what of the line is marked.
 ghost use Rattle.std.specs.Prelude.{◌≡◌, ◌+◌, ◌-◌, ◌≤◌, ◌==◌, ◌++◌, max, min, suc, count_by, drop, length, take};
 ghost use Rattle.std.specs.Str.{IsCharBoundary};
 ghost use Rattle.toml_edit_model.specs.Excerpt.{characters, last_line_size, line_at, position_in};
@@ -8,23 +8,24 @@ ghost use Rattle.toml_edit_error.specs.Place.{cut_of};
 
 use memchr::{memchr, memrchr};
 
-/// The line that a span begins in, cut in two, and how many characters are marked from there on.
+/// The line that a span begins in, cut where it begins, and the number of characters that are
+/// marked.
 #[derive(Drop)]
 pub struct Place<'a> {
     /// The number of the line, from 1.
     pub line: usize,
-    /// The number of the first character that is marked, from 1.
+    /// The number of the first marked character in its line, from 1.
     pub column: usize,
     /// The line up to the cut.
     pub before: &'a str,
     /// The line from the cut on, without its newline.
     pub after: &'a str,
-    /// How many characters are marked, at least one.
+    /// The number of marked characters, at least one.
     pub marks: usize,
 }
 
 impl<'a> Place<'a> {
-    /// Where a span begins.
+    /// Finds the line and the column of the bytes of the text from `start` up to `end`.
     pub fn of(text: &'a str, start: usize, end: usize) -> Place<'a>
         requires start { IsCharBoundary text.now start }
         requires end { IsCharBoundary text.now end }
@@ -37,7 +38,7 @@ impl<'a> Place<'a> {
     {
         let cut = cut(text, start);
         let (head, tail) = text.split_at(cut);
-        // At the end of the text, the place is behind the last character.
+        // A place at the end of the text is one column after the last character.
         let past = usize::from(cut < start);
         let before = last_line(head);
         let after = first_line(tail);
@@ -52,7 +53,7 @@ impl<'a> Place<'a> {
     }
 }
 
-/// The place itself, or where the last character begins if the place is the end of a text.
+/// Returns the place, or where the last character begins if the place is the end of a text.
 fn cut(text: &str, place: usize) -> usize
     requires { IsCharBoundary text.now place }
     ensures boundary { IsCharBoundary text.now result }
@@ -65,14 +66,14 @@ fn cut(text: &str, place: usize) -> usize
     }
 }
 
-/// How many characters a text has.
+/// Returns the number of characters of a text.
 fn char_count(text: &str) -> usize
     ensures { result ≡ characters text.now }
 {
     text.chars().count()
 }
 
-/// How many newlines a text has.
+/// Returns the number of newlines of a text.
 fn newline_count(text: &str) -> usize
     ensures { result ≡ count_by (λ c. c == line_feed) text.now }
 {
@@ -82,7 +83,7 @@ fn newline_count(text: &str) -> usize
         .count()
 }
 
-/// What stands after the last newline.
+/// Returns the text after the last newline.
 fn last_line(text: &str) -> &str
     ensures { result.now ≡ drop (length text.now - last_line_size text.now) text.now }
 {
@@ -92,7 +93,7 @@ fn last_line(text: &str) -> &str
     }
 }
 
-/// What stands before the first newline.
+/// Returns the text before the first newline.
 fn first_line(text: &str) -> &str
     ensures { result.now ≡ first_line_of text.now }
 {

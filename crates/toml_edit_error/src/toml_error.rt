@@ -1,4 +1,4 @@
-//! What is wrong with a text, and where.
+//! Errors of parsing.
 ghost use Rattle.std.specs.Prelude.{◌≡◌, ◌↔◌, IfOk, IsTrue, option_map, string_bytes};
 ghost use Rattle.toml_edit_error.specs.Fault.{IfToml};
 ghost use Rattle.toml_edit_error.specs.Report.{SpanIsIn};
@@ -11,14 +11,28 @@ use std::hash::{Hash, Hasher};
 use std::marker::Model;
 use std::ops::Range;
 
-/// Why a text is refused: a message, mostly with the span that it is about. It owns its input text.
+/// The error of a text that is refused: a message, mostly with the span that it is about.
+///
+/// It owns a copy of the text, of which `Display` shows the line with the span marked below it.
+/// docs/ERRORS.md lists the messages.
+///
+/// # Examples
+///
+/// ```rust,ignore
+/// match DocumentMut::from_str(alloc, text) {
+///     Ok(_document) => Ok(String::new(alloc)),
+///     Err(fault) => fault.to_string(alloc),
+/// }
+/// ```
+///
+/// From `report` of the guide, docs/GUIDE.md.
 #[derive(Debug)]
 pub struct TomlError {
-    // In a box, so that the answer of a call that mostly succeeds isn't larger for what it says where it doesn't.
+    // In a box, so that the result of a call that mostly succeeds is no larger for its error.
     parts: Box<Parts>,
 }
 
-// By hand, so that who lets go of an error, in whichever crate, has one call to prove.
+// By hand, so that a crate that drops an error proves one call.
 impl Drop for TomlError {
     fn drop(self) {
         let TomlError { parts } = self;
@@ -26,6 +40,7 @@ impl Drop for TomlError {
     }
 }
 
+/// The parts of an error, which are boxed.
 #[derive(Debug, Drop)]
 struct Parts {
     message: String,
@@ -45,7 +60,11 @@ impl Model for TomlError {
 }
 
 impl TomlError {
-    /// An error with a message about the bytes of `input` in the span, if it has one. The only error is want of memory.
+    /// Makes an error of a message about the bytes of `input` in the span, if there is one.
+    ///
+    /// # Errors
+    ///
+    /// Fails if memory runs out.
     pub fn new(
         alloc: Global,
         message: String,
@@ -65,14 +84,18 @@ impl TomlError {
         })
     }
 
-    /// What is wrong.
+    /// Returns the message, without the excerpt of the text.
+    ///
+    /// For both, use `Display`.
     pub fn message(&self) -> &str
         ensures { result.now ≡ self.now.message }
     {
         self.parts.message.as_str()
     }
 
-    /// The bytes of the input that the message is about, on the boundaries of characters. `None` if it is about no place.
+    /// Returns the bytes of the text that the message is about, or `None` if it is about no place.
+    ///
+    /// The span lies in the text, and begins and ends between characters.
     pub fn span(&self) -> Option<Range<usize>>
         ensures span { option_map (λ r. (r.start, r.end)) result ≡ self.now.span }
         ensures within { ∥ SpanIsIn self.now.input self.now.span ∥₁ }
@@ -80,7 +103,11 @@ impl TomlError {
         self.parts.span.map(|(start, end)| start..end)
     }
 
-    /// An equal copy: its message, its span and its text. The only error is want of memory.
+    /// Returns an equal copy, with its message, its span and its text.
+    ///
+    /// # Errors
+    ///
+    /// Fails if memory runs out.
     pub fn clone(&self, alloc: Global) -> Result<TomlError, AllocError>
         ensures { IfOk result (λ copy. copy ≡ self.now) }
     {
@@ -93,7 +120,7 @@ impl TomlError {
     }
 }
 
-/// Two errors are equal if their messages, their spans and their texts are.
+/// Compares messages, spans and texts.
 impl PartialEq for TomlError {
     ghost use Rattle.toml_edit_error.specs.Sameness.{same_report};
     ghost use Rattle.toml_edit_error.specs.SamenessLaws.{same_report_partial_equiv};
@@ -159,12 +186,12 @@ impl fmt::Display for TomlError {
 
 impl Error for TomlError {}
 
-/// Why a call that reads a text gives no value.
+/// The error of a call that parses a text. See the example of [`TomlError`].
 #[derive(Debug, Drop)]
 pub enum ParseFault {
     /// The text is refused.
     Toml(TomlError),
-    /// No memory was left.
+    /// Memory ran out.
     Memory,
 }
 
@@ -185,6 +212,7 @@ impl fmt::Display for ParseFault {
 
 impl Error for ParseFault {}
 
+/// Returns `ParseFault::Memory`, so that `?` passes on that memory ran out.
 impl From<AllocError> for ParseFault {
     ghost use Rattle.std.specs.Prelude.{◌≡◌};
     ghost use Rattle.toml_edit_error.specs.declared.toml_error.ParseFault.TheVariants.{Memory};
@@ -196,6 +224,7 @@ impl From<AllocError> for ParseFault {
     }
 }
 
+/// Returns `ParseFault::Memory`, and drops what found no memory.
 impl<T: Drop> From<AllocFailed<T>> for ParseFault {
     ghost use Rattle.std.specs.Prelude.{◌≡◌};
     ghost use Rattle.toml_edit_error.specs.declared.toml_error.ParseFault.TheVariants.{Memory};
@@ -207,7 +236,11 @@ impl<T: Drop> From<AllocFailed<T>> for ParseFault {
     }
 }
 
-/// The fault of a text that is refused with a message about the bytes in the span, if it has one. Text and message are copied.
+/// Returns the fault of a text that is refused with a message about the bytes in the span, if there
+/// is one.
+///
+/// The error holds copies of text and message. If memory runs out for them, it is
+/// `ParseFault::Memory`.
 pub fn refusal(alloc: Global, text: &str, message: &str, span: Option<(usize, usize)>) -> ParseFault
     requires { ∥ SpanIsIn text.now span ∥₁ }
     ensures { IfToml result (λ r. r ≡ record { message = message.now; span = span; input = text.now }) }
@@ -218,6 +251,7 @@ pub fn refusal(alloc: Global, text: &str, message: &str, span: Option<(usize, us
     }
 }
 
+/// Makes an error of copies of text and message. Fails if memory runs out.
 fn error(
     alloc: Global,
     text: &str,

@@ -1,4 +1,4 @@
-//! Whether a document fits.
+//! The check of a whole document.
 ghost use Rattle.std.specs.Prelude.{◌≡◌, ◌↔◌, IsTrue, None, is_some};
 ghost use Rattle.toml_edit_model.specs.Fits.{FitsIn};
 ghost use Rattle.toml_edit_model.specs.Tree.{SlotsAreWellMade};
@@ -12,7 +12,7 @@ use crate::table::parts_fit;
 use toml_edit_repr::{Mode, RawString};
 use toml_edit_tree::Table;
 
-/// The marks before the tables below the root.
+/// Returns the marks before the tables below the root.
 fn root_marks(root: &Table) -> Marks
     ensures { result ≡ tests.root_marks (fields_view root.now) }
 {
@@ -27,20 +27,20 @@ fn root_marks(root: &Table) -> Marks
     }
 }
 
-/// Whether each element's headers, its own first, stand before the next element's.
+/// Returns `true` if each element's headers, its own first, come before the next element's.
 fn headers_are_ordered(root: &Table) -> bool
     ensures { result ≡ is_some (tests.order_slots None (tests.root_marks (fields_view root.now)) (table_slots root.now)) }
 {
     order_slots(None, root_marks(root), &root.slots).is_some()
 }
 
-/// Whether the document with this root and this trailing text fits in the mode: what is printed around keys, values and headers suits its
-/// place, neither the root nor an element of an array of tables is dotted, the headers of each element stand before those of the next, and
-/// paths and values are within the limits. It takes no memory, and time by the size of the tree.
+/// Returns `true` if the document with this root and this trailing text fits in the mode.
+///
+/// See `DocumentMut::fits`. Takes no memory, and time linear in the size of the tree.
 #[doc(hidden)]
 pub fn tree_fits(mode: Mode, root: &Table, trailing: &RawString) -> bool
     ensures fits { IsTrue result ↔ FitsIn (mode_of mode) (tree_view root.now trailing.now) }
-    // The tree is well made, as its types see to it.
+    // The tree is well made, as its types ensure.
     ensures made { ∥ SlotsAreWellMade (table_slots root.now) ∥₁ }
 {
     see_table(root);

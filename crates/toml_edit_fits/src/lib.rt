@@ -1,4 +1,4 @@
-//! Whether a document fits: whether its print is accepted with the meaning that the tree shows.
+//! Checking whether a document fits: whether its print is accepted and means what the tree shows.
 #![tactic(auto)]
 
 mod fits;

@@ -1,5 +1,8 @@
-//! What the types of a tree see to, in every item, also one that isn't printed: distinct keys in each table, true spellings, and scalars
-//! in range. What a type keeps of its fields is told only where a value of it is opened, so the walk opens each, and does nothing else.
+//! A walk that shows that a tree is well made: distinct keys in each table, true spellings, and
+//! scalars in range, in every item, printed or not.
+//!
+//! A type's invariant is known only where a value of it is opened, so the walk opens each, and does
+//! nothing else.
 ghost use Rattle.std.specs.Prelude.{◌≡◌, true, string_bytes};
 ghost use Rattle.toml_edit_datetime.specs.DatetimeView.{datetime_view};
 ghost use Rattle.toml_edit_model.specs.Scalars.{string, integer, float, boolean, datetime, fits_integer};
@@ -11,14 +14,15 @@ use toml_edit_repr::Formatted;
 use toml_edit_slots::Slots;
 use toml_edit_tree::{Item, Table, Value};
 
-/// Goes over the slots of a table, and all below them. It takes no memory, and time by the size of the tree.
+/// Walks over the slots of a table, and all below them. Takes no memory, and time linear in their
+/// size.
 pub(crate) fn see_table(table: &Table)
     ensures { ∥ SlotsAreWellMade (table_slots table.now) ∥₁ }
 {
     see_slots(&table.slots);
 }
 
-/// The same of slots.
+/// Walks over slots.
 #[cycle(made)]
 fn see_slots(slots: &Slots<Item>)
     ensures { ∥ SlotsAreWellMade (slots_view slots.now) ∥₁ }
@@ -30,7 +34,7 @@ fn see_slots(slots: &Slots<Item>)
     }
 }
 
-/// The same of the items of an array, or of an array of tables.
+/// Walks over the items of an array, or of an array of tables.
 #[cycle(made)]
 fn see_items(items: &Vec<Item>)
     ensures { ∥ ItemsAreWellMade (items_view items.now.items) ∥₁ }
@@ -40,7 +44,7 @@ fn see_items(items: &Vec<Item>)
     }
 }
 
-/// The same of an item.
+/// Walks over an item.
 #[cycle(made)]
 fn see_item(item: &Item)
     ensures { ∥ IsWellMade (item_view item.now) ∥₁ }
@@ -53,7 +57,7 @@ fn see_item(item: &Item)
     }
 }
 
-/// The same of a value.
+/// Walks over a value.
 #[cycle(made)]
 fn see_value(value: &Value)
     ensures { ∥ IsWellMade (value_view value.now) ∥₁ }
@@ -69,42 +73,42 @@ fn see_value(value: &Value)
     }
 }
 
-/// A string.
+/// Opens a string.
 fn see_string(scalar: &Formatted<String>)
     ensures { ∥ IsWellMade (leaf (string (string_bytes scalar.now.value)) scalar.now.repr scalar.now.decor) ∥₁ }
 {
     let _value = scalar.value();
 }
 
-/// An integer.
+/// Opens an integer.
 fn see_integer(scalar: &Formatted<i64>)
     ensures { ∥ IsWellMade (leaf (integer scalar.now.value) scalar.now.repr scalar.now.decor) ∥₁ }
 {
     see_number(*scalar.value());
 }
 
-/// The number of an integer, by value, so that its range is known.
+/// Takes the number of an integer by value, so that its range is known.
 fn see_number(value: i64)
     ensures { fits_integer value ≡ true }
 {
     let _value = value;
 }
 
-/// A float.
+/// Opens a float.
 fn see_float(scalar: &Formatted<FloatText>)
     ensures { ∥ IsWellMade (leaf (float scalar.now.value) scalar.now.repr scalar.now.decor) ∥₁ }
 {
     let _text = scalar.value().as_str();
 }
 
-/// A truth value.
+/// Opens a boolean.
 fn see_boolean(scalar: &Formatted<bool>)
     ensures { ∥ IsWellMade (leaf (boolean scalar.now.value) scalar.now.repr scalar.now.decor) ∥₁ }
 {
     let _value = scalar.value();
 }
 
-/// A date, a time, or both.
+/// Opens a date, a time, or both.
 fn see_datetime(scalar: &Formatted<Datetime>)
     ensures { ∥ IsWellMade (leaf (datetime (datetime_view scalar.now.value)) scalar.now.repr scalar.now.decor) ∥₁ }
 {

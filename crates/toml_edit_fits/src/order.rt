@@ -1,4 +1,5 @@
-//! Whether the headers of elements stand in order: an element's own before all below it, and all of these before the next element's.
+//! Checking that the headers of elements are in order: an element's own before all below it, and
+//! all of these before the next element's.
 ghost use Rattle.std.specs.Prelude.{◌≡◌};
 ghost use Rattle.toml_edit_tree.specs.View.{fields_view, item_view, items_view, slots_view, table_slots};
 ghost use Rattle.toml_edit_fits.specs.OrderTests as tests;
@@ -7,14 +8,15 @@ use crate::table::has_header;
 use toml_edit_slots::Slots;
 use toml_edit_tree::{Item, Table};
 
-/// A walk over the tables: the position last seen, and the latest place of a header so far in the array of tables that the walk is in.
+/// The state of a walk over the tables: the position last seen, and the latest place of a header so
+/// far in the array of tables that the walk is in.
 #[derive(Clone, Copy)]
 pub(crate) struct Marks {
     pub(crate) seen: isize,
     pub(crate) highest: Option<isize>,
 }
 
-/// Whether the place is not before this one, if there is one.
+/// Returns `true` if the place is not before this one, if there is one.
 fn reaches(low: Option<isize>, place: isize) -> bool
     ensures { result ≡ tests.reaches low place }
 {
@@ -24,7 +26,7 @@ fn reaches(low: Option<isize>, place: isize) -> bool
     }
 }
 
-/// The later one of two places, if there are two.
+/// Returns the later of two places, if there are two.
 fn later(high: Option<isize>, place: isize) -> Option<isize>
     ensures { result ≡ tests.later high place }
 {
@@ -40,7 +42,7 @@ fn later(high: Option<isize>, place: isize) -> Option<isize>
     }
 }
 
-/// The later one of two places, of those that there are.
+/// Returns the later of two places, of those that there are.
 fn latest(high: Option<isize>, other: Option<isize>) -> Option<isize>
     ensures { result ≡ tests.latest high other }
 {
@@ -50,15 +52,15 @@ fn latest(high: Option<isize>, other: Option<isize>) -> Option<isize>
     }
 }
 
-/// The place of a table, where it isn't dotted: its position, or the one last seen.
+/// Returns the place of a table that is not dotted: its position, or the one last seen.
 fn place_in(marks: Marks, table: &Table) -> isize
     ensures { result ≡ tests.place_in marks (fields_view table.now) }
 {
     table.position().unwrap_or(marks.seen)
 }
 
-/// One more table is entered, in an element whose header has the place `low`, if it is in one. `None` where its header is too late, or is
-/// before one that it has to follow.
+/// Enters a table, in an element whose header has the place `low`, if it is in one. Returns `None`
+/// if its header is too late, or comes before one that it has to follow.
 fn enter(is_element: bool, low: Option<isize>, marks: Marks, table: &Table) -> Option<Marks>
     ensures { result ≡ tests.enter is_element low marks (fields_view table.now) (table_slots table.now) }
 {
@@ -82,7 +84,7 @@ fn enter(is_element: bool, low: Option<isize>, marks: Marks, table: &Table) -> O
     }
 }
 
-/// The place that the headers below a table may not be before, if there is one.
+/// Returns the place that the headers below a table may not come before, if there is one.
 fn first_below(is_element: bool, low: Option<isize>, marks: Marks, table: &Table) -> Option<isize>
     ensures { result ≡ tests.first_below is_element low marks (fields_view table.now) }
 {
@@ -93,7 +95,7 @@ fn first_below(is_element: bool, low: Option<isize>, marks: Marks, table: &Table
     }
 }
 
-/// The marks behind the tables below these slots, or `None` where a header isn't in order.
+/// Returns the marks after the tables below these slots, or `None` if a header is not in order.
 #[cycle(order)]
 pub(crate) fn order_slots(low: Option<isize>, marks: Marks, slots: &Slots<Item>) -> Option<Marks>
     ensures { result ≡ tests.order_slots low marks (slots_view slots.now) }
@@ -106,7 +108,7 @@ pub(crate) fn order_slots(low: Option<isize>, marks: Marks, slots: &Slots<Item>)
     Some(last)
 }
 
-/// The same of a slot: the table in it, or the elements, and the tables below.
+/// Returns the marks after the table or the elements of a slot, and the tables below them.
 #[cycle(order)]
 fn order_node(low: Option<isize>, marks: Marks, item: &Item) -> Option<Marks>
     ensures { result ≡ tests.order_node low marks (item_view item.now) }
@@ -131,7 +133,7 @@ fn order_node(low: Option<isize>, marks: Marks, item: &Item) -> Option<Marks>
     }
 }
 
-/// The same of the elements of an array of tables.
+/// Returns the marks after the elements of an array of tables.
 #[cycle(order)]
 fn order_items(low: Option<isize>, marks: Marks, items: &Vec<Item>) -> Option<Marks>
     ensures { result ≡ tests.order_items low marks (items_view items.now.items) }
@@ -143,7 +145,7 @@ fn order_items(low: Option<isize>, marks: Marks, items: &Vec<Item>) -> Option<Ma
     Some(last)
 }
 
-/// The same of an item of an array of tables. One that is no table is passed over.
+/// Returns the marks after an item of an array of tables. One that is no table is skipped.
 #[cycle(order)]
 fn order_item(low: Option<isize>, marks: Marks, item: &Item) -> Option<Marks>
     ensures { result ≡ tests.order_item low marks (item_view item.now) }

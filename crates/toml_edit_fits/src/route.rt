@@ -1,4 +1,4 @@
-//! The keys of a path, one after the other, and what stands around a key and its value.
+//! Checking the keys of a path, one after the other, and the decor around a key and its value.
 ghost use Rattle.std.specs.Prelude.{◌≡◌};
 ghost use Rattle.toml_edit_repr.specs.Modes.{mode_of};
 ghost use Rattle.toml_edit_fits.specs.FitTests as tests;
@@ -10,15 +10,15 @@ use toml_edit_repr::{Decor, Mode};
 /// The most keys in a path, and the most brackets that are open at once.
 pub(crate) const NESTING_LIMIT: usize = 80;
 
-/// The keys before a key in its path: how many more the path may have, and whether those before are short enough, with white space alone
-/// at their dots.
+/// The keys before a key in its path: how many more the path may have, and whether those before are
+/// few enough, with whitespace alone beside their dots.
 #[derive(Clone, Copy)]
 pub(crate) struct Route {
     pub(crate) room: usize,
     pub(crate) fits: bool,
 }
 
-/// No keys.
+/// Returns the route of no keys.
 pub(crate) fn no_keys() -> Route
     ensures { result ≡ tests.no_keys }
 {
@@ -28,7 +28,7 @@ pub(crate) fn no_keys() -> Route
     }
 }
 
-/// Whether the key may end the path.
+/// Returns `true` if the key may end the path.
 pub(crate) fn key_fits(mode: Mode, route: Route, key: &Key) -> bool
     ensures { result ≡ tests.key_fits (mode_of mode) route key.now }
 {
@@ -37,7 +37,7 @@ pub(crate) fn key_fits(mode: Mode, route: Route, key: &Key) -> bool
         && (route.room == NESTING_LIMIT || is_white(mode, key.dotted_decor().prefix()))
 }
 
-/// The path with one more key, before another.
+/// Returns the path with one more key, before another.
 pub(crate) fn then_key(mode: Mode, route: Route, key: &Key) -> Route
     ensures { result ≡ tests.then_key (mode_of mode) route key.now }
 {
@@ -47,8 +47,8 @@ pub(crate) fn then_key(mode: Mode, route: Route, key: &Key) -> Route
     }
 }
 
-/// Whether what stands behind a value suits its place, where so many more brackets may be opened: trivia in brackets, and elsewhere the end
-/// of a line.
+/// Returns `true` if the suffix of a value suits its place, where so many more brackets may be
+/// opened: trivia in brackets, else the end of a line.
 fn may_follow(mode: Mode, room: usize, decor: &Decor) -> bool
     ensures { result ≡ tests.may_follow (mode_of mode) room decor.now }
 {
@@ -59,7 +59,8 @@ fn may_follow(mode: Mode, room: usize, decor: &Decor) -> bool
     }
 }
 
-/// Whether what stands around a key and its value, of this decor, suits its place, and the path is short enough.
+/// Returns `true` if the decor around a key and its value suits its place, and the path has few
+/// enough keys.
 pub(crate) fn pair_fits(mode: Mode, room: usize, route: Route, key: &Key, decor: &Decor) -> bool
     ensures { result ≡ tests.pair_fits (mode_of mode) room route key.now decor.now }
 {
@@ -71,7 +72,7 @@ pub(crate) fn pair_fits(mode: Mode, room: usize, route: Route, key: &Key, decor:
         && may_follow(mode, room, decor)
 }
 
-/// Whether what stands around an element of an array is trivia.
+/// Returns `true` if the decor around an element of an array is trivia.
 pub(crate) fn element_fits(mode: Mode, decor: &Decor) -> bool
     ensures { result ≡ tests.element_fits (mode_of mode) decor.now }
 {

@@ -1,4 +1,4 @@
-//! Whether tables fit, but for the order of their headers.
+//! Checking tables, but for the order of their headers.
 ghost use Rattle.std.specs.Prelude.{◌≡◌, ◌&&◌};
 ghost use Rattle.toml_edit_laws.specs.PrintByVisits as visits;
 ghost use Rattle.toml_edit_repr.specs.Modes.{mode_of};
@@ -13,14 +13,14 @@ use toml_edit_repr::{Decor, Mode, RawString};
 use toml_edit_slots::Slots;
 use toml_edit_tree::{Item, Table, table_has_lines};
 
-/// Whether a table below the root has a header.
+/// Returns `true` if a table below the root has a header.
 pub(crate) fn has_header(is_element: bool, table: &Table) -> bool
     ensures { result ≡ visits.has_own_header is_element (fields_view table.now) (table_slots table.now) }
 {
     is_element || !table.is_implicit() || table_has_lines(table)
 }
 
-/// Whether what stands around the last key in a header's brackets, of this decor, suits its place.
+/// Returns `true` if the decor around the last key in a header's brackets suits its place.
 fn brackets_fit(mode: Mode, decor: &Decor) -> bool
     ensures { result ≡ tests.brackets_fit (mode_of mode) decor.now }
 {
@@ -31,7 +31,8 @@ fn brackets_fit(mode: Mode, decor: &Decor) -> bool
     }
 }
 
-/// Whether what stands in and around a header suits its place, and its path is short enough.
+/// Returns `true` if the decors in and around a header suit their places, and its path has few
+/// enough keys.
 fn header_fits(mode: Mode, route: Route, key: &Key, decor: &Decor) -> bool
     ensures { result ≡ tests.header_fits (mode_of mode) route key.now decor.now }
 {
@@ -41,7 +42,8 @@ fn header_fits(mode: Mode, route: Route, key: &Key, decor: &Decor) -> bool
         && ends_line(mode, decor.suffix())
 }
 
-/// Whether the header and the lines of a table fit. A dotted table has neither, and is no element.
+/// Returns `true` if the header and the lines of a table fit. A dotted table has neither, and may
+/// be no element.
 fn table_fits(mode: Mode, route: Route, key: &Key, is_element: bool, table: &Table) -> bool
     ensures { result ≡ tests.table_fits (mode_of mode) route key.now is_element (fields_view table.now) (table_slots table.now) }
 {
@@ -52,7 +54,7 @@ fn table_fits(mode: Mode, route: Route, key: &Key, is_element: bool, table: &Tab
         && lines_fit(mode, no_keys(), &table.slots)
 }
 
-/// Whether the tables below these slots fit.
+/// Returns `true` if the tables below these slots fit.
 #[cycle(tables)]
 fn tables_fit(mode: Mode, route: Route, slots: &Slots<Item>) -> bool
     ensures { result ≡ tests.tables_fit (mode_of mode) route (slots_view slots.now) }
@@ -66,7 +68,7 @@ fn tables_fit(mode: Mode, route: Route, slots: &Slots<Item>) -> bool
     true
 }
 
-/// Whether the tables of a slot fit: itself, or its elements, and those below.
+/// Returns `true` if the tables of a slot fit: itself, or its elements, and those below.
 #[cycle(tables)]
 fn node_fits(mode: Mode, route: Route, key: &Key, item: &Item) -> bool
     ensures { result ≡ tests.node_fits (mode_of mode) route key.now (item_view item.now) }
@@ -78,7 +80,7 @@ fn node_fits(mode: Mode, route: Route, key: &Key, item: &Item) -> bool
     }
 }
 
-/// Whether the elements of an array of tables fit, and the tables below them.
+/// Returns `true` if the elements of an array of tables fit, and the tables below them.
 #[cycle(tables)]
 fn elements_fit(mode: Mode, route: Route, key: &Key, items: &Vec<Item>) -> bool
     ensures { result ≡ tests.elements_fit (mode_of mode) route key.now (items_view items.now.items) }
@@ -91,7 +93,7 @@ fn elements_fit(mode: Mode, route: Route, key: &Key, items: &Vec<Item>) -> bool
     true
 }
 
-/// Whether an item of an array of tables fits. One that is no table isn't printed.
+/// Returns `true` if an item of an array of tables fits. One that is no table is not printed.
 #[cycle(tables)]
 fn as_element_fits(mode: Mode, route: Route, key: &Key, item: &Item) -> bool
     ensures { result ≡ tests.as_element_fits (mode_of mode) route key.now (item_view item.now) }
@@ -102,7 +104,7 @@ fn as_element_fits(mode: Mode, route: Route, key: &Key, item: &Item) -> bool
     }
 }
 
-/// Whether a table fits, and those below it.
+/// Returns `true` if a table fits, and those below it.
 #[cycle(tables)]
 fn entered_fits(mode: Mode, route: Route, key: &Key, is_element: bool, table: &Table) -> bool
     ensures { result
@@ -113,7 +115,8 @@ fn entered_fits(mode: Mode, route: Route, key: &Key, is_element: bool, table: &T
         && tables_fit(mode, then_key(mode, route, key), &table.slots)
 }
 
-/// Whether what stands around the root suits its place, and its lines fit. The root is not dotted.
+/// Returns `true` if the decor around the root and the trailing text suit their places, its lines
+/// fit, and it is not dotted.
 fn root_fits(mode: Mode, root: &Table, trailing: &RawString) -> bool
     ensures { result ≡ tests.root_fits (mode_of mode) (fields_view root.now) (table_slots root.now) trailing.now }
 {
@@ -124,8 +127,8 @@ fn root_fits(mode: Mode, root: &Table, trailing: &RawString) -> bool
         && is_final(mode, Some(trailing))
 }
 
-/// Whether all of a document fits but the order of its headers: what is printed suits its place, no element and not the root is dotted,
-/// and paths and values are within their limits.
+/// Returns `true` if all of a document fits but the order of its headers: decors suit their places,
+/// neither the root nor an element is dotted, and paths and values are within their limits.
 pub(crate) fn parts_fit(mode: Mode, root: &Table, trailing: &RawString) -> bool
     ensures { result
         ≡ (tests.root_fits (mode_of mode) (fields_view root.now) (table_slots root.now) trailing.now && tests.tables_fit (mode_of mode) tests.no_keys (table_slots root.now)) }

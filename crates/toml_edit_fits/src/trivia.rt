@@ -1,5 +1,6 @@
-//! Whether a text that stands beside a key, a value or a header is trivia that suits its place. Carriage returns aren't printed in the plain
-//! mode, so they are passed over; in the exact mode each has to begin a newline.
+//! Checking that a side of a decor is trivia that suits its place. Carriage returns (CR) do not
+//! print in the plain mode, so they are skipped there; in the exact mode each has to begin a
+//! newline.
 ghost use Rattle.std.specs.Prelude.{◌≡◌, false, [], ◌∷◌};
 ghost use Rattle.std.specs.Option.{option_copied};
 ghost use Rattle.toml_edit_model.specs.Mode.{Mode as ModelMode, exact, line_end, shown_text};
@@ -11,7 +12,8 @@ ghost use Rattle.toml_edit_fits.specs.TriviaTests as tests;
 use toml_edit_repr::{Mode, RawString};
 use toml_edit_token::run::{is_blank, is_visible};
 
-/// The text of a side. A side that is unset, or a span, is printed as its place wants it, and so suits it as the empty text does.
+/// Returns the text of a side. One that is unset, or a span, prints as its default, and so suits
+/// its place as the empty text does.
 fn text_of(side: Option<&RawString>) -> &str
     ensures { (mode : ModelMode) → shown_text mode result.now ≡ shown_side mode [] (option_copied side.entry) }
 {
@@ -21,22 +23,22 @@ fn text_of(side: Option<&RawString>) -> &str
     }
 }
 
-/// The text of a line's suffix without a carriage return at its end, which is that of the line's newline. In the plain mode it isn't
-/// printed there either.
+/// Returns the text of a line's suffix without a CR at its end, which is that of the line's
+/// newline. In the plain mode it does not print there either.
 fn line_text(text: &str) -> &str
     ensures { result.now ≡ line_end exact text.now }
 {
     text.strip_suffix('\r').unwrap_or(text)
 }
 
-/// Whether a line feed stands in the text.
+/// Returns `true` if the text has a line feed (LF).
 fn has_feed(text: &str) -> bool
     ensures { result ≡ has_byte line_feed text.now }
 {
     text.as_bytes().contains(&b'\n')
 }
 
-/// Whether a carriage return before these bytes is passed over.
+/// Returns `true` if a CR before these bytes is skipped.
 fn passes_return(mode: Mode, after: &[u8]) -> bool
     ensures { result ≡ tests.passes_return (mode_of mode) after.now }
 {
@@ -46,7 +48,8 @@ fn passes_return(mode: Mode, after: &[u8]) -> bool
     }
 }
 
-/// Whether a comment is open behind one more byte of trivia, or `None` where the byte can't stand there.
+/// Returns whether a comment is open after one more byte of trivia, or `None` if the byte may not
+/// be there.
 fn after_byte(is_open: bool, byte: u8) -> Option<bool>
     ensures { result ≡ tests.open_after is_open (byte ∷ []) }
 {
@@ -63,7 +66,7 @@ fn after_byte(is_open: bool, byte: u8) -> Option<bool>
     }
 }
 
-/// Whether a comment is open at the end of the trivia, or `None` where the text is none.
+/// Returns whether a comment is open at the end of the trivia, or `None` if the text is no trivia.
 fn open_after(mode: Mode, text: &str) -> Option<bool>
     ensures { result ≡ tests.open_after false (shown_text (mode_of mode) text.now) }
 {
@@ -80,14 +83,14 @@ fn open_after(mode: Mode, text: &str) -> Option<bool>
     Some(is_open)
 }
 
-/// Whether a newline stands in the side. In each mode its line feed is printed.
+/// Returns `true` if the side has a newline. Its LF prints in each mode.
 pub(crate) fn has_newline(side: Option<&RawString>) -> bool
     ensures { (mode : ModelMode) → result ≡ has_byte line_feed (shown_side mode [] (option_copied side.entry)) }
 {
     has_feed(text_of(side))
 }
 
-/// Whether it is white space alone.
+/// Returns `true` if the side is whitespace alone.
 pub(crate) fn is_white(mode: Mode, side: Option<&RawString>) -> bool
     ensures { result ≡ tests.is_white (shown_side (mode_of mode) [] (option_copied side.entry)) }
 {
@@ -101,21 +104,23 @@ pub(crate) fn is_white(mode: Mode, side: Option<&RawString>) -> bool
     true
 }
 
-/// Whether it is white space, newlines, and comments each ended by a newline.
+/// Returns `true` if the side is whitespace, newlines, and comments that each end in a newline.
 pub(crate) fn is_whole(mode: Mode, side: Option<&RawString>) -> bool
     ensures { result ≡ tests.is_whole (shown_side (mode_of mode) [] (option_copied side.entry)) }
 {
     matches!(open_after(mode, text_of(side)), Some(false))
 }
 
-/// The same, and then perhaps a comment without a newline.
+/// Returns `true` if the side is whitespace, newlines, and comments that each end in a newline,
+/// except perhaps one at the end.
 pub(crate) fn is_final(mode: Mode, side: Option<&RawString>) -> bool
     ensures { result ≡ tests.is_final (shown_side (mode_of mode) [] (option_copied side.entry)) }
 {
     open_after(mode, text_of(side)).is_some()
 }
 
-/// Whether it is white space, and then perhaps a comment. In the exact mode it may end in the carriage return of the line's newline.
+/// Returns `true` if the side is whitespace, and then perhaps a comment. In the exact mode it may
+/// end in the CR of the line's newline.
 pub(crate) fn ends_line(mode: Mode, side: Option<&RawString>) -> bool
     ensures { result ≡ tests.ends_line (mode_of mode) (shown_side (mode_of mode) [] (option_copied side.entry)) }
 {

@@ -1,4 +1,4 @@
-//! Whether values and lines fit.
+//! Checking values and lines.
 ghost use Rattle.std.specs.Prelude.{◌≡◌};
 ghost use Rattle.toml_edit_repr.specs.Modes.{mode_of};
 ghost use Rattle.toml_edit_tree.specs.View.{item_view, items_view, slots_view, value_view};
@@ -11,7 +11,8 @@ use toml_edit_repr::Mode;
 use toml_edit_slots::Slots;
 use toml_edit_tree::{Item, Value};
 
-/// Whether what is printed inside a value suits its place, and no more than so many brackets are opened in it, and its keys are short.
+/// Returns `true` if the decors inside a value suit their places, no more than so many brackets
+/// open in it, and its paths have few enough keys.
 #[cycle(value)]
 pub(crate) fn value_fits(mode: Mode, room: usize, value: &Value) -> bool
     ensures { result ≡ tests.value_fits (mode_of mode) room (value_view value.now) }
@@ -35,7 +36,7 @@ pub(crate) fn value_fits(mode: Mode, room: usize, value: &Value) -> bool
     }
 }
 
-/// Whether the elements of an array do.
+/// Returns `true` if the elements of an array fit.
 #[cycle(value)]
 fn items_fit(mode: Mode, room: usize, items: &Vec<Item>) -> bool
     ensures { result ≡ tests.items_fit (mode_of mode) room (items_view items.now.items) }
@@ -48,7 +49,7 @@ fn items_fit(mode: Mode, room: usize, items: &Vec<Item>) -> bool
     true
 }
 
-/// Whether an item of an array does. One that is no value isn't printed.
+/// Returns `true` if an item of an array fits. One that is no value is not printed.
 #[cycle(value)]
 fn item_fits(mode: Mode, room: usize, item: &Item) -> bool
     ensures { result ≡ tests.item_fits (mode_of mode) room (item_view item.now) }
@@ -59,7 +60,7 @@ fn item_fits(mode: Mode, room: usize, item: &Item) -> bool
     }
 }
 
-/// Whether the pairs in an inline table do, with the keys so far.
+/// Returns `true` if the pairs in an inline table fit, with the keys so far.
 #[cycle(value)]
 fn inside_fits(mode: Mode, room: usize, route: Route, slots: &Slots<Item>) -> bool
     ensures { result ≡ tests.inside_fits (mode_of mode) room route (slots_view slots.now) }
@@ -73,7 +74,7 @@ fn inside_fits(mode: Mode, room: usize, route: Route, slots: &Slots<Item>) -> bo
     true
 }
 
-/// Whether a slot of an inline table does: its pair, or the pairs in a table.
+/// Returns `true` if a slot of an inline table fits: its pair, or the pairs in a table.
 #[cycle(value)]
 fn pair_slot_fits(mode: Mode, room: usize, route: Route, key: &Key, item: &Item) -> bool
     ensures { result ≡ tests.pair_slot_fits (mode_of mode) room route key.now (item_view item.now) }
@@ -85,7 +86,7 @@ fn pair_slot_fits(mode: Mode, room: usize, route: Route, key: &Key, item: &Item)
     }
 }
 
-/// Whether the pair of a value does, or those in a dotted inline table.
+/// Returns `true` if the pair of a value fits, or those in a dotted inline table.
 #[cycle(value)]
 fn pair_value_fits(mode: Mode, room: usize, route: Route, key: &Key, value: &Value) -> bool
     ensures { result ≡ tests.pair_slot_fits (mode_of mode) room route key.now (value_view value.now) }
@@ -109,7 +110,7 @@ fn pair_value_fits(mode: Mode, room: usize, route: Route, key: &Key, value: &Val
     }
 }
 
-/// Whether the lines of a table fit, with the keys so far.
+/// Returns `true` if the lines of a table fit, with the keys so far.
 #[cycle(lines)]
 pub(crate) fn lines_fit(mode: Mode, route: Route, slots: &Slots<Item>) -> bool
     ensures { result ≡ tests.lines_fit (mode_of mode) route (slots_view slots.now) }
@@ -123,7 +124,7 @@ pub(crate) fn lines_fit(mode: Mode, route: Route, slots: &Slots<Item>) -> bool
     true
 }
 
-/// Whether the lines of a slot of a table do: of a value, or of a dotted table.
+/// Returns `true` if the lines of a slot of a table fit: of a value, or of a dotted table.
 #[cycle(lines)]
 fn slot_fits(mode: Mode, route: Route, key: &Key, item: &Item) -> bool
     ensures { result ≡ tests.slot_fits (mode_of mode) route key.now (item_view item.now) }

@@ -8,7 +8,7 @@ ghost use Rattle.toml_edit.specs.tree.View.{array_view, item_view};
 use std::alloc::{AllocError, Global};
 use toml_edit::{Array, ArrayOfTables, InlineTable, Item, Mem, NoMemory, RawString, Table, Value};
 
-/// Drops what no memory was left for, and keeps the error.
+/// Drops what found no memory, and returns the error.
 pub fn no_memory<T: Drop>(_refused: NoMemory<T>) -> AllocError {
     AllocError
 }
@@ -39,7 +39,7 @@ pub fn add_dependency(
     Ok(())
 }
 
-/// Adds a table with one value, whose header comes after those that are there.
+/// Adds a table with one value, whose header comes after the existing ones.
 pub fn add_table(alloc: Global, root: &mut Table, name: &str, key: &str, value: Value) -> Mem<()>
     ensures ok { OnOk result (OnlySets name.now (slots_of root.old) (slots_of root.new)) }
     ensures err { OnErr result (root.new ≡ root.old) }
@@ -63,7 +63,7 @@ pub fn add_element(alloc: Global, root: &mut Table, name: &str, element: Table) 
     Ok(())
 }
 
-/// Inserts the item under a key that is new, and leaves one that is there.
+/// Inserts the item under a new key, and leaves an existing one alone.
 pub fn set_default(table: &mut Table, key: &str, item: Item) -> Mem<()>
     ensures { OnErr result (table.new ≡ table.old) }
 {
@@ -92,7 +92,7 @@ fn text_of(side: Option<&RawString>) -> &str {
     side.and_then(|raw| raw.as_str()).unwrap_or("")
 }
 
-/// Appends a string on a line of its own, indented as the last value, to an array that has one a line.
+/// Appends a string to an array that has one value a line, indented as the last one.
 pub fn push_line(alloc: Global, array: &mut Array, text: &str) -> Mem<()>
     ensures { OnErr result (array_view array.new ≡ array_view array.old) }
 {

@@ -7,7 +7,7 @@ use crate::adding::no_memory;
 use std::alloc::Global;
 use toml_edit::{Array, Item, Key, Mem, Table};
 
-/// Takes out the first key with its item.
+/// Removes the first slot, and returns its key and its item.
 fn take_first(alloc: Global, table: &mut Table) -> Mem<Option<(Key, Item)>> {
     let name = match table.key_value_at(0) {
         Some((key, _item)) => String::from_str(alloc, key.get())?,
@@ -16,7 +16,7 @@ fn take_first(alloc: Global, table: &mut Table) -> Mem<Option<(Key, Item)>> {
     Ok(table.remove_entry(name.as_str()))
 }
 
-/// Inserts an item under a key before all others. A key that is there goes.
+/// Inserts an item under a key before all others. An existing slot of the key is removed.
 pub fn insert_first(alloc: Global, table: &mut Table, key: &str, item: Item) -> Mem<()> {
     drop(table.remove(key));
     drop(table.insert(key, item).map_err(no_memory)?);
@@ -39,7 +39,8 @@ pub fn renamed(alloc: Global, key: &Key, name: &str) -> Mem<Key>
     Ok(key.with_leaf_decor(leaf).with_dotted_decor(dotted))
 }
 
-/// Renames a key, and keeps its place and comments. Returns `false` if `old` is missing or `new` taken.
+/// Renames a key, and keeps its place and comments. Returns `false` if `old` is missing, or if
+/// `new` exists.
 pub fn rename(alloc: Global, table: &mut Table, old: &str, new: &str) -> Mem<bool> {
     let renamed = match table.key(old) {
         Some(key) if table.key(new).is_none() => renamed(alloc, key, new)?,

@@ -1,4 +1,4 @@
-//! Changing what is there.
+//! Changing values in place.
 ghost use Rattle.std.specs.Prelude.{◌≡◌, is_some};
 ghost use Rattle.toml_edit_guide.specs.Paths.{value_at};
 ghost use Rattle.toml_edit.specs.model.Tree.{node_decor};

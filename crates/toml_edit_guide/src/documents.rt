@@ -1,4 +1,4 @@
-//! Whole documents.
+//! Parsing, checking and printing whole documents.
 ghost use Rattle.std.specs.Prelude.{◌≡◌, ◌⊎◌, ◌↔◌, IfOk, IfSome, IsErrOf, IsOk, IsSome, string_bytes};
 ghost use Rattle.toml_edit.specs.DocumentView.{mode_owned, open_owned, print_of, tree_owned};
 ghost use Rattle.toml_edit.specs.Documents.{IsOwnedReadingIn};

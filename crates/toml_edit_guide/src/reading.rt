@@ -1,4 +1,4 @@
-//! Reading values.
+//! Reading values, their spans, and keys.
 ghost use Rattle.std.specs.Prelude.{◌≡◌, IfOk, option_and_then, string_bytes};
 ghost use Rattle.toml_edit_guide.specs.Names.{name_lines};
 ghost use Rattle.toml_edit.specs.model.Indexing.{indexed, text};

@@ -1,4 +1,5 @@
-//! Keys.
+//! Keys, with what reads and changes their parts. Parsing, comparing and printing are in the
+//! submodules.
 ghost use Rattle.std.specs.Prelude.{◌≡◌, Some, IfOk, OnOk, option_map, option_and_then, string_bytes};
 ghost use Rattle.std.specs.Option.{option_copied};
 
@@ -15,12 +16,29 @@ mod shown;
 
 pub use key_mut::KeyMut;
 
-/// A key: its name, its spelling, and its decors where it ends a path and where dots stand beside
-/// it. A spelling that is a text spells the name.
+/// A key: its name, its spelling, its *leaf* decor, and its *dotted* decor.
+///
+/// The leaf decor is what is around the key where it ends a path: the comments above it, and the
+/// space before `=`. The dotted decor is the whitespace beside the dots of a dotted key or a
+/// header. (TOML, "Keys".)
+///
+/// Keys are equal, ordered and hashed by their names. The spelling always spells the name, so a key
+/// is renamed by making another one.
+///
+/// # Examples
+///
+/// ```rust,ignore
+/// let leaf = key.leaf_decor().clone(alloc)?;
+/// let dotted = key.dotted_decor().clone(alloc)?;
+/// let key = Key::from_text(alloc, name)?;
+/// Ok(key.with_leaf_decor(leaf).with_dotted_decor(dotted))
+/// ```
+///
+/// From `renamed` of the guide, docs/GUIDE.md.
 #[derive(Debug)]
 pub struct Key {
     text: String,
-    // Not read where the parts say that the spelling is the default one.
+    // Not read if the parts say that the key has the default spelling.
     repr: Option<Repr>,
     parts: KeyParts,
 }
@@ -64,7 +82,7 @@ impl Key {
     ghost use Rattle.toml_edit_repr.specs.Views.{range_of};
     ghost use Rattle.toml_edit_model.specs.OwnedForm.{KeyFits, owned_raw, owned_key};
 
-    // The name alone.
+    /// Returns the name, and drops the rest.
     pub(crate) fn into_text(self) -> String
         ensures { string_bytes result ≡ self.name }
     {
@@ -75,6 +93,9 @@ impl Key {
     }
 
     /// Makes a key of this name, with the default spelling and no decor.
+    ///
+    /// Any text is a name; its spelling gets quotes and escapes where it needs them. To make a key
+    /// of a spelling, use [`from_str`](Self::from_str).
     pub fn new(text: String) -> Key
         ensures { result ≡ new_key (string_bytes text) }
     {
@@ -93,14 +114,14 @@ impl Key {
     ///
     /// # Errors
     ///
-    /// The only error is out of memory.
+    /// Fails if memory runs out.
     pub fn from_text(alloc: Global, text: &str) -> Mem<Key>
         ensures { IfOk result (λ key. key ≡ new_key text.now) }
     {
         Ok(Key::new(String::from_str(alloc, text)?))
     }
 
-    /// Makes a key whose spelling stands in the source from the byte `start` up to the byte `end`.
+    /// Makes a key that was parsed, spelled by the bytes of the source from `start` up to `end`.
     pub fn spanned(text: String, start: usize, end: usize, leaf: Decor, dotted: Decor) -> Key
         ensures { result ≡ record {
           name = string_bytes text;
@@ -120,7 +141,7 @@ impl Key {
         }
     }
 
-    /// Returns the name. A spelling that is a text spells it.
+    /// Returns the name, without quotes and escapes.
     pub fn get(&self) -> &str
         ensures name { result.now ≡ self.now.name }
         ensures spelled { ∥ HasTrueSpelling (SpellsKey self.now.name) self.now.spelling ∥₁ }
@@ -128,7 +149,10 @@ impl Key {
         self.text.as_str()
     }
 
-    /// Returns the spelling that the key has of its own, or `None` where it is the default one.
+    /// Returns the key's own spelling, or `None` if it has none and prints in the default one.
+    ///
+    /// A key that was parsed has one, even where it is spelled by default. See
+    /// [`display_repr`](Self::display_repr) for what prints.
     pub fn as_repr(&self) -> Option<&Repr>
         ensures { option_copied result ≡ self.now.spelling }
     {
@@ -139,14 +163,15 @@ impl Key {
         }
     }
 
-    /// Returns what stands around the key where it ends a path.
+    /// Returns the whitespace and the comments around the key where it ends a path.
     pub fn leaf_decor(&self) -> &Decor
         ensures { result.now ≡ self.now.leaf }
     {
         &self.parts.leaf
     }
 
-    /// Lends what stands around the key where it ends a path.
+    /// Returns a mutable reference to the whitespace and the comments around the key where it ends
+    /// a path.
     pub fn leaf_decor_mut(&mut self) -> &mut Decor
         ensures* writes_back { sem 𝓛 (LendsLeaf self.entry result) }
         ensures decor { result.now ≡ self.old.leaf }
@@ -155,14 +180,14 @@ impl Key {
         &mut parts.leaf
     }
 
-    /// Returns what stands between the key and the dots beside it.
+    /// Returns the whitespace between the key and the dots beside it.
     pub fn dotted_decor(&self) -> &Decor
         ensures { result.now ≡ self.now.dotted }
     {
         &self.parts.dotted
     }
 
-    /// Lends what stands between the key and the dots beside it.
+    /// Returns a mutable reference to the whitespace between the key and the dots beside it.
     pub fn dotted_decor_mut(&mut self) -> &mut Decor
         ensures* writes_back { sem 𝓛 (LendsDotted self.entry result) }
         ensures decor { result.now ≡ self.old.dotted }
@@ -171,7 +196,7 @@ impl Key {
         &mut parts.dotted
     }
 
-    /// Gives the key its default spelling, and unsets its decors.
+    /// Resets the key to its default spelling, and unsets both of its decors.
     pub fn fmt(&mut self)
         ensures { self.new ≡ reset_key self.old }
     {
@@ -180,15 +205,16 @@ impl Key {
         self.parts.dotted.clear();
     }
 
-    /// Returns the bytes of the source that the spelling spans, or `None` where it is a text or the
-    /// default one.
+    /// Returns the bytes of the source that the spelling covers, or `None` if it is no span.
+    ///
+    /// Only keys of a `Document` have one, not those of a `DocumentMut`.
     pub fn span(&self) -> Option<Range<usize>>
         ensures { result ≡ option_and_then range_of self.now.spelling }
     {
         self.as_repr()?.span()
     }
 
-    /// Returns the key with this decor where it ends a path.
+    /// Returns the key with another leaf decor.
     pub fn with_leaf_decor(self, decor: Decor) -> Key
         ensures { result ≡ record self { leaf = decor } }
     {
@@ -197,7 +223,7 @@ impl Key {
         key
     }
 
-    /// Returns the key with this decor beside dots.
+    /// Returns the key with another dotted decor.
     pub fn with_dotted_decor(self, decor: Decor) -> Key
         ensures { result ≡ record self { dotted = decor } }
     {
@@ -206,11 +232,11 @@ impl Key {
         key
     }
 
-    /// Replaces spans of `source` by the texts that stand there.
+    /// Replaces spans of `source` by the texts that they cut.
     ///
     /// # Errors
     ///
-    /// The only error is out of memory. Spans may be left then: give up the document of the key.
+    /// Fails if memory runs out. Spans may be left then: drop the document.
     #[doc(hidden)]
     pub fn despan(&mut self, alloc: Global, source: &str) -> Mem<()>
         requires fits { KeyFits source.now self.old }

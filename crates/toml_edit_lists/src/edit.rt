@@ -1,4 +1,5 @@
-//! One element of a list, by its place. A place is that of an item, whether it holds an element or not.
+//! Reading and changing one element of a list by its place. Each item has a place, whether it holds
+//! an element or not.
 ghost use Rattle.std.specs.Prelude.{◌≡◌, ◌≤◌, ◌∷◌, ◌++◌, [], Some, IsSome, IfErr, OnErr, OnOk, insert, length, remove, slice_set};
 ghost use Rattle.std.specs.Option.{option_copied};
 ghost use Rattle.toml_edit_lists.specs.Elements.{element_at};
@@ -6,14 +7,14 @@ ghost use Rattle.toml_edit_lists.specs.Elements.{element_at};
 use crate::holds::Holds;
 use std::mem;
 
-/// The element at the place, or `None` where there is no item or the item holds none.
+/// Returns the element at the place, or `None` if there is no item or it holds none.
 pub fn get<T: Holds<E>, E>(items: &[T], at: usize) -> Option<&E>
     ensures { option_copied result ≡ element_at T.held at items.now }
 {
     items.get(at)?.as_held()
 }
 
-/// Takes out the element at the place, which is the answer. The others keep their order.
+/// Removes the element at the place and returns it. The others keep their order.
 pub fn remove<T: Holds<E>, E>(items: &mut Vec<T>, at: usize) -> E
     requires { IsSome (element_at T.held at items.old.items) }
     ensures element { Some result ≡ element_at T.held at items.old.items }
@@ -22,7 +23,7 @@ pub fn remove<T: Holds<E>, E>(items: &mut Vec<T>, at: usize) -> E
     items.remove(at).into_held()
 }
 
-/// Puts the element in the place of the one there, which is the answer.
+/// Puts the element in the place of the one there, and returns that one.
 pub fn replace<T: Holds<E>, E>(items: &mut Vec<T>, at: usize, element: E) -> E
     requires { IsSome (element_at T.held at items.old.items) }
     ensures element { Some result ≡ element_at T.held at items.old.items }
@@ -31,7 +32,7 @@ pub fn replace<T: Holds<E>, E>(items: &mut Vec<T>, at: usize, element: E) -> E
     mem::replace(&mut items[at], T::hold(element)).into_held()
 }
 
-/// Puts the element last. The only error is want of memory: the list stays, and the error is the element.
+/// Pushes the element. If memory runs out, returns it and leaves the list unchanged.
 pub fn push<T: Holds<E>, E>(items: &mut Vec<T>, element: E) -> Result<(), E>
     ensures items { OnOk result (items.new.items ≡ items.old.items ++ T.holding element ∷ []) }
     ensures err { OnErr result (items.new.items ≡ items.old.items) }
@@ -43,7 +44,8 @@ pub fn push<T: Holds<E>, E>(items: &mut Vec<T>, element: E) -> Result<(), E>
     }
 }
 
-/// Puts the element at the place, before what stood there. The only error is want of memory: the list stays, and the error is the element.
+/// Inserts the element at the place, before the item there. If memory runs out, returns it and
+/// leaves the list unchanged.
 pub fn insert<T: Holds<E>, E>(items: &mut Vec<T>, at: usize, element: E) -> Result<(), E>
     requires { at ≤ length items.old.items }
     ensures items { OnOk result (items.new.items ≡ insert items.old.items at (T.holding element)) }

@@ -1,4 +1,4 @@
-//! What an item holds.
+//! The trait of items that may hold an element.
 ghost use Rattle.std.specs.Prelude.{◌≡◌, IsSome, Option, Some};
 ghost use Rattle.std.specs.Option.{option_copied};
 
@@ -8,16 +8,16 @@ pub trait Holds<E>: Drop {
 
     ghost holding: { E → Self };
 
-    /// The element, if it holds one.
+    /// Returns the element, if it holds one.
     fn as_held(&self) -> Option<&E>
         ensures { option_copied result ≡ held self.now };
 
-    /// The element that it holds.
+    /// Returns the element that it holds.
     fn into_held(self) -> E
         requires { IsSome (held self) }
         ensures { Some result ≡ held self };
 
-    /// An item that holds the element.
+    /// Makes an item that holds the element.
     fn hold(element: E) -> Self
         ensures { result ≡ holding element };
 

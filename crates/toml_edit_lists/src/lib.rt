@@ -1,4 +1,5 @@
-//! Lists of items of which some hold an element: what arrays do with their values, and arrays of tables with their tables.
+//! Lists of items of which some hold an element: what arrays do with their values, and arrays of
+//! tables with their tables.
 #![tactic(auto)]
 
 mod edit;

@@ -1,4 +1,4 @@
-//! The elements of a list in another order.
+//! Sorting the elements of a list.
 ghost use Rattle.std.specs.Fn.{ComparesAs, ComputesKey};
 ghost use Rattle.std.specs.Ordering.{is_lt};
 ghost use Rattle.std.specs.Prelude.{◌≡◌, Bool, IsPermutation, OnErr, OnOk};
@@ -8,8 +8,8 @@ use crate::holds::Holds;
 use std::alloc::AllocError;
 use std::cmp::Ordering;
 
-/// Sorts the items by the closure, which is shown their elements. An item that holds none comes before those that do, and ties keep their
-/// order. The only error is want of memory, and then the list stays.
+/// Sorts the items by comparing their elements. Items that hold none come first, and the sort is
+/// stable. If memory runs out, the list stays unchanged.
 pub fn sort_by<T: Holds<E>, E, F: Fn(&E, &E) -> Ordering>(
     items: &mut Vec<T>,
     compare: F,
@@ -36,8 +36,8 @@ where
     )
 }
 
-/// Sorts the items by the keys that the closure gives of their elements. An item that holds none comes before those that do, and ties keep
-/// their order. The only error is want of memory, and then the list stays.
+/// Sorts the items by keys of their elements. Items that hold none come first, and the sort is
+/// stable. If memory runs out, the list stays unchanged.
 pub fn sort_by_key<T: Holds<E>, E, K: Ord, F: Fn(&E) -> K>(
     items: &mut Vec<T>,
     key: F,

@@ -1,11 +1,12 @@
-//! All elements of a list.
+//! Operations on all elements of a list.
 ghost use Rattle.std.specs.Fn.{FnReturnsAt};
 ghost use Rattle.toml_edit_lists.specs.Elements.{SaysOfHeld};
 ghost use Rattle.toml_edit_model.specs.Retaining.{RetainsBy};
 
 use crate::holds::Holds;
 
-/// Keeps the elements of which the closure says `true`, in their order. The others go, and every item that holds none. It takes no memory.
+/// Keeps the elements for which the closure returns `true`, in their order. Items that hold none
+/// go.
 pub fn retain<T: Holds<E>, E, F: Fn(&E) -> bool>(items: &mut Vec<T>, keep: F)
 where
     F: Drop,

@@ -1,4 +1,4 @@
-//! Reading lone texts.
+//! Parsing a text that is one value.
 ghost use Rattle.std.specs.Prelude.{◌≡◌, ◌⊎◌, List, [], true, false, length, IfOk, IfErr, IsOk, IsErrOf, OnOk};
 ghost use Rattle.toml_edit_model.specs.Syntax as syntax;
 ghost use Rattle.toml_edit_model.specs.Version.{is_value_of};
@@ -21,40 +21,61 @@ use toml_edit_syntax::{Event, SyntaxFault, lone_events};
 use toml_edit_tree::{Item, Value};
 use toml_edit_version::{Version, late_part_of_value};
 
-/// What can be read from a text of its own.
+/// A type that can be parsed from a text that holds one value of it.
+///
+/// It is in the place of std's trait of this name, and has to be imported: it takes an allocator,
+/// and is implemented for [`Value`] and [`Item`].
 pub trait FromStr: Sized {
     ghost use Rattle.std.specs.Prelude.{List, ℕ, Result};
     ghost use Rattle.toml_edit_error.specs.declared.toml_error.ParseFault.{ParseFault};
 
-    /// What reading a text may answer.
+    /// What parsing a text may return.
     ghost answers: { List ℕ → Result Self ParseFault → Type 0 };
 
-    /// Reads a text, which holds this alone.
+    /// Parses a text that holds one value, with nothing but whitespace around it.
+    ///
+    /// # Errors
+    ///
+    /// `ParseFault::Toml` if the text is refused, with a span in bytes in most cases, and
+    /// `ParseFault::Memory` if memory runs out.
     fn from_str(alloc: Global, text: &str) -> Result<Self, ParseFault>
         ensures { answers text.now result };
 }
 
-/// What can be read from a text of its own, in a version of TOML.
+/// A type that can be parsed from a text that holds one value of it, in a version of TOML. It is
+/// implemented for [`Value`].
 pub trait FromStrWith: Sized {
     ghost use Rattle.std.specs.Prelude.{List, ℕ, Result};
     ghost use Rattle.toml_edit_error.specs.declared.toml_error.ParseFault.{ParseFault};
     ghost use Rattle.toml_edit_parser.specs.declared.options.ParseOptions.{ParseOptions};
 
-    /// What reading a text by these options may answer.
+    /// What parsing a text by these options may return.
     ghost answers_with: { ParseOptions → List ℕ → Result Self ParseFault → Type 0 };
 
-    /// Reads a text, which holds this alone.
+    /// Parses a text that holds one value, with nothing but whitespace around it, in the version of
+    /// the options.
+    ///
+    /// # Errors
+    ///
+    /// As [`FromStr::from_str`]. What the version lacks is refused too.
     fn from_str_with(alloc: Global, text: &str, options: ParseOptions) -> Result<Self, ParseFault>
         ensures { answers_with options text.now result };
 }
 
+/// Parses a lone value, such as `[1, 2]`.
 impl FromStr for Value {
     ghost answers = { ReadsLone };
 
-    /// Reads a lone value: a value with white space around it, and nothing else. The value holds its own texts, each as it is spelled,
-    /// and its own decor is unset. A text that is a value is refused for a fault of it: an integer that 64 bits don't hold
-    /// (`integer number overflowed`), a date, a time or an offset that doesn't exist (`invalid date-time`), a key that stands twice in
-    /// an inline table (`duplicate key`) or is extended there, and more than 80 brackets or keys in one another (`recursion limit`).
+    /// Parses a lone value. It owns its texts, keeps their spellings, and its own decor is unset:
+    /// whitespace around it is dropped.
+    ///
+    /// # Errors
+    ///
+    /// `ParseFault::Toml` if the text is no value, or one with a fault: an integer that 64 bits do
+    /// not hold (`integer number overflowed`), a date, a time or an offset that does not exist
+    /// (`invalid date-time`), a key that an inline table has twice or cannot extend (`duplicate
+    /// key`, `cannot extend ..`), more than 80 brackets open at once or keys in a path (`recursion
+    /// limit`). `ParseFault::Memory` if memory runs out.
     fn from_str(alloc: Global, text: &str) -> Result<Value, ParseFault>
         ensures read { IfOk result (λ v. IsLoneReading text.now (value_view v)) }
         // An accepted value is never refused.
@@ -66,12 +87,17 @@ impl FromStr for Value {
     }
 }
 
+/// Parses a lone value in a version of TOML.
 impl FromStrWith for Value {
     ghost answers_with = { ReadsLoneWith };
 
-    /// Reads a lone value, as `from_str` does, in a version of TOML. A part of a value that the version lacks is refused besides, and marked
-    /// (`needs TOML 1.1`): in TOML 1.0 an escape `\e` or `\xHH`, a time without seconds, and in an inline table a newline, a comment or a comma
-    /// after the last pair.
+    /// Parses a lone value as [`FromStr`] does, in the version of the options.
+    ///
+    /// # Errors
+    ///
+    /// As [`FromStr`]. In TOML 1.0 it also refuses an escape `\e` or `\xHH`, a time without
+    /// seconds, and in an inline table a newline, a comment or a comma after the last pair (`needs
+    /// TOML 1.1`).
     fn from_str_with(alloc: Global, text: &str, options: ParseOptions) -> Result<Value, ParseFault>
         ensures read { IfOk result (λ v. IsLoneReadingIn (version_of options) text.now (value_view v)) }
         // An accepted value is never refused.
@@ -83,10 +109,11 @@ impl FromStrWith for Value {
     }
 }
 
+/// Parses a lone value as an item.
 impl FromStr for Item {
     ghost answers = { ReadsLoneItem };
 
-    /// Reads a lone value, as `Value` does, and answers it as an item. It is refused for what the value is refused for.
+    /// Parses a lone value, as [`Value`] does, and returns it as an item.
     fn from_str(alloc: Global, text: &str) -> Result<Item, ParseFault>
         ensures read { IfOk result (λ x. IsLoneItemReading text.now (item_view x)) }
         // An accepted value is never refused.
@@ -101,7 +128,7 @@ impl FromStr for Item {
     }
 }
 
-/// The value that the text is but for white space around it, in this version of TOML.
+/// Parses the value that the text is but for whitespace around it, in this version of TOML.
 fn read_lone_text(alloc: Global, text: &str, version: Version) -> Result<Value, ParseFault>
     ensures read { IfOk result (λ v. IsLoneReadingIn (grammar version) text.now (value_view v)) }
     ensures every { (v : syntax.Value) → IsLoneValue text.now v → is_accepted_value_in (grammar version) v ≡ true
@@ -118,7 +145,7 @@ fn read_lone_text(alloc: Global, text: &str, version: Version) -> Result<Value, 
     }
 }
 
-/// Refuses a lone value with a part that the version lacks, by these events.
+/// Refuses a lone value with a part that the version lacks, by its events.
 fn refuse_late(
     alloc: Global,
     text: &str,
@@ -142,7 +169,7 @@ fn refuse_late(
     }
 }
 
-/// The value that the text is but for white space around it, by these events.
+/// Reads the value that the text is but for whitespace around it, from its events.
 fn read_lone(alloc: Global, text: &str, events: &[Event]) -> Result<Value, ParseFault>
     requires cut { AreLoneEvents text.now events.now }
     requires spans { AreIn text.now events.now }
@@ -161,7 +188,7 @@ fn read_lone(alloc: Global, text: &str, events: &[Event]) -> Result<Value, Parse
     }
 }
 
-/// Puts a value that was read by these events in owned form, with its decor unset.
+/// Makes a value that was read from these events own its texts, and unsets its decor.
 fn end_lone(
     alloc: Global,
     text: &str,

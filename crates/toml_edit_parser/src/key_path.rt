@@ -18,7 +18,7 @@ use toml_edit_error::ParseFault;
 use toml_edit_key::Key;
 use toml_edit_syntax::Span;
 
-/// The first key of a path, and what is left of the path.
+/// The first key of a path, and the rest of the path.
 #[doc(hidden)]
 #[derive(Drop)]
 pub struct PathKey<'a> {
@@ -26,12 +26,14 @@ pub struct PathKey<'a> {
     pub key: Key,
     /// Where it is spelled, in bytes.
     pub span: Span,
-    /// The path behind its dot, or `None` if it is the last.
+    /// The path after the dot, or `None` after the last key.
     pub rest: Option<KeyPath<'a>>,
 }
 
-/// The first key of a path. The errors are a `TomlError` for events that are those of no path, which no text of the grammar has, and
-/// want of memory.
+/// Splits off the first key of a path.
+///
+/// Fails if memory runs out, or if the events are those of no path, which no text of the grammar
+/// has.
 #[doc(hidden)]
 #[inline(always)]
 pub fn next_key<'a>(

@@ -1,4 +1,5 @@
-//! From the events of a text to values, keys and the parts of statements.
+//! From the events of a text to values, keys and the parts of statements. The public traits of
+//! parsing a lone value are here too, with their options.
 #![tactic(auto)]
 
 pub mod from_str;

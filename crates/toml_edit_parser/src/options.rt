@@ -1,4 +1,4 @@
-//! What a read is asked for.
+//! The options of parsing.
 ghost use Rattle.std.specs.Prelude.{◌≡◌, if◌then◌else◌};
 ghost use Rattle.toml_edit_model.specs.Mode as model;
 ghost use Rattle.toml_edit_model.specs.Version.{v1_1};
@@ -9,7 +9,15 @@ ghost use Rattle.toml_edit_version.specs.Grammar.{grammar};
 use toml_edit_repr::Mode;
 use toml_edit_version::Version;
 
-/// How a text is read: as which version of TOML, and whether its line endings are kept.
+/// Options of parsing: the version of TOML, and whether line endings are kept.
+///
+/// # Examples
+///
+/// ```rust,ignore
+/// DocumentMut::from_str_with(alloc, text, ParseOptions::new().exact(true))
+/// ```
+///
+/// From `read_exactly` of the guide, docs/GUIDE.md.
 #[derive(Clone, Copy, Debug, PartialEq, Eq)]
 pub struct ParseOptions {
     version: Version,
@@ -17,7 +25,7 @@ pub struct ParseOptions {
 }
 
 impl ParseOptions {
-    /// A text is read as TOML 1.1, and its line endings are not kept.
+    /// Returns the default options: TOML 1.1, and line endings are not kept.
     pub fn new() -> ParseOptions
         ensures version { version_of result ≡ v1_1 }
         ensures mode { mode_of result ≡ model.plain }
@@ -28,7 +36,15 @@ impl ParseOptions {
         }
     }
 
-    /// The same, but a text is read as this version of TOML: what it lacks is refused.
+    /// Returns the options with this version of TOML. What the version lacks is refused.
+    ///
+    /// # Examples
+    ///
+    /// ```rust,ignore
+    /// DocumentMut::from_str_with(alloc, text, ParseOptions::new().version(Version::V1_0))
+    /// ```
+    ///
+    /// From `read_strictly` of the guide, docs/GUIDE.md.
     pub fn version(mut self, version: Version) -> ParseOptions
         ensures version { version_of result ≡ grammar version }
         ensures mode { mode_of result ≡ mode_of self }
@@ -37,7 +53,10 @@ impl ParseOptions {
         self
     }
 
-    /// The same, but line endings are kept, and so is the want of one at the end of the text; or they are not.
+    /// Returns the options with line endings kept, or not.
+    ///
+    /// Where they are kept, carriage returns (CR) outside strings print again, and so does a last
+    /// statement without newline. A statement that is added ends in a line feed (LF) even then.
     pub fn exact(mut self, exact: bool) -> ParseOptions
         ensures mode { mode_of result ≡ (if exact then model.exact else model.plain) }
         ensures version { version_of result ≡ version_of self }
@@ -46,7 +65,7 @@ impl ParseOptions {
         self
     }
 
-    /// The version of TOML that a text is read as.
+    /// Returns the version of TOML.
     #[doc(hidden)]
     pub fn get_version(self) -> Version
         ensures { grammar result ≡ version_of self }
@@ -54,7 +73,7 @@ impl ParseOptions {
         self.version
     }
 
-    /// Whether line endings are kept.
+    /// Returns `true` if line endings are kept.
     #[doc(hidden)]
     pub fn is_exact(self) -> bool
         ensures { result ≡ model.is_exact (mode_of self) }
@@ -62,7 +81,7 @@ impl ParseOptions {
         matches!(self.mode, Mode::Exact)
     }
 
-    /// What becomes of line endings.
+    /// Returns what happens to line endings.
     #[doc(hidden)]
     pub fn get_mode(self) -> Mode
         ensures { modes.mode_of result ≡ mode_of self }

@@ -41,10 +41,11 @@ use toml_edit_syntax::{Event, EventKind, Span};
 use toml_edit_token::decode_key;
 use toml_edit_tree::{InlineTable, Item, Value};
 
-/// How many events a path of the most segments has: one for each key, and two for each dot.
+/// The number of events of the longest path: one for each of 80 keys, and two for each dot between
+/// them.
 pub(crate) const MOST_PATH_EVENTS: usize = 238;
 
-/// Where the parts of a pair up to its value stand, and the events of its path.
+/// Where the parts of a pair before its value are, and the events of its path.
 #[derive(Clone, Copy)]
 pub(crate) struct FrameSpans<'a> {
     pub(crate) leading: Span,
@@ -53,21 +54,22 @@ pub(crate) struct FrameSpans<'a> {
     pub(crate) after_equals: Span,
 }
 
-/// A path, or what is left of one.
+/// A path, or the rest of one.
 #[doc(hidden)]
 #[derive(Clone, Copy)]
 pub struct KeyPath<'a> {
-    /// Where the text before the whole path stands: the prefix of its last key's leaf decor.
+    /// The text before the whole path: the prefix of its last key's leaf decor.
     pub prefix: Span,
-    /// Where the text behind the whole path stands: the suffix of its last key's leaf decor.
+    /// The text after the whole path: the suffix of its last key's leaf decor.
     pub suffix: Span,
-    /// Where the white space behind the dot before what is left stands: nothing, at the front.
+    /// The whitespace after the dot before this rest, empty at the front of the path.
     pub before: Span,
-    /// The events of what is left: a key, and for each further one the white space on both sides of a dot and the key.
+    /// The events of this rest: a key, and for each further one the whitespace on both sides of a
+    /// dot and the key.
     pub events: &'a [Event],
 }
 
-/// The inline table behind its opening brace, and the events behind the inline table.
+/// Reads an inline table after its opening brace. Returns it with the rest of the events.
 #[cycle(read)]
 pub(crate) fn read_inline<'a>(
     alloc: Global,
@@ -91,7 +93,7 @@ pub(crate) fn read_inline<'a>(
     close_inline(alloc, source, opening, slots, rest)
 }
 
-/// The pairs that come first, and the events behind them.
+/// Reads the pairs at the front into slots. Returns the rest of the events.
 #[cycle(read)]
 fn read_pairs<'a>(
     alloc: Global,
@@ -117,7 +119,7 @@ fn read_pairs<'a>(
     Ok(rest)
 }
 
-/// Adds the pair behind this text, which comes first, and gives the events behind it.
+/// Reads the pair after the leading text, and adds it. Returns the rest of the events.
 #[cycle(read)]
 fn read_pair<'a>(
     alloc: Global,
@@ -151,7 +153,7 @@ fn read_pair<'a>(
     ended
 }
 
-/// The text before a pair, if one comes first, and the events behind it.
+/// Splits off the text before a pair, if one comes first.
 fn split_leading(events: &[Event]) -> Option<(Span, &[Event])>
     ensures { option_map (λ p. (p.0, p.1.now)) result ≡ split_leading events.now }
 {
@@ -162,7 +164,7 @@ fn split_leading(events: &[Event]) -> Option<(Span, &[Event])>
     }
 }
 
-/// The place of the first event that ends a path.
+/// Returns the place of the first event that ends a path.
 pub(crate) fn path_end(events: &[Event]) -> Option<usize>
     ensures place { result ≡ spec.path_end events.now }
     ensures within { IfSome result (λ at. at < length events.now) }
@@ -170,14 +172,14 @@ pub(crate) fn path_end(events: &[Event]) -> Option<usize>
     events.iter().position(|event| ends_path(event.kind))
 }
 
-/// Whether an event of this kind stands behind the last key of a path.
+/// Returns `true` if an event of this kind follows the last key of a path.
 fn ends_path(kind: EventKind) -> bool
     ensures { result ≡ spec.ends_path kind }
 {
     matches!(kind, EventKind::Equals | EventKind::AfterKey)
 }
 
-/// The parts of a pair behind its leading text, and the events behind them.
+/// Splits off the parts of a pair after its leading text.
 pub(crate) fn split_frame<'a>(
     leading: Span,
     events: &'a [Event],
@@ -197,7 +199,7 @@ pub(crate) fn split_frame<'a>(
     Some((frame, rest))
 }
 
-/// What stands between two parts.
+/// Returns the span between two spans.
 fn between(left: Span, right: Span) -> Span
     ensures { result ≡ spec.between left right }
 {
@@ -207,8 +209,9 @@ fn between(left: Span, right: Span) -> Span
     }
 }
 
-/// Adds an item that was read at the end of its key's path, between the text before it and the text after it, which comes first, leaves
-/// a placeholder in its place, and gives the events behind that text.
+/// Adds an item that was read at the end of its key's path, between the text before it and the text
+/// after it, which comes first. Leaves a placeholder in the item's place, and returns the rest of
+/// the events.
 fn end_pair<'a>(
     alloc: Global,
     source: &str,
@@ -293,7 +296,7 @@ fn add_entry(
     }
 }
 
-/// Adds an item at the end of what is left of a path, below a new key.
+/// Adds an item at the end of the rest of a path, below a new key.
 #[cycle(add)]
 fn add_below(
     alloc: Global,
@@ -323,7 +326,7 @@ fn add_below(
     Ok(())
 }
 
-/// Adds an item at the end of what is left of a path, below a key that is there with this item.
+/// Adds an item at the end of the rest of a path, below an existing key with this item.
 #[cycle(add)]
 fn add_inside(
     alloc: Global,
@@ -352,7 +355,7 @@ fn add_inside(
     }
 }
 
-/// The same below a key that is there with this value.
+/// Adds an item at the end of the rest of a path, below an existing key with this value.
 #[cycle(add)]
 fn add_in_value(
     alloc: Global,
@@ -382,7 +385,7 @@ fn add_in_value(
     }
 }
 
-/// The same below a key that is there with this inline table.
+/// Adds an item at the end of the rest of a path, below an existing key with this inline table.
 #[cycle(add)]
 fn add_in_table(
     alloc: Global,
@@ -412,7 +415,8 @@ fn add_in_table(
     }
 }
 
-/// What to say of a key of a path that goes on, where this value stands, if that is no dotted inline table.
+/// Returns the message about a path that goes on through this value, unless that is a dotted inline
+/// table.
 fn extend_message(value: &Value) -> &'static str
     ensures message { result.now ≡ way_message dotted_role (value_view value.now) }
     ensures listed { Contains fault_messages result.now }
@@ -428,8 +432,10 @@ fn extend_message(value: &Value) -> &'static str
     }
 }
 
-/// Adds a slot last, and leaves a placeholder in the place of its item. The errors are `duplicate key` at the span for a key that
-/// stands there already, and want of memory; the slots are as they were then.
+/// Adds a slot at the end, and leaves a placeholder in the place of its item.
+///
+/// Fails with `duplicate key` at the span if the key exists, and if memory runs out. The slots are
+/// unchanged then.
 #[doc(hidden)]
 #[inline(always)]
 pub fn add_last(
@@ -457,8 +463,8 @@ pub fn add_last(
     }
 }
 
-/// Puts a slot last, whose key has to be new. The only error is want of memory; the slots are as they were then, and key and item are
-/// given up.
+/// Pushes a slot with a new key. If memory runs out, the slots are unchanged, and key and item are
+/// dropped.
 #[doc(hidden)]
 pub fn push_item(slots: &mut Slots<Item>, key: Key, item: Item) -> Mem<()>
     requires { place key.name slots.old ≡ None }
@@ -468,7 +474,7 @@ pub fn push_item(slots: &mut Slots<Item>, key: Key, item: Item) -> Mem<()>
     Ok(())
 }
 
-/// The text of the key that is spelled at the span.
+/// Reads the name of the key that is spelled at the span.
 #[inline(always)]
 pub(crate) fn read_name(alloc: Global, source: &str, span: Span) -> Result<String, ParseFault>
     requires { IsSpanOf source.now span }
@@ -482,7 +488,7 @@ pub(crate) fn read_name(alloc: Global, source: &str, span: Span) -> Result<Strin
     }
 }
 
-/// The text before a dot, and the path behind it.
+/// Splits off the text before a dot. Returns it with the path after the dot.
 pub(crate) fn split_dot<'a>(path: KeyPath<'a>, events: &'a [Event]) -> Option<(Span, KeyPath<'a>)>
     ensures { option_map (λ p. (p.0, spec.path_of p.1)) result ≡ spec.split_dot path.entry events.now }
 {
@@ -496,7 +502,7 @@ pub(crate) fn split_dot<'a>(path: KeyPath<'a>, events: &'a [Event]) -> Option<(S
     Some((after.span, inside))
 }
 
-/// The last key of a path, with this name, which is spelled at the span.
+/// Makes the last key of a path, with this name, spelled at the span.
 pub(crate) fn last_key(name: String, span: Span, path: KeyPath<'_>) -> Key
     ensures key { result ≡ key_with (string_bytes name) span (spec.leaf_of path.entry) (spanned_raw path.entry.before) (owned []) }
     ensures fits { (t : Text) → IsSpanOf t span → IsSpanOf t path.entry.prefix → IsSpanOf t path.entry.suffix → IsSpanOf t path.entry.before → KeyFits t result }
@@ -506,7 +512,8 @@ pub(crate) fn last_key(name: String, span: Span, path: KeyPath<'_>) -> Key
     Key::spanned(name, span.start, span.end, leaf, dotted)
 }
 
-/// A key that a path passes through, with this name, which is spelled at the span, between these texts.
+/// Makes a key that a path passes through, with this name, spelled at the span, between these
+/// texts.
 pub(crate) fn passed_key(name: String, span: Span, before: Span, after: Span) -> Key
     ensures key { result ≡ key_with (string_bytes name) span unset (spanned_raw before) (spanned_raw after) }
     ensures fits { (t : Text) → IsSpanOf t span → IsSpanOf t before → IsSpanOf t after → KeyFits t result }
@@ -515,21 +522,22 @@ pub(crate) fn passed_key(name: String, span: Span, before: Span, after: Span) ->
     Key::spanned(name, span.start, span.end, Decor::default(), dotted)
 }
 
-/// The item of a key that a path passes through, where these slots stand below it.
+/// Makes the item of a key that a path passes through, with these slots below it.
 fn path_item(key: Span, slots: Slots<Item>) -> Item
     ensures { item_view result ≡ inline (path_fields (Some (key.start, key.end))) (slots_view slots) }
 {
     Item::Value(Value::InlineTable(path_table(key, slots)))
 }
 
-/// The dotted inline table of a key that a path passes through.
+/// Makes the dotted inline table of a key that a path passes through.
 fn path_table(key: Span, slots: Slots<Item>) -> InlineTable
     ensures { inline_view result ≡ record { fields = path_fields (Some (key.start, key.end)); slots = slots_view slots } }
 {
     InlineTable::below_key(slots, key.start, key.end)
 }
 
-/// The inline table of these slots, whose end comes first, and the events behind it.
+/// Makes the inline table of these slots, whose end comes first. Returns it with the rest of the
+/// events.
 fn close_inline<'a>(
     alloc: Global,
     source: &str,
@@ -551,14 +559,14 @@ fn close_inline<'a>(
     Ok((inline_value(opening, close, slots), rest))
 }
 
-/// The value of an inline table.
+/// Makes the value of an inline table.
 fn inline_value(opening: Span, close: Close, slots: Slots<Item>) -> Value
     ensures { value_view result ≡ inline_node (spec.inline_of opening.start close (slots_view slots)) }
 {
     Value::InlineTable(new_inline(opening, close, slots))
 }
 
-/// The inline table of these slots.
+/// Makes the inline table of these slots.
 fn new_inline(opening: Span, close: Close, slots: Slots<Item>) -> InlineTable
     ensures { inline_view result ≡ spec.inline_of opening.start close (slots_view slots) }
 {

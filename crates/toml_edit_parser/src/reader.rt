@@ -1,4 +1,4 @@
-//! Values from their events.
+//! Values from their events, and the errors of events that no value has.
 ghost use Rattle.std.specs.Prelude.{◌≡◌, ◌+◌, ◌≤◌, ◌<◌, ◌++◌, ◌∷◌, ◌-◌, List, ℕ, suc, [], Bool, codes, length, None, Some, OnOk, IfErr, IfOk, option_map};
 ghost use Rattle.toml_edit_model.specs.Text.{Text};
 ghost use Rattle.toml_edit_model.specs.Faults.{recursion_limit};
@@ -30,7 +30,8 @@ use toml_edit_syntax::{Event, EventKind, Span};
 use toml_edit_token::{decode_integer, decode_scalar, range_message};
 use toml_edit_tree::{Array, Item, Value};
 
-/// The end of an array or inline table: whether a comma stands there, where the text behind it does, and where the bracket ends.
+/// The end of an array or inline table: whether there is a comma, where the text after that is, and
+/// where the bracket ends.
 #[derive(Clone, Copy)]
 pub(crate) struct Close {
     pub(crate) comma: bool,
@@ -38,7 +39,7 @@ pub(crate) struct Close {
     pub(crate) end: usize,
 }
 
-/// Whether the events of a text are cut short, at a bracket that is one too many.
+/// Returns `true` if the events of a text are cut short, at a bracket that is one too many.
 #[doc(hidden)]
 pub fn are_cut_short(events: &[Event]) -> bool
     ensures { result ≡ are_deep events.now }
@@ -48,7 +49,7 @@ pub fn are_cut_short(events: &[Event]) -> bool
         .any(|event| matches!(event.kind, EventKind::TooDeep))
 }
 
-/// The bytes of the span.
+/// Returns the bytes of the source at the span.
 pub(crate) fn cut(source: &str, span: Span) -> &str
     requires { IsSpanOf source.now span }
     ensures { result.now ≡ cut_out source.now span.start span.end }
@@ -56,7 +57,7 @@ pub(crate) fn cut(source: &str, span: Span) -> &str
     &source[span.start..span.end]
 }
 
-/// The span, or the empty text where nothing stands there.
+/// Makes a raw text of the span, empty if nothing is there.
 #[doc(hidden)]
 pub fn raw(span: Span) -> RawString
     ensures raw { result ≡ spec.spanned_raw span }
@@ -70,7 +71,7 @@ pub fn raw(span: Span) -> RawString
     }
 }
 
-/// The error with this message about the span.
+/// Returns the error with this message about the span.
 #[doc(hidden)]
 #[cold]
 #[inline(never)]
@@ -83,7 +84,7 @@ pub fn refusal(alloc: Global, source: &str, message: &str, span: Span) -> ParseF
     toml_edit_error::refusal(alloc, source, message, Some((span.start, span.end)))
 }
 
-/// The error with this message, about no part of the text.
+/// Returns the error with this message, about no part of the text.
 #[doc(hidden)]
 #[cold]
 #[inline(never)]
@@ -94,7 +95,7 @@ pub fn refusal_of_all(alloc: Global, source: &str, message: &str) -> ParseFault
     toml_edit_error::refusal(alloc, source, message, None)
 }
 
-/// The error with this message about the end of the text.
+/// Returns the error with this message about the end of the text.
 #[doc(hidden)]
 #[cold]
 #[inline(never)]
@@ -106,7 +107,10 @@ pub fn refusal_at_end(alloc: Global, source: &str, message: &str) -> ParseFault
     toml_edit_error::refusal(alloc, source, message, Some((end, end)))
 }
 
-/// The first event, and those behind it.
+/// Splits off the first event.
+///
+/// The lexer gives the events of the grammar alone, so most errors for others, such as `expected a
+/// value`, cannot occur.
 #[doc(hidden)]
 pub fn split_first(events: &[Event]) -> Option<(Event, &[Event])>
     ensures { option_map (λ p. (p.0, p.1.now)) result ≡ spec.split_first events.now }
@@ -117,7 +121,7 @@ pub fn split_first(events: &[Event]) -> Option<(Event, &[Event])>
     Some((*first, rest))
 }
 
-/// The text before an element, if one comes first, and the events behind it.
+/// Splits off the text before an element, if one comes first.
 fn split_before(events: &[Event]) -> Option<(Span, &[Event])>
     ensures { option_map (λ p. (p.0, p.1.now)) result ≡ spec.split_before events.now }
 {
@@ -128,7 +132,7 @@ fn split_before(events: &[Event]) -> Option<(Span, &[Event])>
     }
 }
 
-/// The place of a scalar, if one comes first, and the events behind it.
+/// Splits off the place of a scalar, if one comes first.
 pub(crate) fn split_scalar(events: &[Event]) -> Option<(Span, &[Event])>
     ensures { option_map (λ p. (p.0, p.1.now)) result ≡ spec.split_scalar events.now }
 {
@@ -139,7 +143,7 @@ pub(crate) fn split_scalar(events: &[Event]) -> Option<(Span, &[Event])>
     }
 }
 
-/// The end of an array or inline table, if it comes first, and the events behind it.
+/// Splits off the end of an array or inline table, if it comes first.
 pub(crate) fn split_close(events: &[Event]) -> Option<(Close, &[Event])>
     ensures { option_map (λ p. (p.0, p.1.now)) result ≡ spec.split_close events.now }
 {
@@ -166,7 +170,7 @@ pub(crate) fn split_close(events: &[Event]) -> Option<(Close, &[Event])>
     }
 }
 
-/// The scalar that is spelled at the span.
+/// Reads the scalar that is spelled at the span.
 pub(crate) fn read_scalar(alloc: Global, source: &str, span: Span) -> Result<Value, ParseFault>
     requires { IsSpanOf source.now span }
     ensures value { (s : Scalar) (t : Text) → cut_out source.now span.start span.end ≡ t → span.end ≡ span.start + length t
@@ -182,7 +186,7 @@ pub(crate) fn read_scalar(alloc: Global, source: &str, span: Span) -> Result<Val
     }
 }
 
-/// The value that comes first, with its decor unset, and the events behind it.
+/// Reads the value at the front, with its decor unset. Returns it with the rest of the events.
 #[cycle(read)]
 pub(crate) fn read_value<'a>(
     alloc: Global,
@@ -208,7 +212,7 @@ pub(crate) fn read_value<'a>(
     }
 }
 
-/// Whether these are the events of an element that is a scalar.
+/// Returns `true` if these are the events of an element that is a scalar.
 fn is_scalar_element(events: &[Event]) -> bool {
     match events {
         [_, value, _] => matches!(value.kind, EventKind::Scalar),
@@ -216,7 +220,7 @@ fn is_scalar_element(events: &[Event]) -> bool {
     }
 }
 
-/// How many scalars come first as elements, to make room for them.
+/// Returns the number of scalar elements at the front, to make room for them.
 fn scalar_count(events: &[Event]) -> usize {
     events
         .chunks(3)
@@ -224,7 +228,7 @@ fn scalar_count(events: &[Event]) -> usize {
         .count()
 }
 
-/// The array behind its opening bracket, and the events behind the array.
+/// Reads an array after its opening bracket. Returns it with the rest of the events.
 #[cycle(read)]
 fn read_array<'a>(
     alloc: Global,
@@ -248,7 +252,7 @@ fn read_array<'a>(
     close_array(alloc, source, opening, values, rest)
 }
 
-/// The values that come first, and the events behind them.
+/// Reads the values at the front. Returns the rest of the events.
 #[cycle(read)]
 fn read_elements<'a>(
     alloc: Global,
@@ -279,8 +283,9 @@ fn read_elements<'a>(
     Ok(rest)
 }
 
-/// Adds the scalar that is spelled at the span, between the text before it and the text after it, which comes first, and gives the
-/// events behind that. Most elements are scalars, so it is put there at once, and never moved.
+/// Adds the scalar that is spelled at the span, between the text before it and the text after it,
+/// which comes first. Returns the rest of the events. Most elements are scalars, so they are made
+/// in place and never moved.
 fn read_scalar_element<'a>(
     alloc: Global,
     source: &str,
@@ -322,7 +327,7 @@ fn read_scalar_element<'a>(
     }
 }
 
-/// Adds the value that comes first, and gives the events behind it.
+/// Adds the value at the front. Returns the rest of the events.
 #[cycle(read)]
 #[inline(never)]
 fn read_element<'a>(
@@ -348,7 +353,8 @@ fn read_element<'a>(
     end_element(alloc, source, before, value, rest, values)
 }
 
-/// Adds a value that was read between the text before it and the text after it, which comes first, and gives the events behind that.
+/// Adds a value that was read between the text before it and the text after it, which comes first.
+/// Returns the rest of the events.
 fn end_element<'a>(
     alloc: Global,
     source: &str,
@@ -376,7 +382,7 @@ fn end_element<'a>(
     Ok(rest)
 }
 
-/// Puts a value last.
+/// Pushes a value.
 fn put_value(values: &mut Vec<Item>, value: Value) -> Mem<()>
     ensures { OnOk result (values.new.items ≡ values.old.items ++ Item.Value value ∷ []) }
 {
@@ -384,7 +390,7 @@ fn put_value(values: &mut Vec<Item>, value: Value) -> Mem<()>
     Ok(())
 }
 
-/// The array of these values, whose end comes first, and the events behind it.
+/// Makes the array of these values, whose end comes first. Returns it with the rest of the events.
 fn close_array<'a>(
     alloc: Global,
     source: &str,
@@ -406,14 +412,14 @@ fn close_array<'a>(
     Ok((array_value(opening, close, values), rest))
 }
 
-/// The value of an array.
+/// Makes the value of an array.
 fn array_value(opening: Span, close: Close, values: Vec<Item>) -> Value
     ensures { value_view result ≡ array_node (spec.array_of opening.start close (items_view values.items)) }
 {
     Value::Array(new_array(opening, close, values))
 }
 
-/// The array of these values.
+/// Makes the array of these values.
 fn new_array(opening: Span, close: Close, values: Vec<Item>) -> Array
     ensures { array_view result ≡ spec.array_of opening.start close (items_view values.items) }
 {

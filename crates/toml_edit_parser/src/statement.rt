@@ -31,7 +31,7 @@ use toml_edit_token::run::byte_at;
 use toml_edit_token::{decode_scalar, range_message};
 use toml_edit_tree::{Item, Value};
 
-/// The path of a header, where its closing brackets end, and where the text behind them stands.
+/// The path of a header, where its closing brackets end, and where the text after them is.
 #[doc(hidden)]
 #[derive(Clone, Copy)]
 pub struct HeaderSpans<'a> {
@@ -40,7 +40,8 @@ pub struct HeaderSpans<'a> {
     pub trailing: Span,
 }
 
-/// The path of these events, which begins where the text before it ends, with the text behind it.
+/// Makes the path of these events, which begins where the text before it ends, with the text after
+/// it.
 fn path_behind<'a>(prefix: Span, events: &'a [Event], suffix: Span) -> KeyPath<'a>
     ensures { path_of result ≡ record { prefix = prefix; suffix = suffix; before = record { start = prefix.end; end = prefix.end }; events = events.now } }
 {
@@ -53,8 +54,8 @@ fn path_behind<'a>(prefix: Span, events: &'a [Event], suffix: Span) -> KeyPath<'
     }
 }
 
-/// The path of the key line behind this text, whose events come first, and the events behind the line. Its value is put in the item's
-/// place.
+/// Reads the key line after this text, and puts its value in the item's place. Returns its path and
+/// the rest of the events.
 #[doc(hidden)]
 pub fn read_key_line<'a>(
     alloc: Global,
@@ -86,8 +87,8 @@ pub fn read_key_line<'a>(
     Ok((path, rest))
 }
 
-/// The suffix of a statement, behind whose last token the text at this span stands: where line endings are kept, the carriage return of its
-/// newline is the suffix's too.
+/// Returns the span of a statement's suffix, which begins at this span. Where line endings are
+/// kept, the carriage return (CR) of the newline belongs to it.
 fn suffix(source: &str, mode: Mode, span: Span) -> Span
     requires { IsSpanOf source.now span }
     ensures { result ≡ suffix_span (mode_of mode) source.now span }
@@ -98,7 +99,7 @@ fn suffix(source: &str, mode: Mode, span: Span) -> Span
     }
 }
 
-/// The span, with a carriage return behind it.
+/// Returns the span, with the carriage return (CR) that follows it, if one does.
 fn with_return(source: &str, span: Span) -> Span
     requires { IsSpanOf source.now span }
     ensures { result ≡ suffix_span exact source.now span }
@@ -114,8 +115,8 @@ fn with_return(source: &str, span: Span) -> Span
     }
 }
 
-/// Puts the value of a key line, behind the text at this span, in the item's place, and gives the events behind the line. Most values are
-/// scalars, so these have a way of their own.
+/// Reads the value of a key line, after the text at this span, into the item's place. Returns the
+/// rest of the events. Most values are scalars, so these have a way of their own.
 fn read_line_value<'a>(
     alloc: Global,
     source: &str,
@@ -139,7 +140,7 @@ fn read_line_value<'a>(
     }
 }
 
-/// The same of a scalar, which is spelled at the span.
+/// Reads a scalar, spelled at the span, into the item's place. Returns the rest of the events.
 fn read_line_scalar<'a>(
     alloc: Global,
     source: &str,
@@ -174,8 +175,8 @@ fn read_line_scalar<'a>(
     }
 }
 
-/// The same of an array or an inline table.
-// Stands apart, since what calls it pays at entry for the locals of all that is put into it.
+/// Reads an array or an inline table into the item's place. Returns the rest of the events.
+// Not inlined, so that its locals stay out of the caller's frame.
 #[inline(never)]
 fn read_line_list<'a>(
     alloc: Global,
@@ -203,8 +204,8 @@ fn read_line_list<'a>(
     Ok(rest)
 }
 
-/// Puts a value in the place of another. What stood there goes in one call, where an assignment in the place of the caller would be taken apart
-/// there for each variant.
+/// Puts a value in the place of another, which is dropped. A call, since an assignment in the
+/// caller would be taken apart there for each variant.
 #[doc(hidden)]
 pub fn put<T: Drop>(place: &mut T, value: T)
     ensures { place.new ≡ value }
@@ -212,7 +213,7 @@ pub fn put<T: Drop>(place: &mut T, value: T)
     *place = value;
 }
 
-/// The parts of the header whose brackets open before these events, and the events behind the header.
+/// Reads the header after its opening brackets. Returns its parts and the rest of the events.
 #[doc(hidden)]
 pub fn read_header<'a>(
     alloc: Global,

@@ -1,4 +1,5 @@
-//! The first example of each type in the documentation of the Rust crate, with the changes that `docs/DIFFERENCES.md` lists.
+//! The first example of each type in the documentation of the Rust crate, with the changes that
+//! `docs/DIFFERENCES.md` lists.
 use std::alloc::Global;
 use std::mem;
 use toml_edit::{
@@ -8,7 +9,7 @@ use toml_edit_tests::holding::{holds_changed, is_text, no_memory};
 
 const HELLO: &str = "\n\"hello\" = 'toml!' # comment\n['a'.b]\n    ";
 
-/// Whether the text is read, and this holds while the document is changed.
+/// Returns `true` if the text is parsed, and the test holds that changes the document.
 fn changes<F: Fn(Global, &mut DocumentMut) -> bool>(alloc: Global, text: &str, change: F) -> bool
     requires { F.IsAlwaysCallable change }
 {

@@ -37,7 +37,7 @@ fn has_no_spans_without_its_source(rt: HostRuntime) {
     }
 }
 
-/// Returns whether it was done.
+/// Fails if it was not done.
 fn done(is_done: bool) -> Mem<()> {
     if is_done { Ok(()) } else { Err(AllocError) }
 }
@@ -107,7 +107,7 @@ fn change(alloc: Global, root: &mut Table, name: &str) -> Mem<()> {
     }
 }
 
-/// Returns whether the document that was read prints so after a change.
+/// Returns `true` if the parsed document prints so after a change.
 fn gives(alloc: Global, read: Result<DocumentMut, ParseFault>, name: &str, wanted: &str) -> bool {
     match read {
         Ok(mut document) => {
@@ -211,7 +211,7 @@ fn reports(rt: HostRuntime) {
     assert!(rt; is_text(report(rt.alloc(), "a = 1\nb = 2\n"), ""));
 }
 
-/// Returns whether the document prints so, or with `None` doesn't fit.
+/// Returns `true` if the document prints so, or with `None` does not fit.
 fn prints(alloc: Global, document: &DocumentMut, wanted: Option<&str>) -> bool {
     match print_if_fits(alloc, document) {
         Ok(Some(text)) => wanted == Some(text.as_str()),

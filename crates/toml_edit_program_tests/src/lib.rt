@@ -1,5 +1,5 @@
-//! Tests of programs that use the library: the functions of the guide, the first examples of the Rust crate's documentation, and
-//! prints and runs over streams that take little at a time or fail.
+//! Tests of programs that use the library: the functions of the guide, the first examples of the
+//! Rust crate's documentation, and prints and runs over streams that take little at a time or fail.
 #![tactic(auto)]
 
 #[cfg(test)]

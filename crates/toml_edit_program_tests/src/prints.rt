@@ -9,10 +9,10 @@ use toml_edit_tests::holding::{holds_changed, holds_moved};
 const TEXT: &str =
     "# a\nk = [1, 2]  # b\nd.e = 'x'\n\n[t]\nu = { v = 1.5 }\n[[w]]\n[[w]]\nx = true\n# end\n";
 
-/// The order of these headers isn't that of their tables.
+/// The order of these headers is not that of their tables.
 const HEADERS: &str = "[a.x]\n[b]\n[a.y]\n";
 
-// Takes so many bytes at a time.
+/// A writer that takes so many bytes at a time.
 #[derive(Drop)]
 struct Bites<'a> {
     held: &'a mut Vec<u8>,
@@ -31,7 +31,7 @@ impl Write for Bites<'_> {
     }
 }
 
-/// The answer of a print to this writer, and whether the writer has failed then.
+/// Returns the result of a print to this writer, and whether the writer has failed then.
 fn answer<W: Write + Drop>(
     alloc: Global,
     document: &DocumentMut,
@@ -42,7 +42,7 @@ fn answer<W: Write + Drop>(
     (answer, Output::failed(&out))
 }
 
-/// Whether a writer that takes so many bytes at a time is given the whole text.
+/// Returns `true` if a writer that takes so many bytes at a time gets the whole text.
 fn prints_in_bites(alloc: Global, document: &DocumentMut, most: usize) -> bool {
     let mut held = Vec::new(alloc);
     let bites = Bites {
@@ -68,7 +68,8 @@ fn prints_to_slow_writers(rt: HostRuntime) {
     assert!(rt; holds_moved(rt.alloc(), document, prints_whole));
 }
 
-/// Whether a writer that has so much room holds the text up to there, and the fault is told.
+/// Returns `true` if a writer with so much room holds the text up to there, and the fault is
+/// returned.
 fn fills(alloc: Global, document: &DocumentMut, room: usize) -> bool {
     let mut held = Vec::new(alloc);
     let short = Short::of(&mut held, room);

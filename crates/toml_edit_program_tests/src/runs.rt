@@ -1,4 +1,4 @@
-//! Runs of the program: what they have written, and how they end where they can't tell it.
+//! Runs of the program: what they write, and how they end if they cannot write their messages.
 use crate::streams::Short;
 use std::alloc::Global;
 use std::io::{Read, Write};
@@ -14,7 +14,7 @@ fn print_word(alloc: Global) -> Mem<Vec<String>> {
     Ok(words)
 }
 
-/// The status of a run over these streams.
+/// Returns the status of a run over these streams.
 fn status<R: Read + Drop, W: Write + Drop, E: Write + Drop>(
     alloc: Global,
     words: &[String],
@@ -31,7 +31,7 @@ fn status<R: Read + Drop, W: Write + Drop, E: Write + Drop>(
     )
 }
 
-/// Whether a run of no command, which can't tell so, ends with status 2 and has written nothing.
+/// Returns `true` if a run of no command that cannot say so ends with status 2 and has no output.
 fn passes_over(alloc: Global, rest: &mut &[u8]) -> bool {
     let (mut output, mut held) = (Vec::new(alloc), Vec::new(alloc));
     let words: [String; 0] = [];
@@ -47,7 +47,7 @@ fn passes_over_a_fault_in_telling(rt: HostRuntime) {
     assert!(rt; rest.len() == 6);
 }
 
-/// Whether the run ends with status 0, has written the text, and has told nothing.
+/// Returns `true` if the run ends with status 0, has written the text, and no message.
 fn prints(alloc: Global, words: Vec<String>) -> bool {
     let (mut output, mut told) = (Vec::new(alloc), Vec::new(alloc));
     let status = status(

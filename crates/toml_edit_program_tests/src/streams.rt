@@ -4,7 +4,7 @@ use std::io;
 use std::io::{ErrorKind, Read, Write};
 use toml_edit_stream::{Broken, Input, Output, ReadFault, Watched, read_to_end, write_all};
 
-// Gives one byte at a time, and fails at one of its calls, but not at the next.
+/// A reader that gives one byte at a time, and fails at one of its calls, but not at the next.
 #[derive(Drop)]
 pub struct Drip<'a> {
     rest: &'a [u8],
@@ -13,6 +13,7 @@ pub struct Drip<'a> {
 }
 
 impl<'a> Drip<'a> {
+    /// Makes a reader of these bytes that fails after so many calls.
     pub fn of(rest: &'a [u8], calls_until_fault: usize) -> Drip<'a> {
         Drip {
             rest,
@@ -34,7 +35,7 @@ impl Read for Drip<'_> {
     }
 }
 
-// Takes so many bytes, and then fails, or takes nothing.
+/// A writer that takes so many bytes, and then fails, or takes nothing.
 #[derive(Drop)]
 pub struct Short<'a> {
     held: &'a mut Vec<u8>,
@@ -43,6 +44,7 @@ pub struct Short<'a> {
 }
 
 impl<'a> Short<'a> {
+    /// Makes a writer with so much room, whose bytes go to `held`.
     pub fn of(held: &'a mut Vec<u8>, room: usize) -> Short<'a> {
         Short {
             held,
@@ -103,7 +105,7 @@ fn tries_again_after_a_signal(rt: HostRuntime) {
     assert!(rt; reads(rt.alloc(), interrupted, b"signal".as_slice()));
 }
 
-/// Whether the reader fails, and fails ever after.
+/// Returns `true` if the reader fails, and fails ever after.
 fn stays_broken<R: Read + Drop>(alloc: Global, reader: R) -> bool {
     let mut input = Watched::new(reader);
     let is_broken = matches!(read_to_end(alloc, &mut input), Err(ReadFault::Broken));
@@ -132,7 +134,8 @@ fn writes_to_a_vec(rt: HostRuntime) {
     assert!(rt; held.as_slice() == b"one two".as_slice());
 }
 
-/// Whether the writer, which has room for three bytes, fails at a fourth, and fails ever after.
+/// Returns `true` if the writer, which has room for three bytes, fails at a fourth, and fails ever
+/// after.
 fn stays_full<W: Write + Drop>(writer: W) -> bool {
     let mut output = Watched::new(writer);
     output.write(b"") == Ok(0)

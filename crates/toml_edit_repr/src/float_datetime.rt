@@ -1,4 +1,4 @@
-//! Floats, dates and times as scalars.
+//! Floats, dates and times as scalar values.
 use crate::raw_string::{Mem, RawString};
 use crate::repr::{Repr, ScalarValue, ValueRepr, default_repr_of};
 use std::alloc::Global;

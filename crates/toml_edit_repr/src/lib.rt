@@ -1,4 +1,7 @@
-//! Leaves of a document's tree: texts, decors, spellings and scalars, and how they are written.
+//! The leaves of a document's tree: raw texts, decors, spellings and scalars, and how they are
+//! written.
+//!
+//! What containers, keys and documents build on, and nothing of them.
 #![tactic(auto)]
 
 pub mod float_datetime;

@@ -1,10 +1,11 @@
 //! The two ways to treat line endings.
 
-/// What becomes of the carriage returns of decors and trailing texts where a document is printed.
+/// Says what happens to the carriage returns (CR) of decors and trailing texts when a document
+/// prints.
 #[derive(Clone, Copy, Debug, PartialEq, Eq)]
 pub enum Mode {
-    /// They go: each line ends in a line feed alone.
+    /// Drops them: each line ends in a line feed (LF) alone.
     Plain,
-    /// They stay, as each line of a text that is read keeps its ending.
+    /// Keeps them, so that each line that was parsed keeps its ending.
     Exact,
 }

@@ -1,4 +1,4 @@
-//! Texts that are kept beside values, as texts of their own or as spans of the source.
+//! Raw texts of a document: texts of their own, or spans of the source.
 ghost use Rattle.std.specs.Prelude.{◌≡◌, ◌↔◌, [], IsOk, IsTrue, IfOk, OnOk, OnErr, string_bytes};
 ghost use Rattle.std.specs.Option.{option_copied};
 ghost use Rattle.toml_edit_model.specs.Tree.{owned, span};
@@ -10,9 +10,18 @@ use std::hash::{Hash, Hasher};
 use std::marker::Model;
 use std::ops::Range;
 
-/// The answer of a call whose only error is want of memory.
+/// The result of a call that fails only when memory runs out.
+///
+/// # Examples
+///
+/// ```rust,ignore
+/// let version = Value::string(alloc, version)?;
+/// ```
+///
+/// From `add_dependency` of the guide, docs/GUIDE.md.
 pub type Mem<T> = Result<T, AllocError>;
 
+/// The forms of a raw text. Short texts are stored in place.
 #[derive(Debug, Drop)]
 enum Inner {
     // these three take no memory
@@ -23,14 +32,26 @@ enum Inner {
     Span(usize, usize),
 }
 
-/// A piece of a document: a text of its own, or a span of the source, in bytes.
+/// A raw piece of a TOML text, such as whitespace and comments, or a spelling.
+///
+/// It is either a text of its own or, in a `Document`, a span of the source in bytes. What is made
+/// is a text; `Document::into_mut` turns spans into texts.
+///
+/// # Examples
+///
+/// ```rust,ignore
+/// let prefix = RawString::from(format!(in alloc; "{comment}\n{indent}")?);
+/// let end = RawString::from_text(alloc, "\n")?;
+/// ```
+///
+/// From `push_line` of the guide, docs/GUIDE.md.
 #[derive(Debug)]
 pub struct RawString {
     inner: Inner,
 }
 
-// By hand, as with all that trees are made of: who lets go of one then has one call to prove, in whichever crate, and not what it
-// is made of.
+// By hand, as for all that trees are made of: a crate that drops one then proves one call, and not
+// one for each part.
 impl Drop for RawString {
     fn drop(self) {
         let RawString { inner } = self;
@@ -50,7 +71,15 @@ impl Model for RawString {
 impl RawString {
     ghost use Rattle.toml_edit_repr.specs.Views.{text_of, range_of, is_free, is_free_raw};
 
-    /// A copy of the text. The only error is want of memory. A text of at most 16 bytes takes none.
+    /// Makes a raw text of a copy of the text.
+    ///
+    /// The text is not checked. Where it is used as decor, `DocumentMut::fits` tells whether it
+    /// suits its place.
+    ///
+    /// # Errors
+    ///
+    /// Fails if memory runs out. A text of at most 16 bytes takes none. For a `String` use
+    /// `RawString::from`, which takes none either.
     pub fn from_text(alloc: Global, text: &str) -> Mem<RawString>
         ensures ok { IfOk result (λ raw. raw ≡ owned text.now) }
         ensures free { IsTrue (is_free text.now) → IsOk result }
@@ -68,7 +97,7 @@ impl RawString {
         RawString::from_longer(alloc, text)
     }
 
-    /// The same of a text that is mostly longer than one space.
+    /// Makes a raw text of a text that is seldom empty or one space.
     fn from_longer(alloc: Global, text: &str) -> Mem<RawString>
         ensures ok { IfOk result (λ raw. raw ≡ owned text.now) }
         ensures free { IsTrue (is_free text.now) → IsOk result }
@@ -83,7 +112,7 @@ impl RawString {
         })
     }
 
-    /// The bytes of the source from `start` up to `end`.
+    /// Makes a span of the bytes of the source from `start` up to `end`.
     pub fn from_span(start: usize, end: usize) -> RawString
         ensures { result ≡ span start end }
     {
@@ -92,7 +121,9 @@ impl RawString {
         }
     }
 
-    /// The text, or `None` at a span.
+    /// Returns the text, or `None` for a span.
+    ///
+    /// For a span see [`span`](Self::span). In a `DocumentMut` that was parsed, all are texts.
     pub fn as_str(&self) -> Option<&str>
         ensures { option_copied result ≡ text_of self.now }
     {
@@ -105,7 +136,11 @@ impl RawString {
         }
     }
 
-    /// An equal copy. The only error is want of memory. A text of at most 16 bytes and a span take none.
+    /// Returns an equal copy.
+    ///
+    /// # Errors
+    ///
+    /// Fails if memory runs out. A span and a text of at most 16 bytes take none.
     pub fn clone(&self, alloc: Global) -> Mem<RawString>
         ensures equal { IfOk result (λ copy. copy ≡ self.now) }
         ensures free { IsTrue (is_free_raw self.now) → IsOk result }
@@ -123,7 +158,7 @@ impl RawString {
         }
     }
 
-    /// The bytes of the source that a span holds, or `None` at a text.
+    /// Returns the bytes of the source that a span covers, or `None` for a text of its own.
     pub fn span(&self) -> Option<Range<usize>>
         ensures { result ≡ range_of self.now }
     {
@@ -133,7 +168,11 @@ impl RawString {
         }
     }
 
-    /// Turns a span of `source` into the text that stands there. The only error is want of memory.
+    /// Replaces a span of `source` by the text that it cuts.
+    ///
+    /// # Errors
+    ///
+    /// Fails if memory runs out, and then stays as it was.
     #[doc(hidden)]
     #[inline(always)]
     pub fn despan(&mut self, alloc: Global, source: &str) -> Mem<()>
@@ -152,7 +191,7 @@ impl RawString {
         Ok(())
     }
 
-    /// Becomes the text. It stands apart, so that one space is put in place.
+    /// Becomes the text. Not inlined, so that the usual case of one space is.
     #[inline(never)]
     fn become_text(&mut self, alloc: Global, text: &str) -> Mem<()>
         ensures ok { OnOk result (self.new ≡ owned text.now) }
@@ -163,6 +202,7 @@ impl RawString {
     }
 }
 
+/// Makes a raw text of the string, without a copy.
 impl From<String> for RawString {
     ghost from_gives = { λ text raw. raw ≡ owned (string_bytes text) };
 
@@ -173,6 +213,7 @@ impl From<String> for RawString {
     }
 }
 
+/// Makes the empty raw text.
 impl Default for RawString {
     ghost is_default = { λ raw. raw ≡ owned [] };
 
@@ -182,7 +223,8 @@ impl Default for RawString {
     }
 }
 
-/// Two texts are equal if they are one text, however they are kept; two spans, if they are one span.
+/// Compares texts with texts, however they are kept, and spans with spans. A text never equals a
+/// span.
 impl PartialEq for RawString {
     ghost use Rattle.toml_edit_repr.specs.Sameness.{same_raw};
     ghost use Rattle.toml_edit_repr.specs.SamenessLaws.{same_raw_partial_equiv};

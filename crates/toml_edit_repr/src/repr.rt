@@ -21,7 +21,9 @@ use std::marker::Model;
 use std::ops::Range;
 use toml_edit_token::write_string;
 
-/// The spelling of a scalar or a key: a text, or a span of the source.
+/// The spelling of a scalar or a key: its representation in TOML, such as `0xFF` or `'a b'`.
+///
+/// It is a text, or a span of the source in a `Document`. [`as_raw`](Self::as_raw) tells which.
 #[derive(Debug, Drop)]
 pub struct Repr {
     raw: RawString,
@@ -38,28 +40,33 @@ impl Model for Repr {
 impl Repr {
     ghost use Rattle.toml_edit_repr.specs.Views.{range_of};
 
-    /// The spelling that stands there. Whoever keeps it beside a value sees to it that it spells the value.
+    /// Makes a spelling of the raw text. The caller sees to it that it spells the value that it is
+    /// kept with.
     pub fn new(raw: RawString) -> Repr
         ensures { result ≡ raw }
     {
         Repr { raw }
     }
 
-    /// An equal copy. The only error is want of memory.
+    /// Returns an equal copy.
+    ///
+    /// # Errors
+    ///
+    /// Fails if memory runs out.
     pub fn clone(&self, alloc: Global) -> Mem<Repr>
         ensures { IfOk result (λ copy. copy ≡ self.now) }
     {
         Ok(Repr::new(self.raw.clone(alloc)?))
     }
 
-    /// The text or the span.
+    /// Returns the raw text or span.
     pub fn as_raw(&self) -> &RawString
         ensures { result.now ≡ self.now }
     {
         &self.raw
     }
 
-    /// The bytes of the source that it spans, or `None` at a text.
+    /// Returns the bytes of the source that the spelling covers, or `None` if it is a text.
     pub fn span(&self) -> Option<Range<usize>>
         ensures { result ≡ range_of self.now }
     {
@@ -67,7 +74,7 @@ impl Repr {
     }
 }
 
-/// Two spellings are equal if they are one text, or one span.
+/// Compares spellings as raw texts: text with text, span with span.
 impl PartialEq for Repr {
     ghost use Rattle.toml_edit_repr.specs.Sameness.{same_raw};
     ghost use Rattle.toml_edit_repr.specs.SamenessLaws.{same_raw_partial_equiv};
@@ -103,9 +110,25 @@ impl Hash for Repr {
     }
 }
 
-/// What stands before and after a key or a value. A side that is unset is printed as its place wants it.
+/// The decor of a key, a value or a header: the whitespace and the comments before it (`prefix`)
+/// and after it (`suffix`).
+///
+/// A side that is unset prints as the default for its place: one space on each side of `=`, between
+/// the elements of an array, and inside the braces of an inline table; an empty line before a
+/// header. A side that is set prints as it is, an empty one as nothing. In a document that was
+/// parsed, the sides that print are set. (TOML, "Comment" and "Key/Value Pair".)
+///
+/// # Examples
+///
+/// ```rust,ignore
+/// mem::swap(old.decor_mut(), value.decor_mut());
+/// mem::swap(old, &mut value);
+/// ```
+///
+/// From `replace_value` of the guide, docs/GUIDE.md.
 pub struct Decor {
-    // Each side beside whether it is set: two sides that are options would take a word more. One that is unset is empty.
+    // Each side has a flag beside it, since two options would take a word more. An unset side is
+    // empty.
     prefix: RawString,
     suffix: RawString,
     has_prefix: bool,
@@ -135,7 +158,9 @@ impl Model for Decor {
 }
 
 impl Decor {
-    /// Both sides.
+    /// Makes a decor with both sides set.
+    ///
+    /// For one with neither, use `Decor::default`.
     pub fn new(prefix: RawString, suffix: RawString) -> Decor
         ensures { result ≡ record { prefix = Some prefix; suffix = Some suffix } }
     {
@@ -147,7 +172,11 @@ impl Decor {
         }
     }
 
-    /// An equal copy. The only error is want of memory.
+    /// Returns an equal copy.
+    ///
+    /// # Errors
+    ///
+    /// Fails if memory runs out.
     pub fn clone(&self, alloc: Global) -> Mem<Decor>
         ensures { IfOk result (λ copy. copy ≡ self.now) }
     {
@@ -159,14 +188,17 @@ impl Decor {
         })
     }
 
-    /// Unsets both sides.
+    /// Unsets both sides, so that they print as the defaults for their place.
     pub fn clear(&mut self)
         ensures { self.new ≡ unset }
     {
         *self = Decor::default();
     }
 
-    /// What stands before.
+    /// Returns the whitespace and the comments before the key, value or header, or `None` if unset.
+    ///
+    /// An unset side prints as the default for its place, an empty one as nothing. See
+    /// [`set_prefix`](Self::set_prefix).
     pub fn prefix(&self) -> Option<&RawString>
         ensures { option_copied result ≡ self.now.prefix }
     {
@@ -177,7 +209,10 @@ impl Decor {
         }
     }
 
-    /// Sets what stands before.
+    /// Sets the whitespace and the comments before the key, value or header.
+    ///
+    /// The text is not checked here. If it does not suit its place, such as a comment with no
+    /// newline before a key, `DocumentMut::fits` returns `false`.
     pub fn set_prefix(&mut self, prefix: RawString)
         ensures { self.new ≡ record self.old { prefix = Some prefix } }
     {
@@ -185,7 +220,10 @@ impl Decor {
         self.has_prefix = true;
     }
 
-    /// What stands after.
+    /// Returns the whitespace and the comments after the key, value or header, or `None` if unset.
+    ///
+    /// An unset side prints as the default for its place, an empty one as nothing. See
+    /// [`set_suffix`](Self::set_suffix).
     pub fn suffix(&self) -> Option<&RawString>
         ensures { option_copied result ≡ self.now.suffix }
     {
@@ -196,7 +234,10 @@ impl Decor {
         }
     }
 
-    /// Sets what stands after.
+    /// Sets the whitespace and the comments after the key, value or header.
+    ///
+    /// The text is not checked here. If it does not suit its place, such as a newline after a key,
+    /// `DocumentMut::fits` returns `false`.
     pub fn set_suffix(&mut self, suffix: RawString)
         ensures { self.new ≡ record self.old { suffix = Some suffix } }
     {
@@ -204,8 +245,11 @@ impl Decor {
         self.has_suffix = true;
     }
 
-    /// Turns spans of `source` into the texts that stand there. The only error is want of memory, and then either side may be
-    /// a span still: the document that the decor is of is to be given up.
+    /// Replaces spans of `source` by the texts that they cut.
+    ///
+    /// # Errors
+    ///
+    /// Fails if memory runs out. Either side may still be a span then: drop the document.
     #[doc(hidden)]
     pub fn despan(&mut self, alloc: Global, source: &str) -> Mem<()>
         requires { DecorFits source.now self.old }
@@ -230,6 +274,7 @@ impl fmt::Debug for Decor {
     }
 }
 
+/// Makes a decor with both sides unset.
 impl Default for Decor {
     ghost is_default = { λ d. d ≡ unset };
 
@@ -243,7 +288,7 @@ impl Default for Decor {
     }
 }
 
-/// Two decors are equal if both of their sides are. An unset side differs from an empty one.
+/// Compares side by side. An unset side differs from an empty one.
 impl PartialEq for Decor {
     ghost use Rattle.toml_edit_repr.specs.Sameness.{same_decor};
     ghost use Rattle.toml_edit_repr.specs.SamenessLaws.{same_decor_partial_equiv};
@@ -280,7 +325,11 @@ impl Hash for Decor {
     }
 }
 
-/// Turns a spelling that spans `source` into the text that stands there. The only error is want of memory, which leaves it as it was.
+/// Replaces a spelling that is a span of `source` by the text that it cuts.
+///
+/// # Errors
+///
+/// Fails if memory runs out, and then leaves the spelling as it was.
 #[doc(hidden)]
 pub fn despan_spelling(alloc: Global, repr: &mut Option<Repr>, source: &str) -> Mem<()>
     requires { OptionFits source.now repr.old }
@@ -293,7 +342,11 @@ pub fn despan_spelling(alloc: Global, repr: &mut Option<Repr>, source: &str) -> 
     }
 }
 
-/// An equal copy of a spelling, where there is one. The only error is want of memory.
+/// Returns an equal copy of the spelling, if there is one.
+///
+/// # Errors
+///
+/// Fails if memory runs out.
 pub fn clone_spelling(alloc: Global, repr: &Option<Repr>) -> Mem<Option<Repr>>
     ensures { IfOk result (λ copy. copy ≡ repr.now) }
 {
@@ -303,40 +356,54 @@ pub fn clone_spelling(alloc: Global, repr: &Option<Repr>) -> Mem<Option<Repr>>
     }
 }
 
-/// A value that is a scalar.
+/// A type whose values are TOML scalars: strings, integers, floats, booleans, dates and times.
+///
+/// It is what [`ValueRepr`] needs of a value: the scalar that it is, how that is spelled by
+/// default, and how to copy it.
 pub trait ScalarValue: PartialEq {
     ghost use Rattle.toml_edit_model.specs.Scalars.{Scalar};
 
-    // the scalar that the value is
+    // The scalar that the value is.
     ghost scalar: { Self → Scalar };
 
     /// Writes the default spelling of the value. It takes no memory.
     fn write_default<W: Write>(&self, f: &mut Formatter<W>) -> fmt::Result
         ensures { WritesOnOk W.write_str_gives f.old result (default_spelling (scalar self.now)) f.new };
 
-    /// An equal copy. The only error is want of memory.
+    /// Returns an equal copy.
+    ///
+    /// # Errors
+    ///
+    /// Fails if memory runs out.
     fn copy(&self, alloc: Global) -> Mem<Self>
         ensures scalar { IfOk result (λ copy. scalar copy ≡ scalar self.now) }
         ensures equal { IfOk result (λ copy. IsTrue (Self.eq copy self.now)) };
 }
 
-/// A value that has a spelling.
+/// A type whose values can be spelled in TOML, and so be the value of a [`Formatted`].
+///
+/// It is implemented for `String`, `i64`, `bool`, `FloatText` and `Datetime`. An implementation for
+/// another type proves which spellings its values have.
 pub trait ValueRepr: ScalarValue {
     ghost use Rattle.std.specs.Prelude.{List, ℕ};
 
-    // the text spells the value, and in range
+    // The text spells the value, and is in range.
     ghost spells: { List ℕ → Self → Type 0 };
 
-    /// The default spelling of the value, as a text, which spells it. The only error is want of memory.
+    /// Returns the default spelling of the value, as a text that spells it.
+    ///
+    /// # Errors
+    ///
+    /// Fails if memory runs out.
     fn to_repr(&self, alloc: Global) -> Mem<Repr>
         ensures default { IfOk result (λ repr. repr ≡ owned (default_spelling (Self.scalar self.now))) }
         ensures spelled { ∥ spells (default_spelling (Self.scalar self.now)) self.now ∥₁ };
 
-    // the spellings of the value are those of its scalar that are in range
+    // A text spells the value if it spells its scalar, in range.
     ghost spells_scalar: { (t : List ℕ) (x : Self) → spells t x ↔ SpellsInRange (Self.scalar x) t };
 }
 
-/// The default spelling of a value, to be written.
+/// A value that displays as its default spelling.
 #[derive(Drop)]
 struct Spelled<'a, T>(&'a T);
 
@@ -351,13 +418,14 @@ impl<T: ScalarValue> fmt::Display for Spelled<'_, T> {
     }
 }
 
-// The default spelling as a text.
+/// Returns the default spelling as a text.
 fn default_text<T: ScalarValue>(alloc: Global, value: &T) -> Mem<String>
     ensures { IfOk result (λ text. string_bytes text ≡ default_spelling (T.scalar value.now)) }
 {
     format!(in alloc; "{}", Spelled(value))
 }
 
+/// Returns the default spelling as a spelling that is a text.
 pub(crate) fn default_repr_of<T: ScalarValue>(alloc: Global, value: &T) -> Mem<Repr>
     ensures { IfOk result (λ repr. repr ≡ owned (default_spelling (T.scalar value.now))) }
 {
@@ -392,7 +460,7 @@ impl ValueRepr for String {
     }
 }
 
-// By value, so that the range of the integer is known.
+// By value, so that the proof knows the range of the integer.
 fn integer_repr(alloc: Global, value: i64) -> Mem<Repr>
     ensures default { IfOk result (λ repr. repr ≡ owned (default_spelling (integer value))) }
     ensures spelled { ∥ SpellsInRange (integer value) (default_spelling (integer value)) ∥₁ }
@@ -454,7 +522,11 @@ impl ValueRepr for bool {
     }
 }
 
-/// A scalar with its spelling and its decor. A spelling that is a text spells the value.
+/// A scalar value with its spelling and its decor.
+///
+/// A value that was parsed prints as it was spelled; one that was made, in its default spelling.
+/// The spelling always spells the value, so a value is changed by putting a new `Formatted` in its
+/// place.
 #[derive(Debug)]
 pub struct Formatted<T: ValueRepr> {
     value: T,
@@ -482,7 +554,7 @@ impl<T: ValueRepr> Model for Formatted<T> {
     ghost invariant = { λ a. ∥ HasTrueSpelling (λ t. T.spells t a.value) a.repr ∥₁ };
 }
 
-/// Two scalars are equal if their values, their spellings and their decors are.
+/// Compares values, spellings and decors: `0x1` and `1` differ.
 impl<T: ValueRepr + PartialEq> PartialEq for Formatted<T> {
     ghost use Rattle.toml_edit_repr.specs.Sameness.{same_formatted};
     ghost use Rattle.toml_edit_repr.specs.SamenessLaws.{same_formatted_partial_equiv};
@@ -537,7 +609,7 @@ impl<T: ValueRepr> Formatted<T> {
     ghost use Rattle.toml_edit_repr.specs.Sameness.{same_formatted};
     ghost use Rattle.toml_edit_repr.specs.Views.{range_of, text_of};
 
-    /// The value with the default spelling and no decor.
+    /// Makes a scalar with its default spelling and no decor.
     pub fn new(value: T) -> Formatted<T>
         ensures { result ≡ record { value = value; repr = None; decor = unset } }
     {
@@ -548,7 +620,7 @@ impl<T: ValueRepr> Formatted<T> {
         }
     }
 
-    /// A value that was read: its spelling stands from the byte `start` of the source up to `end`.
+    /// Makes a scalar that was parsed, spelled by the bytes of the source from `start` up to `end`.
     pub fn spanned(value: T, start: usize, end: usize, decor: Decor) -> Formatted<T>
         ensures { result ≡ record { value = value; repr = Some (span start end); decor = decor } }
     {
@@ -559,22 +631,26 @@ impl<T: ValueRepr> Formatted<T> {
         }
     }
 
-    /// An equal copy: of the scalar, its spelling and its decor. The only error is want of memory.
+    /// Returns an equal copy, with its spelling and its decor.
+    ///
+    /// # Errors
+    ///
+    /// Fails if memory runs out.
     pub fn clone(&self, alloc: Global) -> Mem<Formatted<T>>
         ensures value { IfOk result (λ copy. T.scalar copy.value ≡ T.scalar self.now.value) }
         ensures repr { IfOk result (λ copy. copy.repr ≡ self.now.repr) }
         ensures decor { IfOk result (λ copy. copy.decor ≡ self.now.decor) }
-        // By `==`.
+        // Equal by `==`.
         ensures equal { IfOk result (λ copy. IsTrue (same_formatted T.eq copy self.now)) }
     {
         let repr = clone_spelling(alloc, &self.repr)?;
         let decor = self.decor.clone(alloc)?;
-        // the value is copied last, since it need not be one that can be dropped
+        // The value is copied last, since its type need not be one that can be dropped.
         let value = self.value.copy(alloc)?;
         Ok(Formatted { value, repr, decor })
     }
 
-    /// The value. A spelling that is a text spells it.
+    /// Returns the value.
     pub fn value(&self) -> &T
         ensures value { result.now ≡ self.now.value }
         ensures spelled { ∥ HasTrueSpelling (λ t. T.spells t self.now.value) self.now.repr ∥₁ }
@@ -582,7 +658,7 @@ impl<T: ValueRepr> Formatted<T> {
         &self.value
     }
 
-    /// The value, without its spelling and its decor.
+    /// Returns the value, and drops its spelling and its decor.
     pub fn into_value(self) -> T
         ensures { result ≡ self.value }
     {
@@ -592,14 +668,21 @@ impl<T: ValueRepr> Formatted<T> {
         value
     }
 
-    /// The spelling, if it isn't the default one.
+    /// Returns the value's own spelling, or `None` if it has none and prints in the default one.
+    ///
+    /// What was parsed has one, even where it is spelled by default. See
+    /// [`display_repr`](Self::display_repr) for what prints.
     pub fn as_repr(&self) -> Option<&Repr>
         ensures { option_copied result ≡ self.now.repr }
     {
         self.repr.as_ref()
     }
 
-    /// The default spelling of the value, which spells it. The only error is want of memory.
+    /// Returns the default spelling of the value, whatever its own one is.
+    ///
+    /// # Errors
+    ///
+    /// Fails if memory runs out.
     pub fn default_repr(&self, alloc: Global) -> Mem<Repr>
         ensures default { IfOk result (λ repr. repr ≡ owned (default_spelling (T.scalar self.now.value))) }
         ensures spelled { ∥ T.spells (default_spelling (T.scalar self.now.value)) self.now.value ∥₁ }
@@ -607,8 +690,11 @@ impl<T: ValueRepr> Formatted<T> {
         self.value.to_repr(alloc)
     }
 
-    /// The spelling that is shown: the own one, if it is a text, and else the default one. The only error is want of memory; a
-    /// spelling that is a text takes none.
+    /// Returns the spelling that prints: the value's own one if it is a text, else the default one.
+    ///
+    /// # Errors
+    ///
+    /// Fails if memory runs out. An own spelling that is a text is lent, and takes none.
     pub fn display_repr(&self, alloc: Global) -> Mem<CowStr<'_>>
         ensures text { IfOk result (λ text. cow_str_bytes text ≡ scalar_text (T.scalar self.now.value) self.now.repr) }
         ensures free { IsSome (option_and_then text_of self.now.repr) → IsOkAnd result IsBorrowedStr }
@@ -619,21 +705,23 @@ impl<T: ValueRepr> Formatted<T> {
         }
     }
 
-    /// The bytes of the source that the spelling spans, or `None` at a text or at no spelling.
+    /// Returns the bytes of the source that the spelling covers, or `None` if it is no span.
+    ///
+    /// Only values of a `Document` have one, not those of a `DocumentMut`.
     pub fn span(&self) -> Option<Range<usize>>
         ensures { result ≡ option_and_then range_of self.now.repr }
     {
         self.as_repr()?.span()
     }
 
-    /// What stands around the value.
+    /// Returns the whitespace and the comments around the value.
     pub fn decor(&self) -> &Decor
         ensures { result.now ≡ self.now.decor }
     {
         &self.decor
     }
 
-    /// What stands around the value, to be changed.
+    /// Returns a mutable reference to the whitespace and the comments around the value.
     pub fn decor_mut(&mut self) -> &mut Decor
         ensures* writes_back { sem 𝓛 (LendsDecor T.row (record { spells = T.spells }) (record { scalar = T.scalar }) (record { eq = T.eq }) self.entry result) }
         ensures decor { result.now ≡ self.old.decor }
@@ -641,15 +729,18 @@ impl<T: ValueRepr> Formatted<T> {
         &mut self.decor
     }
 
-    /// Gives the value its default spelling.
+    /// Resets the value to its default spelling. Its decor stays.
     pub fn fmt(&mut self)
         ensures { self.new ≡ record self.old { repr = None } }
     {
         self.repr = None;
     }
 
-    /// Turns spans of `source` into the texts that stand there. The only error is want of memory, and then spans may be left: the
-    /// document that the value is of is to be given up.
+    /// Replaces spans of `source` by the texts that they cut.
+    ///
+    /// # Errors
+    ///
+    /// Fails if memory runs out. Spans may be left then: drop the document.
     #[doc(hidden)]
     pub fn despan(&mut self, alloc: Global, source: &str) -> Mem<()>
         requires spelling { OptionFits source.now self.old.repr }

@@ -4,7 +4,7 @@ use serde_json::Value as Json;
 use toml_edit::{Date, Datetime, Offset, Time, Value};
 use toml_edit_rows_read::{Answer, Row, steps};
 
-/// Rows on a date-time that is made or read.
+/// Answers rows on a date-time that is made or parsed.
 pub fn answer(row: Row<'_>, out: &mut Answer) {
     steps::found::<Texts, _>(made(row), row, out);
 }
@@ -25,7 +25,7 @@ fn number(numbers: &Json, at: usize) -> Option<u64> {
     }
 }
 
-/// The number, or one that is in no range of a part where it is missing or beyond a byte.
+/// Returns the number, or one that is out of range if it is missing or beyond a byte.
 fn small(number: Option<u64>) -> u8 {
     match number {
         Some(number) => u8::try_from(number).unwrap_or(u8::MAX),
@@ -33,7 +33,7 @@ fn small(number: Option<u64>) -> u8 {
     }
 }
 
-/// The date of three numbers: year, month and day.
+/// Makes the date of three numbers: year, month and day.
 fn date(numbers: &Json) -> Option<Date> {
     Date::new(
         year(number(numbers, 0)),
@@ -49,8 +49,8 @@ fn year(number: Option<u64>) -> u16 {
     }
 }
 
-/// The time of up to four numbers: hour, minute, second and nanosecond, of which the last two may
-/// be missing or `null`.
+/// Makes the time of up to four numbers: hour, minute, second and nanosecond. The last two may be
+/// missing or `null`.
 fn time(numbers: &Json) -> Option<Time> {
     Time::new(
         small(number(numbers, 0)),
@@ -74,7 +74,7 @@ fn nanosecond(number: Option<u64>) -> Option<u32> {
     }
 }
 
-/// The date-time of an object with `date`, `time` and `offset`, each of which may be missing.
+/// Makes the date-time of an object with `date`, `time` and `offset`, each of which may be missing.
 fn of_parts(parts: &Json) -> Option<Datetime> {
     Datetime::new(
         parts.get("date").and_then(date),
@@ -83,7 +83,7 @@ fn of_parts(parts: &Json) -> Option<Datetime> {
     )
 }
 
-/// The offset of a number of minutes, or of `"Z"`.
+/// Makes the offset of a number of minutes, or of `"Z"`.
 fn offset(offset: &Json) -> Offset {
     match offset.as_i64() {
         Some(minutes) => Offset::Custom {

@@ -6,7 +6,7 @@ use toml_edit::{Document, DocumentMut, Mem, ParseFault, ParseOptions, SourceText
 use toml_edit_rows_read::steps::{Tries, word};
 use toml_edit_rows_read::{Answer, Row, refusal, steps};
 
-/// Rows on the text of a document.
+/// Answers rows on the text of a document.
 pub fn answer(row: Row<'_>, out: &mut Answer) {
     match row.question {
         "events" => events::all(row.text(), out),
@@ -20,17 +20,17 @@ pub fn answer(row: Row<'_>, out: &mut Answer) {
     }
 }
 
-/// Rows on the text of a document that is read as TOML 1.0.
+/// Answers rows on the text of a document that is parsed as TOML 1.0.
 pub fn strict(row: Row<'_>, out: &mut Answer) {
     by_options(ParseOptions::new().version(Version::V1_0), row, out);
 }
 
-/// Rows on the text of a document whose line endings are kept.
+/// Answers rows on the text of a document whose line endings are kept.
 pub fn exact(row: Row<'_>, out: &mut Answer) {
     by_options(ParseOptions::new().exact(true), row, out);
 }
 
-/// Rows on the text of a document that is read as these options say.
+/// Answers rows on the text of a document that is parsed by these options.
 fn by_options(options: ParseOptions, row: Row<'_>, out: &mut Answer) {
     match row.question {
         "from_str_prints" | "from_str_at" | "from_str_error" => steps::read::<Texts, _>(
@@ -46,8 +46,8 @@ fn by_options(options: ParseOptions, row: Row<'_>, out: &mut Answer) {
     }
 }
 
-/// Asks of a document that is made of the root as it was read, or of the document after it owns its
-/// texts.
+/// Answers a question on the document that is made of the parsed root, or on the document after it
+/// owns its texts.
 fn read(read: Result<Document<&str>, ParseFault>, row: Row<'_>, out: &mut Answer) {
     match read {
         Ok(document) if row.question == "root_prints" || row.question == "root_fits" => {
@@ -58,7 +58,7 @@ fn read(read: Result<Document<&str>, ParseFault>, row: Row<'_>, out: &mut Answer
     }
 }
 
-/// Asks of the document after it owns its texts.
+/// Answers a question on the document after it owns its texts.
 fn owned<S: SourceText>(read: Result<Document<S>, ParseFault>, row: Row<'_>, out: &mut Answer) {
     match read {
         Ok(document) => owning(document.into_mut(out.alloc), row, out),
@@ -66,7 +66,7 @@ fn owned<S: SourceText>(read: Result<Document<S>, ParseFault>, row: Row<'_>, out
     }
 }
 
-/// Asks of the document, or of the document that is made of its root.
+/// Answers a question on the document, or on the document that is made of its root.
 fn owning(made: Mem<DocumentMut>, row: Row<'_>, out: &mut Answer) {
     match made {
         Ok(document) if row.question == "owned_root_prints" => {

@@ -4,23 +4,27 @@ use toml_edit_syntax::{Event, SyntaxFault, events, lone_events};
 
 type Found = Result<Vec<Event>, SyntaxFault>;
 
+/// Writes the events of a text.
 pub fn all(text: &str, out: &mut Answer) {
     shown(events(out.alloc, text), out);
 }
 
+/// Writes the events of a lone value.
 pub fn all_lone(text: &str, out: &mut Answer) {
     shown(lone_events(out.alloc, text), out);
 }
 
+/// Writes the last event of a text.
 pub fn last(text: &str, out: &mut Answer) {
     last_shown(events(out.alloc, text), out);
 }
 
+/// Writes the last event of a lone value.
 pub fn last_lone(text: &str, out: &mut Answer) {
     last_shown(lone_events(out.alloc, text), out);
 }
 
-/// The events: of each its kind and its span.
+/// Writes the events: the kind and the span of each.
 fn shown(found: Found, out: &mut Answer) {
     match found {
         Ok(events) => list(events.as_slice(), out),

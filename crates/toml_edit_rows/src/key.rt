@@ -7,7 +7,7 @@ use toml_edit_rows_read::steps::{Tries, behind, copied, word};
 use toml_edit_rows_read::value::{Plain, change_decor};
 use toml_edit_rows_read::{Answer, Row, refusal, steps};
 
-/// Rows on a key or a path.
+/// Answers rows on a key or a path.
 pub fn answer(row: Row<'_>, out: &mut Answer) {
     match row.kind {
         "path" => steps::read::<Texts, _>(Key::parse(out.alloc, row.text()), row, out),
@@ -33,7 +33,7 @@ impl Tries<Key> for Texts {
     }
 }
 
-/// Does a step with the key. Of a call that changes it the answer is empty.
+/// Makes a step with the key. The answer to a call that changes it is empty.
 fn call(key: &mut Key, words: &[Json], out: &mut Answer) {
     let rest = behind(words, 1);
     match word(words, 0) {
@@ -60,7 +60,7 @@ impl Tries<Vec<Key>> for Texts {
     }
 }
 
-/// Asks of the key at the place that the first word is.
+/// Answers a question on the key at the place that the first word is.
 fn ask_path(keys: &[Key], words: &[Json], out: &mut Answer) {
     match word(words, 0).parse::<usize>() {
         Ok(at) => ask_found(keys.get(at), behind(words, 1), out),

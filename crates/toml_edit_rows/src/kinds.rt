@@ -24,7 +24,7 @@ const KINDS: [&str; 19] = [
     "run",
 ];
 
-/// Tries rows on texts.
+/// The program that tries rows on texts.
 pub struct Texts;
 
 impl Program for Texts {

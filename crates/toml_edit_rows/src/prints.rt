@@ -1,10 +1,10 @@
-//! The print of a document, by each way to it, and what it is once it is read again.
+//! The print of a document, by each way to it, and what it is when parsed again.
 use std::alloc::Global;
 use toml_edit::{DocumentMut, Mem, PrintFault, Watched};
 use toml_edit_rows_read::{Answer, Bites, refusal};
 
-/// The print, where it is also what is written to an output, whether this takes one byte at a time,
-/// three, or all.
+/// Writes the print, if an output gets it too, whether this takes one byte at a time, three, or
+/// all.
 pub fn answer(document: &DocumentMut, out: &mut Answer) {
     match document.print(out.alloc) {
         Ok(print) => written(document, print.as_str(), out),
@@ -36,7 +36,7 @@ fn in_bites(alloc: Global, document: &DocumentMut, most: usize) -> Result<Vec<u8
     Ok(held)
 }
 
-/// Whether the print, read again, is printed as it stands.
+/// Writes whether the print, parsed again, prints as itself.
 pub fn settles(document: &DocumentMut, out: &mut Answer) {
     match document.print(out.alloc) {
         Ok(text) => comes_back(text.as_str(), out),

@@ -5,6 +5,7 @@ use std::alloc::Global;
 use toml_edit::Mem;
 use toml_edit_rows_read::{Answer, Row, items_of, text_of};
 
+/// Answers rows on runs of the program.
 pub fn answer(row: Row<'_>, out: &mut Answer) {
     let words = words(out.alloc, items_of(row.subject()));
     run_of(words, row, out);
@@ -17,7 +18,7 @@ fn run_of(words: Mem<Vec<String>>, row: Row<'_>, out: &mut Answer) {
     }
 }
 
-/// How the run ends: its status, what it has written, or what it has told.
+/// Writes how the run ends: its status, its output, or its messages.
 fn ended(words: &[String], input: &[u8], question: &str, out: &mut Answer) {
     match streams::run_whole(out.alloc, words, input) {
         Ok(ended) if question == "streams_fail" => {
@@ -45,7 +46,7 @@ fn words(alloc: Global, items: &[Json]) -> Mem<Vec<String>> {
     Ok(words)
 }
 
-/// The input: the text `input`, and behind it the `bytes`.
+/// Returns the input: the text `input`, and after it the `bytes`.
 fn input(alloc: Global, json: &Json) -> Mem<Vec<u8>> {
     let mut input = Vec::new(alloc);
     input.extend_from_slice(text_of(json.get("input")).as_bytes())?;
@@ -69,8 +70,8 @@ fn bytes(bytes: &[u8], out: &mut Answer) {
     }
 }
 
-/// Whether `print` ends with status 0 or 1 on each beginning of the text, and with 1 where that
-/// ends inside a character.
+/// Writes whether `print` ends with status 0 or 1 on each beginning of the text, and with 1 on one
+/// that ends inside a character.
 pub fn every_cut_ends(text: &str, out: &mut Answer) {
     match print_word(out.alloc) {
         Ok(words) => out.told(cuts_end(out.alloc, words.as_slice(), text)),

@@ -1,10 +1,10 @@
-//! Rows on scalars that are made and not read.
+//! Rows on scalars that are made and not parsed.
 use crate::kinds::Texts;
 use std::alloc::Global;
 use toml_edit::{FloatText, Mem, Value};
 use toml_edit_rows_read::{Answer, Row, refusal, steps};
 
-/// Rows on a scalar that is made.
+/// Answers rows on a scalar that is made.
 pub fn answer(row: Row<'_>, out: &mut Answer) {
     match row.kind {
         "float" => float(String::from_str(out.alloc, row.text()), row, out),
@@ -32,7 +32,7 @@ fn float(text: Mem<String>, row: Row<'_>, out: &mut Answer) {
     }
 }
 
-/// Asks of the float, or of the text that is given back, which is none.
+/// Answers a question on the float, or on the text that is given back, which is none.
 fn checked_float(float: Result<FloatText, String>, row: Row<'_>, out: &mut Answer) {
     match float {
         Ok(float) => steps::stepped::<Texts, _>(Value::from(float), row, out),

@@ -5,7 +5,7 @@ use std::io::{ErrorKind, Read, Write};
 use toml_edit::{Mem, Watched};
 use toml_edit_command::run;
 
-/// Gives one byte at a time, and fails at one of its calls.
+/// A reader that gives one byte at a time, and fails at one of its calls.
 #[derive(Drop)]
 struct Drip<'a> {
     rest: &'a [u8],
@@ -23,7 +23,7 @@ impl Read for Drip<'_> {
     }
 }
 
-/// Takes one byte at a time, and fails once its room is full.
+/// A writer that takes one byte at a time, and fails once its room is full.
 #[derive(Drop)]
 struct Narrow<'a> {
     held: &'a mut Vec<u8>,
@@ -61,8 +61,8 @@ impl Ended {
             && self.errors.as_slice() == errors
     }
 
-    /// The end, or `Err` if it is that of a run that was refused memory: its status says so, and as
-    /// much of its line as the errors had room for, and nothing was written.
+    /// Returns the end, or `Err` if it is that of a run that ran out of memory: its status says so,
+    /// its message is written as far as there is room, and it has no output.
     fn unless_refused(self, room: usize) -> Mem<Ended> {
         let line = REFUSED.get(..room).unwrap_or(REFUSED);
         if self.is(3, b"", line) {
@@ -73,10 +73,10 @@ impl Ended {
     }
 }
 
-/// What a run that is refused memory tells.
+/// The message of a run that ran out of memory.
 const REFUSED: &[u8] = b"tomled: out of memory\n";
 
-/// More room than a row's run fills, so that no stream of its own finds none.
+/// More room than a row's run fills, so that its own streams never fill up.
 const ROOM: usize = 4096;
 
 /// Runs the program on the input, over streams that give and take all at once.
@@ -98,7 +98,8 @@ pub fn run_whole(alloc: Global, words: &[String], input: &[u8]) -> Mem<Ended> {
     ended.unless_refused(usize::MAX)
 }
 
-/// The streams of a run: how many reads there are before the fault, and how many bytes find room.
+/// The limits of the streams of a run: how many reads there are before the fault, and how many
+/// bytes find room.
 #[derive(Clone, Copy)]
 struct Limits {
     reads: usize,
@@ -140,9 +141,9 @@ fn run_within(alloc: Global, words: &[String], input: &[u8], limits: Limits) -> 
     ended.unless_refused(limits.errors)
 }
 
-/// Whether a run that ends so ends so byte by byte too, ends with status 4 wherever a read or a
-/// write fails, with a beginning of the output at most, and ends as it does where what it tells
-/// finds no room.
+/// Returns `true` if a run ends the same byte by byte, ends with status 4 wherever a read or a
+/// write fails, with at most a beginning of the output, and ends the same if its messages find no
+/// room.
 pub fn hold(alloc: Global, words: &[String], input: &[u8], whole: &Ended) -> Mem<bool> {
     let slow = run_within(alloc, words, input, NO_LIMITS)?;
     Ok(
@@ -156,7 +157,7 @@ pub fn hold(alloc: Global, words: &[String], input: &[u8], whole: &Ended) -> Mem
     )
 }
 
-/// The last of these reads is the one that finds the end.
+/// The last of these reads finds the end.
 fn reads_hold(alloc: Global, words: &[String], input: &[u8]) -> Mem<bool> {
     for reads in 0..=input.len() {
         let limits = Limits { reads, ..NO_LIMITS };

@@ -5,6 +5,7 @@ use toml_edit_datetime::{is_datetime, is_float};
 use toml_edit_rows_read::{Answer, Row};
 use toml_edit_token::{Scalar, after_key, after_scalar, decode_key, decode_scalar};
 
+/// Answers rows on tokens.
 pub fn answer(row: Row<'_>, out: &mut Answer) {
     let text = row.text();
     match row.question {
@@ -25,7 +26,7 @@ fn key_text(decoded: Mem<Option<String>>, out: &mut Answer) {
     }
 }
 
-/// What the token says: its kind and its value.
+/// Writes what the token means: its kind and its value.
 fn scalar(decoded: Mem<Option<Scalar>>, out: &mut Answer) {
     match decoded {
         Ok(Some(scalar)) => scalar_text(&scalar, out),

@@ -6,7 +6,7 @@ use toml_edit::{FromStr, FromStrWith, ParseOptions, Value, Version};
 use toml_edit_rows_read::steps::Tries;
 use toml_edit_rows_read::{Answer, Row, refusal, steps, value};
 
-/// Rows on a lone value.
+/// Answers rows on a lone value.
 pub fn answer(row: Row<'_>, out: &mut Answer) {
     match row.question {
         "events" => events::all_lone(row.text(), out),
@@ -15,7 +15,7 @@ pub fn answer(row: Row<'_>, out: &mut Answer) {
     }
 }
 
-/// Rows on a lone value that is read as TOML 1.0.
+/// Answers rows on a lone value that is parsed as TOML 1.0.
 pub fn strict(row: Row<'_>, out: &mut Answer) {
     let options = ParseOptions::new().version(Version::V1_0);
     steps::read::<Texts, _>(

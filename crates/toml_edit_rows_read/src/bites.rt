@@ -2,7 +2,7 @@
 use std::io;
 use std::io::Write;
 
-/// Takes so many bytes at a time.
+/// An output that takes so many bytes at a time.
 #[derive(Drop)]
 pub struct Bites<'a> {
     pub held: &'a mut Vec<u8>,

@@ -1,10 +1,10 @@
-//! What is asked of dates and times.
+//! Questions on dates and times.
 use crate::said::Answer;
 use crate::steps;
 use serde_json::Value as Json;
 use toml_edit_datetime::{Date, Datetime, Offset, Time};
 
-/// Asks of a date-time, if there is one.
+/// Answers a question on a date-time, if there is one.
 pub fn ask(found: Option<&Datetime>, words: &[Json], out: &mut Answer) {
     match found {
         Some(datetime) => ask_datetime(*datetime, steps::word(words, 0), out),

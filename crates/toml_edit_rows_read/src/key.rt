@@ -1,4 +1,4 @@
-//! What is asked of keys.
+//! Questions on keys, and steps with them.
 use crate::said::Answer;
 use crate::steps::{Asks, behind, word};
 use crate::value::{self, Plain};
@@ -6,7 +6,7 @@ use serde_json::Value as Json;
 use toml_edit_key::{Key, KeyMut};
 use toml_edit_repr::Repr;
 
-/// Asks of a key, if there is one.
+/// Answers a question on a key, if there is one.
 pub fn ask_found(key: Option<&Key>, words: &[Json], out: &mut Answer) {
     match key {
         Some(key) => ask(key, words, out),
@@ -14,7 +14,7 @@ pub fn ask_found(key: Option<&Key>, words: &[Json], out: &mut Answer) {
     }
 }
 
-/// Asks of a key.
+/// Answers a question on a key.
 pub fn ask(key: &Key, words: &[Json], out: &mut Answer) {
     match word(words, 0) {
         "get" => out.text(key.get()),
@@ -26,7 +26,7 @@ pub fn ask(key: &Key, words: &[Json], out: &mut Answer) {
     }
 }
 
-/// Does a step through the lent key.
+/// Makes the call of a step on the lent key.
 pub fn call_lent(lent: &mut KeyMut<'_>, words: &[Json], out: &mut Answer) {
     let rest = behind(words, 1);
     match word(words, 0) {

@@ -1,4 +1,4 @@
-//! What a call leaves where memory is refused for it.
+//! Judging what a call leaves that ran out of memory.
 use crate::row;
 use crate::said::Answer;
 use serde_json::Value as Json;
@@ -6,14 +6,16 @@ use std::alloc::Global;
 use std::fmt::Debug;
 use toml_edit_repr::Mem;
 
-/// What is seen of a subject: all that `Debug` writes of it.
+/// Returns all that can be seen of a subject: what `Debug` writes of it.
 pub fn seen<S: Debug>(subject: &S, alloc: Global) -> Mem<String> {
     format!(in alloc; "{subject:?}")
 }
 
-/// Tells of a step whose call was refused memory and didn't leave the subject as it was, where
-/// there was memory to see that. A sort of a table and of the dotted tables inside leaves a
-/// permutation, and `extend` a beginning of what it adds. Steps that make two calls are passed over.
+/// Reports a step whose call ran out of memory and did not leave the subject as it was, if there
+/// was memory to see that.
+///
+/// A sort of a table and of the dotted tables inside may leave a permutation, and `extend` a
+/// beginning of what it adds. Steps that make two calls are skipped.
 pub fn judge(before: &str, after: Mem<String>, words: &[Json], out: &mut Answer) {
     match after {
         Ok(after) if !is_left(before, after.as_str(), words) => {
@@ -33,7 +35,7 @@ fn is_left(before: &str, after: &str, words: &[Json]) -> bool {
     }
 }
 
-/// Whether the step makes two calls that change something, of which the second may be refused.
+/// Returns `true` if the step makes two changing calls, of which the second may run out of memory.
 fn is_of_two(words: &[Json]) -> bool {
     has(words, "below") || has(words, "becomes") || has(words, "taken") || has(words, "its own")
 }
@@ -47,7 +49,7 @@ fn has(words: &[Json], wanted: &str) -> bool {
     false
 }
 
-/// Whether the second is the first with something put in at one place.
+/// Returns `true` if the second is the first with something inserted at one place.
 fn is_grown(before: &[u8], after: &[u8]) -> bool {
     let at = difference(before, after);
     match (before.get(at..), after.get(at..)) {
@@ -56,7 +58,7 @@ fn is_grown(before: &[u8], after: &[u8]) -> bool {
     }
 }
 
-/// The place of the first byte that isn't the same in both, or the end of the first.
+/// Returns the place of the first byte that differs, or the end of the first.
 fn difference(before: &[u8], after: &[u8]) -> usize {
     for at in 0..before.len() {
         if before.get(at) != after.get(at) {
@@ -66,7 +68,7 @@ fn difference(before: &[u8], after: &[u8]) -> usize {
     before.len()
 }
 
-/// Whether each byte is as often in the one as in the other.
+/// Returns `true` if each byte is as often in the one as in the other.
 fn is_permuted(before: &[u8], after: &[u8]) -> bool {
     for byte in 0..=255u8 {
         if count(before, byte) != count(after, byte) {

@@ -1,5 +1,5 @@
-//! Rows: how they are read, tried and reported, and what is asked of values and keys, whichever
-//! program asks.
+//! Rows: how they are read, tried and reported, and the questions on values and keys that more than
+//! one program of rows has.
 #![tactic(auto)]
 
 mod bites;

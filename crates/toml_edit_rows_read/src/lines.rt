@@ -1,10 +1,10 @@
-//! What is told of the names and the lines of tables and of inline tables.
+//! Writing the names and the lines of tables and of inline tables.
 use crate::said::Answer;
 use toml_edit_key::Key;
 use toml_edit_repr::Mem;
 use toml_edit_tree::{Iter, Value};
 
-/// Tells the names of what an iterator gives.
+/// Writes the names of what an iterator gives.
 pub fn names(items: Iter<'_>, out: &mut Answer) {
     let mut is_first = true;
     for (name, _item) in items {
@@ -16,7 +16,7 @@ pub fn names(items: Iter<'_>, out: &mut Answer) {
     }
 }
 
-/// Tells the lines in order, where there was memory for them.
+/// Writes the lines in order, if there was memory for them.
 pub fn tell(lines: Mem<Vec<(Vec<&Key>, &Value)>>, out: &mut Answer) {
     match lines {
         Ok(lines) => {
@@ -28,7 +28,7 @@ pub fn tell(lines: Mem<Vec<(Vec<&Key>, &Value)>>, out: &mut Answer) {
     }
 }
 
-/// Tells a line: the texts of its keys, with dots between them, and the value as it is shown.
+/// Writes a line: the names of its keys, with dots between them, and the value as it displays.
 fn tell_line(keys: &[&Key], value: &Value, out: &mut Answer) {
     out.text("<");
     let mut is_first = true;

@@ -1,4 +1,4 @@
-//! What is asked of arrays and inline tables, and what is changed in them.
+//! Questions on arrays and inline tables, and steps that change their decor.
 use crate::said::Answer;
 use crate::steps::{behind, index, word};
 use crate::told::tell_found;
@@ -7,7 +7,8 @@ use serde_json::Value as Json;
 use toml_edit_repr::{Mem, RawString};
 use toml_edit_tree::{Array, InlineTable, Value};
 
-/// The value that the calls `get` at the front of the words go to, and the words behind them.
+/// Returns the value that the calls `get` at the front of the words lead to, and the words after
+/// them.
 pub fn place<'v, 'a>(value: &'v Value, words: &'a [Json]) -> Option<(&'v Value, &'a [Json])> {
     let mut value = value;
     let mut words = words;
@@ -29,7 +30,7 @@ fn inner<'v>(value: &'v Value, at: &str) -> Option<&'v Value> {
     }
 }
 
-/// Asks of an array or an inline table.
+/// Answers a question on an array or an inline table.
 pub fn ask(value: &Value, words: &[Json], out: &mut Answer) {
     match value {
         Value::Array(array) => ask_array(array, words, out),
@@ -60,7 +61,7 @@ fn ask_array_end(array: &Array, words: &[Json], out: &mut Answer) {
     }
 }
 
-/// The values, as they are shown.
+/// Writes the values, as they display.
 fn values(array: &Array, out: &mut Answer) {
     for value in array.iter() {
         out.text("<");
@@ -100,7 +101,7 @@ fn ask_inline_end(table: &InlineTable, words: &[Json], out: &mut Answer) {
     }
 }
 
-/// Shows the value under a key, by brackets, where it is there.
+/// Writes the value under a key, found by brackets, if the key is there.
 fn read_brackets(table: &InlineTable, key: &str, out: &mut Answer) {
     match table.get(key) {
         Some(_) => out.shown(&table[key]),
@@ -108,7 +109,7 @@ fn read_brackets(table: &InlineTable, key: &str, out: &mut Answer) {
     }
 }
 
-/// The lines of the table that a copy can be made.
+/// Writes the lines of the table that a copy can be made.
 fn lines_of(copy: Mem<InlineTable>, out: &mut Answer) {
     match copy {
         Ok(copy) => out.shown(&copy.into_table()),
@@ -116,7 +117,7 @@ fn lines_of(copy: Mem<InlineTable>, out: &mut Answer) {
     }
 }
 
-/// The pairs: each key's text, and the value as it is shown.
+/// Writes the pairs: each key's name, and the value as it displays.
 fn pairs(table: &InlineTable, out: &mut Answer) {
     for (name, value) in table.iter() {
         out.text("<");
@@ -136,7 +137,7 @@ pub fn change(value: &mut Value, words: &[Json], out: &mut Answer) {
     }
 }
 
-/// Changes what stands around the values of an array.
+/// Changes the decor of the values of an array.
 pub fn change_array(array: &mut Array, words: &[Json], out: &mut Answer) {
     match word(words, 0) {
         "list_decor_mut" => value::change_decor(array.decor_mut(), behind(words, 1), out),
@@ -150,7 +151,7 @@ pub fn change_array(array: &mut Array, words: &[Json], out: &mut Answer) {
     }
 }
 
-/// Changes what stands around the pairs of an inline table.
+/// Changes the decor of the pairs of an inline table.
 pub fn change_inline(table: &mut InlineTable, words: &[Json], out: &mut Answer) {
     match word(words, 0) {
         "list_decor_mut" => value::change_decor(table.decor_mut(), behind(words, 1), out),

@@ -1,4 +1,4 @@
-//! Values, keys, tables and items that are made of what a row says of them.
+//! Making values, keys, tables and items from the words of a row.
 use crate::said::Answer;
 use crate::steps::word;
 use serde_json::Value as Json;
@@ -8,7 +8,7 @@ use toml_edit_parser::FromStr;
 use toml_edit_repr::{Decor, RawString};
 use toml_edit_tree::{Item, Table, Value, item};
 
-/// What was read, if it was. Where memory was refused, that is noted.
+/// Returns what was parsed, if it was. Notes it if memory ran out.
 pub fn read<T: Drop>(read: Result<T, ParseFault>, out: &mut Answer) -> Option<T> {
     match read {
         Ok(read) => Some(read),
@@ -20,7 +20,7 @@ pub fn read<T: Drop>(read: Result<T, ParseFault>, out: &mut Answer) -> Option<T>
     }
 }
 
-/// The value that the first word says, if it is one. Two more words are what stands around it.
+/// Makes the value that the first word says, if it is one. Two more words are its decor.
 pub fn value(words: &[Json], out: &mut Answer) -> Option<Value> {
     let value = said_value(word(words, 0), out)?;
     if words.len() < 3 {
@@ -32,7 +32,7 @@ pub fn value(words: &[Json], out: &mut Answer) -> Option<Value> {
     }
 }
 
-/// The value between the texts that the second and the third word are.
+/// Gives the value the second and the third word as decor.
 fn decorated(value: Value, words: &[Json], out: &mut Answer) -> Option<Value> {
     let before = RawString::from_text(out.alloc, word(words, 1));
     match (before, RawString::from_text(out.alloc, word(words, 2))) {
@@ -45,8 +45,8 @@ fn decorated(value: Value, words: &[Json], out: &mut Answer) -> Option<Value> {
     }
 }
 
-/// A value that is made of the text, the number or the boolean behind the name of its kind, or
-/// else is read.
+/// Makes a value from the text, the number or the boolean after the name of its kind, or else
+/// parses it.
 fn said_value(text: &str, out: &mut Answer) -> Option<Value> {
     if let Some(text) = text.strip_prefix("string ") {
         return out.given(Value::string(out.alloc, text)).ok();
@@ -60,7 +60,7 @@ fn said_value(text: &str, out: &mut Answer) -> Option<Value> {
     }
 }
 
-/// The key that the first word is, if it is one. Two more words are its leaf decor.
+/// Makes the key that the first word is, if it is one. Two more words are its leaf decor.
 pub fn key(words: &[Json], out: &mut Answer) -> Option<Key> {
     let mut key = read(Key::from_str(out.alloc, word(words, 0)), out)?;
     if words.len() < 3 || decorate(key.leaf_decor_mut(), words, out) {
@@ -86,14 +86,14 @@ fn decorate(decor: &mut Decor, words: &[Json], out: &mut Answer) -> bool {
     }
 }
 
-/// A program that reads documents.
+/// A program of rows that parses documents.
 pub trait Reads {
-    /// The root of the document that the text is, if it is one.
+    /// Returns the root of the document that the text is, if it is one.
     fn root(text: &str, out: &mut Answer) -> Option<Table>;
 }
 
-/// An item: an empty one of a kind, a new table of the pairs behind `new`, a value, or what stands
-/// under `t` in a document.
+/// Makes an item: an empty one of a kind, a new table of the pairs after `new`, a value, or the
+/// item under `t` in a document.
 pub fn item<P: Reads>(text: &str, out: &mut Answer) -> Option<Item> {
     match said_item::<P>(text, out) {
         Some(item) => Some(out.handed(item)),

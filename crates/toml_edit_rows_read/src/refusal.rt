@@ -1,8 +1,8 @@
-//! What is asked of a refusal.
+//! Questions on a refusal.
 use crate::said::Answer;
 use toml_edit_error::{ParseFault, TomlError};
 
-/// The answer to a question where the text was refused.
+/// Answers a question on a text that was refused.
 pub fn answer(fault: &ParseFault, question: &str, out: &mut Answer) {
     match fault {
         ParseFault::Memory => out.refuse(),
@@ -24,7 +24,7 @@ fn error_answer(error: &TomlError, question: &str, out: &mut Answer) {
     }
 }
 
-/// The answer where what is asked isn't made, for a reason that is no `TomlError`.
+/// Answers a question if nothing was made, for a reason that is no `TomlError`.
 pub fn none(question: &str, out: &mut Answer) {
     if question == "is_refused" {
         out.truth(true);
@@ -33,7 +33,7 @@ pub fn none(question: &str, out: &mut Answer) {
     }
 }
 
-/// The answer to another question where nothing was refused.
+/// Answers a question on refusals if nothing was refused.
 pub fn of_accepted(question: &str, out: &mut Answer) {
     match question {
         "is_refused" => out.truth(false),

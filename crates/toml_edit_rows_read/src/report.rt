@@ -5,8 +5,8 @@ use std::alloc::Global;
 use std::io;
 use std::process::ExitCode;
 
-/// Tries the rows of standard input, one a line, and prints the report. The status is 0 if all hold,
-/// 1 if some don't, and 2 if memory was refused or a stream failed.
+/// Tries the rows of standard input, one a line, and prints the report. The status is 0 if all
+/// hold, 1 if some do not, and 2 if memory ran out or a stream failed.
 pub fn run<P: Program>(rt: HostRuntime) -> ExitCode {
     match io::read_to_string(rt.alloc(), rt.reader()) {
         Ok(rows) => tell::<P>(&rt, rows.as_str()),
@@ -24,8 +24,8 @@ fn tell<P: Program>(rt: &HostRuntime, rows: &str) -> ExitCode {
     }
 }
 
-/// The rows that didn't hold, as they are told, and how many held. A row for which memory was refused
-/// is neither.
+/// The report on the rows that do not hold, and the number of those that do. A row for which memory
+/// ran out is neither.
 #[derive(Drop)]
 struct Report {
     told: Answer,
@@ -35,7 +35,7 @@ struct Report {
 }
 
 impl Report {
-    /// The empty report, with room for how many rows hold.
+    /// Makes the empty report, with room for the number of rows that hold.
     fn new(alloc: Global) -> Report {
         let mut told = Answer::new(alloc);
         told.reserve(64);
@@ -47,7 +47,7 @@ impl Report {
         }
     }
 
-    /// What is told so far.
+    /// Returns the report so far.
     fn as_str(&self) -> &str {
         self.told.as_str()
     }
@@ -73,7 +73,7 @@ impl Report {
         }
     }
 
-    // Tells of a row that doesn't hold, and what came instead.
+    /// Reports a row that does not hold, and what came instead.
     fn tell(&mut self, line: &str, came: &str) {
         self.told.text(line);
         self.told.text("\n    ");
@@ -81,7 +81,7 @@ impl Report {
         self.told.text("\n");
     }
 
-    /// Ends the report, and returns the status that the program is to end with.
+    /// Ends the report, and returns the exit status of the program.
     fn end(&mut self) -> u8 {
         if self.failed > 0 {
             self.told.shown(&self.failed);

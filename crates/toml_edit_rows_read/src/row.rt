@@ -1,11 +1,11 @@
-//! A row: what is asked, and what is wanted.
+//! A row: its questions, and the answers that it wants.
 use crate::said::{self, Answer};
 use serde_json::{Map, Value as Json};
 
 /// A program that tries rows of some kinds. A row is of a kind if it has a member of this name,
-/// which says what is asked.
+/// whose value is the subject.
 pub trait Program {
-    /// Whether the program tries rows of this kind.
+    /// Returns `true` if the program tries rows of this kind.
     fn knows(kind: &str) -> bool;
 
     /// Answers a question of a row.
@@ -21,17 +21,17 @@ pub struct Row<'a> {
 }
 
 impl<'a> Row<'a> {
-    /// What the row is about.
+    /// Returns the subject of the row.
     pub fn subject(self) -> Option<&'a Json> {
         self.json.get(self.kind)
     }
 
-    /// What the row is about, where that is a text.
+    /// Returns the subject of the row, if that is a text.
     pub fn text(self) -> &'a str {
         text_of(self.json.get(self.kind))
     }
 
-    /// The steps that come before the question.
+    /// Returns the steps that come before the question.
     pub fn steps(self) -> &'a [Json] {
         match self.question {
             "reads" | "into_item" | "owned_into_item" | "as_item" => items_of(
@@ -42,7 +42,7 @@ impl<'a> Row<'a> {
     }
 }
 
-/// The text, or the empty one where there is none.
+/// Returns the text, or the empty one if there is none.
 pub fn text_of(found: Option<&Json>) -> &str {
     match found {
         Some(json) => json.as_str().unwrap_or(""),
@@ -50,7 +50,7 @@ pub fn text_of(found: Option<&Json>) -> &str {
     }
 }
 
-/// The items of a list, or none.
+/// Returns the items of a list, or none.
 pub fn items_of(found: Option<&Json>) -> &[Json] {
     match found {
         Some(Json::Array(items)) => items.as_slice(),
@@ -58,7 +58,7 @@ pub fn items_of(found: Option<&Json>) -> &[Json] {
     }
 }
 
-/// Whether the row of the line holds. If not, what came is written.
+/// Returns `true` if the row of the line holds. If not, writes what came instead.
 pub fn holds<P: Program>(line: &str, came: &mut Answer) -> bool {
     match Json::from_str(came.alloc, line) {
         Ok(json) => json_holds::<P>(line, &json, came),
@@ -90,7 +90,8 @@ fn json_holds<P: Program>(line: &str, json: &Json, came: &mut Answer) -> bool {
     }
 }
 
-/// How many colons the line has outside of its texts: one for each member that is written.
+/// Returns the number of colons of the line outside of its texts: one for each member that is
+/// written.
 fn colons(line: &str) -> usize {
     let mut count = 0_usize;
     let mut is_text = false;
@@ -109,7 +110,7 @@ fn colons(line: &str) -> usize {
     count
 }
 
-/// How many members the row has, and the objects in it.
+/// Returns the number of members of the row, and of the objects in it.
 fn held(members: &Map<String, Json>) -> usize {
     let mut count = members.len();
     for (_, inner) in members {
@@ -156,12 +157,13 @@ fn row_holds<P: Program>(
     is_asked
 }
 
-/// The members that are no questions are the one that names the kind, and the input of a run.
+/// Returns `true` for a member that is a question: all but the one that names the kind, and the
+/// input of a run.
 fn is_question(kind: &str, member: &str) -> bool {
     member != kind && (kind != "run" || (member != "input" && member != "bytes"))
 }
 
-/// Whether the question is answered as it is wanted. The answer is left behind.
+/// Returns `true` if the question gets the wanted answer. The answer stays in `came`.
 fn is_answered<P: Program>(row: Row<'_>, wanted: &Json, came: &mut Answer) -> bool {
     came.clear();
     P::answer(row, came);
@@ -178,8 +180,8 @@ fn is_answered<P: Program>(row: Row<'_>, wanted: &Json, came: &mut Answer) -> bo
     false
 }
 
-/// The text that an answer begins if memory was refused for it. Of steps this is judged at each, and
-/// of a number it is nothing.
+/// Returns the text that an answer begins for which memory ran out. Of steps this is judged at
+/// each, and of a number it is nothing.
 fn beginning_of(wanted: &Json) -> &str {
     match wanted {
         Json::String(text) => text.as_str(),
@@ -188,7 +190,7 @@ fn beginning_of(wanted: &Json) -> &str {
     }
 }
 
-/// Whether this is what is wanted. Of steps it is that nothing is told of them.
+/// Returns `true` if this is the wanted answer. For steps that is the empty one.
 fn is_wanted(came: &str, wanted: &Json) -> bool {
     match wanted {
         Json::String(text) => came == text.as_str(),

@@ -5,13 +5,14 @@ use std::ops::Range;
 use toml_edit_repr::{Mem, RawString, Repr};
 use toml_edit_slots::NoMemory;
 
-/// How many bytes an answer makes room for where the rest of a row is to take no memory.
-/// `bench/refusals` knows the request by this number, and refuses each one behind it.
+/// The number of bytes that an answer makes room for if the rest of a row is to take no memory.
+/// `bench/refusals` knows the request by this number, and refuses each one after it.
 const ROOM: usize = 77777;
 
-/// An answer that is being written. It remembers whether memory was refused for it, and whether a
-/// call that was refused memory did wrong. Nothing is added once memory was refused: what stands
-/// there is a beginning of the answer.
+/// An answer that is being written.
+///
+/// It remembers whether memory ran out for it, and whether a call that ran out of memory did wrong.
+/// Nothing is added once memory ran out: the text is a beginning of the answer then.
 #[derive(Drop)]
 pub struct Answer {
     pub alloc: Global,
@@ -24,7 +25,7 @@ pub struct Answer {
 }
 
 impl Answer {
-    /// The empty answer.
+    /// Makes the empty answer.
     pub fn new(alloc: Global) -> Answer {
         Answer {
             alloc,
@@ -44,43 +45,44 @@ impl Answer {
         }
     }
 
-    /// Makes room for all that is told from here on, so that telling it takes no memory.
+    /// Makes room for the rest of the answer, so that writing it takes no memory.
     pub fn make_room(&mut self) {
         self.reserve(ROOM);
         self.is_roomy = true;
     }
 
-    /// Whether telling takes no memory.
+    /// Returns `true` if writing the answer takes no memory.
     pub fn is_roomy(&self) -> bool {
         self.is_roomy
     }
 
+    /// Returns the answer so far.
     pub fn as_str(&self) -> &str {
         self.text.as_str()
     }
 
-    /// Whether memory was refused, for this answer or for what was asked.
+    /// Returns `true` if memory ran out, for this answer or for a call.
     pub fn is_refused(&self) -> bool {
         self.is_refused
     }
 
-    /// Notes that memory was refused, for a call that was asked.
+    /// Notes that memory ran out for a call.
     pub fn refuse(&mut self) {
         self.is_refused = true;
         self.is_call_refused = true;
     }
 
-    /// Notes that memory was refused, for what is told alone.
+    /// Notes that memory ran out for the answer alone.
     pub fn cut_short(&mut self) {
         self.is_refused = true;
     }
 
-    /// Whether memory was refused for a call.
+    /// Returns `true` if memory ran out for a call.
     pub fn is_call_refused(&self) -> bool {
         self.is_call_refused
     }
 
-    /// Tells what a call that was refused memory did wrong.
+    /// Writes what a call that ran out of memory did wrong.
     pub fn wrong(&mut self, what: &str) {
         self.is_wrong = true;
         self.is_refused = false;
@@ -88,12 +90,12 @@ impl Answer {
         self.is_refused = true;
     }
 
-    /// Whether a call that was refused memory did wrong.
+    /// Returns `true` if a call that ran out of memory did wrong.
     pub fn is_wrong(&self) -> bool {
         self.is_wrong
     }
 
-    /// Drops what is told of an answer for which memory was refused, if this begins so.
+    /// Clears an answer for which memory ran out, if the wanted one begins so.
     pub fn is_to_begin(&mut self, wanted: &str) {
         if self.is_wrong {
             return;
@@ -105,7 +107,7 @@ impl Answer {
         }
     }
 
-    /// Notes what is handed to a call. Where memory is refused for that, it is to come back.
+    /// Notes what is passed to a call, which has to come back if memory runs out.
     pub fn handed<T: Debug>(&mut self, item: T) -> T {
         self.handed.clear();
         if !self.is_roomy && write!(self.handed, "{item:?}").is_err() {
@@ -114,7 +116,7 @@ impl Answer {
         item
     }
 
-    /// Notes that memory was refused for a call, which gave this back.
+    /// Notes that memory ran out for a call, which gave this back.
     pub fn given_back<T: Debug + Drop>(&mut self, refused: NoMemory<T>) {
         let mut back = String::new(self.alloc);
         let NoMemory(item) = refused;
@@ -126,30 +128,33 @@ impl Answer {
         self.refuse();
     }
 
-    /// Begins again, with the empty answer.
+    /// Clears the answer.
     pub fn clear(&mut self) {
         self.text.clear();
     }
 
+    /// Writes a text.
     pub fn text(&mut self, text: &str) {
         if !self.is_refused && self.text.push_str(text).is_err() {
             self.is_refused = true;
         }
     }
 
+    /// Writes what displays.
     pub fn shown<T: Display>(&mut self, shown: &T) {
         if !self.is_refused && write!(self.text, "{shown}").is_err() {
             self.is_refused = true;
         }
     }
 
+    /// Writes what `Debug` shows.
     pub fn debugged<T: Debug>(&mut self, shown: &T) {
         if !self.is_refused && write!(self.text, "{shown:?}").is_err() {
             self.is_refused = true;
         }
     }
 
-    /// Shows what was made, where there was memory for it.
+    /// Writes what was made, if there was memory for it.
     pub fn made<T: Display + Drop>(&mut self, made: Mem<T>) {
         match made {
             Ok(made) => self.shown(&made),
@@ -157,11 +162,12 @@ impl Answer {
         }
     }
 
+    /// Writes a boolean.
     pub fn truth(&mut self, holds: bool) {
         self.text(truth(holds));
     }
 
-    /// Tells a boolean, where there was memory to find it.
+    /// Writes a boolean, if there was memory to find it.
     pub fn told(&mut self, holds: Mem<bool>) {
         match holds {
             Ok(holds) => self.truth(holds),
@@ -169,10 +175,12 @@ impl Answer {
         }
     }
 
+    /// Writes the text, or `none`.
     pub fn text_or_none(&mut self, found: Option<&str>) {
         self.text(found.unwrap_or("none"));
     }
 
+    /// Writes what displays, or `none`.
     pub fn shown_or_none<T: Display>(&mut self, found: Option<&T>) {
         match found {
             Some(shown) => self.shown(shown),
@@ -180,6 +188,7 @@ impl Answer {
         }
     }
 
+    /// Writes the span, or `none`.
     pub fn span(&mut self, found: Option<Range<usize>>) {
         match found {
             Some(range) => self.range(range.start, range.end),
@@ -187,13 +196,14 @@ impl Answer {
         }
     }
 
+    /// Writes the span from `start` up to `end`.
     pub fn range(&mut self, start: usize, end: usize) {
         self.shown(&start);
         self.text("..");
         self.shown(&end);
     }
 
-    /// The text, or the span that stands for it.
+    /// Writes the text, or the span that it is.
     pub fn raw(&mut self, raw: Option<&RawString>) {
         match raw {
             Some(raw) => self.raw_text(raw),
@@ -208,7 +218,7 @@ impl Answer {
         }
     }
 
-    /// What was made, with a note where memory was refused for it.
+    /// Returns what was made. Notes it if memory ran out.
     pub fn given<T>(&mut self, made: Mem<T>) -> Mem<T> {
         if made.is_err() {
             self.refuse();
@@ -216,28 +226,28 @@ impl Answer {
         made
     }
 
-    /// Notes where memory was refused for a change.
+    /// Notes it if memory ran out for a change.
     pub fn done(&mut self, done: Mem<()>) {
         if done.is_err() {
             self.refuse();
         }
     }
 
-    /// Notes where memory was refused for a place.
+    /// Notes it if memory ran out for an insertion.
     pub fn put<T: Debug + Drop>(&mut self, put: Result<(), NoMemory<T>>) {
         if let Err(refused) = put {
             self.given_back(refused);
         }
     }
 
-    /// Notes where memory was refused for a change whose answer isn't asked for.
+    /// Notes it if memory ran out for a change whose result is not asked for.
     pub fn tried<R: Drop, T: Debug + Drop>(&mut self, change: Result<R, NoMemory<T>>) {
         if let Err(refused) = change {
             self.given_back(refused);
         }
     }
 
-    /// Shows what stood there before, where there was memory for the change.
+    /// Writes what was replaced, if there was memory for the change.
     pub fn old<T: Display + Debug + Drop>(&mut self, old: Result<T, NoMemory<T>>) {
         match old {
             Ok(old) => self.shown(&old),
@@ -245,6 +255,7 @@ impl Answer {
         }
     }
 
+    /// Writes the spelling that was made, if there was memory for it.
     pub fn repr(&mut self, made: Mem<Repr>) {
         match made {
             Ok(repr) => self.raw_text(repr.as_raw()),
@@ -252,13 +263,14 @@ impl Answer {
         }
     }
 
+    /// Writes that there is no such call or question.
     pub fn no_such(&mut self, call: &str) {
         self.text("no such call or question: ");
         self.text(call);
     }
 }
 
-/// How a boolean is written.
+/// Returns how a boolean is written.
 pub fn truth(holds: bool) -> &'static str {
     if holds { "true" } else { "false" }
 }

@@ -1,9 +1,9 @@
-//! What is asked of scalars.
+//! Questions on scalars.
 use crate::said::Answer;
 use toml_edit_repr::{Formatted, Repr, ValueRepr};
 use toml_edit_tree::Value;
 
-/// Drops the spelling of a scalar.
+/// Resets the spelling of a scalar.
 pub fn forget_spelling(value: &mut Value, out: &mut Answer) {
     match value {
         Value::String(scalar) => scalar.fmt(),
@@ -15,7 +15,7 @@ pub fn forget_spelling(value: &mut Value, out: &mut Answer) {
     }
 }
 
-/// Asks for the spelling of a scalar.
+/// Answers a question on the spelling of a scalar.
 pub fn ask(value: &Value, call: &str, out: &mut Answer) {
     match value {
         Value::String(scalar) => ask_scalar(scalar, call, out),
@@ -36,7 +36,7 @@ fn ask_scalar<T: ValueRepr>(scalar: &Formatted<T>, call: &str, out: &mut Answer)
     }
 }
 
-/// Asks by a call that every value has.
+/// Answers by a call that every value has.
 pub fn cast(value: &Value, call: &str, out: &mut Answer) -> bool {
     match call {
         "as_str" => out.text_or_none(value.as_str()),

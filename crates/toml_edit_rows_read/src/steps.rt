@@ -1,4 +1,4 @@
-//! Steps: chains of calls, in the library's names, each with its arguments behind it.
+//! Steps: chains of calls, in the library's names, each with its arguments after it.
 ghost use Rattle.std.specs.Prelude.{IfOk};
 ghost use Rattle.std.specs.Iterator.{IsFinite};
 
@@ -11,24 +11,24 @@ use std::fmt::Debug;
 use toml_edit_error::ParseFault;
 use toml_edit_repr::Mem;
 
-/// A program that does steps with subjects of a type, and answers questions on them.
+/// A program that makes steps with subjects of a type, and answers questions on them.
 pub trait Tries<S> {
-    /// Makes the calls of a step, and tells what they give: nothing where they only change
+    /// Makes the calls of a step, and writes what they return: nothing if they only change
     /// something.
     fn call(subject: &mut S, words: &[Json], out: &mut Answer);
 
-    /// Answers a question. Where this is a list of steps, they are done, and nothing is left to tell.
+    /// Answers a question. If this is a list of steps, they are made, and nothing is left to write.
     fn answer(subject: &S, question: &str, out: &mut Answer);
 }
 
-/// A program that asks of copies of a type.
+/// A program that answers questions on copies of a type.
 pub trait Asks<S> {
-    /// Makes the calls of a step on a copy, and tells what they give.
+    /// Makes the calls of a step on a copy, and writes what they return.
     fn ask(copy: &S, words: &[Json], out: &mut Answer);
 }
 
-/// Asks of what was read, or of the refusal. Whatever is read, made or copied is owned and let go
-/// here.
+/// Answers a question on what was parsed, or on the refusal. Whatever is parsed, made or copied is
+/// owned and dropped here.
 pub fn read<P: Tries<S>, S: Debug + Drop>(
     read: Result<S, ParseFault>,
     row: Row<'_>,
@@ -40,7 +40,7 @@ pub fn read<P: Tries<S>, S: Debug + Drop>(
     }
 }
 
-/// Asks of what was made, where there was memory for it.
+/// Answers a question on what was made, if there was memory for it.
 pub fn made<P: Tries<S>, S: Debug + Drop>(made: Mem<S>, row: Row<'_>, out: &mut Answer) {
     match made {
         Ok(subject) => stepped::<P, S>(subject, row, out),
@@ -48,7 +48,7 @@ pub fn made<P: Tries<S>, S: Debug + Drop>(made: Mem<S>, row: Row<'_>, out: &mut 
     }
 }
 
-/// Asks of what was made, if it was.
+/// Answers a question on what was made, if it was.
 pub fn found<P: Tries<S>, S: Debug + Drop>(made: Option<S>, row: Row<'_>, out: &mut Answer) {
     match made {
         Some(subject) => stepped::<P, S>(subject, row, out),
@@ -56,7 +56,7 @@ pub fn found<P: Tries<S>, S: Debug + Drop>(made: Option<S>, row: Row<'_>, out: &
     }
 }
 
-/// Asks of a copy, where there was memory for it.
+/// Answers a question on a copy, if there was memory for it.
 pub fn copied<P: Asks<S>, S: Drop>(copy: Mem<S>, words: &[Json], out: &mut Answer) {
     match copy {
         Ok(copy) => P::ask(&copy, words, out),
@@ -64,7 +64,7 @@ pub fn copied<P: Asks<S>, S: Drop>(copy: Mem<S>, words: &[Json], out: &mut Answe
     }
 }
 
-/// Tells each that a copy gives when it is given up, in order, where there was memory for it.
+/// Writes each element of a copy that is consumed, in order, if there was memory for it.
 pub fn given_up<T: Told + Drop, U: IntoIterator<Item = T>>(copy: Mem<U>, out: &mut Answer)
     requires { IfOk copy (λ given. (it : U.IntoIter) → U.into_iter_gives given it → U.IntoIter.can_next it × IsFinite (U.IntoIter.remaining it)) }
 {
@@ -80,8 +80,8 @@ pub fn given_up<T: Told + Drop, U: IntoIterator<Item = T>>(copy: Mem<U>, out: &m
     }
 }
 
-/// Does the steps, and answers the question, or tells of the first step that doesn't give what it
-/// says.
+/// Makes the steps and answers the question, or reports the first step that does not give what it
+/// wants.
 pub fn stepped<P: Tries<S>, S: Debug + Drop>(subject: S, row: Row<'_>, out: &mut Answer) {
     let mut subject = subject;
     for step in row.steps() {
@@ -92,7 +92,7 @@ pub fn stepped<P: Tries<S>, S: Debug + Drop>(subject: S, row: Row<'_>, out: &mut
     P::answer(&subject, row.question, out);
 }
 
-/// Whether the step gives what it says. If not, what it gave is told.
+/// Returns `true` if the step gives what it wants. If not, writes what it gave.
 fn gives<P: Tries<S>, S: Debug>(subject: &mut S, step: &[Json], out: &mut Answer) -> bool {
     let calls = calls(step);
     call::<P, S>(subject, calls, out);
@@ -110,7 +110,7 @@ fn gives<P: Tries<S>, S: Debug>(subject: &mut S, step: &[Json], out: &mut Answer
     false
 }
 
-/// Makes the calls of a step. Behind `take_no_memory` nothing else is done that takes some.
+/// Makes the calls of a step. After `take_no_memory` nothing else is done that takes some.
 fn call<P: Tries<S>, S: Debug>(subject: &mut S, calls: &[Json], out: &mut Answer) {
     match word(calls, 0) {
         "take_no_memory" => out.make_room(),
@@ -119,7 +119,7 @@ fn call<P: Tries<S>, S: Debug>(subject: &mut S, calls: &[Json], out: &mut Answer
     }
 }
 
-/// Makes the calls of a step. Where memory is refused for one, what is left is judged.
+/// Makes the calls of a step, and judges what is left if one runs out of memory.
 fn watched<P: Tries<S>, S: Debug>(subject: &mut S, calls: &[Json], out: &mut Answer) {
     match left::seen(subject, out.alloc) {
         Ok(before) => {
@@ -132,7 +132,7 @@ fn watched<P: Tries<S>, S: Debug>(subject: &mut S, calls: &[Json], out: &mut Ans
     }
 }
 
-/// The calls of a step, without what they are to give.
+/// Returns the calls of a step, without the result that it wants.
 fn calls(step: &[Json]) -> &[Json] {
     match step {
         [calls @ .., gives, _wanted] if gives.as_str() == Some("gives") => calls,
@@ -140,17 +140,17 @@ fn calls(step: &[Json]) -> &[Json] {
     }
 }
 
-/// A word of a chain, or the empty text.
+/// Returns a word of a chain, or the empty text.
 pub fn word(words: &[Json], at: usize) -> &str {
     row::text_of(words.get(at))
 }
 
-/// The place that the second word is, or one that no list reaches.
+/// Returns the place that the second word is, or one that no list reaches.
 pub fn index(words: &[Json]) -> usize {
     word(words, 1).parse::<usize>().unwrap_or(usize::MAX)
 }
 
-/// The words behind so many, or none.
+/// Returns the words after so many, or none.
 pub fn behind(words: &[Json], count: usize) -> &[Json] {
     &words[count.min(words.len())..]
 }

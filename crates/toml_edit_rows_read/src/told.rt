@@ -1,4 +1,4 @@
-//! What is told of items, values and slots, and what is written over them.
+//! Writing items, values and slots to an answer, and writing over them.
 use crate::said::Answer;
 use std::fmt::Debug;
 use std::mem;
@@ -6,7 +6,7 @@ use toml_edit_key::Key;
 use toml_edit_slots::NoMemory;
 use toml_edit_tree::{Item, Table, Value};
 
-/// What is told of something that a call gave.
+/// A type whose values can be written to an answer.
 pub trait Told {
     fn tell(&self, out: &mut Answer);
 }
@@ -54,14 +54,14 @@ impl<T: Told> Told for (String, T) {
     }
 }
 
-/// Tells the spelling of a key, and its item or value.
+/// Writes the spelling of a key, and its item or value.
 fn tell_slot<T: Told>(key: &Key, held: &T, out: &mut Answer) {
     out.shown(key);
     out.text("=");
     held.tell(out);
 }
 
-/// Tells what is lent, if it is.
+/// Writes what is lent, if it is.
 pub fn tell_lent<T: Told>(found: Option<&T>, out: &mut Answer) {
     match found {
         Some(found) => found.tell(out),
@@ -69,12 +69,12 @@ pub fn tell_lent<T: Told>(found: Option<&T>, out: &mut Answer) {
     }
 }
 
-/// Tells what was given, and lets it go.
+/// Writes what was returned, and drops it.
 pub fn tell_given<T: Told + Drop>(given: T, out: &mut Answer) {
     given.tell(out);
 }
 
-/// Tells what was taken out, if it was, and lets it go.
+/// Writes what was removed, if it was, and drops it.
 pub fn tell_taken<T: Told + Drop>(taken: Option<T>, out: &mut Answer) {
     match taken {
         Some(taken) => taken.tell(out),
@@ -82,7 +82,7 @@ pub fn tell_taken<T: Told + Drop>(taken: Option<T>, out: &mut Answer) {
     }
 }
 
-/// Tells what stood there before, where there was memory for the change.
+/// Writes what was replaced, if there was memory for the change.
 pub fn tell_old<T: Told + Debug + Drop>(old: Result<Option<T>, NoMemory<T>>, out: &mut Answer) {
     match old {
         Ok(old) => tell_taken(old, out),
@@ -90,7 +90,7 @@ pub fn tell_old<T: Told + Debug + Drop>(old: Result<Option<T>, NoMemory<T>>, out
     }
 }
 
-/// Tells the slot that was found, if one was.
+/// Writes the slot that was found, if one was.
 pub fn tell_found<T: Told>(found: Option<(&Key, &T)>, out: &mut Answer) {
     match found {
         Some((key, held)) => tell_slot(key, held, out),

@@ -1,4 +1,4 @@
-//! What is asked of any value, and changed around it.
+//! Questions on any value, and steps that change its decor.
 use crate::said::Answer;
 use crate::steps::{Asks, behind, copied, word};
 use crate::{date_time, list, scalar};
@@ -6,7 +6,7 @@ use serde_json::Value as Json;
 use toml_edit_repr::{Decor, RawString};
 use toml_edit_tree::Value;
 
-/// Does a step with the value. Of a call that changes it the answer is empty.
+/// Makes a step with the value. The answer to a call that changes it is empty.
 pub fn change(value: &mut Value, words: &[Json], out: &mut Answer) {
     match word(words, 0) {
         "decor_mut" => change_decor(value.decor_mut(), behind(words, 1), out),
@@ -37,7 +37,7 @@ pub fn change_decor(decor: &mut Decor, words: &[Json], out: &mut Answer) {
     }
 }
 
-/// Asks of a decor.
+/// Answers a question on a decor.
 pub fn ask_decor(decor: &Decor, side: &str, out: &mut Answer) {
     match side {
         "prefix" => out.raw(decor.prefix()),
@@ -46,7 +46,8 @@ pub fn ask_decor(decor: &Decor, side: &str, out: &mut Answer) {
     }
 }
 
-/// Asks of a value, or of one inside it: `get` goes to a value of an array or of an inline table.
+/// Answers a question on a value, or on one inside it: `get` leads to a value of an array or of an
+/// inline table.
 pub fn ask(value: &Value, words: &[Json], out: &mut Answer) {
     match list::place(value, words) {
         Some((value, words)) => ask_here(value, words, out),
@@ -61,7 +62,7 @@ fn ask_here(value: &Value, words: &[Json], out: &mut Answer) {
     }
 }
 
-/// What is asked of copies of values and of keys.
+/// Answers questions on copies of values and of keys.
 pub struct Plain;
 
 impl Asks<Value> for Plain {

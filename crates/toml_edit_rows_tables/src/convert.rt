@@ -1,11 +1,11 @@
-//! Conversions: of items in their places, and of copies of tables and arrays of tables.
+//! Conversions: of items in place, and of copies of tables and arrays of tables.
 use serde_json::Value as Json;
 use std::mem;
 use toml_edit::{ArrayOfTables, Item, Mem, Table};
 use toml_edit_rows_read::Answer;
 use toml_edit_rows_read::steps::word;
 
-/// Makes the item what the call gives, if it can be made so.
+/// Replaces the item by what the call returns, if it can be converted.
 pub fn change(item: &mut Item, words: &[Json], out: &mut Answer) {
     let old = mem::replace(item, Item::None);
     match word(words, 0) {
@@ -15,7 +15,7 @@ pub fn change(item: &mut Item, words: &[Json], out: &mut Answer) {
     }
 }
 
-/// Puts what was made in the place of the item, or the item that came back.
+/// Puts the converted item in the place of the item, or the item that came back.
 fn renew(item: &mut Item, made: Result<Item, Item>, out: &mut Answer) {
     match made {
         Ok(made) => put_back(item, made),
@@ -30,7 +30,7 @@ fn put_back(item: &mut Item, back: Item) {
     drop(mem::replace(item, back));
 }
 
-/// Shows the inline table that was made of a copy.
+/// Writes the inline table that was made of a copy.
 pub fn into_inline_table(copy: Mem<Table>, out: &mut Answer) {
     match copy {
         Ok(copy) => out.shown(&copy.into_inline_table()),
@@ -38,7 +38,7 @@ pub fn into_inline_table(copy: Mem<Table>, out: &mut Answer) {
     }
 }
 
-/// Shows the array that was made of a copy.
+/// Writes the array that was made of a copy.
 pub fn into_array(copy: Mem<ArrayOfTables>, out: &mut Answer) {
     match copy {
         Ok(copy) => out.shown(&copy.into_array()),

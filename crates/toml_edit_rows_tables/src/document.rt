@@ -1,4 +1,4 @@
-//! Rows on documents: those that are read, and empty ones.
+//! Rows on documents: those that are parsed, and empty ones.
 use crate::kinds::Tables;
 use crate::{indexing, prints, table};
 use serde_json::Value as Json;
@@ -8,7 +8,7 @@ use toml_edit::{
 use toml_edit_rows_read::steps::{Asks, Tries, behind, copied, word};
 use toml_edit_rows_read::{Answer, Row, lines, refusal, steps};
 
-/// Rows on the text of a document.
+/// Answers rows on the text of a document.
 pub fn answer(row: Row<'_>, out: &mut Answer) {
     match row.question {
         "from_str_prints" => {
@@ -18,7 +18,7 @@ pub fn answer(row: Row<'_>, out: &mut Answer) {
     }
 }
 
-/// Rows on the text of a document whose line endings are kept.
+/// Answers rows on the text of a document whose line endings are kept.
 pub fn exact(row: Row<'_>, out: &mut Answer) {
     let options = ParseOptions::new().exact(true);
     match row.question {
@@ -35,7 +35,7 @@ pub fn exact(row: Row<'_>, out: &mut Answer) {
     }
 }
 
-/// Rows on an empty document.
+/// Answers rows on an empty document.
 pub fn empty(row: Row<'_>, out: &mut Answer) {
     match row.question {
         "reads" => steps::stepped::<Tables, _>(Document::new(out.alloc), row, out),
@@ -43,7 +43,8 @@ pub fn empty(row: Row<'_>, out: &mut Answer) {
     }
 }
 
-/// Asks of the document as it was read, of its root, or of the document after it owns its texts.
+/// Answers a question on the document as it was parsed, on its root, or on the document after it
+/// owns its texts.
 fn read(read: Result<Document<&str>, ParseFault>, row: Row<'_>, out: &mut Answer) {
     match row.question {
         "reads" => steps::read::<Tables, _>(read, row, out),
@@ -54,7 +55,8 @@ fn read(read: Result<Document<&str>, ParseFault>, row: Row<'_>, out: &mut Answer
     }
 }
 
-/// Asks of the root as an item, or of the document that is made of it, whose texts are spans.
+/// Answers a question on the root as an item, or on the document that is made of it, whose texts
+/// are spans.
 fn root(document: Document<&str>, row: Row<'_>, out: &mut Answer) {
     match row.question {
         "into_item" => steps::stepped::<Tables, _>(document.into_item(), row, out),
@@ -83,7 +85,8 @@ impl<S: SourceText> Tries<Document<S>> for Tables {
     }
 }
 
-/// Asks of the document, of its root as an item, or of the document that is made of its root.
+/// Answers a question on the document, on its root as an item, or on the document that is made of
+/// its root.
 fn owning(made: Mem<DocumentMut>, row: Row<'_>, out: &mut Answer) {
     match made {
         Ok(document) if row.question == "owned_into_item" => {
@@ -145,13 +148,13 @@ fn ask(document: &DocumentMut, words: &[Json], out: &mut Answer) {
     }
 }
 
-/// Whether the second word says so.
+/// Returns `true` if the second word says so.
 fn is_true(words: &[Json]) -> bool {
     word(words, 1) == "true"
 }
 
-/// Puts a copy of an item into a new document, under the key that the first word is, and asks of
-/// that.
+/// Puts a copy of an item into a new document, under the key that the first word is, and answers a
+/// question on that.
 pub fn ask_alone(copy: Mem<Item>, words: &[Json], out: &mut Answer) {
     match copy {
         Ok(item) => tell_alone(item, words, out),
@@ -163,7 +166,7 @@ fn tell_alone(item: Item, words: &[Json], out: &mut Answer) {
     tell_document(&alone(item, word(words, 0), out), word(words, 1), out);
 }
 
-/// A new document that has the item under the key.
+/// Makes a new document that has the item under the key.
 fn alone(item: Item, key: &str, out: &mut Answer) -> DocumentMut {
     let mut document = DocumentMut::new(out.alloc);
     put_in(document.as_table_mut(), key, item, out);

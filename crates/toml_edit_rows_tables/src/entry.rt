@@ -7,7 +7,7 @@ use toml_edit_rows_read::steps::{behind, index, word};
 use toml_edit_rows_read::told::{Told, tell_given, write};
 use toml_edit_rows_read::{Answer, key, made, value};
 
-/// Does a step with an entry, or with a slot that is lent, or asks of the table.
+/// Makes a step with an entry, or with a slot that is lent, or answers a question on the table.
 pub fn change(table: &mut Table, words: &[Json], out: &mut Answer) {
     let name = word(words, 1);
     match word(words, 0) {
@@ -25,8 +25,7 @@ pub fn change(table: &mut Table, words: &[Json], out: &mut Answer) {
     }
 }
 
-/// Goes to the entry of a key with its spelling and decor, and puts an item there if nothing has
-/// that key.
+/// Finds the entry of a key with its spelling and decor, and inserts an item if it is vacant.
 fn enter_formatted(table: &mut Table, words: &[Json], out: &mut Answer) {
     enter_at(
         table,
@@ -46,7 +45,7 @@ fn enter_at(table: &mut Table, key: Option<Key>, made: Option<Item>, out: &mut A
     }
 }
 
-/// Tells the key of the entry, and what stands there once the item was put in.
+/// Writes the key of the entry, and its item after an insertion.
 fn fill(entry: Mem<Entry<'_>>, made: Option<Item>, out: &mut Answer) {
     match (entry, made) {
         (Ok(entry), Some(item)) => or_insert(entry, item, out),
@@ -68,7 +67,7 @@ fn or_insert(entry: Entry<'_>, item: Item, out: &mut Answer) {
     out.refuse();
 }
 
-/// Tells what stands there once the value 0 of a closure was put in.
+/// Writes the item of the entry after the insertion of the value 0 of a closure.
 fn fill_with(entry: Mem<Entry<'_>>, out: &mut Answer) {
     match entry {
         Ok(entry) => or_insert_with(entry, out),
@@ -84,7 +83,7 @@ fn or_insert_with(entry: Entry<'_>, out: &mut Answer) {
     out.refuse();
 }
 
-/// Takes a slot out by the entry that is lent of its key.
+/// Removes a slot by the entry of its key.
 fn remove(table: &mut Table, name: &str, out: &mut Answer) {
     match table.slot_mut(name) {
         Some(entry) => tell_given(entry.remove(), out),
@@ -92,7 +91,7 @@ fn remove(table: &mut Table, name: &str, out: &mut Answer) {
     }
 }
 
-/// Writes what was made over what stands there, by the entry that is lent of its key.
+/// Writes what was made over the item, by the entry of its key.
 fn write_over(table: &mut Table, name: &str, made: Option<Item>, out: &mut Answer) {
     match table.slot_mut(name) {
         Some(entry) => write(Some(entry.into_mut()), made, out),
@@ -100,7 +99,7 @@ fn write_over(table: &mut Table, name: &str, made: Option<Item>, out: &mut Answe
     }
 }
 
-/// Does a step with the entry of a key that isn't there.
+/// Makes a step with the entry of a key that is missing.
 fn use_vacant(entry: Mem<Entry<'_>>, words: &[Json], out: &mut Answer) {
     match entry {
         Ok(entry) => if_vacant(entry, words, out),
@@ -133,7 +132,7 @@ fn insert_vacant(entry: VacantEntry<'_>, made: Option<Item>, out: &mut Answer) {
     out.refuse();
 }
 
-/// Does a step with a slot that the table lends.
+/// Makes a step with a slot that the table lends.
 fn change_lent(table: &mut Table, words: &[Json], out: &mut Answer) {
     let name = word(words, 1);
     let rest = behind(words, 2);
@@ -158,8 +157,7 @@ fn change_lent(table: &mut Table, words: &[Json], out: &mut Answer) {
     }
 }
 
-/// Changes what stands around the key, or the item. Of a call that answers nothing the answer is
-/// empty.
+/// Changes the decor of the key, or the item. The answer to a call that returns nothing is empty.
 fn change_slot(slot: &mut OccupiedEntry<'_>, words: &[Json], out: &mut Answer) {
     let rest = behind(words, 1);
     match word(words, 0) {

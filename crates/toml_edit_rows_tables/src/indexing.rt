@@ -6,7 +6,8 @@ use toml_edit_rows_read::steps::{behind, word};
 use toml_edit_rows_read::told::{Told, tell_lent, write};
 use toml_edit_rows_read::{Answer, made};
 
-/// Asks an item for one inside: by a number where the second word is one, else by it as a key.
+/// Answers a question on an item inside this one: by a number if the second word is one, else by it
+/// as a key.
 pub fn ask(item: &Item, words: &[Json], out: &mut Answer) {
     let place = word(words, 1);
     match word(words, 0) {
@@ -19,7 +20,7 @@ pub fn ask(item: &Item, words: &[Json], out: &mut Answer) {
     }
 }
 
-/// The same by a text that is lent, and then by one that is owned.
+/// Finds the item by a text that is lent, and then by one that is owned.
 fn by_text(item: &Item, key: Mem<String>, out: &mut Answer) {
     match key {
         Ok(key) => {
@@ -31,7 +32,7 @@ fn by_text(item: &Item, key: Mem<String>, out: &mut Answer) {
     }
 }
 
-/// The same by brackets, where it is there.
+/// Finds the item by brackets, if it is there.
 fn read(item: &Item, place: &str, out: &mut Answer) {
     match place.parse::<usize>() {
         Ok(at) => read_at(item, at, out),
@@ -72,7 +73,7 @@ fn write_found(item: &mut Item, words: &[Json], out: &mut Answer) {
     }
 }
 
-/// Tells what stands there, once a placeholder is filled.
+/// Writes the item, once a placeholder is filled.
 fn fill(item: &mut Item, made: Option<Item>, out: &mut Answer) {
     match made {
         Some(made) => item.or_insert(made).tell(out),
@@ -80,8 +81,7 @@ fn fill(item: &mut Item, made: Option<Item>, out: &mut Answer) {
     }
 }
 
-/// Finds the item under a key, which is made where there is none, and does there what stands behind
-/// the key.
+/// Finds or makes the item under a key of an item, and goes on there by the words after the key.
 fn go_on(item: &mut Item, words: &[Json], out: &mut Answer) {
     match item.index_or_insert(out.alloc, word(words, 1)) {
         Ok(found) => below(found, behind(words, 2), out),
@@ -89,7 +89,7 @@ fn go_on(item: &mut Item, words: &[Json], out: &mut Answer) {
     }
 }
 
-/// The same from a table.
+/// Finds or makes the item under a key of a table, and goes on there by the words after the key.
 pub fn go_down(table: &mut Table, words: &[Json], out: &mut Answer) {
     match table.index_or_insert(out.alloc, word(words, 1)) {
         Ok(found) => below(found, behind(words, 2), out),
@@ -97,7 +97,7 @@ pub fn go_down(table: &mut Table, words: &[Json], out: &mut Answer) {
     }
 }
 
-/// The same from a document.
+/// Finds or makes the item under a key of a document, and goes on there by the words after the key.
 pub fn go_into(document: &mut DocumentMut, words: &[Json], out: &mut Answer) {
     match document.index_or_insert(out.alloc, word(words, 1)) {
         Ok(found) => below(found, behind(words, 2), out),
@@ -105,7 +105,7 @@ pub fn go_into(document: &mut DocumentMut, words: &[Json], out: &mut Answer) {
     }
 }
 
-/// Does what stands behind the key, or goes down by one key more behind each word `below`, of which
+/// Follows the words after the key, or goes down by one key more after each word `below`, of which
 /// there may be three.
 fn below(item: &mut Item, words: &[Json], out: &mut Answer) {
     if word(words, 0) != "below" {
@@ -137,7 +137,7 @@ fn below_last(item: &mut Item, words: &[Json], out: &mut Answer) {
     }
 }
 
-/// Tells what stands there, or changes it.
+/// Writes the item, or changes it.
 fn end(item: &mut Item, words: &[Json], out: &mut Answer) {
     match word(words, 0) {
         "fmt" => match item.as_inline_table_mut() {

@@ -1,8 +1,8 @@
-//! What an item answers of the value that it holds, and how it is shown.
+//! What an item says of the value that it holds, and how it displays.
 use toml_edit::Item;
 use toml_edit_rows_read::Answer;
 
-/// Asks an item itself, where its value has a call of the same name.
+/// Answers by a call of the item itself that its value has too.
 pub fn tell(item: &Item, call: &str, out: &mut Answer) {
     match call {
         "item_as_str" => out.text_or_none(item.as_str()),
@@ -19,7 +19,7 @@ pub fn tell(item: &Item, call: &str, out: &mut Answer) {
     }
 }
 
-/// Tells each kind of value that the item says it is.
+/// Writes each kind of value that the item says it is.
 fn tell_kinds(item: &Item, out: &mut Answer) {
     let kinds = [
         ("str", item.is_str()),

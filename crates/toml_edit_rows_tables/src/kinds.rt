@@ -6,7 +6,7 @@ use toml_edit_rows_read::{Answer, Program, Row};
 
 const KINDS: [&str; 5] = ["text", "exact_text", "document", "item", "value"];
 
-/// Tries rows on tables.
+/// The program that tries rows on tables.
 pub struct Tables;
 
 impl Program for Tables {

@@ -1,6 +1,8 @@
-//! Tries rows on tables, arrays of tables and items, and on the documents that hold them. Each line
-//! of standard input is a row in JSON: what the library is asked, and what it is to answer. Each
-//! row that doesn't hold is written with what came instead, and last how many rows hold.
+//! Tries rows on tables, arrays of tables and items, and on the documents that hold them.
+//!
+//! Each line of standard input is a row in JSON: questions to the library, and the answers that it
+//! should give. Each row that does not hold is written with what came instead, and last the number
+//! of rows that hold.
 #![tactic(auto)]
 
 mod convert;

@@ -1,4 +1,4 @@
-//! What is asked of the slots of a table, and what is changed among them.
+//! Questions on the slots of a table, and steps that change them.
 use crate::kinds::Tables;
 use crate::{convert, entry};
 use serde_json::Value as Json;
@@ -8,7 +8,7 @@ use toml_edit_rows_read::steps::{behind, word};
 use toml_edit_rows_read::told::{tell_found, tell_old, tell_taken};
 use toml_edit_rows_read::{Answer, lines, made, steps};
 
-/// Tells how many slots there are, what stands at a place or under a key, and the lines.
+/// Writes the number of slots, the slot at a place or under a key, or the lines.
 pub fn tell(table: &Table, words: &[Json], out: &mut Answer) {
     let name = word(words, 1);
     match word(words, 0) {
@@ -39,7 +39,7 @@ fn tell_kind(table: &Table, words: &[Json], out: &mut Answer) {
     }
 }
 
-/// Puts slots in, takes them out, or clears what stands around them.
+/// Inserts and removes slots, or resets their decors.
 pub fn change(table: &mut Table, words: &[Json], out: &mut Answer) {
     let name = word(words, 1);
     match word(words, 0) {
@@ -64,7 +64,7 @@ fn insert(table: &mut Table, name: &str, made: Option<Item>, out: &mut Answer) {
     }
 }
 
-/// Puts an item in under a key whose spelling and leaf decor the words say.
+/// Inserts an item under a key whose spelling and leaf decor the words say.
 fn insert_formatted(table: &mut Table, words: &[Json], out: &mut Answer) {
     match made::key(words, out) {
         Some(key) => insert_under(table, &key, word(words, 3), out),
@@ -79,7 +79,8 @@ fn insert_under(table: &mut Table, key: &Key, item: &str, out: &mut Answer) {
     }
 }
 
-/// The item that is said, or the one that is there, in place of which a placeholder is left.
+/// Returns the item that the words say, or the one that is there, and leaves a placeholder in the
+/// place of that.
 fn item_for(there: Option<&mut Item>, said: &str, out: &mut Answer) -> Option<Item> {
     match there {
         Some(item) if said == "its own" => Some(out.handed(mem::replace(item, Item::None))),
@@ -87,7 +88,7 @@ fn item_for(there: Option<&mut Item>, said: &str, out: &mut Answer) -> Option<It
     }
 }
 
-/// Puts a pair in, or makes a table of it alone: a key with its decor, and an item.
+/// Adds a pair, or makes a table of it alone: a key with its decor, and an item.
 fn add_pair(table: &mut Table, words: &[Json], out: &mut Answer) {
     match (
         made::key(behind(words, 1), out),

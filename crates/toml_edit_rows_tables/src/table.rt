@@ -1,4 +1,4 @@
-//! What is asked of tables, arrays of tables and items, and what is changed in them.
+//! Questions on tables, arrays of tables and items, and steps that change them.
 use crate::kinds::Tables;
 use crate::{convert, document, indexing, item, slots, tables};
 use serde_json::Value as Json;
@@ -6,7 +6,7 @@ use toml_edit::{ArrayOfTables, FromStr, Item, Table, Value};
 use toml_edit_rows_read::steps::{Asks, Tries, behind, copied, word};
 use toml_edit_rows_read::{Answer, Row, key, lines, made, refusal, steps, value};
 
-/// Rows on an item that is made: of what, the row says.
+/// Answers rows on an item that is made from the row's words.
 pub fn answer(row: Row<'_>, out: &mut Answer) {
     match row.question {
         "steps" => steps::found::<Tables, _>(made::item::<Tables>(row.text(), out), row, out),
@@ -14,7 +14,7 @@ pub fn answer(row: Row<'_>, out: &mut Answer) {
     }
 }
 
-/// Rows on a lone value that is read as an item.
+/// Answers rows on a lone value that is parsed as an item.
 pub fn read(row: Row<'_>, out: &mut Answer) {
     match row.question {
         "as_item" => steps::read::<Tables, _>(Item::from_str(out.alloc, row.text()), row, out),
@@ -40,17 +40,17 @@ impl Tries<Item> for Tables {
     }
 }
 
-/// What the words at the front of a step go to.
+/// What the words at the front of a step lead to.
 #[derive(Clone, Copy)]
 enum Place<'v> {
     Table(&'v Table),
     Item(&'v Item),
     Tables(&'v ArrayOfTables),
-    /// Nothing stands there: this is said of it.
+    /// Nothing is there. This is the answer then.
     Nowhere(&'static str),
 }
 
-/// Goes down as far as the words at the front say, and gives the words behind them.
+/// Goes down as far as the words at the front say, and returns the words after them.
 fn down<'v, 'a>(place: Place<'v>, words: &'a [Json]) -> (Place<'v>, &'a [Json]) {
     let mut place = place;
     let mut words = words;
@@ -64,7 +64,7 @@ fn down<'v, 'a>(place: Place<'v>, words: &'a [Json]) -> (Place<'v>, &'a [Json]) 
     (place, words)
 }
 
-/// What the first words go to, and how many they are, if they go down.
+/// Returns what the first words lead to, and their number, if they go down.
 fn step<'v>(place: Place<'v>, words: &[Json]) -> Option<(Place<'v>, usize)> {
     let call = word(words, 0);
     match place {
@@ -98,7 +98,7 @@ fn tables_of(item: &Item) -> Place<'_> {
     }
 }
 
-/// The table that stands at a place of what the iterator gives.
+/// Returns the table at a place of what the iterator gives.
 fn element<'v>(tables: &'v ArrayOfTables, at: &str) -> Place<'v> {
     let mut left = at.parse::<usize>().ok();
     for table in tables.iter() {
@@ -118,17 +118,17 @@ fn table_at<'v>(tables: &'v ArrayOfTables, at: &str) -> Place<'v> {
     }
 }
 
-/// Asks of a table, or of what is in it.
+/// Answers a question on a table, or on what is in it.
 pub fn ask(table: &Table, words: &[Json], out: &mut Answer) {
     ask_from(Place::Table(table), words, out);
 }
 
-/// Asks of an item, or of what is in it.
+/// Answers a question on an item, or on what is in it.
 pub fn ask_item(item: &Item, words: &[Json], out: &mut Answer) {
     ask_from(Place::Item(item), words, out);
 }
 
-/// Asks of an array of tables, or of what is in it.
+/// Answers a question on an array of tables, or on what is in it.
 pub fn ask_tables(tables: &ArrayOfTables, words: &[Json], out: &mut Answer) {
     ask_from(Place::Tables(tables), words, out);
 }
@@ -198,7 +198,7 @@ fn tell_table(table: &Table, words: &[Json], out: &mut Answer) {
     }
 }
 
-/// Tells of which kind an item is; any other call is one of the value that it holds.
+/// Writes of which kind an item is. Any other call is one of the value that it holds.
 fn tell_item(item: &Item, words: &[Json], out: &mut Answer) {
     match word(words, 0) {
         "is_none" => out.truth(item.is_none()),
@@ -232,7 +232,7 @@ fn tell_tables(tables: &ArrayOfTables, words: &[Json], out: &mut Answer) {
     }
 }
 
-/// Does a step with a table, or with an item of it. Of a call that changes something the answer is
+/// Makes a step with a table, or with an item of it. The answer to a call that changes something is
 /// empty.
 pub fn change(table: &mut Table, words: &[Json], out: &mut Answer) {
     match word(words, 0) {
@@ -252,7 +252,7 @@ fn change_here(table: &mut Table, words: &[Json], out: &mut Answer) {
     }
 }
 
-/// Does a step with a table that stands in another item, or with a table of it.
+/// Makes a step with a table inside another item, or with a table of it.
 pub fn change_below(table: &mut Table, words: &[Json], out: &mut Answer) {
     match word(words, 0) {
         "get_mut" => change_table(table.get_mut(word(words, 1)), behind(words, 2), out),
@@ -260,7 +260,7 @@ pub fn change_below(table: &mut Table, words: &[Json], out: &mut Answer) {
     }
 }
 
-/// Does a step with a table that is lent, if one is.
+/// Makes a step with a table that is lent, if one is.
 pub fn change_lent(table: Option<&mut Table>, words: &[Json], out: &mut Answer) {
     match table {
         Some(table) => change_here(table, words, out),
@@ -284,8 +284,7 @@ fn change_found(item: Option<&mut Item>, words: &[Json], out: &mut Answer) {
     }
 }
 
-/// Does a step with an item: with its table, its array of tables, its value, or with the item
-/// itself.
+/// Makes a step with an item: with its table, its array of tables, its value, or the item itself.
 fn change_item(item: &mut Item, words: &[Json], out: &mut Answer) {
     let rest = behind(words, 1);
     match word(words, 0) {
@@ -305,7 +304,7 @@ fn change_item(item: &mut Item, words: &[Json], out: &mut Answer) {
     }
 }
 
-/// Does a step with the value that an item holds, or asks of the item.
+/// Makes a step with the value that an item holds, or answers a question on the item.
 fn change_value(item: &mut Item, words: &[Json], out: &mut Answer) {
     let call = word(words, 0);
     match item {

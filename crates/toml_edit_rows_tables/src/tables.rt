@@ -1,4 +1,4 @@
-//! What is changed in arrays of tables.
+//! Steps that change arrays of tables.
 use crate::kinds::Tables;
 use crate::{convert, table};
 use serde_json::Value as Json;
@@ -7,7 +7,7 @@ use toml_edit_rows_read::made::{Reads, item};
 use toml_edit_rows_read::steps::{behind, word};
 use toml_edit_rows_read::{Answer, told};
 
-/// Does a step with an array of tables, if there is one. Of a call that answers nothing the answer
+/// Makes a step with an array of tables, if there is one. The answer to a call that returns nothing
 /// is empty.
 pub fn change_found(tables: Option<&mut ArrayOfTables>, words: &[Json], out: &mut Answer) {
     match tables {
@@ -38,7 +38,7 @@ fn push(tables: &mut ArrayOfTables, made: Option<Table>, out: &mut Answer) {
     }
 }
 
-/// Puts the tables of another array of tables last.
+/// Extends the array of tables by the tables of another one.
 fn extend(tables: &mut ArrayOfTables, more: Option<Item>, out: &mut Answer) {
     match more {
         Some(Item::ArrayOfTables(more)) => out.done(tables.extend(more)),
@@ -49,7 +49,7 @@ fn extend(tables: &mut ArrayOfTables, more: Option<Item>, out: &mut Answer) {
     }
 }
 
-/// Shows the array that an array of the tables of another array of tables is made.
+/// Writes the array of a new array of tables, which is made of the tables of another one.
 fn from_iter(tables: Option<Item>, out: &mut Answer) {
     match tables {
         Some(Item::ArrayOfTables(tables)) => {
@@ -62,7 +62,7 @@ fn from_iter(tables: Option<Item>, out: &mut Answer) {
     }
 }
 
-/// Changes an array of tables at a place. Where the call may not be made there, this is told.
+/// Changes an array of tables at a place. Reports a place where the call may not be made.
 fn change_at(tables: &mut ArrayOfTables, words: &[Json], out: &mut Answer) {
     let at = word(words, 1).parse::<usize>().unwrap_or(usize::MAX);
     match word(words, 0) {
@@ -93,7 +93,7 @@ fn put_at(
     }
 }
 
-/// Takes the table at the place out, does a step with it, and puts it back.
+/// Removes the table at the place, makes a step with it, and puts it back.
 fn change_taken(tables: &mut ArrayOfTables, at: usize, words: &[Json], out: &mut Answer) {
     if tables.get(at).is_some() {
         let mut table = tables.remove(at);

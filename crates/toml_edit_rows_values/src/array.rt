@@ -1,4 +1,4 @@
-//! What is changed in arrays.
+//! Steps that change arrays.
 use serde_json::Value as Json;
 use std::alloc::Global;
 use std::cmp::Ordering;
@@ -7,7 +7,7 @@ use toml_edit_rows_read::steps::{behind, index, word};
 use toml_edit_rows_read::told::{set_none, tell_given, write};
 use toml_edit_rows_read::{Answer, list, made};
 
-/// Does a step with an array, if there is one.
+/// Makes a step with an array, if there is one.
 pub fn change_found(array: Option<&mut Array>, words: &[Json], out: &mut Answer) {
     match array {
         Some(array) => change(array, words, out),
@@ -15,7 +15,7 @@ pub fn change_found(array: Option<&mut Array>, words: &[Json], out: &mut Answer)
     }
 }
 
-/// Changes an array. Of a call that answers nothing the answer is empty.
+/// Changes an array. The answer to a call that returns nothing is empty.
 fn change(array: &mut Array, words: &[Json], out: &mut Answer) {
     let argument = word(words, 1);
     match word(words, 0) {
@@ -40,7 +40,7 @@ fn change(array: &mut Array, words: &[Json], out: &mut Answer) {
     }
 }
 
-/// Writes a value over the one at a place, if one stands there.
+/// Writes a value over the one at a place, if there is one.
 fn lend(array: &mut Array, words: &[Json], made: Option<Value>, out: &mut Answer) {
     write(array.get_mut(index(words)), made, out);
 }
@@ -68,7 +68,7 @@ fn sort(array: &mut Array) -> Mem<()> {
     array.sort_by_key(|value| value.as_integer().unwrap_or(i64::MAX))
 }
 
-/// Puts the elements of another array last.
+/// Extends the array by the elements of another one.
 fn extend(array: &mut Array, more: Option<Value>, out: &mut Answer) {
     match more {
         Some(Value::Array(more)) => out.done(array.extend(more)),
@@ -79,7 +79,7 @@ fn extend(array: &mut Array, more: Option<Value>, out: &mut Answer) {
     }
 }
 
-/// Shows an array of the elements of another one.
+/// Writes an array that is made of the elements of another one.
 fn from_iter(values: Option<Value>, out: &mut Answer) {
     match values {
         Some(Value::Array(values)) => out.made(Array::from_iter(out.alloc, values)),
@@ -90,7 +90,7 @@ fn from_iter(values: Option<Value>, out: &mut Answer) {
     }
 }
 
-/// Shows the value that an array of the elements of another one is.
+/// Writes a value that is made of the elements of an array.
 fn value_from_iter(values: Option<Value>, out: &mut Answer) {
     match values {
         Some(Value::Array(values)) => out.made(Value::from_iter(out.alloc, values)),
@@ -101,7 +101,7 @@ fn value_from_iter(values: Option<Value>, out: &mut Answer) {
     }
 }
 
-/// The values that are made of these texts.
+/// Makes values of these texts.
 fn strings(alloc: Global, texts: &[Json]) -> Mem<Vec<Value>> {
     let mut values = Vec::new(alloc);
     for at in 0..texts.len() {
@@ -110,7 +110,7 @@ fn strings(alloc: Global, texts: &[Json]) -> Mem<Vec<Value>> {
     Ok(values)
 }
 
-/// Shows the value that an array of these values is.
+/// Writes a value that is an array of these values.
 fn value_from_texts(values: Mem<Vec<Value>>, out: &mut Answer) {
     match values {
         Ok(values) => out.made(Value::from_iter(out.alloc, values)),
@@ -118,7 +118,7 @@ fn value_from_texts(values: Mem<Vec<Value>>, out: &mut Answer) {
     }
 }
 
-/// Puts a value at a place. Where the call may not be made there, this is told.
+/// Puts a value at a place. Reports a place where the call may not be made.
 fn put_at(array: &mut Array, words: &[Json], made: Option<Value>, out: &mut Answer) {
     let Some(value) = made else {
         return out.text("no value");

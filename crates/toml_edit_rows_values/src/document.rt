@@ -6,12 +6,12 @@ use toml_edit::{Document, DocumentMut, ParseFault};
 use toml_edit_rows_read::steps::{Tries, behind, word};
 use toml_edit_rows_read::{Answer, Row, refusal, steps};
 
-/// Rows on the text of a document.
+/// Answers rows on the text of a document.
 pub fn answer(row: Row<'_>, out: &mut Answer) {
     owned(Document::parse(out.alloc, row.text()), row, out);
 }
 
-/// Asks of the document after it owns its texts.
+/// Answers a question on the document after it owns its texts.
 fn owned(read: Result<Document<&str>, ParseFault>, row: Row<'_>, out: &mut Answer) {
     match read {
         Ok(document) => steps::made::<Values, _>(document.into_mut(out.alloc), row, out),

@@ -1,4 +1,4 @@
-//! What is changed in inline tables.
+//! Steps that change inline tables.
 use crate::{inline_entry, like};
 use serde_json::Value as Json;
 use toml_edit::{InlineTable, Mem, Value};
@@ -6,7 +6,7 @@ use toml_edit_rows_read::steps::{behind, word};
 use toml_edit_rows_read::told::{tell_old, tell_taken, write};
 use toml_edit_rows_read::{Answer, made};
 
-/// Does a step with an inline table, if there is one.
+/// Makes a step with an inline table, if there is one.
 pub fn change_found(table: Option<&mut InlineTable>, words: &[Json], out: &mut Answer) {
     match table {
         Some(table) => change(table, words, out),
@@ -14,7 +14,7 @@ pub fn change_found(table: Option<&mut InlineTable>, words: &[Json], out: &mut A
     }
 }
 
-/// Changes an inline table. Of a call that answers nothing the answer is empty.
+/// Changes an inline table. The answer to a call that returns nothing is empty.
 fn change(table: &mut InlineTable, words: &[Json], out: &mut Answer) {
     let name = word(words, 1);
     match word(words, 0) {
@@ -33,7 +33,7 @@ fn change(table: &mut InlineTable, words: &[Json], out: &mut Answer) {
     }
 }
 
-/// Puts a value in where none stands; of a `get_mut` writes it over the one that stands there.
+/// Inserts a value if there is none; for `get_mut`, writes it over the one that is there.
 fn lend(table: &mut InlineTable, words: &[Json], made: Option<Value>, out: &mut Answer) {
     let name = word(words, 1);
     match word(words, 0) {
@@ -49,7 +49,7 @@ fn insert(table: &mut InlineTable, name: &str, made: Option<Value>, out: &mut An
     }
 }
 
-/// Puts a pair in, or makes an inline table of it alone: a key with its leaf decor, and a value.
+/// Adds a pair, or makes an inline table of it alone: a key with its leaf decor, and a value.
 fn add_pair(table: &mut InlineTable, words: &[Json], out: &mut Answer) {
     match (
         made::key(behind(words, 1), out),

@@ -8,7 +8,7 @@ use toml_edit_rows_read::steps::{behind, word};
 use toml_edit_rows_read::told::{Told, tell_given, write};
 use toml_edit_rows_read::{Answer, key, made, value};
 
-/// Does a step with an entry, or with a slot that is lent, or changes what isn't a slot.
+/// Makes a step with an entry, or with a slot that is lent, or changes what is no slot.
 pub fn change(table: &mut InlineTable, words: &[Json], out: &mut Answer) {
     let name = word(words, 1);
     let rest = behind(words, 2);
@@ -24,8 +24,7 @@ pub fn change(table: &mut InlineTable, words: &[Json], out: &mut Answer) {
     }
 }
 
-/// Goes to the entry of a key with its spelling and decor, and puts a value there if nothing has
-/// that key.
+/// Finds the entry of a key with its spelling and decor, and inserts a value if it is vacant.
 fn enter_formatted(table: &mut InlineTable, words: &[Json], out: &mut Answer) {
     enter_at(
         table,
@@ -45,7 +44,7 @@ fn enter_at(table: &mut InlineTable, key: Option<Key>, made: Option<Value>, out:
     }
 }
 
-/// Tells the key of the entry, and what stands there once the value was put in.
+/// Writes the key of the entry, and its value after an insertion.
 fn fill(entry: Mem<InlineEntry<'_>>, made: Option<Value>, out: &mut Answer) {
     match (entry, made) {
         (Ok(entry), Some(value)) => or_insert(entry, value, out),
@@ -67,7 +66,7 @@ fn or_insert(entry: InlineEntry<'_>, value: Value, out: &mut Answer) {
     out.refuse();
 }
 
-/// Tells what stands there once the value 0 of a closure was put in.
+/// Writes the value of the entry after the insertion of the value 0 of a closure.
 fn fill_with(entry: Mem<InlineEntry<'_>>, out: &mut Answer) {
     match entry {
         Ok(entry) => or_insert_with(entry, out),
@@ -83,7 +82,7 @@ fn or_insert_with(entry: InlineEntry<'_>, out: &mut Answer) {
     out.refuse();
 }
 
-/// Takes a slot out by the entry of its key.
+/// Removes a slot by the entry of its key.
 fn remove(entry: Mem<InlineEntry<'_>>, out: &mut Answer) {
     match entry {
         Ok(entry) => remove_occupied(entry, out),
@@ -99,7 +98,7 @@ fn remove_occupied(entry: InlineEntry<'_>, out: &mut Answer) {
     out.text("none");
 }
 
-/// Writes what was made over what stands there, by the entry of its key.
+/// Writes what was made over the value, by the entry of its key.
 fn write_over(entry: Mem<InlineEntry<'_>>, made: Option<Value>, out: &mut Answer) {
     match entry {
         Ok(entry) => write_occupied(entry, made, out),
@@ -119,7 +118,7 @@ fn write_occupied(entry: InlineEntry<'_>, made: Option<Value>, out: &mut Answer)
     out.text("none");
 }
 
-/// Does a step with the entry of a key that is there.
+/// Makes a step with the entry of an existing key.
 fn use_occupied(entry: Mem<InlineEntry<'_>>, words: &[Json], out: &mut Answer) {
     match entry {
         Ok(mut entry) => if_occupied(&mut entry, words, out),
@@ -134,7 +133,7 @@ fn if_occupied(entry: &mut InlineEntry<'_>, words: &[Json], out: &mut Answer) {
     }
 }
 
-/// Does a step with the entry of a key that isn't there.
+/// Makes a step with the entry of a key that is missing.
 fn use_vacant(entry: Mem<InlineEntry<'_>>, words: &[Json], out: &mut Answer) {
     match entry {
         Ok(entry) => if_vacant(entry, words, out),
@@ -167,8 +166,7 @@ fn insert_vacant(entry: InlineVacantEntry<'_>, made: Option<Value>, out: &mut An
     out.refuse();
 }
 
-/// Changes what stands around the key, or the value. Of a call that answers nothing the answer is
-/// empty.
+/// Changes the decor of the key, or the value. The answer to a call that returns nothing is empty.
 fn change_slot(slot: &mut InlineOccupiedEntry<'_>, words: &[Json], out: &mut Answer) {
     let rest = behind(words, 1);
     match word(words, 0) {
@@ -191,7 +189,7 @@ fn insert(slot: &mut InlineOccupiedEntry<'_>, made: Option<Value>, out: &mut Ans
     }
 }
 
-/// Tells what stands under a key once a value was put in where none stood.
+/// Writes the value under a key, after one was inserted if there was none.
 pub fn get_or_insert(table: &mut InlineTable, name: &str, made: Option<Value>, out: &mut Answer) {
     let Some(value) = made else {
         return out.text("no value");

@@ -6,7 +6,7 @@ use toml_edit_rows_read::steps::{behind, index, word};
 use toml_edit_rows_read::told::{Told, write};
 use toml_edit_rows_read::{Answer, key, list, made, value};
 
-/// Does a step with a slot, or changes what isn't one.
+/// Makes a step with a slot, or changes what is none.
 pub fn change(table: &mut InlineTable, words: &[Json], out: &mut Answer) {
     let name = word(words, 1);
     let rest = behind(words, 2);
@@ -31,8 +31,7 @@ pub fn change(table: &mut InlineTable, words: &[Json], out: &mut Answer) {
     }
 }
 
-/// Changes what stands around the key, or the item. Of a call that answers nothing the answer is
-/// empty.
+/// Changes the decor of the key, or the item. The answer to a call that returns nothing is empty.
 fn change_slot(slot: &mut InlineSlotMut<'_>, words: &[Json], out: &mut Answer) {
     let rest = behind(words, 1);
     match word(words, 0) {

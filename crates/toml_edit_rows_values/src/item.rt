@@ -7,7 +7,7 @@ use toml_edit_rows_read::steps::{Tries, behind, word};
 use toml_edit_rows_read::told::tell_old;
 use toml_edit_rows_read::{Answer, Row, made, refusal, steps, value as asked};
 
-/// Rows on an item that is made: of what, the row says.
+/// Answers rows on an item that is made from the row's words.
 pub fn answer(row: Row<'_>, out: &mut Answer) {
     steps::found::<Values, _>(made::item::<Values>(row.text(), out), row, out);
 }
@@ -29,7 +29,7 @@ impl Tries<Item> for Values {
     }
 }
 
-/// Does a step with a table, or with an item of it.
+/// Makes a step with a table, or with an item of it.
 pub fn change_table(table: &mut Table, words: &[Json], out: &mut Answer) {
     match word(words, 0) {
         "get_mut" => change_found(table.get_mut(word(words, 1)), behind(words, 2), out),
@@ -70,7 +70,7 @@ fn change_found(item: Option<&mut Item>, words: &[Json], out: &mut Answer) {
     }
 }
 
-/// Does a step with an item: with its table, its value, or with the item itself.
+/// Makes a step with an item: with its table, its value, or the item itself.
 fn change(item: &mut Item, words: &[Json], out: &mut Answer) {
     let rest = behind(words, 1);
     match word(words, 0) {
@@ -93,7 +93,7 @@ fn change(item: &mut Item, words: &[Json], out: &mut Answer) {
     }
 }
 
-/// Asks of a table, or of an item of it.
+/// Answers a question on a table, or on an item of it.
 pub fn ask_table(table: &Table, words: &[Json], out: &mut Answer) {
     match word(words, 0) {
         "len" => out.shown(&table.len()),
@@ -106,7 +106,8 @@ pub fn ask_table(table: &Table, words: &[Json], out: &mut Answer) {
     }
 }
 
-/// Asks of an item as a table of either kind; any other call is one of the value that it holds.
+/// Answers a question on an item as a table of either kind. Any other call is one of the value that
+/// it holds.
 fn ask(item: &Item, words: &[Json], out: &mut Answer) {
     let rest = behind(words, 1);
     match word(words, 0) {

@@ -6,7 +6,7 @@ use toml_edit_rows_read::{Answer, Program, Row};
 
 const KINDS: [&str; 5] = ["text", "item", "value", "array", "inline_table"];
 
-/// Tries rows on values.
+/// The program that tries rows on values.
 pub struct Values;
 
 impl Program for Values {

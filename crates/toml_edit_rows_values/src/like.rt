@@ -1,4 +1,4 @@
-//! What is asked of tables of either kind, and changed in them, by the calls of `TableLike`.
+//! Questions on tables of either kind, and steps that change them, by the calls of `TableLike`.
 use crate::kinds::Values;
 use serde_json::Value as Json;
 use toml_edit::{
@@ -11,7 +11,7 @@ use toml_edit_rows_read::told::{
 };
 use toml_edit_rows_read::{Answer, key, lines, made, value};
 
-/// Does a step with a table. Of a call that answers nothing the answer is empty.
+/// Makes a step with a table. The answer to a call that returns nothing is empty.
 pub fn change_table(table: &mut Table, words: &[Json], out: &mut Answer) {
     match word(words, 0) {
         "insert" => insert_in_table(
@@ -31,8 +31,7 @@ fn insert_in_table(table: &mut Table, name: &str, made: Option<Item>, out: &mut 
     }
 }
 
-/// Does a step with an inline table. It is given no placeholder, since the call asks for an item
-/// that is none.
+/// Makes a step with an inline table. It gets no placeholder, since the call requires another item.
 pub fn change_inline(table: &mut InlineTable, words: &[Json], out: &mut Answer) {
     match word(words, 0) {
         "insert" => insert_inline(
@@ -66,7 +65,7 @@ fn change<T: TableLike>(table: &mut T, words: &[Json], out: &mut Answer) {
     }
 }
 
-/// Does a step with a table that an item lends. It is given no placeholder either.
+/// Makes a step with a table that an item lends. It gets no placeholder either.
 pub fn change_ref(table: &mut TableRefMut<'_>, words: &[Json], out: &mut Answer) {
     match word(words, 0) {
         "insert" => insert_in_ref(
@@ -113,7 +112,7 @@ fn change_any<T: AnyTable>(table: &mut T, words: &[Json], out: &mut Answer) {
     }
 }
 
-/// What an entry says, and what stands there once the item was put in where nothing stood.
+/// Writes what an entry says, and its item after an insertion if it was vacant.
 fn go_in<T: AnyTable>(entry: &mut TableLikeEntry<'_, T>, words: &[Json], out: &mut Answer) {
     match word(words, 0) {
         "key" => out.text(entry.key()),
@@ -136,7 +135,7 @@ fn put_in<T: AnyTable>(entry: &mut TableLikeEntry<'_, T>, made: Option<Item>, ou
     out.refuse();
 }
 
-/// The same of the value 0 of a closure.
+/// Inserts the value 0 of a closure if the entry is vacant, and writes its item.
 fn put_made<T: AnyTable>(entry: &mut TableLikeEntry<'_, T>, out: &mut Answer) {
     if let Ok(there) = entry.or_insert_with(|| Item::from(Value::from(0_i64))) {
         there.tell(out);
@@ -145,7 +144,8 @@ fn put_made<T: AnyTable>(entry: &mut TableLikeEntry<'_, T>, out: &mut Answer) {
     out.refuse();
 }
 
-/// The same of a key with its spelling and decor, which stands behind the item.
+/// Inserts the item by the entry of a key with its spelling and decor, which comes after the item,
+/// and writes what is there.
 fn go_in_formatted<T: AnyTable>(table: &mut T, words: &[Json], out: &mut Answer) {
     match made::key(behind(words, 2), out) {
         Some(key) => put_in(
@@ -157,7 +157,7 @@ fn go_in_formatted<T: AnyTable>(table: &mut T, words: &[Json], out: &mut Answer)
     }
 }
 
-/// Tells what stands under the key once the item was put in where nothing stood.
+/// Inserts the item if the key is missing, and writes what is there.
 fn put<T: AnyTable>(table: &mut T, name: &str, made: Option<Item>, out: &mut Answer) {
     let Some(item) = made else {
         return out.text("no item");
@@ -169,7 +169,8 @@ fn put<T: AnyTable>(table: &mut T, name: &str, made: Option<Item>, out: &mut Ans
     out.refuse();
 }
 
-/// The same under a key with its spelling and decor, which stands behind the item.
+/// Inserts the item under a key with its spelling and decor, which comes after the item, if that is
+/// missing, and writes what is there.
 fn put_formatted<T: AnyTable>(table: &mut T, words: &[Json], out: &mut Answer) {
     match made::key(behind(words, 2), out) {
         Some(key) => put_under(table, &key, made::item::<Values>(word(words, 1), out), out),
@@ -188,7 +189,7 @@ fn put_under<T: AnyTable>(table: &mut T, key: &Key, made: Option<Item>, out: &mu
     out.refuse();
 }
 
-/// Does a step with a slot that the table lends.
+/// Makes a step with a slot that the table lends.
 fn change_lent<T: TableLike>(table: &mut T, words: &[Json], out: &mut Answer) {
     let name = word(words, 1);
     let rest = behind(words, 2);
@@ -216,8 +217,7 @@ fn change_lent<T: TableLike>(table: &mut T, words: &[Json], out: &mut Answer) {
     }
 }
 
-/// Changes what stands around the key, or the item. Of a call that answers nothing the answer is
-/// empty.
+/// Changes the decor of the key, or the item. The answer to a call that returns nothing is empty.
 fn change_slot<T: TableLike>(slot: &mut TableLikeSlot<'_, T>, words: &[Json], out: &mut Answer) {
     let rest = behind(words, 1);
     match word(words, 0) {
@@ -268,7 +268,7 @@ fn ask_slot<T: AnyTable>(table: &T, words: &[Json], out: &mut Answer) {
     }
 }
 
-/// Asks of a table that an item lends.
+/// Answers a question on a table that an item lends.
 pub fn ask_lent(table: Option<TableRef<'_>>, words: &[Json], out: &mut Answer) {
     match table {
         Some(table) => ask_ref(table, words, out),

@@ -6,7 +6,7 @@ use toml_edit::{Array, FromStr, InlineTable, Value};
 use toml_edit_rows_read::steps::{Tries, behind, word};
 use toml_edit_rows_read::{Answer, Row, refusal, steps, value};
 
-/// Rows on a value.
+/// Answers rows on a value.
 pub fn answer(row: Row<'_>, out: &mut Answer) {
     match row.kind {
         "array" => steps::stepped::<Values, _>(Value::from(Array::new(out.alloc)), row, out),
@@ -31,7 +31,7 @@ impl Tries<Value> for Values {
     }
 }
 
-/// Does a step with a value. Of a call that changes it the answer is empty.
+/// Makes a step with a value. The answer to a call that changes it is empty.
 pub fn change(value: &mut Value, words: &[Json], out: &mut Answer) {
     let rest = behind(words, 1);
     match word(words, 0) {

@@ -1,24 +1,25 @@
-//! The parts of a text, in its order.
+//! Spans and events, the parts of a text in its order.
 
-/// A part of a text, in bytes: from `start` up to `end`.
+/// A part of a text in bytes, from `start` up to `end`.
 #[derive(Clone, Copy, Debug, PartialEq, Eq)]
 pub struct Span {
     pub start: usize,
     pub end: usize,
 }
 
-/// What a part of a text is.
+/// The kinds of the parts of a text.
 #[derive(Clone, Copy, Debug, PartialEq, Eq)]
 pub enum EventKind {
-    /// The white space, newlines and comments before a statement, or before a pair of an inline table.
+    /// The whitespace, newlines and comments before a statement, or before a pair of an inline
+    /// table.
     Leading,
     /// A simple key, as it is spelled.
     Key,
-    /// The white space between a simple key and the dot after it.
+    /// The whitespace between a simple key and the dot after it.
     BeforeDot,
-    /// The white space between a dot and the simple key after it.
+    /// The whitespace between a dot and the simple key after it.
     AfterDot,
-    /// The sign `=` between a key and a value. What else stands there is white space.
+    /// The sign `=` between a key and a value. All else between them is whitespace.
     Equals,
     /// A scalar, as it is spelled.
     Scalar,
@@ -30,33 +31,36 @@ pub enum EventKind {
     InlineTableOpen,
     /// The bracket that closes an inline table.
     InlineTableClose,
-    /// The white space, newlines and comments before an element of an array.
+    /// The whitespace, newlines and comments before an element of an array.
     Before,
-    /// The white space, newlines and comments after an element of an array, or after a pair of an inline table.
+    /// The whitespace, newlines and comments after an element of an array, or after a pair of an
+    /// inline table.
     After,
     /// The comma after the last element or pair.
     Comma,
-    /// The white space, newlines and comments before a closing bracket, behind a comma or where nothing stands inside.
+    /// The whitespace, newlines and comments before a closing bracket, after a comma or in empty
+    /// brackets.
     Inner,
-    /// An opening bracket inside as many as may be open: nothing follows it.
+    /// An opening bracket inside as many as may be open. Nothing follows it.
     TooDeep,
     /// The bracket that opens the header of a table.
     HeaderOpen,
     /// The two brackets that open the header of an array's element.
     ArrayHeaderOpen,
-    /// The white space between the opening brackets of a header and its key.
+    /// The whitespace between the opening brackets of a header and its key.
     BeforeKey,
-    /// The white space between the key of a header and its closing brackets.
+    /// The whitespace between the key of a header and its closing brackets.
     AfterKey,
-    /// The bracket that closes the header of a table, or the two that close that of an array's element.
+    /// The bracket that closes the header of a table, or the two that close that of an array's
+    /// element.
     HeaderClose,
-    /// The white space and the comment after a statement.
+    /// The whitespace and the comment after a statement.
     LineEnd,
-    /// What follows the last statement.
+    /// The whitespace and the comments after the last statement.
     Final,
 }
 
-/// A part of a text with its place.
+/// A part of a text with its span.
 #[derive(Clone, Copy, Debug, PartialEq, Eq)]
 pub struct Event {
     pub kind: EventKind,

@@ -1,4 +1,4 @@
-//! Text to events.
+//! The lexer: from a text to its events, statement by statement.
 ghost use Rattle.std.specs.Prelude.{◌≡◌, ◌⊎◌, ℕ, ◌-◌, ◌<◌, ◌≤◌, drop, if◌then◌else◌, length, IfOk, IsOk, IsErrOf};
 ghost use Rattle.std.specs.List.{AllByRecursion};
 ghost use Rattle.toml_edit_model.specs.Syntax.{Document, IsCut};
@@ -15,10 +15,10 @@ use crate::statement::statement;
 use std::alloc::{AllocError, AllocFailed, Global};
 use toml_edit_token::run::{byte_at, first};
 
-/// Why there are no events.
+/// The error of the lexer.
 #[derive(Clone, Copy, Debug, PartialEq, Eq)]
 pub enum SyntaxFault {
-    /// No memory was left.
+    /// Memory ran out.
     Memory,
     /// The text is not in the grammar: this is wrong at this span.
     Text(Mistake, Span),
@@ -27,14 +27,15 @@ pub enum SyntaxFault {
 /// Why reading stops.
 #[derive(Clone, Copy, Debug)]
 pub(crate) enum Stop {
-    /// No memory was left.
+    /// Memory ran out.
     Memory,
-    /// The text is not one that is read: this is wrong where so many bytes of it are left.
+    /// The text is outside the grammar: this is wrong where so many bytes of it are left.
     Before(Mistake, usize),
-    /// A bracket is one too many: its event is the last of those that were added.
+    /// A bracket is one too many. Its event is the last one that was added.
     TooDeep,
 }
 
+/// Returns `Stop::Memory`.
 impl From<AllocError> for Stop {
     ghost use Rattle.std.specs.Prelude.{◌≡◌};
     ghost use Rattle.toml_edit_syntax.specs.declared.lexer.Stop.TheVariants.{Memory};
@@ -46,6 +47,7 @@ impl From<AllocError> for Stop {
     }
 }
 
+/// Returns `Stop::Memory`.
 impl<T: Drop> From<AllocFailed<T>> for Stop {
     ghost use Rattle.std.specs.Prelude.{◌≡◌};
     ghost use Rattle.toml_edit_syntax.specs.declared.lexer.Stop.TheVariants.{Memory};
@@ -57,7 +59,7 @@ impl<T: Drop> From<AllocFailed<T>> for Stop {
     }
 }
 
-/// What follows the byte order mark, where there is one.
+/// Returns the text after the byte order mark, if there is one.
 fn unmarked(s: &str) -> &str
     ensures rest { result.now ≡ (if spec.is_marked s.now then drop 3 s.now else s.now) }
     ensures within { length result.now ≤ length s.now }
@@ -69,7 +71,7 @@ fn unmarked(s: &str) -> &str
     }
 }
 
-/// The part of this kind from `start` up to `end`.
+/// Makes the event of this kind from `start` up to `end`.
 pub(crate) fn part(kind: EventKind, start: usize, end: usize) -> Event
     ensures { result ≡ record { kind = kind; span = record { start = start; end = end } } }
 {
@@ -99,7 +101,8 @@ fn parts<'a>(events: &mut Vec<Event>, whole: usize, s: &'a str) -> Result<&'a st
     }
 }
 
-/// The character that stands `left` bytes before the end of the text, or its end.
+/// Returns the span of the character that is `left` bytes before the end of the text, or the text's
+/// end.
 pub(crate) fn place(source: &str, left: usize) -> Span
     ensures { IsSpanOf source.now result }
 {
@@ -114,7 +117,12 @@ pub(crate) fn place(source: &str, left: usize) -> Span
     }
 }
 
-/// The events of a text: the parts of its one cut, in order, up to a bracket that is one too many.
+/// Returns the events of a text, in order, up to a bracket that is one too many.
+///
+/// # Errors
+///
+/// `SyntaxFault::Text` if the text is not in the grammar, with a span that begins and ends between
+/// characters. `SyntaxFault::Memory` if memory runs out.
 pub fn events(alloc: Global, source: &str) -> Result<Vec<Event>, SyntaxFault>
     ensures cut { IfOk result (λ es. AreEventsOf source.now es.items) }
     ensures spans { IfOk result (λ es. AllByRecursion (λ e. IsSpanOf source.now e.span) es.items) }

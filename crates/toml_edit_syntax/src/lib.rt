@@ -1,4 +1,4 @@
-//! Text to events with spans.
+//! From a text to events: its parts in order, with their spans.
 #![tactic(auto)]
 
 pub mod event;

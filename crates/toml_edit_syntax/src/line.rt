@@ -1,4 +1,4 @@
-//! Trivia, the sign of a pair, and the end of a line.
+//! Trivia (whitespace, newlines and comments), the sign `=`, and the end of a line.
 ghost use Rattle.std.specs.Prelude.{◌≡◌, false, ◌+◌, ◌<◌, ◌≤◌, if◌then◌else◌, length, option_map, IfOk, IfSome};
 ghost use Rattle.std.specs.List.{prefix_len};
 ghost use Rattle.std.specs.Str.{IsCharBoundary};
@@ -12,6 +12,8 @@ use crate::lexer::{Stop, part};
 use crate::mistake::{Mistake, behind_value};
 use toml_edit_token::run::{Class, byte_at, first, is_blank, is_visible, run_len, skip, split_run};
 
+/// Returns whether trivia is inside a comment after this byte, or `None` if the trivia ends before
+/// it.
 fn turn(inside: bool, byte: u8, next: u8) -> Option<bool>
     ensures { result ≡ spec.turn inside byte next }
 {
@@ -26,7 +28,7 @@ fn turn(inside: bool, byte: u8, next: u8) -> Option<bool>
     }
 }
 
-/// How far a comment goes on, inside one.
+/// Returns how far a comment goes on, inside one.
 fn comment_len(inside: bool, bytes: &[u8]) -> usize
     ensures len { result ≡ (if inside then prefix_len is_visible bytes.now else 0) }
     ensures within { result ≤ length bytes.now }
@@ -38,7 +40,7 @@ fn comment_len(inside: bool, bytes: &[u8]) -> usize
     }
 }
 
-/// How many bytes of trivia stand at the front, and whether they stop inside a comment.
+/// Returns how many bytes of trivia are at the front, and whether they stop inside a comment.
 pub(crate) fn trivia(s: &str) -> (usize, bool)
     ensures value { result ≡ spec.scan false s.now }
     ensures within { result.0 ≤ length s.now }
@@ -58,7 +60,7 @@ pub(crate) fn trivia(s: &str) -> (usize, bool)
     (bytes.len(), inside)
 }
 
-/// The white space before `=` and the white space after it, and what follows.
+/// Splits off the whitespace before `=` and the whitespace after it.
 #[tactic(auto, unfolding(crate::specs::Scanning::equals_at))]
 pub(crate) fn equals(s: &str) -> Option<((&str, &str), &str)>
     ensures value { option_map (λ p. ((p.0.0.now, p.0.1.now), p.1.now)) result ≡ spec.equals_at s.now }
@@ -72,7 +74,7 @@ pub(crate) fn equals(s: &str) -> Option<((&str, &str), &str)>
     Some(((before, after), rest))
 }
 
-/// Behind white space and a comment.
+/// Returns the text after whitespace and a comment.
 #[tactic(auto, unfolding(crate::specs::Scanning::line_end_rest))]
 fn after_line_end(s: &str) -> &str
     ensures rest { result.now ≡ spec.line_end_rest s.now }
@@ -86,7 +88,7 @@ fn after_line_end(s: &str) -> &str
     }
 }
 
-/// Behind a newline, or at the end.
+/// Returns the text after a newline, or the empty one at the end, or `None` elsewhere.
 #[tactic(auto, unfolding(crate::specs::Scanning::newline_rest))]
 fn after_newline(s: &str) -> Option<&str>
     ensures value { option_map (λ r. r.now) result ≡ spec.newline_rest s.now }
@@ -103,7 +105,8 @@ fn after_newline(s: &str) -> Option<&str>
     }
 }
 
-/// Adds what follows the value of a line, or the brackets of a header, which stand at the front of `value`.
+/// Adds what follows the value of a line, or the brackets of a header, which are at the front of
+/// `value`.
 pub(crate) fn end<'a>(
     events: &mut Vec<Event>,
     whole: usize,

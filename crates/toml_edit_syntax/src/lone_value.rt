@@ -1,4 +1,4 @@
-//! The events of a value that stands alone.
+//! The events of a text that is one value.
 ghost use Rattle.std.specs.Prelude.{◌≡◌, ◌⊎◌, ◌≤◌, length, IfOk, IsOk, IsErrOf};
 ghost use Rattle.std.specs.List.{AllByRecursion};
 ghost use Rattle.toml_edit_model.specs.Syntax.{Value};
@@ -16,7 +16,7 @@ use crate::value::value;
 use std::alloc::Global;
 use toml_edit_token::run::{Class, split_run};
 
-/// Adds the parts of the value that the text is, but for white space round it.
+/// Adds the parts of the value that the text is but for whitespace around it.
 fn lone_value<'a>(events: &mut Vec<Event>, s: &'a str) -> Result<&'a str, Stop>
     ensures { Adds events.old.items events.new.items result (read.lone_value_read s.now) }
 {
@@ -29,7 +29,11 @@ fn lone_value<'a>(events: &mut Vec<Event>, s: &'a str) -> Result<&'a str, Stop>
     Ok(rest)
 }
 
-/// The events of a value with white space round it, up to a bracket that is one too many.
+/// Returns the events of a value with whitespace around it, up to a bracket that is one too many.
+///
+/// # Errors
+///
+/// As [`events`](crate::lexer::events).
 pub fn lone_events(alloc: Global, text: &str) -> Result<Vec<Event>, SyntaxFault>
     ensures cut { IfOk result (λ es. AreLoneEvents text.now es.items) }
     ensures spans { IfOk result (λ es. AllByRecursion (λ e. IsSpanOf text.now e.span) es.items) }

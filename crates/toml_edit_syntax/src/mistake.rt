@@ -6,28 +6,28 @@ ghost use Rattle.toml_edit_syntax.specs.Faults.{syntax_message};
 use toml_edit_token::run::{byte_at, first};
 use toml_edit_token::string_stop;
 
-/// What stands in the way where a text leaves the grammar.
+/// What is wrong where a text leaves the grammar.
 #[derive(Clone, Copy, Debug, PartialEq, Eq)]
 pub enum Mistake {
-    /// A character that cannot stand there.
+    /// A character that cannot be there.
     UnexpectedCharacter,
-    /// There is no key.
+    /// A key is missing.
     ExpectedKey,
-    /// There is no `=` behind a key.
+    /// The sign `=` after a key is missing.
     ExpectedEquals,
-    /// There is no value.
+    /// A value is missing.
     ExpectedValue,
-    /// A statement doesn't end with its line.
+    /// A statement does not end with its line.
     ExpectedNewline,
-    /// A string that doesn't end.
+    /// A string does not end.
     UnclosedString,
-    /// An array that doesn't end.
+    /// An array does not end.
     UnclosedArray,
-    /// An inline table that doesn't end.
+    /// An inline table does not end.
     UnclosedInlineTable,
-    /// The brackets of a header aren't closed.
+    /// The brackets of a header are not closed.
     UnclosedHeader,
-    /// An escape that there isn't.
+    /// An escape that does not exist.
     InvalidEscape,
     /// Digits that are no number.
     InvalidNumber,
@@ -35,15 +35,15 @@ pub enum Mistake {
     InvalidDateTime,
     /// A control character.
     ControlCharacter,
-    /// A carriage return that no line feed follows.
+    /// A carriage return (CR) that no line feed (LF) follows.
     CarriageReturn,
 }
 
 impl Mistake {
-    /// What an error says of it.
+    /// Returns the message of the error.
     pub fn message(self) -> &'static str
         ensures message { result.now ≡ syntax_message self }
-        // It is one of those that there are.
+        // It is one of the listed messages.
         ensures listed { Contains syntax_messages result.now }
     {
         match self {
@@ -65,7 +65,8 @@ impl Mistake {
     }
 }
 
-/// What is wrong where `s` goes on, if none of the characters that stand nowhere is in the way.
+/// Returns what is wrong where `s` goes on: a character that is allowed nowhere, or else
+/// `otherwise`.
 #[doc(hidden)]
 pub fn at(s: &str, otherwise: Mistake) -> Mistake {
     match first(s) {
@@ -76,7 +77,7 @@ pub fn at(s: &str, otherwise: Mistake) -> Mistake {
     }
 }
 
-/// What is wrong where `s` should go on with a key, and how many bytes are left there.
+/// Returns what is wrong where `s` should go on with a key, and how many bytes are left there.
 #[doc(hidden)]
 pub fn no_key(s: &str) -> (Mistake, usize) {
     match first(s) {
@@ -85,7 +86,7 @@ pub fn no_key(s: &str) -> (Mistake, usize) {
     }
 }
 
-/// What is wrong where `s` should go on with a scalar, and how many bytes are left there.
+/// Returns what is wrong where `s` should go on with a scalar, and how many bytes are left there.
 pub(crate) fn no_scalar(s: &str) -> (Mistake, usize) {
     match first(s) {
         b'"' | b'\'' => no_string(s),
@@ -95,8 +96,9 @@ pub(crate) fn no_scalar(s: &str) -> (Mistake, usize) {
     }
 }
 
-/// What is wrong where `rest` goes on behind the value at the front of `value`, and how many bytes are left there. A date with
-/// slashes is marked as a whole: its year is read as a number.
+/// Returns what is wrong where `rest` goes on after the value at the front of `value`, and how many
+/// bytes are left there. A date with slashes is marked as a whole, since its year is read as a
+/// number.
 pub(crate) fn behind_value(value: &str, rest: &str, otherwise: Mistake) -> (Mistake, usize) {
     if first(rest) == b'/' && is_dated(value) {
         return (Mistake::InvalidDateTime, value.len());
@@ -104,7 +106,8 @@ pub(crate) fn behind_value(value: &str, rest: &str, otherwise: Mistake) -> (Mist
     (at(rest, otherwise), rest.len())
 }
 
-/// Whether `s` begins as a date does, by a year and `-` or `/`, or as a time does, by an hour and `:`.
+/// Returns `true` if `s` begins as a date does, by a year and `-` or `/`, or as a time does, by an
+/// hour and `:`.
 fn is_dated(s: &str) -> bool {
     let digits = s
         .as_bytes()
@@ -118,8 +121,8 @@ fn is_dated(s: &str) -> bool {
     }
 }
 
-/// What is wrong in the string that opens at the front of `s`, and how many bytes are left there. One that doesn't end is marked
-/// where it opens.
+/// Returns what is wrong in the string that opens at the front of `s`, and how many bytes are left
+/// there. One that does not end is marked where it opens.
 fn no_string(s: &str) -> (Mistake, usize) {
     let stop = string_stop(s);
     if first(stop) == b'\\' {

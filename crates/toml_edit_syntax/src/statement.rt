@@ -1,4 +1,4 @@
-//! A statement behind its leading trivia.
+//! A statement, after its leading trivia.
 ghost use Rattle.std.specs.Prelude.{◌≡◌, ◌+◌, ◌*◌, ◌<◌, ◌≤◌, length, option_map, IfOk, IfSome};
 ghost use Rattle.toml_edit_model.specs.Syntax.{opening_brackets};
 ghost use Rattle.toml_edit_syntax.specs.Events.{header_open};
@@ -14,7 +14,7 @@ use crate::mistake::{Mistake, at};
 use crate::value::{frame, path, value};
 use toml_edit_token::run::{Class, byte_at, first, skip, split_run};
 
-/// Adds the parts of a key line behind its trivia.
+/// Adds the parts of a key line, after its trivia.
 fn key_line<'a>(
     events: &mut Vec<Event>,
     whole: usize,
@@ -30,7 +30,8 @@ fn key_line<'a>(
     end(events, whole, text, rest)
 }
 
-/// Whether two brackets open the header at the front, and the text behind the one or the two.
+/// Returns `true` if two brackets open the header at the front, and the text after the one or the
+/// two.
 #[tactic(auto, unfolding(crate::specs::Scanning::opening_at))]
 fn opened(s: &str) -> (bool, &str)
     requires { first s.now ≡ 0x5B }
@@ -44,7 +45,7 @@ fn opened(s: &str) -> (bool, &str)
     }
 }
 
-/// The text behind the closing brackets of a header, or `None` if others stand at the front.
+/// Returns the text after the closing brackets of a header, or `None` if others are at the front.
 #[tactic(auto, unfolding(crate::specs::Scanning::closing_rest))]
 fn after_closing(is_array: bool, s: &str) -> Option<&str>
     ensures value { option_map (λ r. r.now) result ≡ spec.closing_rest is_array s.now }
@@ -61,7 +62,7 @@ fn after_closing(is_array: bool, s: &str) -> Option<&str>
     }
 }
 
-/// What the opening brackets of a header are.
+/// Returns the kind of the opening brackets of a header.
 fn opening(is_array: bool) -> EventKind
     ensures { result ≡ header_open is_array }
 {
@@ -72,7 +73,7 @@ fn opening(is_array: bool) -> EventKind
     }
 }
 
-/// Adds the closing brackets of a header, the white space before them and what follows them.
+/// Adds the closing brackets of a header, the whitespace before them and what follows them.
 fn header_end<'a>(
     events: &mut Vec<Event>,
     whole: usize,
@@ -96,7 +97,7 @@ fn header_end<'a>(
     end(events, whole, brackets, rest)
 }
 
-/// Adds the parts of a header behind its trivia.
+/// Adds the parts of a header, after its trivia.
 fn header<'a>(
     events: &mut Vec<Event>,
     whole: usize,
@@ -125,7 +126,7 @@ fn header<'a>(
     header_end(events, whole, is_array, rest)
 }
 
-/// Adds the parts of a statement behind its trivia.
+/// Adds the parts of a statement, after its trivia.
 pub(crate) fn statement<'a>(
     events: &mut Vec<Event>,
     whole: usize,

@@ -1,4 +1,4 @@
-//! The end of a value, and the events of its parts.
+//! Keys, scalars, arrays and inline tables.
 ghost use Rattle.std.specs.Prelude.{◌≡◌, ℕ, List, ◌+◌, ◌*◌, ◌-◌, ◌++◌, [], ◌∷◌, ◌<◌, ◌≤◌, false, true, length, drop, None, option_map, IfOk, IfErr, MatchResult};
 ghost use Rattle.toml_edit_syntax.specs.Gives.{Adds, IsBefore, Leaves};
 ghost use Rattle.toml_edit_laws.specs.reading.Runs.{first};
@@ -15,10 +15,10 @@ use std::alloc::AllocError;
 use toml_edit_token::run::{Class, byte_at, first, skip, split_run};
 use toml_edit_token::{after_key, after_scalar};
 
-/// How many arrays and inline tables may be open at once.
+/// The most arrays and inline tables that are open at once.
 const MOST: usize = 80;
 
-/// The brackets round elements or pairs.
+/// The brackets around elements or pairs.
 #[derive(Clone, Copy)]
 enum Brackets {
     Array,
@@ -26,6 +26,7 @@ enum Brackets {
 }
 
 impl Brackets {
+    /// Returns the brackets that this byte opens, if it opens any.
     fn opened_by(byte: u8) -> Option<Brackets>
         ensures { read.OpenedBy byte result }
     {
@@ -36,6 +37,7 @@ impl Brackets {
         }
     }
 
+    /// Returns the kind of the opening bracket.
     fn opening(self) -> EventKind
         ensures { result ≡ read.opening self }
     {
@@ -45,6 +47,7 @@ impl Brackets {
         }
     }
 
+    /// Returns the kind of the closing bracket.
     fn closing(self) -> EventKind
         ensures { result ≡ read.closing self }
     {
@@ -54,7 +57,7 @@ impl Brackets {
         }
     }
 
-    /// What is wrong where a text ends inside of them.
+    /// Returns what is wrong where a text ends inside of them.
     fn unclosed(self) -> Mistake {
         match self {
             Brackets::Array => Mistake::UnclosedArray,
@@ -62,6 +65,7 @@ impl Brackets {
         }
     }
 
+    /// Returns the closing bracket.
     fn closing_byte(self) -> u8
         ensures { result ≡ read.closing_byte self }
     {
@@ -72,21 +76,21 @@ impl Brackets {
     }
 }
 
-/// Whether no trivia begins with it.
+/// Returns `true` if no trivia begins with the byte.
 fn is_solid(byte: u8) -> bool
     ensures { (next : ℕ) → result ≡ true → turn false byte next ≡ None }
 {
     byte > b' ' && byte != b'#'
 }
 
-/// Trivia, and the text after it, or how many bytes are left where it stops inside a comment.
+/// Splits off trivia. Fails where it stops inside a comment.
 #[tactic(auto, unfolding(crate::specs::ValueReading::trivia_at))]
 fn whole_trivia(s: &str) -> Result<(&str, &str), Stop>
     ensures value { MatchResult result (λ p. spec.trivia_at s.now ≡ spec.got p.0.now p.1.now) (λ _. spec.trivia_at s.now ≡ spec.wrong) }
     ensures before { IfErr result IsBefore }
     ensures lens { IfOk result (λ p. length p.0.now + length p.1.now ≡ length s.now) }
 {
-    // Mostly nothing stands there, or one space.
+    // Mostly there is nothing, or one space.
     if is_solid(first(s)) {
         return Ok(s.split_at(0));
     }
@@ -101,7 +105,8 @@ fn whole_trivia(s: &str) -> Result<(&str, &str), Stop>
     Ok((front, rest))
 }
 
-/// Adds the end of a list, whose closing bracket is at the front of `s`, with `inner` before it and perhaps a comma before that.
+/// Adds the end of a list, whose closing bracket is at the front of `s`, with `inner` before it and
+/// perhaps a comma before that.
 fn close<'a>(
     events: &mut Vec<Event>,
     whole: usize,
@@ -154,7 +159,7 @@ pub(crate) fn path<'a>(events: &mut Vec<Event>, whole: usize, s: &'a str) -> Res
     }
 }
 
-/// Adds `=`, which white space may surround.
+/// Adds `=`, with whitespace around it.
 fn sides<'a>(events: &mut Vec<Event>, whole: usize, s: &'a str) -> Result<&'a str, Stop>
     requires { length s.now ≤ whole }
     ensures adds { Adds events.old.items events.new.items result (read.equals_read whole s.now) }
@@ -169,7 +174,7 @@ fn sides<'a>(events: &mut Vec<Event>, whole: usize, s: &'a str) -> Result<&'a st
     Ok(rest)
 }
 
-/// Adds the parts of a pair up to its value, behind its trivia.
+/// Adds the parts of a pair up to its value, after its trivia.
 pub(crate) fn frame<'a>(
     events: &mut Vec<Event>,
     whole: usize,
@@ -189,7 +194,7 @@ pub(crate) fn frame<'a>(
     sides(events, whole, rest)
 }
 
-/// Adds what stands before the value of an element or a pair, behind its trivia.
+/// Adds what comes before the value of an element or a pair, after its trivia.
 fn head<'a>(
     events: &mut Vec<Event>,
     whole: usize,
@@ -228,7 +233,8 @@ fn scalar<'a>(events: &mut Vec<Event>, whole: usize, s: &'a str) -> Result<&'a s
     Ok(rest)
 }
 
-/// What reading came to inside brackets that open where so many bytes are left: there is marked that the text ends inside.
+/// Returns the result of reading inside brackets that open where so many bytes are left, with a
+/// text that ends inside marked there.
 fn closed<'a>(
     brackets: Brackets,
     left: usize,
@@ -269,7 +275,7 @@ pub(crate) fn value<'a>(
     closed(brackets, s.len(), inner)
 }
 
-/// Adds the elements or the pairs behind an opening bracket, and the closing bracket.
+/// Adds the elements or the pairs after an opening bracket, and the closing bracket.
 #[cycle(value)]
 fn items<'a>(
     events: &mut Vec<Event>,

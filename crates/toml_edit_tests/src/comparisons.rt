@@ -1,4 +1,5 @@
-//! Equality, order and hash, each at a concrete type. A copy equals what it copies, by its hash too.
+//! Equality, order and hash, each at a concrete type. A copy equals what it copies, and has its
+//! hash.
 use crate::hash_of;
 use std::alloc::Global;
 use std::cmp::Ordering;
@@ -12,7 +13,7 @@ fn are_alike<T: Hash + Eq>(one: &T, other: &T) -> bool {
     one == other && hash_of(one) == hash_of(other)
 }
 
-/// Whether the two are equal and have one hash, where both were made.
+/// Returns whether the two are equal and have the same hash, or `None` if one was not made.
 fn alike<T: Hash + Eq + Drop>(one: Option<T>, other: Option<T>) -> Option<bool> {
     match (one, other) {
         (Some(one), Some(other)) => Some(are_alike(&one, &other)),
@@ -27,7 +28,7 @@ fn is_copy<T: Hash + Eq + Drop>(one: &T, copy: Mem<T>) -> bool {
     }
 }
 
-/// Whether a copy of it is alike.
+/// Returns `true` if a copy of it is equal and has its hash.
 fn copies<T: Hash + Eq + Drop, F: Fn(&T, Global) -> Mem<T>>(
     alloc: Global,
     made: Option<T>,
@@ -160,7 +161,7 @@ fn errors_are_alike(alloc: Global, one: &str, other: &str) -> Option<bool> {
 fn compares_errors(rt: HostRuntime) {
     let alloc = rt.alloc();
     assert!(rt; errors_are_alike(alloc, "24:00:61", "24:00:61") == Some(true));
-    // Only the text is another one.
+    // Only the texts differ.
     assert!(rt; errors_are_alike(alloc, "[24:00]", "[01:60]") == Some(false));
     assert!(rt; errors_are_alike(alloc, "[24:00]", "[ 24:00]") == Some(false));
 }
@@ -172,7 +173,7 @@ fn copies_errors(rt: HostRuntime) {
     assert!(rt; copies(alloc, error_in(Key::parse(alloc, "")), TomlError::clone));
 }
 
-/// How the two stand to each other, where equality and hash agree with that.
+/// Returns the order of the two, or `None` if equality or hash disagrees.
 fn order<T: Ord + Hash>(one: &T, other: &T) -> Option<Ordering> {
     let order = one.cmp(other);
     let is_equal = order == Ordering::Equal;
@@ -189,7 +190,7 @@ fn order_of<T: Ord + Hash + Drop>(one: Option<T>, other: Option<T>) -> Option<Or
     }
 }
 
-/// How the key of this name stands to the key that is spelled so.
+/// Returns the order of the key of this name and the key that is spelled so.
 fn key_order(alloc: Global, name: &str, spelling: &str) -> Option<Ordering> {
     order_of(
         Key::from_text(alloc, name).ok(),

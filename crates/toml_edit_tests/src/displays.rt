@@ -1,5 +1,5 @@
-//! What each `Display` writes, into a text and to writers that fail. That one fails only where its writer does no contract can say, and a
-//! text fails where memory runs out alone.
+//! What each `Display` writes, into a text and to writers that fail. No contract can say that it
+//! fails only if its writer does, and a text fails only if memory runs out.
 use crate::holding::{holds_changed, holds_moved, shows, writes};
 use std::alloc::Global;
 use std::fmt::Display;
@@ -14,7 +14,7 @@ use toml_edit_stream::ReadFault;
 const LONG_PATH: &str =
     "a.a.a.a.a.a.a.a.a.a.a.a.a.a.a.a.a.a.a.a.a.a.a.a.a.a.a.a.a.a.a.a.a.a.a.a.a.a.a.a.a.a.a.a.a.a.a.a.a.a.a.a.a.a.a.a.a.a.a.a.a.a.a.a.a.a.a.a.a.a.a.a.a.a.a.a.a.a.a.a.a";
 
-/// Whether it was made, and is shown so.
+/// Returns `true` if it was made, and displays so.
 fn shows_made<T: Display + Drop>(alloc: Global, made: Option<T>, shown: &str) -> bool {
     match made {
         Some(made) => shows(alloc, made, shown),
@@ -95,7 +95,7 @@ fn shows_document(alloc: Global, document: Document<&str>) -> bool {
     shows_made(alloc, document.into_mut(alloc).ok(), DOCUMENT)
 }
 
-/// Whether the lines of the root are shown, and its array of tables as an array.
+/// Returns `true` if the lines of the root display, and its array of tables as an array.
 fn shows_parts(alloc: Global, document: DocumentMut) -> bool {
     let root = document.as_table();
     writes(alloc, root, "a = 1 # c\n")

@@ -1,14 +1,14 @@
-//! What owns the things that tests make.
+//! Owning what tests make, and checking it.
 use std::alloc::{AllocError, Global};
 use std::fmt::{self, Display, Write};
 use toml_edit::{Mem, NoMemory};
 
-/// Drops what no memory was left for, and keeps the error.
+/// Drops what found no memory, and returns the error.
 pub fn no_memory<T: Drop>(_refused: NoMemory<T>) -> AllocError {
     AllocError
 }
 
-/// Whether it was made, and this holds of it.
+/// Returns `true` if it was made, and the test holds of it.
 pub fn holds<T: Drop, F: Fn(&T) -> bool>(made: Option<T>, test: F) -> bool
     requires { F.IsAlwaysCallable test }
 {
@@ -18,7 +18,7 @@ pub fn holds<T: Drop, F: Fn(&T) -> bool>(made: Option<T>, test: F) -> bool
     }
 }
 
-/// Whether it was made, and this holds where it is moved.
+/// Returns `true` if it was made, and the test holds that takes it.
 pub fn holds_moved<T: Drop, F: Fn(Global, T) -> bool>(
     alloc: Global,
     made: Option<T>,
@@ -32,7 +32,7 @@ pub fn holds_moved<T: Drop, F: Fn(Global, T) -> bool>(
     }
 }
 
-/// Whether this holds while it is changed.
+/// Returns `true` if the test holds that changes it.
 pub fn holds_changed<T: Drop, F: Fn(Global, &mut T) -> bool>(
     alloc: Global,
     made: T,
@@ -44,7 +44,7 @@ pub fn holds_changed<T: Drop, F: Fn(Global, &mut T) -> bool>(
     test(alloc, &mut made)
 }
 
-/// Takes so many bytes, and then fails. It compares them with what is wanted.
+/// A writer that takes so many bytes, and then fails. It compares them with what is wanted.
 #[derive(Drop)]
 struct Narrow<'a> {
     wanted: &'a [u8],
@@ -66,7 +66,8 @@ impl Write for Narrow<'_> {
     }
 }
 
-/// Whether a writer that has so much room is filled by a beginning of the text, and its fault is told.
+/// Returns `true` if a writer with so much room gets a beginning of the text, and its fault is
+/// returned.
 fn fills<T: Display>(made: &T, shown: &str, room: usize) -> bool {
     let mut narrow = Narrow {
         wanted: shown.as_bytes(),
@@ -76,7 +77,7 @@ fn fills<T: Display>(made: &T, shown: &str, room: usize) -> bool {
     write!(narrow, "{made}").is_err() && narrow.agrees && narrow.room == 0
 }
 
-/// Whether it is written so, and a beginning of that to a writer that has less room.
+/// Returns `true` if it is written so, and a beginning of that to a writer that has less room.
 pub fn writes<T: Display>(alloc: Global, made: &T, shown: &str) -> bool {
     let mut is_filled = true;
     for room in 0..shown.len() {
@@ -88,7 +89,7 @@ pub fn writes<T: Display>(alloc: Global, made: &T, shown: &str) -> bool {
     }
 }
 
-/// Whether this is the text.
+/// Returns `true` if this is the text.
 pub fn is_text(made: Mem<String>, wanted: &str) -> bool {
     match made {
         Ok(text) => text.as_str() == wanted,
@@ -96,7 +97,7 @@ pub fn is_text(made: Mem<String>, wanted: &str) -> bool {
     }
 }
 
-/// Whether it is shown so.
+/// Returns `true` if it displays so.
 pub fn shows<T: Display + Drop>(alloc: Global, made: T, shown: &str) -> bool {
     writes(alloc, &made, shown)
 }

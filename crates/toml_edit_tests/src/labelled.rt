@@ -1,4 +1,4 @@
-//! A table of one's own, written with what `toml_edit` gives out.
+//! A table of a program's own that is a `TableLike`, written with what `toml_edit` gives out.
 ghost use Rattle.std.specs.Prelude.{None};
 ghost use Rattle.std.proofs.Common.{refl, ap};
 ghost use Rattle.toml_edit.specs.table_like.Kinds.{table_beside, table_entries, table_keeps, table_shows, table_stays, table_takes};
@@ -112,7 +112,7 @@ impl TableLike for Labelled {
     }
 }
 
-/// Whether a table of any kind has this integer under the key.
+/// Returns `true` if a table of any kind has this integer under the key.
 fn has<T: TableLike>(table: &T, key: &str, integer: i64) -> bool {
     table.get(key).and_then(Item::as_integer) == Some(integer)
 }

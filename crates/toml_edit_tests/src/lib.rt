@@ -1,5 +1,8 @@
-//! Tests of what no row of `toml_edit_rows` can say: equality, order and hash, `Display`, and calls on large tables. None holds where
-//! calls do nothing. Functions that are generic in a type own what is made, and are proved once: a test hands it to them.
+//! Tests of what no row of `toml_edit_rows` can say: equality, order and hash, `Display`, and calls
+//! on large tables.
+//!
+//! Each test fails if calls do nothing. Functions that are generic in a type own what is made, and
+//! are proved once: a test passes it to them.
 #![tactic(auto)]
 
 #[cfg(test)]
@@ -20,7 +23,7 @@ mod spans;
 
 use std::hash::{DefaultHasher, Hash, Hasher};
 
-/// The hash of a value.
+/// Returns the hash of a value.
 pub fn hash_of<T: Hash>(value: &T) -> u64 {
     let mut state = DefaultHasher::new();
     value.hash(&mut state);

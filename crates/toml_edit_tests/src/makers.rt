@@ -1,4 +1,4 @@
-//! What moves its argument in or out, and errors that are made and not come upon.
+//! Calls that move their argument in or out, and errors that are made and not met.
 use crate::holding::{holds, holds_moved, shows};
 use std::alloc::Global;
 use toml_edit::{Decor, Document, Formatted, Key, ParseFault, RawString, Value, value};

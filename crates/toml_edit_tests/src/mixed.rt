@@ -1,4 +1,5 @@
-//! Many calls in a mixed order on tables of either kind. After each the slots are those of a plain list.
+//! Many calls in a mixed order on tables of either kind. After each, the slots are those of a plain
+//! list.
 use crate::holding::holds_changed;
 use std::alloc::{AllocError, Global};
 use std::fmt::Write;
@@ -58,7 +59,7 @@ fn old_value(old: Result<Option<Value>, NoMemory<Value>>) -> Mem<Option<i64>> {
     }
 }
 
-/// Returns whether the integer is there and this divides it.
+/// Returns `true` if the integer is there and this divides it.
 fn divides(divisor: i64, number: Option<i64>) -> bool {
     match number {
         Some(number) => number.checked_rem(divisor) == Some(0),
@@ -86,14 +87,14 @@ impl Mixed for InlineTable {
     }
 }
 
-/// The names and integers that the slots are to have.
+/// The names and integers that the slots should have.
 type Pairs = Vec<(String, i64)>;
 
 fn place_of(pairs: &Pairs, name: &str) -> Option<usize> {
     pairs.iter().position(|pair| pair.0.as_str() == name)
 }
 
-/// Returns whether the table holds these pairs in this order.
+/// Returns `true` if the table holds these pairs in this order.
 fn is_same<T: TableLike>(table: &T, pairs: &Pairs) -> bool {
     table.slots() == pairs.len()
         && table.len() == pairs.len()
@@ -101,7 +102,7 @@ fn is_same<T: TableLike>(table: &T, pairs: &Pairs) -> bool {
             && item.as_integer() == Some(pair.1))
 }
 
-/// Returns whether the name is found in both, and at its place, or in neither.
+/// Returns `true` if the name is found in both, and at its place, or in neither.
 fn finds_in_both<T: TableLike>(table: &T, pairs: &Pairs, name: &str) -> bool {
     let at = place_of(pairs, name);
     let number = at.and_then(|at| pairs.get(at)).map(|pair| pair.1);
@@ -153,7 +154,7 @@ fn writes_in_both<T: Mixed>(table: &mut T, pairs: &mut Pairs, name: &str, number
     at.is_none()
 }
 
-/// Returns the integer that is there, once this one was put in where none was.
+/// Returns the integer that is there, after this one was inserted if there was none.
 fn entered<T: Mixed>(table: &mut T, name: &str, number: i64) -> Mem<Option<i64>> {
     let mut entry = table.entry(name);
     if let Ok(there) = entry.or_insert(Item::from(Value::from(number))) {
@@ -228,8 +229,8 @@ fn calls<T: Mixed>(
     }
 }
 
-/// Returns after how many of 5,000 calls on 200 names, in an order that looks mixed, there were nine slots or more, which are found by an
-/// index, or `None` if some call left another list.
+/// Returns after how many of 5,000 calls on 200 names, in an order that looks mixed, there were
+/// nine slots or more, which are found by an index, or `None` if some call left another list.
 fn mixes<T: Mixed>(alloc: Global, table: &mut T) -> Mem<Option<u32>> {
     let mut pairs = Vec::new(alloc);
     let mut state: u32 = 1;
@@ -250,7 +251,7 @@ fn mixes<T: Mixed>(alloc: Global, table: &mut T) -> Mem<Option<u32>> {
     Ok(Some(indexed))
 }
 
-/// Most calls are made where there is an index. It wants its memory.
+/// Most calls are made with an index, which takes memory.
 fn mixes_all<T: Mixed>(alloc: Global, table: &mut T) -> bool {
     matches!(mixes(alloc, table), Ok(Some(indexed)) if indexed > 4000)
 }

@@ -14,7 +14,7 @@ const NAMES: [&str; 20] = [
     "t",
 ];
 
-/// Whether each slot is found at its place.
+/// Returns `true` if each slot is found at its place.
 fn are_found(slots: &Slots<u8>) -> bool {
     slots
         .as_slice()
@@ -23,13 +23,13 @@ fn are_found(slots: &Slots<u8>) -> bool {
         .all(|(at, slot)| slots.find(slot.key.get()) == Some(at))
 }
 
-/// Whether the item is put in behind the others.
+/// Returns `true` if the item is inserted after the others.
 fn inserts(slots: &mut Slots<u8>, name: &str) -> bool {
     let before = slots.len();
     matches!(slots.insert(name, 7), Ok(None)) && is_next(slots, name, before)
 }
 
-/// The same of a key with its formatting.
+/// Returns `true` if an item is inserted after the others under a key with its formatting.
 fn inserts_formatted(alloc: Global, slots: &mut Slots<u8>, name: &str) -> Mem<bool> {
     let key = Key::from_text(alloc, name)?;
     let before = slots.len();
@@ -39,7 +39,7 @@ fn inserts_formatted(alloc: Global, slots: &mut Slots<u8>, name: &str) -> Mem<bo
     }
 }
 
-/// The same of a slot whose key is known to be new.
+/// Returns `true` if a slot is pushed whose key is known to be new.
 fn pushes(alloc: Global, slots: &mut Slots<u8>, name: &str) -> Mem<bool> {
     let key = Key::from_text(alloc, name)?;
     let before = slots.len();
@@ -52,7 +52,7 @@ fn pushes(alloc: Global, slots: &mut Slots<u8>, name: &str) -> Mem<bool> {
     }
 }
 
-/// The same of a slot whose key is looked up first.
+/// Returns `true` if a slot is pushed whose key is looked up first.
 fn tries_to_push(alloc: Global, slots: &mut Slots<u8>, name: &str) -> Mem<bool> {
     let key = Key::from_text(alloc, name)?;
     let before = slots.len();
@@ -62,7 +62,7 @@ fn tries_to_push(alloc: Global, slots: &mut Slots<u8>, name: &str) -> Mem<bool> 
     }
 }
 
-/// Whether slots are filled by each of these calls, beyond those that are found without an index.
+/// Returns `true` if each of these calls fills slots, beyond those that are found without an index.
 fn fills_all(alloc: Global, slots: &mut Slots<u8>) -> bool {
     let mut is_right = slots.is_empty();
     for (at, name) in NAMES.iter().enumerate() {
@@ -82,7 +82,7 @@ fn fills_slots(rt: HostRuntime) {
     assert!(rt; holds_changed(rt.alloc(), Slots::new(rt.alloc()), fills_all));
 }
 
-/// Whether the items of `a` and `b` are found, replaced and lent.
+/// Returns `true` if the items of `a` and `b` are found, replaced and lent.
 fn changes(slots: &mut Slots<u8>) -> bool {
     let is_found = slots.get("a") == Some(&7) && slots.find("c").is_none();
     let is_replaced = matches!(slots.insert("b", 4), Ok(Some(7)));
@@ -123,7 +123,7 @@ fn changes_slots(rt: HostRuntime) {
     assert!(rt; holds_changed(rt.alloc(), Slots::new(rt.alloc()), changes_all));
 }
 
-/// Whether the entry of `a` is read and changed.
+/// Returns `true` if the entry of `a` is read and changed.
 fn changes_entry(slots: &mut Slots<u8>) -> bool {
     match slots.get_key_value_mut("a") {
         Some(entry) => {
@@ -143,7 +143,7 @@ fn changes_entry(slots: &mut Slots<u8>) -> bool {
     }
 }
 
-/// Whether the entry of `a` is taken out.
+/// Returns `true` if the entry of `a` is removed.
 fn removes_entry(slots: &mut Slots<u8>) -> bool {
     match slots.get_key_value_mut("a") {
         Some(entry) => entry.key() == "a" && entry.remove() == 3,
@@ -151,7 +151,7 @@ fn removes_entry(slots: &mut Slots<u8>) -> bool {
     }
 }
 
-/// Whether an entry of a name of its own, and one with a key's formatting, are filled.
+/// Returns `true` if an entry of a name, and one with a key's formatting, are filled.
 fn fills(alloc: Global, slots: &mut Slots<u8>) -> Mem<bool> {
     let entry = slots.entry("b")?;
     let made = *entry.or_insert_with(|| 2).map_err(no_memory)?;
@@ -160,7 +160,7 @@ fn fills(alloc: Global, slots: &mut Slots<u8>) -> Mem<bool> {
     Ok(made == 2 && *entry.or_insert(4).map_err(no_memory)? == 4)
 }
 
-/// Whether entries are filled, and one is changed and taken out.
+/// Returns `true` if entries are filled, and one is changed and removed.
 fn enters_all(alloc: Global, slots: &mut Slots<u8>) -> bool {
     is_done(fills(alloc, slots))
         && matches!(slots.insert("a", 1), Ok(None))

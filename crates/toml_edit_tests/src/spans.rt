@@ -1,8 +1,8 @@
-//! Spans that are turned into the texts that they cut.
+//! Spans that are replaced by the texts that they cut.
 use std::alloc::Global;
 use toml_edit::{Decor, Formatted, Key, Mem, RawString};
 
-/// Whether it was done, and right.
+/// Returns `true` if it was done, and right.
 pub fn is_done(answer: Mem<bool>) -> bool {
     answer.unwrap_or(false)
 }

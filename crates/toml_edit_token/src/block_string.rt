@@ -1,4 +1,4 @@
-//! Strings of several lines.
+//! Strings of several lines. (TOML, "String".)
 ghost use Rattle.std.specs.Prelude.{◌≡◌, ℕ, ◌<◌, ◌≤◌, length, drop, option_map, string_bytes, IfOk, IfSome, MatchOption};
 ghost use Rattle.toml_edit_laws.specs.reading.Tokens.{whole};
 ghost use Rattle.toml_edit_laws.specs.reading.BlockReading as spec;
@@ -17,17 +17,18 @@ enum Form {
     Literal,
 }
 
-/// What stands next in a string of several lines.
+/// The next piece of a string of several lines.
 #[derive(Drop)]
 enum Piece<'a> {
-    /// Text that says itself.
+    /// Text that means itself.
     Own(&'a str),
-    /// A character, or nothing where a backslash drops white space and newlines.
+    /// A character, or nothing where a backslash drops whitespace and newlines.
     Escaped(Option<char>),
-    /// The closing quotes, and the quotes of the string before them.
+    /// The closing quotes, with the quotes of the string before them.
     Last(&'a str),
 }
 
+/// Returns the quote of the form.
 fn delimiter(form: Form) -> u8
     ensures { result ≡ pieces.delimiter_of form }
 {
@@ -37,6 +38,7 @@ fn delimiter(form: Form) -> u8
     }
 }
 
+/// Returns the class of the bytes that mean themselves in the form.
 fn class(form: Form) -> Class
     ensures { result ≡ pieces.class_of form }
 {
@@ -46,13 +48,14 @@ fn class(form: Form) -> Class
     }
 }
 
+/// Returns `true` if three of the delimiter are at the front.
 fn has_three(s: &str, delimiter: u8) -> bool
     ensures { result ≡ spec.has_three delimiter s.now }
 {
     first(s) == delimiter && byte_at(s, 1) == delimiter && byte_at(s, 2) == delimiter
 }
 
-/// How many bytes the newline at the front has, or 0.
+/// Returns the number of bytes of the newline at the front, or 0.
 #[tactic(auto, unfolding(toml_edit_laws::specs::reading::BlockReading::newline_len))]
 fn newline_len(s: &str) -> usize
     ensures { result ≡ spec.newline_len s.now }
@@ -64,7 +67,7 @@ fn newline_len(s: &str) -> usize
     }
 }
 
-/// The text behind the newline at the front, or the whole of it.
+/// Returns the text after the newline at the front, or all of it.
 fn behind_newline(s: &str) -> &str
     ensures rest { result.now ≡ drop (spec.newline_len s.now) s.now }
     ensures within { length result.now ≤ length s.now }
@@ -73,21 +76,21 @@ fn behind_newline(s: &str) -> &str
     if len > 0 { skip(s, len) } else { s }
 }
 
-/// How many of the delimiter stand at the front.
+/// Returns how many delimiters are at the front.
 fn quote_len(bytes: &[u8], delimiter: u8) -> usize
     ensures { result ≡ spec.run_of delimiter bytes.now }
 {
     bytes.iter().take_while(|b| **b == delimiter).count()
 }
 
-/// Whether `byte`, which `next` follows, is white space or of a newline.
+/// Returns `true` if `byte`, which `next` follows, is whitespace or part of a newline.
 fn is_gap_byte(byte: u8, next: u8) -> bool
     ensures { result ≡ spec.is_gap_byte byte next }
 {
     is_blank(byte) || byte == b'\n' || (byte == b'\r' && next == b'\n')
 }
 
-/// How far white space and newlines go.
+/// Returns how far whitespace and newlines go.
 fn gap_len(s: &str) -> usize
     ensures len { result ≡ spec.gap_len s.now }
     ensures within { result ≤ length s.now }
@@ -100,7 +103,7 @@ fn gap_len(s: &str) -> usize
     s.len()
 }
 
-/// The form of the string that opens here, and the text behind its opening and the newline there.
+/// Splits off the opening of the string, with the newline after it, and returns the string's form.
 #[tactic(auto, unfolding(crate::specs::BlockPieces::opening_at))]
 fn opening(s: &str) -> Option<(Form, &str)>
     ensures value { option_map (λ p. (p.0, p.1.now)) result ≡ pieces.opening_at s.now }
@@ -116,8 +119,8 @@ fn opening(s: &str) -> Option<(Form, &str)>
     Some((form, behind_newline(skip(s, 3))))
 }
 
-/// The character that a backslash and what follows stand for, or nothing where they drop white space and newlines, and the text after
-/// them. It is read from behind the backslash.
+/// Splits off an escape, after its backslash. Returns its character, or nothing where it drops
+/// whitespace and newlines.
 #[tactic(auto, unfolding(toml_edit_laws::specs::reading::BlockReading::escaped_at))]
 fn escaped(s: &str) -> Option<(Option<char>, &str)>
     ensures value { option_map (λ p. (pieces.escaped_text p.0, p.1.now)) result ≡ spec.escaped_at s.now }
@@ -131,7 +134,7 @@ fn escaped(s: &str) -> Option<(Option<char>, &str)>
     Some((Some(c), rest))
 }
 
-/// What stands next in a string of this form, and the text after it, or `None` where no string goes on so.
+/// Splits off the next piece of a string of this form, or returns `None` if no string goes on so.
 fn next_piece(form: Form, s: &str) -> Option<(Piece<'_>, &str)>
     ensures piece { (n : ℕ) → length s.now < n → MatchOption result (pieces.form_at form n s.now ≡ None) (λ p. pieces.ReadsPiece form (pieces.form_at form n s.now) p.0 p.1.now) }
     ensures within { IfSome result (λ p. length p.1.now < length s.now) }
@@ -167,7 +170,7 @@ fn next_piece(form: Form, s: &str) -> Option<(Piece<'_>, &str)>
     }
 }
 
-/// The text after the string of several lines at the front, or `None` if there is none.
+/// Returns the text after the string of several lines at the front, or `None` if there is none.
 pub(crate) fn after_block(s: &str) -> Option<&str>
     ensures rest { option_map (λ r. r.now) result ≡ option_map (λ p. p.1) (spec.block_at s.now) }
     ensures within { IfSome result (λ r. length r.now ≤ length s.now) }
@@ -182,8 +185,9 @@ pub(crate) fn after_block(s: &str) -> Option<&str>
     }
 }
 
-/// Where a string of several lines can't go on that opens here: at an escape that there isn't, at a character that may not stand in it,
-/// behind its closing quotes, or at the end of the text.
+/// Returns the text where the string of several lines that opens here cannot go on: at an escape
+/// that does not exist, at a character that may not be in it, after its closing quotes, or at the
+/// end of the text.
 pub(crate) fn block_stop(s: &str) -> &str
     ensures within { length result.now ≤ length s.now }
 {
@@ -199,14 +203,14 @@ pub(crate) fn block_stop(s: &str) -> &str
     }
 }
 
-/// What a text says that is a string of several lines.
+/// Returns what a text means that is a string of several lines.
 pub(crate) fn read_block(alloc: Global, text: &str) -> Result<Option<String>, AllocError>
     ensures { IfOk result (λ o. option_map string_bytes o ≡ whole (spec.block_at text.now)) }
 {
     let Some((form, mut rest)) = opening(text) else {
         return Ok(None);
     };
-    // No piece says more bytes than it takes.
+    // No piece means more bytes than it takes.
     let mut value = String::with_capacity(alloc, text.len())?;
     'pieces: loop {
         let Some((piece, next)) = next_piece(form, rest) else {

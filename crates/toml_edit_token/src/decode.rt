@@ -1,4 +1,4 @@
-//! What keys and scalars say.
+//! Decoding the spellings of keys and scalars.
 ghost use Rattle.std.specs.Prelude.{◌≡◌, ℤ, false, IfOk, IfSome, IsSomeAnd, MatchOption, option_map, string_bytes};
 ghost use Rattle.toml_edit_model.specs.Text.{Text};
 ghost use Rattle.toml_edit_model.specs.Scalars as scalars;
@@ -28,7 +28,8 @@ pub enum Scalar {
     Datetime(Datetime),
 }
 
-/// The text of the simple key that is spelled so, or `None` if the text spells none.
+/// Returns the name of the simple key that the text spells, or `None` if it spells none. Fails if
+/// memory runs out.
 pub fn decode_key(alloc: Global, text: &str) -> Result<Option<String>, AllocError>
     ensures found { IfOk result (λ o. IfSome o (λ s. SpellsKey (string_bytes s) text.now)) }
     ensures only { IfOk result (λ o. (k : Text) → SpellsKey k text.now → IsSomeAnd o (λ s. k ≡ string_bytes s)) }
@@ -36,28 +37,31 @@ pub fn decode_key(alloc: Global, text: &str) -> Result<Option<String>, AllocErro
     read_key(alloc, text)
 }
 
-/// The scalar that is spelled so. `None` if the text spells none, or one out of range: an integer that 64 bits don't hold, or a date,
-/// a time or an offset that doesn't exist.
+/// Returns the scalar that the text spells. Fails if memory runs out.
+///
+/// Returns `None` if the text spells no scalar, or one out of range: an integer that 64 bits do not
+/// hold, or a date, a time or an offset that does not exist.
 pub fn decode_scalar(alloc: Global, text: &str) -> Result<Option<Scalar>, AllocError>
     ensures found { IfOk result (λ o. IfSome o (λ x. IsSpelling text.now (scalar_view x))) }
-    // What the text spells is that scalar, and where there is none it is out of range.
+    // What the text spells is that scalar; if there is none, it is out of range.
     ensures only { IfOk result (λ o. (s : scalars.Scalar) → Spells s text.now
         → MatchOption o (is_in_range s text.now ≡ false) (λ x. s ≡ scalar_view x)) }
 {
     read_scalar(alloc, text)
 }
 
-/// The integer that is spelled so. `None` if the text spells none, or one that 64 bits don't hold.
+/// Returns the integer that the text spells, or `None` if it spells none, or one that 64 bits do
+/// not hold.
 pub fn decode_integer(text: &str) -> Option<i64>
     ensures found { IfSome result (λ z. IsSpelling text.now (scalars.integer z)) }
-    // What the text spells is that integer, and where there is none it is no integer, or out of range.
+    // What the text spells is that integer; if there is none, it is no integer, or out of range.
     ensures only { (s : scalars.Scalar) → Spells s text.now
         → MatchOption result ((z : ℤ) → s ≡ scalars.integer z → is_in_range s text.now ≡ false) (λ z. s ≡ scalars.integer z) }
 {
     number::decode_integer(text.as_bytes())
 }
 
-/// What the whole text says, read as a simple key.
+/// Decodes a text that is a simple key.
 #[tactic(auto, unfolding(toml_edit_laws::specs::reading::Tokens::key_at))]
 fn read_key(alloc: Global, text: &str) -> Result<Option<String>, AllocError>
     ensures { IfOk result (λ o. option_map string_bytes o ≡ spec.whole (spec.key_at text.now)) }
@@ -73,7 +77,7 @@ fn read_key(alloc: Global, text: &str) -> Result<Option<String>, AllocError>
     }
 }
 
-/// What the whole text says, read as a scalar.
+/// Decodes a text that is a scalar.
 #[tactic(auto, unfolding(toml_edit_laws::specs::reading::ScalarReading::scalar_at))]
 fn read_scalar(alloc: Global, text: &str) -> Result<Option<Scalar>, AllocError>
     ensures { IfOk result (λ o. option_map scalar_view o ≡ spec.ranged text.now (spec.whole (scalar.scalar_at text.now))) }
@@ -92,7 +96,7 @@ fn read_scalar(alloc: Global, text: &str) -> Result<Option<Scalar>, AllocError>
     }
 }
 
-/// The truth value, the number, the date or the time that a word spells, where it is in range.
+/// Decodes a word that is a boolean, a number, a date or a time, if it is in range.
 #[tactic(auto, unfolding(toml_edit_laws::specs::reading::ScalarReading::word_scalar))]
 fn read_word(alloc: Global, word: &str) -> Result<Option<Scalar>, AllocError>
     ensures { IfOk result (λ o. option_map scalar_view o ≡ spec.ranged word.now (scalar.word_scalar word.now)) }
@@ -113,7 +117,7 @@ fn read_word(alloc: Global, word: &str) -> Result<Option<Scalar>, AllocError>
     }
 }
 
-/// The date or the time that a word spells, where it is in range.
+/// Decodes a word that is a date or a time, if it is in range.
 fn read_datetime(word: &str) -> Option<Datetime>
     ensures { option_map (λ d. scalars.datetime (datetime_view d)) result
         ≡ spec.ranged word.now (option_map (λ d. scalars.datetime d) (datetime_of word.now)) }

@@ -8,10 +8,10 @@ ghost use Rattle.toml_edit_token.specs.Lanes.{PassesIn, first_set};
 use crate::run::Class;
 use std::simd::prelude::*;
 
-/// How many bytes are looked at in one step.
+/// The number of bytes that are looked at in one step.
 pub(crate) const LANES: usize = 16;
 
-/// The place of the lowest bit that is set, or `LANES`.
+/// Returns the place of the lowest bit that is set, or `LANES`.
 #[inline(always)]
 fn first_set(mask: u64) -> usize
     ensures { result ≡ first_set mask 16 }
@@ -23,7 +23,7 @@ fn first_set(mask: u64) -> usize
     }
 }
 
-/// How many of the next bytes are visible, from the first on.
+/// Returns how many of the next bytes are visible, from the first on.
 #[inline(always)]
 fn visible_run(bytes: &[u8], at: usize) -> usize
     requires { at + LANES ≤ length bytes.now }
@@ -35,7 +35,7 @@ fn visible_run(bytes: &[u8], at: usize) -> usize
     first_set(stops.to_bitmask())
 }
 
-/// How many of the next bytes stand for themselves between double quotes, from the first on.
+/// Returns how many of the next bytes mean themselves between double quotes, from the first on.
 #[inline(always)]
 fn plain_run(bytes: &[u8], at: usize) -> usize
     requires { at + LANES ≤ length bytes.now }
@@ -48,7 +48,7 @@ fn plain_run(bytes: &[u8], at: usize) -> usize
     first_set(stops.to_bitmask())
 }
 
-/// How many of the next bytes stand between single quotes, from the first on.
+/// Returns how many of the next bytes may be between single quotes, from the first on.
 #[inline(always)]
 fn literal_run(bytes: &[u8], at: usize) -> usize
     requires { at + LANES ≤ length bytes.now }
@@ -61,7 +61,8 @@ fn literal_run(bytes: &[u8], at: usize) -> usize
     first_set(stops.to_bitmask())
 }
 
-/// Some of the next bytes that are of the class, from the first on: all of them in a class whose runs are long, and otherwise none.
+/// Returns a number of next bytes that are of the class: all of those at the front in a class whose
+/// runs are long, else 0.
 #[inline(always)]
 pub(crate) fn lanes_run(bytes: &[u8], at: usize, class: Class) -> usize
     requires { at + LANES ≤ length bytes.now }

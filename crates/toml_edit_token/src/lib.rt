@@ -1,4 +1,4 @@
-//! Keys and scalars in a text: where they end, what they say, and how they are spelled by default.
+//! Keys and scalars in a text: where they end, what they mean, and how they are spelled by default.
 #![tactic(auto)]
 
 mod block_string;

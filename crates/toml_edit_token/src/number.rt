@@ -1,11 +1,11 @@
-//! Integers, as whole words.
+//! Integers, as whole words. (TOML, "Integer".)
 ghost use Rattle.std.specs.Prelude.{◌≡◌, ◌+◌, ◌<◌, ◌≤◌, ◌^◌, is_some, option_map, pos, IfSome};
 ghost use Rattle.toml_edit_laws.specs.reading.Tokens as spec;
 ghost use Rattle.toml_edit_model.specs.Spelling.{plus, minus, unsigned};
 
 use crate::run::byte_of;
 
-/// Whether these are digits of the base, with single underscores between them.
+/// Returns `true` if these are digits of the base, with single underscores between them.
 fn is_natural(digits: &[u8], base: u32) -> bool
     requires low { 2 ≤ base }
     requires high { base ≤ 16 }
@@ -24,13 +24,14 @@ fn is_natural(digits: &[u8], base: u32) -> bool
     follows_digit
 }
 
+/// Returns `true` if a 0 leads other digits.
 fn leads_with_zero(digits: &[u8]) -> bool
     ensures { result ≡ spec.leads_with_zero digits.now }
 {
     byte_of(digits, 0) == b'0' && digits.len() > 1
 }
 
-/// Whether these are decimal digits, of which no 0 stands before another.
+/// Returns `true` if these are decimal digits, without a leading 0.
 #[tactic(auto, unfolding(toml_edit_laws::specs::reading::Tokens::decimal_of))]
 fn is_decimal(digits: &[u8]) -> bool
     ensures plus { result ≡ is_some (spec.decimal_of plus digits.now) }
@@ -40,7 +41,7 @@ fn is_decimal(digits: &[u8]) -> bool
     !leads_with_zero(digits) && is_natural(digits, 10)
 }
 
-/// Whether a word spells an integer, however large.
+/// Returns `true` if a word spells an integer, however large.
 #[tactic(auto, unfolding(toml_edit_laws::specs::reading::Tokens::integer_of, toml_edit_laws::specs::reading::Tokens::prefixed_of))]
 pub(crate) fn is_integer(word: &[u8]) -> bool
     ensures { result ≡ is_some (spec.integer_of word.now) }
@@ -54,7 +55,8 @@ pub(crate) fn is_integer(word: &[u8]) -> bool
     }
 }
 
-/// The number that digits of the base write, with single underscores between them, where it is below the limit.
+/// Returns the number that digits of the base write, with single underscores between them, if it is
+/// below the limit.
 fn natural(digits: &[u8], base: u32, limit: u64) -> Option<u64>
     requires low { 2 ≤ base }
     requires high { base ≤ 16 }
@@ -89,7 +91,7 @@ fn natural(digits: &[u8], base: u32, limit: u64) -> Option<u64>
     }
 }
 
-/// The integer that decimal digits write without a minus sign.
+/// Returns the integer that decimal digits write without a minus sign.
 #[tactic(auto, unfolding(toml_edit_laws::specs::reading::Tokens::decimal_of))]
 fn positive(digits: &[u8]) -> Option<i64>
     ensures unsigned { result ≡ spec.fitting (spec.decimal_of unsigned digits.now) }
@@ -102,7 +104,7 @@ fn positive(digits: &[u8]) -> Option<i64>
     Some(n as i64)
 }
 
-/// The integer that decimal digits write behind a minus sign.
+/// Returns the integer that decimal digits write after a minus sign.
 #[tactic(auto, unfolding(toml_edit_laws::specs::reading::Tokens::decimal_of))]
 fn negative(digits: &[u8]) -> Option<i64>
     ensures { result ≡ spec.fitting (spec.decimal_of minus digits.now) }
@@ -118,7 +120,7 @@ fn negative(digits: &[u8]) -> Option<i64>
     }
 }
 
-/// The integer that digits of the base write.
+/// Returns the integer that digits of the base write.
 fn prefixed(digits: &[u8], base: u32) -> Option<i64>
     requires low { 2 ≤ base }
     requires high { base ≤ 16 }
@@ -128,7 +130,8 @@ fn prefixed(digits: &[u8], base: u32) -> Option<i64>
     Some(n as i64)
 }
 
-/// The integer that a word spells, or `None` if it spells none or one that 64 bits don't hold.
+/// Returns the integer that a word spells, or `None` if it spells none, or one that 64 bits do not
+/// hold.
 #[tactic(auto, unfolding(toml_edit_laws::specs::reading::Tokens::integer_of, toml_edit_laws::specs::reading::Tokens::prefixed_of))]
 pub(crate) fn decode_integer(word: &[u8]) -> Option<i64>
     ensures { result ≡ spec.fitting (spec.integer_of word.now) }

@@ -1,4 +1,4 @@
-//! Single bytes and runs of bytes.
+//! Single bytes, classes of bytes and runs of them.
 ghost use Rattle.std.specs.Prelude.{◌≡◌, ◌+◌, ◌-◌, ◌<◌, ◌≤◌, length, drop, slice_index};
 ghost use Rattle.std.specs.List.{prefix_len};
 ghost use Rattle.toml_edit_model.specs.Text.{line_feed, has_byte};
@@ -9,28 +9,28 @@ ghost use Rattle.toml_edit_token.specs.Classes.{class_test};
 
 use crate::lanes::{LANES, lanes_run};
 
-/// The byte at `index`, or 0 past the end.
+/// Returns the byte at `index`, or 0 past the end.
 pub(crate) fn byte_of(bytes: &[u8], index: usize) -> u8
     ensures { result ≡ slice_index bytes.now index }
 {
     bytes.get(index).copied().unwrap_or(0)
 }
 
-/// The byte at `index`, or 0 past the end.
+/// Returns the byte at `index`, or 0 past the end.
 pub fn byte_at(s: &str, index: usize) -> u8
     ensures { result ≡ slice_index s.now index }
 {
     byte_of(s.as_bytes(), index)
 }
 
-/// The first byte, or 0.
+/// Returns the first byte, or 0.
 pub fn first(s: &str) -> u8
     ensures { result ≡ slice_index s.now 0 }
 {
     byte_at(s, 0)
 }
 
-/// What follows the first `n` bytes, of which the last is ASCII.
+/// Returns the text after the first `n` bytes, of which the last is ASCII.
 pub fn skip(s: &str, n: usize) -> &str
     requires some { 0 < n }
     requires there { 0 < slice_index s.now (n - 1) }
@@ -41,7 +41,7 @@ pub fn skip(s: &str, n: usize) -> &str
     &s[n..]
 }
 
-/// Whether a line feed stands among the bytes.
+/// Returns `true` if there is a line feed (LF) among the bytes.
 pub(crate) fn has_line_feed(bytes: &[u8]) -> bool
     ensures { result ≡ has_byte line_feed bytes.now }
 {
@@ -51,42 +51,42 @@ pub(crate) fn has_line_feed(bytes: &[u8]) -> bool
 /// A set of bytes, to find a run of them.
 #[derive(Clone, Copy)]
 pub enum Class {
-    /// Space and tab.
+    /// Spaces and tabs.
     Blank,
-    /// No control character but tab.
+    /// All but control characters, and tab.
     Visible,
-    /// Stands for itself between double quotes.
+    /// What means itself between double quotes.
     Plain,
-    /// Stands between single quotes.
+    /// What may be between single quotes.
     Literal,
-    /// Stands in a bare key.
+    /// What may be in a bare key.
     Bare,
-    /// Stands in a number, a truth value, a date or a time.
+    /// What may be in a number, a boolean, a date or a time.
     Word,
 }
 
-/// Whether it is a space or a tab.
+/// Returns `true` for a space and a tab.
 pub fn is_blank(byte: u8) -> bool
     ensures { result ≡ trivia.is_blank byte }
 {
     byte == b' ' || byte == b'\t'
 }
 
-/// Whether it is no control character but tab.
+/// Returns `true` for all but control characters, and for tab.
 pub fn is_visible(byte: u8) -> bool
     ensures { result ≡ trivia.is_visible byte }
 {
     byte == b'\t' || (byte >= 0x20 && byte != 0x7F)
 }
 
-/// Whether it may stand in a bare key.
+/// Returns `true` if the byte may be in a bare key.
 pub fn is_bare(byte: u8) -> bool
     ensures { result ≡ spelling.is_bare_byte byte }
 {
     byte.is_ascii_alphanumeric() || byte == b'-' || byte == b'_'
 }
 
-/// Whether it may stand in a number, a truth value, a date or a time.
+/// Returns `true` if the byte may be in a number, a boolean, a date or a time.
 pub fn is_word(byte: u8) -> bool
     ensures { result ≡ is_word_byte byte }
 {
@@ -117,7 +117,8 @@ static CLASSES: [u8; 256] = *b"\
     NNNNNNNNNNNNNNNNNNNNNNNNNNNNNNNN\
     NNNNNNNNNNNNNNNNNNNNNNNNNNNNNNNN";
 
-/// Whether it is of the class. A look into the table takes a third of the instructions that comparisons take.
+/// Returns `true` if the byte is of the class. Looking into the table takes a third of the
+/// instructions of comparisons.
 fn is_in(class: Class, byte: u8) -> bool
     ensures { result ≡ class_test class byte }
 {
@@ -131,7 +132,7 @@ fn is_in(class: Class, byte: u8) -> bool
     }
 }
 
-/// How many bytes at the front are of the class.
+/// Returns how many bytes at the front are of the class.
 pub fn run_len(bytes: &[u8], class: Class) -> usize
     ensures len { result ≡ prefix_len (class_test class) bytes.now }
     ensures within { result ≤ length bytes.now }
@@ -148,7 +149,7 @@ pub fn run_len(bytes: &[u8], class: Class) -> usize
     at
 }
 
-/// The bytes of the class at the front, and the rest.
+/// Splits off the bytes of the class at the front.
 pub fn split_run(s: &str, class: Class) -> (&str, &str)
     ensures parts { (result.0.now, result.1.now) ≡ split_while (class_test class) s.now }
     ensures lens { length result.0.now + length result.1.now ≡ length s.now }

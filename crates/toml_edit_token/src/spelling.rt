@@ -1,4 +1,4 @@
-//! The spelling of a string or a key that has none of its own.
+//! Writing the default spelling of a string or a key.
 ghost use Rattle.std.specs.Prelude.{◌≡◌, ◌+◌, ◌<◌, false, length, drop, slice_index};
 ghost use Rattle.std.specs.Fmt.{WritesOnOk};
 ghost use Rattle.std.specs.List.{list_all};
@@ -44,6 +44,7 @@ pub fn write_key<W: Write>(f: &mut Formatter<W>, key: &str) -> fmt::Result
     }
 }
 
+/// Returns `true` if all bytes are of the class.
 fn is_all(s: &str, class: Class) -> bool
     ensures { result ≡ list_all (class_test class) s.now }
 {
@@ -83,6 +84,7 @@ fn write_escaped<W: Write>(f: &mut Formatter<W>, text: &str, many_lines: bool) -
     }
 }
 
+/// Returns the text after its first byte, which is ASCII.
 fn after_first(s: &str) -> &str
     requires some { 0 < length s.now }
     requires ascii { slice_index s.now 0 < 128 }
@@ -118,6 +120,7 @@ fn write_numbered<W: Write>(f: &mut Formatter<W>, byte: u8) -> fmt::Result
     f.write_char(capital_digit(byte % 16))
 }
 
+/// Returns the hexadecimal digit as a capital.
 fn capital_digit(digit: u8) -> char
     requires { digit < 16 }
     ensures value { result ≡ spec.capital_digit digit }

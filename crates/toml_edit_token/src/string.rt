@@ -1,11 +1,11 @@
-//! Strings of one line.
+//! Strings of one line. (TOML, "String".)
 ghost use Rattle.std.specs.Prelude.{◌≡◌, ℕ, ◌<◌, ◌≤◌, length, string_bytes, option_map, IfOk, IfSome};
 ghost use Rattle.toml_edit_laws.specs.reading.Tokens as spec;
 
 use crate::run::{Class, first, skip, split_run};
 use std::alloc::{AllocError, Global};
 
-/// What a literal string says, and the text after it. It is read from behind its opening quote.
+/// Splits off a literal string, after its opening quote, and returns what it means.
 #[tactic(auto, unfolding(toml_edit_laws::specs::reading::Tokens::literal_at))]
 pub(crate) fn literal(s: &str) -> Option<(&str, &str)>
     ensures value { option_map (λ p. (p.0.now, p.1.now)) result ≡ spec.literal_at s.now }
@@ -19,7 +19,7 @@ pub(crate) fn literal(s: &str) -> Option<(&str, &str)>
     }
 }
 
-/// The text after a basic string, from behind its opening quote.
+/// Returns the text after a basic string whose opening quote is just before `s`.
 fn after_basic(s: &str) -> Option<&str>
     ensures rest { (n : ℕ) → length s.now < n → option_map (λ r. r.now) result ≡ option_map (λ p. p.1) (spec.basic_at n s.now) }
     ensures within { IfSome result (λ r. length r.now ≤ length s.now) }
@@ -39,8 +39,9 @@ fn after_basic(s: &str) -> Option<&str>
     }
 }
 
-/// Where a basic string can't go on, from behind its opening quote: before its closing quote, an escape that there isn't, a character
-/// that may not stand in it, or the end of the text.
+/// Returns the text where a basic string cannot go on, whose opening quote is just before `s`:
+/// before its closing quote, an escape that does not exist, a character that may not be in it, or
+/// the end of the text.
 pub(crate) fn basic_stop(s: &str) -> &str
     ensures within { length result.now ≤ length s.now }
 {
@@ -57,7 +58,7 @@ pub(crate) fn basic_stop(s: &str) -> &str
     }
 }
 
-/// The character that an escape stands for, and the text after it. It is read from behind its backslash.
+/// Splits off an escape, after its backslash, and returns its character.
 #[tactic(auto, unfolding(toml_edit_laws::specs::reading::Tokens::escape_at))]
 pub(crate) fn escape(s: &str) -> Option<(char, &str)>
     ensures value { option_map (λ p. (p.0, p.1.now)) result ≡ spec.escape_at s.now }
@@ -80,7 +81,7 @@ pub(crate) fn escape(s: &str) -> Option<(char, &str)>
     Some((c, skip(s, 1)))
 }
 
-/// The character whose number stands in `len` hexadecimal digits, and the text after them.
+/// Splits off `len` hexadecimal digits, and returns the character of that number.
 #[tactic(auto, unfolding(toml_edit_laws::specs::reading::Tokens::hex_at))]
 fn hex(s: &str, len: usize) -> Option<(char, &str)>
     requires some { 0 < len }
@@ -97,7 +98,7 @@ fn hex(s: &str, len: usize) -> Option<(char, &str)>
     Some((c, skip(s, len)))
 }
 
-/// The number that at most eight hexadecimal digits write.
+/// Returns the number that at most eight hexadecimal digits write.
 fn hex_value(digits: &[u8]) -> Option<u32>
     requires { length digits.now ≤ 8 }
     ensures { result ≡ spec.hex_value digits.now }
@@ -110,7 +111,7 @@ fn hex_value(digits: &[u8]) -> Option<u32>
     Some(value)
 }
 
-/// The text after a basic or a literal string.
+/// Returns the text after a basic or a literal string.
 #[tactic(auto, unfolding(toml_edit_laws::specs::reading::Tokens::string_at))]
 pub(crate) fn after_string(s: &str) -> Option<&str>
     ensures rest { option_map (λ r. r.now) result ≡ option_map (λ p. p.1) (spec.string_at s.now) }
@@ -123,11 +124,12 @@ pub(crate) fn after_string(s: &str) -> Option<&str>
     }
 }
 
-/// What a basic string says that ends the text. It is read from behind its opening quote.
+/// Returns what a basic string means that ends the text, and whose opening quote is just before
+/// `s`.
 fn decode_basic(alloc: Global, s: &str) -> Result<Option<String>, AllocError>
     ensures { IfOk result (λ o. (n : ℕ) → length s.now < n → option_map string_bytes o ≡ spec.whole (spec.basic_at n s.now)) }
 {
-    // No escape says more bytes than it takes.
+    // No escape means more bytes than it takes.
     let mut value = String::with_capacity(alloc, s.len())?;
     let mut rest = s;
     'parts: loop {
@@ -152,7 +154,7 @@ fn decode_basic(alloc: Global, s: &str) -> Result<Option<String>, AllocError>
     }
 }
 
-/// What a text says that is a basic or a literal string.
+/// Returns what a text means that is a basic or a literal string.
 #[tactic(auto, unfolding(toml_edit_laws::specs::reading::Tokens::string_at))]
 pub(crate) fn decode_string(alloc: Global, s: &str) -> Result<Option<String>, AllocError>
     ensures { IfOk result (λ o. option_map string_bytes o ≡ spec.whole (spec.string_at s.now)) }

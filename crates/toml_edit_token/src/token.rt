@@ -13,10 +13,11 @@ use crate::run::{Class, byte_at, first, is_bare, is_word, run_len, skip, split_r
 use crate::string::{after_string, basic_stop};
 use toml_edit_datetime::{is_datetime, is_float};
 
-/// The text after the simple key at the front, or `None` if there is none. A bare key goes as far as its bytes do.
+/// Returns the text after the simple key at the front, or `None` if there is none. A bare key goes
+/// as far as its bytes do. (TOML, "Keys".)
 pub fn after_key(s: &str) -> Option<&str>
     ensures found { IfSome result (λ rest. (k spelled : Text) × SpellsKey k spelled × (s.now ≡ spelled ++ rest.now)) }
-    // Each key that stands there and ends where keys do is that one.
+    // Each key that is there and ends where keys do is that one.
     ensures only { (k spelled rest : Text) → SpellsKey k spelled → spec.ends_key rest ≡ true → s.now ≡ spelled ++ rest
         → option_map (λ r. r.now) result ≡ Some rest }
     ensures rest { option_map (λ r. r.now) result ≡ option_map (λ p. p.1) (spec.key_at s.now) }
@@ -25,6 +26,7 @@ pub fn after_key(s: &str) -> Option<&str>
     behind_key(s)
 }
 
+/// Returns the text after the simple key at the front.
 #[tactic(auto, unfolding(toml_edit_laws::specs::reading::Tokens::key_at))]
 fn behind_key(s: &str) -> Option<&str>
     ensures rest { option_map (λ r. r.now) result ≡ option_map (λ p. p.1) (spec.key_at s.now) }
@@ -38,7 +40,8 @@ fn behind_key(s: &str) -> Option<&str>
     }
 }
 
-/// How many bytes the word at the front has: a run, or a date, a space and the run of a time.
+/// Returns the number of bytes of the word at the front: a run, or a date, a space and the run of a
+/// time.
 #[tactic(auto, unfolding(toml_edit_laws::specs::reading::ScalarReading::word_len))]
 fn word_len(s: &str) -> usize
     ensures len { result ≡ scalar.word_len s.now }
@@ -53,7 +56,7 @@ fn word_len(s: &str) -> usize
     }
 }
 
-/// The word at the front, and the rest.
+/// Splits off the word at the front.
 fn split_word(s: &str) -> (&str, &str)
     ensures word { result.0.now ≡ take (scalar.word_len s.now) s.now }
     ensures rest { result.1.now ≡ drop (scalar.word_len s.now) s.now }
@@ -62,7 +65,7 @@ fn split_word(s: &str) -> (&str, &str)
     s.split_at(word_len(s))
 }
 
-/// Whether a word spells a truth value, a number, a date or a time, in range or not.
+/// Returns `true` if a word spells a boolean, a number, a date or a time, in range or not.
 #[tactic(auto, unfolding(toml_edit_laws::specs::reading::ScalarReading::word_scalar))]
 fn is_scalar_word(word: &str) -> bool
     ensures { result ≡ is_some (scalar.word_scalar word.now) }
@@ -74,7 +77,7 @@ fn is_scalar_word(word: &str) -> bool
         || is_datetime(word)
 }
 
-/// Whether three quotes of one kind stand at the front.
+/// Returns `true` if three quotes of one kind are at the front.
 pub(crate) fn opens_block(s: &str) -> bool
     ensures { result ≡ block.opens_block s.now }
 {
@@ -82,10 +85,11 @@ pub(crate) fn opens_block(s: &str) -> bool
     (quote == b'"' || quote == b'\'') && byte_at(s, 1) == quote && byte_at(s, 2) == quote
 }
 
-/// The text after the scalar at the front, or `None` if there is none. A word goes as far as its bytes do.
+/// Returns the text after the scalar at the front, or `None` if there is none. A word goes as far
+/// as its bytes do. (TOML, "String" to "Local Time".)
 pub fn after_scalar(s: &str) -> Option<&str>
     ensures found { IfSome result (λ rest. (x : Scalar) × (spelled : Text) × Spells x spelled × (s.now ≡ spelled ++ rest.now)) }
-    // Each scalar that stands there and ends where scalars do is that one.
+    // Each scalar that is there and ends where scalars do is that one.
     ensures only { (x : Scalar) (spelled rest : Text) → Spells x spelled → scalar.ends_scalar rest ≡ true → s.now ≡ spelled ++ rest
         → option_map (λ r. r.now) result ≡ Some rest }
     ensures rest { option_map (λ r. r.now) result ≡ option_map (λ p. p.1) (scalar.scalar_at s.now) }
@@ -94,6 +98,7 @@ pub fn after_scalar(s: &str) -> Option<&str>
     behind_scalar(s)
 }
 
+/// Returns the text after the scalar at the front.
 #[tactic(auto, unfolding(toml_edit_laws::specs::reading::ScalarReading::scalar_at))]
 fn behind_scalar(s: &str) -> Option<&str>
     ensures rest { option_map (λ r. r.now) result ≡ option_map (λ p. p.1) (scalar.scalar_at s.now) }
@@ -114,8 +119,9 @@ fn behind_scalar(s: &str) -> Option<&str>
     }
 }
 
-/// Where the string at the front can't go on: at an escape that there isn't, at a character that may not stand in it, or at the end of
-/// its line or of the text. A string that has an end goes on up to it.
+/// Returns the text where the string at the front cannot go on: at an escape that does not exist,
+/// at a character that may not be in it, or at the end of its line or of the text. A string that
+/// has an end goes on up to it.
 pub fn string_stop(s: &str) -> &str
     ensures within { length result.now ≤ length s.now }
 {

@@ -1,4 +1,4 @@
-//! Whether a statement or a value has a part that TOML 1.0 lacks, and where, told from its events.
+//! Finding the *late* parts of a statement or a value, which TOML 1.0 lacks, in its events.
 #![tactic(auto)]
 
 mod grammar;

@@ -8,7 +8,7 @@ use crate::spelling::{late_escape, late_in_scalar};
 use crate::trivia::late_in_trivia;
 use toml_edit_syntax::{Event, EventKind, Span};
 
-/// The bytes of the span.
+/// Returns the bytes of the source at the span.
 fn cut(source: &str, span: Span) -> &str
     requires { IsSpanOf source.now span }
     ensures { result.now ≡ cut_out source.now span.start span.end }
@@ -16,7 +16,8 @@ fn cut(source: &str, span: Span) -> &str
     &source[span.start..span.end]
 }
 
-/// Whether what stands before these events stands in an inline table, in its own trivia or as its comma.
+/// Returns `true` if what is before these events belongs to an inline table, as its own trivia or
+/// as its comma.
 fn is_in_inline_table(events: &[Event]) -> bool
     ensures { result ≡ spec.is_in_inline_table events.now }
 {
@@ -30,7 +31,7 @@ fn is_in_inline_table(events: &[Event]) -> bool
     false
 }
 
-/// The late part of this event, before these events.
+/// Returns the late part of this event, before these events.
 pub(crate) fn late_in_event(source: &str, event: Event, behind: &[Event]) -> Option<Span>
     requires { IsSpanOf source.now event.span }
     ensures part { result ≡ spec.late_in_event source.now event behind.now }

@@ -1,12 +1,14 @@
-//! Late parts of what is spelled: escapes of strings and keys (TOML 1.1.0, "String"), and times without seconds ("Local Time").
+//! Late parts of spellings: escapes of strings and keys (TOML 1.1.0, "String"), and times without
+//! seconds (TOML 1.1.0, "Local Time").
 ghost use Rattle.std.specs.Prelude.{◌≡◌, ◌+◌, ◌<◌, ◌^◌, length};
 ghost use Rattle.toml_edit_version.specs.LateSpellings as spec;
 
 use toml_edit_datetime::is_datetime;
 use toml_edit_syntax::Span;
 
-/// The late escape whose backslash is at this byte, before these bytes, if it is one: `\e`, or `\x` and two digits. Where the second is a
-/// byte of ASCII, as each digit is, the escape ends where a character does.
+/// Returns the late escape whose backslash is at this byte, before these bytes, if it is one: `\e`,
+/// or `\x` and two digits. If the second byte is ASCII, as each digit is, the escape ends where a
+/// character does.
 fn escape_at(at: usize, behind: &[u8]) -> Option<Span>
     requires { at + length behind.now + 1 < 2 ^ 64 }
     ensures { result ≡ spec.escape_at at behind.now }
@@ -24,7 +26,7 @@ fn escape_at(at: usize, behind: &[u8]) -> Option<Span>
     }
 }
 
-/// The first late escape of these bytes, of which the first is at this byte.
+/// Returns the first late escape of these bytes, of which the first is at this byte.
 fn first_escape(start: usize, bytes: &[u8]) -> Option<Span>
     requires { start + length bytes.now < 2 ^ 64 }
     ensures { result ≡ spec.first_escape start bytes.now }
@@ -49,7 +51,8 @@ fn first_escape(start: usize, bytes: &[u8]) -> Option<Span>
     None
 }
 
-/// The first late escape of a string or a key, whose spelling begins at this byte. In double quotes alone there are escapes.
+/// Returns the first late escape of a string or a key whose spelling begins at this byte. Escapes
+/// are in double quotes alone.
 pub(crate) fn late_escape(start: usize, text: &str) -> Option<Span>
     requires { start + length text.now < 2 ^ 64 }
     ensures { result ≡ spec.late_escape start text.now }
@@ -60,7 +63,7 @@ pub(crate) fn late_escape(start: usize, text: &str) -> Option<Span>
     }
 }
 
-/// Whether the time of this spelling of a date or a time has no seconds.
+/// Returns `true` if the time in this spelling of a date or a time has no seconds.
 fn lacks_seconds(text: &[u8]) -> bool
     ensures { result ≡ spec.lacks_seconds text.now }
 {
@@ -71,7 +74,7 @@ fn lacks_seconds(text: &[u8]) -> bool
     clock < text.len() && !matches!(text.get(clock + 5), Some(b':'))
 }
 
-/// The late part of a scalar, whose spelling begins at this byte.
+/// Returns the late part of a scalar whose spelling begins at this byte.
 pub(crate) fn late_in_scalar(start: usize, text: &str) -> Option<Span>
     requires { start + length text.now < 2 ^ 64 }
     ensures { result ≡ spec.late_in_scalar start text.now }

@@ -5,7 +5,7 @@ ghost use Rattle.toml_edit_version.specs.LateTrivia as spec;
 
 use toml_edit_syntax::Span;
 
-/// How many bytes stand before the first newline.
+/// Returns the number of bytes before the first newline.
 fn line_len(bytes: &[u8]) -> usize
     ensures len { result ≡ prefix_len spec.is_in_line bytes.now }
     ensures within { result ≤ length bytes.now }
@@ -16,7 +16,7 @@ fn line_len(bytes: &[u8]) -> usize
         .count()
 }
 
-/// The first newline or comment of the trivia, which begins at this byte.
+/// Returns the first newline or comment of trivia that begins at this byte.
 pub(crate) fn late_in_trivia(start: usize, text: &str) -> Option<Span>
     requires { start + length text.now < 2 ^ 64 }
     ensures { result ≡ spec.late_in_trivia start text.now }

@@ -11,7 +11,7 @@ ghost use Rattle.toml_edit_version.specs.LateEvents.{AreIn, NamesLate};
 use crate::part::late_in_event;
 use toml_edit_syntax::{Event, EventKind, Span};
 
-/// The first late part of these events, up to the end of a statement.
+/// Returns the first late part of these events, up to the end of a statement.
 fn late_in_events(source: &str, events: &[Event]) -> Option<Span>
     requires { AreIn source.now events.now }
     ensures part { result ≡ spec.late_in_events source.now events.now }
@@ -30,9 +30,12 @@ fn late_in_events(source: &str, events: &[Event]) -> Option<Span>
     None
 }
 
-/// The place in bytes of the first part of a statement that TOML 1.0 lacks, by its events, which come first: an escape `\e` or `\xHH`
-/// (TOML 1.1.0, "String"), a time without seconds ("Local Time"), and in an inline table a newline, a comment or a comma after the last
-/// pair ("Inline Table"). The events may be cut short at a bracket that is one too many, and the part is looked for before it then.
+/// Returns the span in bytes of the first part of the statement at the front that TOML 1.0 lacks,
+/// if there is one.
+///
+/// That is an escape `\e` or `\xHH` (TOML 1.1.0, "String"), a time without seconds ("Local Time"),
+/// and in an inline table a newline, a comment or a comma after the last pair ("Inline Table"). If
+/// the events are cut short at a bracket that is one too many, only what is before it counts.
 pub fn late_part_of_statement(source: &str, events: &[Event]) -> Option<Span>
     requires { AreIn source.now events.now }
     ensures found { (s : Statement) (start : ℕ) (more : List Event) → IsStatement (λ end. Unit {0}) s
@@ -41,7 +44,7 @@ pub fn late_part_of_statement(source: &str, events: &[Event]) -> Option<Span>
     ensures none { (s : Statement) (start : ℕ) (more : List Event) → IsStatement (λ end. Unit {0}) s
         → Stands source.now start (statement_text s) → events.now ≡ shortened 0 (statement_events start s ++ more)
         → has_deep_value s ≡ false → IsNone result → late_places start s ≡ [] }
-    // The same where it is known of the events that none of the statement's is cut off.
+    // So it is if the events show that none of the statement's is cut off.
     ensures none_whole { (s : Statement) (start : ℕ) (more : List Event) → IsStatement (λ end. Unit {0}) s
         → Stands source.now start (statement_text s) → events.now ≡ shortened 0 (statement_events start s ++ more)
         → are_deep (shortened 0 (statement_events start s)) ≡ false → IsNone result → late_places start s ≡ [] }
@@ -53,8 +56,10 @@ pub fn late_part_of_statement(source: &str, events: &[Event]) -> Option<Span>
     }
 }
 
-/// The place in bytes of the first part of a value that TOML 1.0 lacks, by its events, which are all that there are; as
-/// `late_part_of_statement` tells it of a statement. They too may be cut short at a bracket that is one too many.
+/// Returns the span in bytes of the first part of a value that TOML 1.0 lacks, if there is one,
+/// from all of its events.
+///
+/// See [`late_part_of_statement`].
 pub fn late_part_of_value(source: &str, events: &[Event]) -> Option<Span>
     requires { AreIn source.now events.now }
     ensures found { (v : Value) (start : ℕ) → IsValue v → Stands source.now start (value_text v)

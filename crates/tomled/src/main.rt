@@ -1,6 +1,9 @@
-//! `tomled [exact] [strict] print | get PATH | set PATH VALUE | remove PATH`: reads a TOML document from standard input, and writes to
-//! standard output the document, the item at a path of keys, or the document with that item set or removed. With `exact` it keeps line
-//! endings, and an end without one; with `strict` it reads TOML 1.0.
+//! `tomled [exact] [strict] print | get PATH | set PATH VALUE | remove PATH`
+//!
+//! Reads a TOML document from standard input, and writes the document, the item at a path of keys,
+//! or the document with that item set or removed to standard output. With `exact` it keeps line
+//! endings, and a missing last newline; with `strict` it reads TOML 1.0. The crate
+//! `toml_edit_command` has the exit statuses.
 #![tactic(auto)]
 
 use std::env::{Env, FillError};
@@ -17,7 +20,7 @@ fn main(rt: HostRuntime) -> ExitCode {
             if error.kind() == ErrorKind::OutOfMemory {
                 return ExitCode::from(end_without_memory(&mut Watched::new(rt.stderr())));
             }
-            // Arguments that are no text are no command.
+            // Arguments that are no UTF-8 are no command.
             Vec::new(rt.alloc())
         }
     };
@@ -31,7 +34,7 @@ fn main(rt: HostRuntime) -> ExitCode {
     ExitCode::from(status)
 }
 
-// The arguments after the program's name.
+/// Returns the arguments after the program's name.
 fn words_of(rt: &HostRuntime) -> io::Result<Vec<String>> {
     let mut words = Vec::new(rt.alloc());
     for word in env::args(&(AfterName(rt), rt.alloc()))? {
@@ -40,7 +43,7 @@ fn words_of(rt: &HostRuntime) -> io::Result<Vec<String>> {
     Ok(words)
 }
 
-// The environment of the host, whose arguments begin after the program's name: the name need not be UTF-8, and isn't read.
+/// The environment of the host without the program's name, which need not be UTF-8 and is not read.
 #[derive(Drop)]
 struct AfterName<'a, R>(&'a R);
 

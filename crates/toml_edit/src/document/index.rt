@@ -1,4 +1,4 @@
-//! Items of the root of a document, by their keys.
+//! Access to the items of the root by their keys.
 ghost use Rattle.std.specs.Prelude.{◌≡◌, IfErr, IfOk, IsOk, IsSome, Some};
 ghost use Rattle.std.specs.Borrow.{sem};
 ghost use Rattle.toml_edit_model.specs.Indexing.{item_under};
@@ -17,9 +17,17 @@ use std::ops;
 use toml_edit_tree::{IndexFault, Item};
 
 impl DocumentMut {
-    /// The item under the key in the root, a placeholder too, to be changed. A new key goes last, with a key of the text alone and a
-    /// placeholder, by the allocator that the root was made with. The only error is `IndexFault::Memory`, at a new key: the document stays as
-    /// it was.
+    /// Returns a mutable reference to the item under the key in the root, inserting a placeholder
+    /// if the key is missing.
+    ///
+    /// A new key comes last and has the default spelling. A placeholder that is there is lent too,
+    /// so assign through the reference to fill it. The slot of a new key takes the root's own
+    /// allocator. To look up without inserting, use [`get_mut`](Table::get_mut) of
+    /// [`as_table_mut`](Self::as_table_mut).
+    ///
+    /// # Errors
+    ///
+    /// [`IndexFault::Memory`] if memory runs out at a new key. A present key never fails.
     pub fn index_or_insert(&mut self, alloc: Global, key: &str) -> Result<&mut Item, IndexFault>
         ensures* writes_back { sem 𝓛 (LendsUnder self.entry key.now result) }
         ensures item { IfOk result (λ lent. lent_under key.now (root_node (tree_owned self.old)) ≡ Some (item_view lent.now)) }
@@ -30,7 +38,7 @@ impl DocumentMut {
     }
 }
 
-/// The item under the key in the root, which must be there and no placeholder.
+/// Returns the item under the key in the root. The key must be there, and its item no placeholder.
 impl ops::Index<&str> for DocumentMut {
     type Output = Item;
 

@@ -1,4 +1,5 @@
-//! Keys are equal, ordered and hashed by their names alone, whatever their spellings and decors.
+//! Comparing keys: equality, order and hash are those of the names, whatever the spellings and
+//! decors.
 ghost use Rattle.std.specs.Prelude.{Some, refl, bytes_eq};
 ghost use Rattle.std.proofs.Common.{rules};
 ghost use Rattle.std.specs.Ordering.{nat_cmp};
@@ -26,7 +27,7 @@ impl Eq for Key {
     ghost laws = { on_equiv name_of nat_list_eq_equiv };
 }
 
-/// The order of the bytes of the names.
+/// Orders keys by the bytes of their names.
 impl PartialOrd for Key {
     ghost partial_cmp = { λ a b. Some (slice_cmp nat_cmp (name_of a) (name_of b)) };
 
@@ -37,7 +38,7 @@ impl PartialOrd for Key {
     }
 }
 
-/// The order of the bytes of the names.
+/// Orders keys by the bytes of their names.
 impl Ord for Key {
     ghost cmp = { λ a b. slice_cmp nat_cmp (name_of a) (name_of b) };
 

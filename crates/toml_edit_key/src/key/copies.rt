@@ -1,4 +1,4 @@
-//! Copies of keys.
+//! Copying keys.
 ghost use Rattle.std.specs.Prelude.{◌≡◌, IfOk};
 
 use super::{Key, KeyParts};
@@ -6,7 +6,11 @@ use std::alloc::Global;
 use toml_edit_repr::{Mem, clone_spelling};
 
 impl Key {
-    /// An equal copy: its name, its spelling and its decors. The only error is want of memory.
+    /// Returns an equal copy, with its name, its spelling and its decors.
+    ///
+    /// # Errors
+    ///
+    /// Fails if memory runs out.
     pub fn clone(&self, alloc: Global) -> Mem<Key>
         ensures { IfOk result (λ copy. copy ≡ self.now) }
     {

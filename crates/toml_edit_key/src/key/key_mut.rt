@@ -1,4 +1,4 @@
-//! Keys whose name is fixed.
+//! Mutable references to all of a key but its name.
 ghost use Rattle.std.specs.Prelude.{◌≡◌, Some, IsSome, IsOkAnd, IfOk, option_and_then};
 ghost use Rattle.std.specs.Borrow.{sem};
 ghost use Rattle.std.specs.Option.{option_copied};
@@ -19,8 +19,10 @@ use std::fmt::{Formatter, Write};
 use toml_edit_repr::{Decor, Mem, Repr, spelling_text};
 use toml_edit_token::write_key;
 
-/// A key that is lent. Its decors can be changed, and `fmt` drops its spelling with them. Its name
-/// never changes.
+/// A mutable reference to all of a key but its name.
+///
+/// It changes the decors of the key, and [`fmt`](Self::fmt) resets its spelling. The name stays, so
+/// that a table finds the key. `key_mut` of a table or an entry gives one, and [`Key::as_mut`].
 #[derive(Debug, Drop)]
 pub struct KeyMut<'k> {
     name: &'k str,
@@ -31,7 +33,7 @@ pub struct KeyMut<'k> {
 impl Key {
     ghost use Rattle.toml_edit_key.specs.KeyLending.{LendsKeyMut};
 
-    /// Lends the key, to change all of it but its name.
+    /// Returns a mutable reference to all of the key but its name.
     pub fn as_mut(&mut self) -> KeyMut<'_>
         ensures* writes_back { sem 𝓛 (LendsKeyMut self.entry result) }
         ensures same { key_of result ≡ self.old }
@@ -50,14 +52,16 @@ impl Key {
 impl<'k> KeyMut<'k> {
     ghost use Rattle.toml_edit_key.specs.KeyLending.{LendsLeafMut, LendsDottedMut};
 
-    /// Returns the name.
+    /// Returns the name, without quotes and escapes.
     pub fn get(&self) -> &str
         ensures { result.now ≡ (key_of self.now).name }
     {
         self.name
     }
 
-    /// Returns the spelling that the key has of its own, or `None` where it is the default one.
+    /// Returns the key's own spelling, or `None` if it has none and prints in the default one.
+    ///
+    /// A key that was parsed has one, even where it is spelled by default.
     pub fn as_repr(&self) -> Option<&Repr>
         ensures { option_copied result ≡ (key_of self.now).spelling }
     {
@@ -68,11 +72,11 @@ impl<'k> KeyMut<'k> {
         }
     }
 
-    /// Returns the spelling of a key of this name that has none of its own, which spells the name.
+    /// Returns the default spelling of the name, whatever the key's own one is.
     ///
     /// # Errors
     ///
-    /// The only error is out of memory.
+    /// Fails if memory runs out.
     pub fn default_repr(&self, alloc: Global) -> Mem<Repr>
         ensures default { IfOk result (λ repr. repr ≡ owned (key_spelling (key_of self.now).name)) }
         ensures spelled { SpellsKey (key_of self.now).name (key_spelling (key_of self.now).name) }
@@ -80,12 +84,11 @@ impl<'k> KeyMut<'k> {
         default_spelling(alloc, self.name)
     }
 
-    /// Returns the spelling that is printed: the key's own one if it is a text, else the default
-    /// one.
+    /// Returns the spelling that prints: the key's own one if it is a text, else the default one.
     ///
     /// # Errors
     ///
-    /// The only error is out of memory. There is none where the key's own spelling is a text.
+    /// Fails if memory runs out. An own spelling that is a text is lent, and takes none.
     pub fn display_repr(&self, alloc: Global) -> Mem<CowStr<'_>>
         ensures free { IsSome (option_and_then text_of (key_of self.now).spelling) → IsOkAnd result IsBorrowedStr }
         ensures text { IfOk result (λ text. cow_str_bytes text ≡ key_text (key_of self.now)) }
@@ -93,14 +96,15 @@ impl<'k> KeyMut<'k> {
         displayed(alloc, self.name, self.as_repr())
     }
 
-    /// Returns what stands around the key where it ends a path.
+    /// Returns the whitespace and the comments around the key where it ends a path.
     pub fn leaf_decor(&self) -> &Decor
         ensures { result.now ≡ (key_of self.now).leaf }
     {
         &self.parts.leaf
     }
 
-    /// Lends what stands around the key where it ends a path.
+    /// Returns a mutable reference to the whitespace and the comments around the key where it ends
+    /// a path.
     pub fn leaf_decor_mut(&mut self) -> &mut Decor
         ensures* writes_back { sem 𝓛 (LendsLeafMut self.entry result) }
         ensures decor { result.now ≡ (key_of self.old).leaf }
@@ -109,14 +113,14 @@ impl<'k> KeyMut<'k> {
         &mut parts.leaf
     }
 
-    /// Returns what stands between the key and the dots beside it.
+    /// Returns the whitespace between the key and the dots beside it.
     pub fn dotted_decor(&self) -> &Decor
         ensures { result.now ≡ (key_of self.now).dotted }
     {
         &self.parts.dotted
     }
 
-    /// Lends what stands between the key and the dots beside it.
+    /// Returns a mutable reference to the whitespace between the key and the dots beside it.
     pub fn dotted_decor_mut(&mut self) -> &mut Decor
         ensures* writes_back { sem 𝓛 (LendsDottedMut self.entry result) }
         ensures decor { result.now ≡ (key_of self.old).dotted }
@@ -125,7 +129,7 @@ impl<'k> KeyMut<'k> {
         &mut parts.dotted
     }
 
-    /// Gives the key its default spelling, and unsets its decors.
+    /// Resets the key to its default spelling, and unsets both of its decors.
     pub fn fmt(&mut self)
         ensures same_reference { (lent_parts self.new).ghost_name ≡ (lent_parts self.old).ghost_name }
         ensures key { key_of self.new ≡ reset_key (key_of self.old) }

@@ -1,4 +1,4 @@
-//! Texts of one key or one path.
+//! Parsing a text that is one key or one path.
 ghost use Rattle.std.specs.Prelude.{◌≡◌, ◌+◌, ◌<◌, ◌≤◌, ◌++◌, ◌∷◌, [], None, Some, List, length, OnOk, IfOk, IfErr, IfSome, IfNone, MatchResult, option_map, string_bytes};
 ghost use Rattle.toml_edit_model.specs.Text.{Text};
 ghost use Rattle.toml_edit_model.specs.Syntax.{Segment};
@@ -22,8 +22,16 @@ use toml_edit_token::{after_key, decode_key};
 const MOST_SEGMENTS: usize = 80;
 
 impl Key {
-    /// The simple key that the text spells, exactly, with this spelling and no decor. Any other text is refused, white space around
-    /// a key too: the error marks the first character that doesn't belong there, or the quote that opens a string without an end.
+    /// Parses a key from its spelling, bare or quoted, and keeps that spelling. It gets no decor.
+    ///
+    /// For a dotted path use [`parse`](Self::parse). To make a key of a name, use
+    /// [`new`](Self::new) or [`from_text`](Self::from_text). (TOML, "Keys".)
+    ///
+    /// # Errors
+    ///
+    /// `ParseFault::Toml` if the text is not exactly one key: whitespace around it is refused too.
+    /// The span, in bytes, marks the first character that does not belong there, or the quote of a
+    /// string that does not end. `ParseFault::Memory` if memory runs out.
     pub fn from_str(alloc: Global, text: &str) -> Result<Key, ParseFault>
         ensures key { IfOk result (λ key. SpellsKey key.name text.now × (key ≡ lone_key key.name text.now)) }
         ensures every { (k : Text) → SpellsKey k text.now → GivesValue (λ key. key) result (lone_key k text.now) }
@@ -35,10 +43,19 @@ impl Key {
         }
     }
 
-    /// The keys of a path of 1 to 80 segments, with white space around it, each with its spelling. White space at a dot is the
-    /// dotted decor of the keys beside it; white space around the path is the leaf decor of the last key, each side set only where
-    /// there is some. A longer path is refused with `recursion limit` and no span; past the 80th segment nothing is kept. In any
-    /// other text the first character that doesn't belong there is marked, or the quote that opens a string without an end.
+    /// Parses a dotted path of 1 to 80 keys, with whitespace around it, and keeps each key's
+    /// spelling.
+    ///
+    /// Whitespace beside a dot becomes dotted decor of the keys on its two sides. Whitespace around
+    /// the path becomes leaf decor of the last key, where a side without any stays unset. (TOML,
+    /// "Keys".)
+    ///
+    /// # Errors
+    ///
+    /// `ParseFault::Toml` if the text is no path, with a span in bytes that marks the first
+    /// character that does not belong there, or the quote of a string that does not end. A path of
+    /// more than 80 keys is refused with `recursion limit` and no span. `ParseFault::Memory` if
+    /// memory runs out.
     pub fn parse(alloc: Global, text: &str) -> Result<Vec<Key>, ParseFault>
         ensures keys { IfOk result (λ keys. AreLoneKeys text.now keys.items) }
         ensures every { (before : Text) (p : List Segment) (after : Text) → IsLonePath text.now before p after
@@ -51,16 +68,16 @@ impl Key {
     }
 }
 
-/// What stands in the way of reading a text, with the text from there on.
+/// Why a text is no key or no path, with the text from there on.
 #[derive(Clone, Copy)]
 enum Misread<'a> {
-    /// A key is to begin here.
+    /// A key should begin here.
     NoKey(&'a str),
     /// This belongs to no key and no path.
     Stray(&'a str),
 }
 
-/// The error of a text in which this stands in the way.
+/// Returns the error of a text that is refused for this.
 fn unreadable(alloc: Global, text: &str, fault: Misread<'_>) -> ParseFault
     ensures { IfToml result (IsMisread text.now) }
 {
@@ -71,7 +88,8 @@ fn unreadable(alloc: Global, text: &str, fault: Misread<'_>) -> ParseFault
     refusal(alloc, text, mistake.message(), Some(place(text, left)))
 }
 
-/// The first of the last `left` bytes of the text, as a character, or the text's end where none is left.
+/// Returns the span of the character that the last `left` bytes of the text begin with, or the
+/// text's end if `left` is 0.
 fn place(text: &str, left: usize) -> (usize, usize)
     ensures { SpanIsIn text.now (Some result) }
 {
@@ -82,7 +100,7 @@ fn place(text: &str, left: usize) -> (usize, usize)
     (start, text.ceil_char_boundary(start + 1))
 }
 
-/// What stands in the way of a text that is no key.
+/// Returns why a text that is no key is refused.
 fn key_fault(text: &str) -> Misread<'_> {
     match after_key(text) {
         Some(rest) => Misread::Stray(rest),
@@ -90,6 +108,7 @@ fn key_fault(text: &str) -> Misread<'_> {
     }
 }
 
+/// Makes a key with this spelling and no decor.
 fn spelled_key(alloc: Global, name: String, spelling: &str) -> Mem<Key>
     requires { ∥ SpellsKey (string_bytes name) spelling.now ∥₁ }
     ensures { IfOk result (λ key. key ≡ lone_key (string_bytes name) spelling.now) }
@@ -106,6 +125,7 @@ fn spelled_key(alloc: Global, name: String, spelling: &str) -> Mem<Key>
     })
 }
 
+/// Returns the text after a dot at the front.
 fn after_dot(s: &str) -> Option<&str>
     ensures rest { option_map (λ r. r.now) result ≡ spec.after_dot s.now }
     ensures within { IfSome result (λ r. length r.now < length s.now) }
@@ -117,14 +137,14 @@ fn after_dot(s: &str) -> Option<&str>
     }
 }
 
-/// A simple key as it was read.
+/// A simple key as it was parsed.
 #[derive(Drop)]
 struct Part<'a> {
     name: String,
     spelled: &'a str,
 }
 
-/// What stands in the text before its rest.
+/// Returns the text before its rest.
 fn before_rest<'t>(text: &'t str, rest: &str) -> &'t str
     requires { text.now ≡ spec.front text.now rest.now ++ rest.now }
     ensures { result.now ≡ spec.front text.now rest.now }
@@ -132,7 +152,11 @@ fn before_rest<'t>(text: &'t str, rest: &str) -> &'t str
     &text[..text.len() - rest.len()]
 }
 
-/// The simple key at the front and the text after it, or `None` if there is none. The only error is want of memory.
+/// Splits off the simple key at the front, or returns `None` if there is none.
+///
+/// # Errors
+///
+/// Fails if memory runs out.
 fn read_part(alloc: Global, text: &str) -> Mem<Option<(Part<'_>, &str)>>
     ensures read { IfOk result (λ o. option_map (λ p. ((string_bytes p.0.name, p.0.spelled.now), p.1.now)) o ≡ spec.front_key text.now) }
     ensures spelled { IfOk result (λ o. IfSome o (λ p. SpellsKey (string_bytes p.0.name) p.0.spelled.now)) }
@@ -148,7 +172,7 @@ fn read_part(alloc: Global, text: &str) -> Mem<Option<(Part<'_>, &str)>>
     }
 }
 
-/// A decor with a side wherever its text isn't empty.
+/// Makes a decor with a side set wherever its text is not empty.
 fn outer_decor(alloc: Global, before: &str, after: &str) -> Mem<Decor>
     ensures { IfOk result (λ d. d ≡ spec.outer before.now after.now) }
 {
@@ -162,7 +186,7 @@ fn outer_decor(alloc: Global, before: &str, after: &str) -> Mem<Decor>
     Ok(decor)
 }
 
-/// The key of a segment, with the white space that stands between it and the dots beside it.
+/// Makes the key of a segment, with the whitespace between it and the dots beside it.
 fn path_part(alloc: Global, part: Part<'_>, before: &str, after: &str, leaf: Decor) -> Mem<Key>
     requires { ∥ SpellsKey (string_bytes part.name) part.spelled.now ∥₁ }
     ensures { IfOk result (λ key. key ≡ path_key leaf
@@ -177,7 +201,7 @@ fn path_part(alloc: Global, part: Part<'_>, before: &str, after: &str, leaf: Dec
     )
 }
 
-/// Puts the key of a segment behind those before it. Fails only if memory runs out.
+/// Pushes the key of a segment. Fails if memory runs out.
 fn push_part(
     keys: &mut Vec<Key>,
     alloc: Global,
@@ -195,7 +219,8 @@ fn push_part(
     Ok(())
 }
 
-/// The same of the last segment, between which and the end of the text this white space stands. The first one stands before the path.
+/// Pushes the key of the last segment, with the whitespace before the path and after it as leaf
+/// decor.
 fn push_last(
     keys: &mut Vec<Key>,
     alloc: Global,
@@ -212,7 +237,7 @@ fn push_last(
     push_part(keys, alloc, part, before, "", leaf)
 }
 
-/// The keys of a path of at most 80 segments.
+/// Parses a path of at most 80 segments.
 fn read_path(alloc: Global, text: &str) -> Result<Vec<Key>, ParseFault>
     ensures keys { IfOk result (λ keys. (spec.lone_at text.now ≡ Some keys.items) × (length keys.items ≤ 80)) }
     ensures refused { IfErr result (λ e. IfToml e (IsPathFault text.now)) }
@@ -242,7 +267,8 @@ fn read_path(alloc: Global, text: &str) -> Result<Vec<Key>, ParseFault>
     }
 }
 
-/// The error of a text that has as many segments as a path may have, a dot, and then this tail.
+/// Returns the error of a text that has as many segments as a path may have, a dot, and then this
+/// tail.
 fn longer(alloc: Global, text: &str, tail: &str) -> ParseFault
     ensures { IfToml result (IsLongerFault text.now tail.now) }
 {
@@ -252,7 +278,8 @@ fn longer(alloc: Global, text: &str, tail: &str) -> ParseFault
     }
 }
 
-/// What stands in the way of a path that goes on with this text, behind a dot.
+/// Returns why a path that goes on with this tail after a dot is no path, or `None` if it is one
+/// that is too long.
 fn tail_fault(tail: &str) -> Option<Misread<'_>>
     ensures none { IfNone result (spec.GoesOn tail.now) }
     ensures some { IfSome result (λ _. spec.StopsIn tail.now) }

@@ -1,4 +1,4 @@
-//! Keys as texts.
+//! Spellings of keys, and conversions to and from texts.
 ghost use Rattle.std.specs.Prelude.{◌≡◌, Some, IsSome, IsOkAnd, IfOk, option_and_then, string_bytes};
 ghost use Rattle.std.specs.Option.{option_copied};
 ghost use Rattle.std.specs.Cow.{cow_str_bytes, IsBorrowedStr};
@@ -17,11 +17,14 @@ use toml_edit_repr::{Mem, RawString, Repr, spelling_text};
 use toml_edit_token::write_key;
 
 impl Key {
-    /// Returns the spelling of a key of this name that has none of its own, which spells the name.
+    /// Returns the default spelling of the name, whatever the key's own one is.
+    ///
+    /// It is bare if it can be, else in double quotes if it needs no escapes there, else in single
+    /// quotes if it can be, else in double quotes with escapes. (TOML, "Keys".)
     ///
     /// # Errors
     ///
-    /// The only error is out of memory.
+    /// Fails if memory runs out.
     pub fn default_repr(&self, alloc: Global) -> Mem<Repr>
         ensures default { IfOk result (λ repr. repr ≡ owned (key_spelling self.now.name)) }
         ensures spelled { SpellsKey self.now.name (key_spelling self.now.name) }
@@ -29,12 +32,11 @@ impl Key {
         default_spelling(alloc, self.get())
     }
 
-    /// Returns the spelling that is printed: the key's own one if it is a text, else the default
-    /// one.
+    /// Returns the spelling that prints: the key's own one if it is a text, else the default one.
     ///
     /// # Errors
     ///
-    /// The only error is out of memory. There is none where the key's own spelling is a text.
+    /// Fails if memory runs out. An own spelling that is a text is lent, and takes none.
     pub fn display_repr(&self, alloc: Global) -> Mem<CowStr<'_>>
         ensures text { IfOk result (λ text. cow_str_bytes text ≡ key_text self.now) }
         ensures free { IsSome (option_and_then text_of self.now.spelling) → IsOkAnd result IsBorrowedStr }
@@ -43,7 +45,7 @@ impl Key {
     }
 }
 
-// The default spelling of the name.
+/// Returns the default spelling of the name.
 pub(crate) fn default_spelling(alloc: Global, name: &str) -> Mem<Repr>
     ensures default { IfOk result (λ repr. repr ≡ owned (key_spelling name.now)) }
     ensures spelled { SpellsKey name.now (key_spelling name.now) }
@@ -52,7 +54,7 @@ pub(crate) fn default_spelling(alloc: Global, name: &str) -> Mem<Repr>
     Ok(Repr::new(RawString::from(spelling)))
 }
 
-// The spelling if it is a text, else the default one of the name.
+/// Returns the spelling if it is a text, else the default one of the name.
 pub(crate) fn displayed<'a>(alloc: Global, name: &'a str, repr: Option<&'a Repr>) -> Mem<CowStr<'a>>
     ensures text { IfOk result (λ text. cow_str_bytes text ≡ shown_spelling (key_spelling name.now) (option_copied repr.entry)) }
     ensures free { IsSome (option_and_then text_of (option_copied repr.entry)) → IsOkAnd result IsBorrowedStr }
@@ -75,7 +77,7 @@ impl fmt::Display for Key {
     }
 }
 
-// A name, shown by its default spelling.
+/// A name that displays as its default spelling.
 #[derive(Drop)]
 struct DefaultSpelling<'a> {
     name: &'a str,
@@ -89,7 +91,7 @@ impl fmt::Display for DefaultSpelling<'_> {
     }
 }
 
-/// A key of this name, with the default spelling and no decor.
+/// Makes a key of this name, with the default spelling and no decor.
 impl From<String> for Key {
     ghost from_gives = { λ text key. key ≡ new_key (string_bytes text) };
 
@@ -98,7 +100,7 @@ impl From<String> for Key {
     }
 }
 
-/// The name.
+/// Returns the name.
 impl From<Key> for String {
     ghost from_gives = { λ key text. string_bytes text ≡ key.name };
 
