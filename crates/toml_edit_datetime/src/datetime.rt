@@ -23,7 +23,7 @@ pub enum Offset {
 #[derive(Clone, Copy, Debug, PartialEq, Eq, Hash)]
 pub struct DatetimeFault;
 
-/// `invalid date-time`.
+/// Writes `invalid date-time`.
 impl fmt::Display for DatetimeFault {
     ghost use Rattle.std.specs.Prelude.{Some, codes};
 
@@ -92,6 +92,7 @@ impl Datetime {
     }
 }
 
+/// Converts a date into a date-time without a time of day.
 impl From<Date> for Datetime {
     ghost use Rattle.std.specs.Prelude.{Some, None};
     ghost use Rattle.toml_edit_datetime.specs.DatetimeView.{datetime_view};
@@ -107,6 +108,7 @@ impl From<Date> for Datetime {
     }
 }
 
+/// Converts a time of day into a date-time without a date.
 impl From<Time> for Datetime {
     ghost use Rattle.std.specs.Prelude.{Some, None};
     ghost use Rattle.toml_edit_datetime.specs.DatetimeView.{datetime_view};

@@ -133,8 +133,11 @@ impl Hash for TomlError {
     }
 }
 
-/// The line of the text that the message is about, with its number and what is marked in it, and the message. An error that is
-/// about no place is its message alone. Each line ends with a line feed.
+/// Writes the line and the column of the span, the line of the text that it begins in, with marks
+/// below the characters of the span, and then the message.
+///
+/// Without a span it writes the message alone. Each line ends in a line feed (LF), and lines and
+/// columns count from 1. For the message alone, see [`message`](TomlError::message).
 impl fmt::Display for TomlError {
     ghost use Rattle.std.specs.Prelude.{Some};
     ghost use Rattle.toml_edit_model.specs.Excerpt.{excerpt};
@@ -168,7 +171,7 @@ pub enum ParseFault {
     Memory,
 }
 
-/// The text of the error, or `out of memory` and a line feed.
+/// Writes the error as [`TomlError`] does, or `out of memory` and a line feed (LF).
 impl fmt::Display for ParseFault {
     ghost use Rattle.std.specs.Prelude.{Some};
     ghost use Rattle.toml_edit_error.specs.Fault.{fault_text};
@@ -185,6 +188,7 @@ impl fmt::Display for ParseFault {
 
 impl Error for ParseFault {}
 
+/// Converts the error into [`ParseFault::Memory`].
 impl From<AllocError> for ParseFault {
     ghost use Rattle.std.specs.Prelude.{◌≡◌};
     ghost use Rattle.toml_edit_error.specs.declared.toml_error.ParseFault.TheVariants.{Memory};
@@ -196,6 +200,7 @@ impl From<AllocError> for ParseFault {
     }
 }
 
+/// Converts the error into [`ParseFault::Memory`], and drops the value that it has.
 impl<T: Drop> From<AllocFailed<T>> for ParseFault {
     ghost use Rattle.std.specs.Prelude.{◌≡◌};
     ghost use Rattle.toml_edit_error.specs.declared.toml_error.ParseFault.TheVariants.{Memory};

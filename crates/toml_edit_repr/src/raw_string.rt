@@ -163,6 +163,7 @@ impl RawString {
     }
 }
 
+/// Converts a text into a raw string, without copying it.
 impl From<String> for RawString {
     ghost from_gives = { λ text raw. raw ≡ owned (string_bytes text) };
 

@@ -75,12 +75,13 @@ impl fmt::Display for Key {
     }
 }
 
-// A name, shown by its default spelling.
+/// A name that is written by its default spelling.
 #[derive(Drop)]
 struct DefaultSpelling<'a> {
     name: &'a str,
 }
 
+/// Writes the default spelling of the name.
 impl fmt::Display for DefaultSpelling<'_> {
     ghost output = { λ s. Some (key_spelling s.name.now) };
 
@@ -89,7 +90,7 @@ impl fmt::Display for DefaultSpelling<'_> {
     }
 }
 
-/// A key of this name, with the default spelling and no decor.
+/// Converts a name into a key of default spelling, with its decors unset.
 impl From<String> for Key {
     ghost from_gives = { λ text key. key ≡ new_key (string_bytes text) };
 
@@ -98,7 +99,7 @@ impl From<String> for Key {
     }
 }
 
-/// The name.
+/// Converts a key into its name. The spelling and the decors are dropped.
 impl From<Key> for String {
     ghost from_gives = { λ key text. string_bytes text ≡ key.name };
 
