@@ -23,7 +23,7 @@ slots_of t = slot_list (table_slots t)
 abbrev pub inline_slots_of : InlineTable → List (Slot Node)
 inline_slots_of t = slot_list (inline_view t).slots
 
--- a key with its item, behind two references and by themselves
+-- a key with its item, by two references and by themselves
 abbrev pub slot_read : Bor Key × Bor Item → Slot Node
 slot_read p = record { key = p.0.now; item = item_view p.1.now }
 
