@@ -10,7 +10,7 @@ use Rattle.toml_edit_key.specs.contracts.key.KeyParts as key_parts
 use Rattle.toml_edit_key.specs.contracts.key.key_mut.KeyMut as key_mut
 use Rattle.toml_edit_repr.specs.contracts.repr.Decor as decor
 
--- the key ends with the final parts of the reference that is lent
+-- the key ends with the final parts of r
 abbrev pub LendsKeyMut : MutBor Key → KeyMut → Fml
 LendsKeyMut s r = follows key.the_row key_parts.the_row s.ghost_name (lent_parts r).ghost_name (λ w. with_parts w s.now)
 

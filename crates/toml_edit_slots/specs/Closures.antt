@@ -20,7 +20,7 @@ pub record FnReturnsAtTwo {F A B R : Type 0} (g : Shared F (Bor A × (Bor B × U
 abbrev pub SaysOfSlot : {F T : Type 0} → Shared F (Bor Text × (Bor T × Unit {0})) Bool → F → Slot T → Bool → Type 0
 SaysOfSlot g f s b = FnReturnsAtTwo g f s.key.name s.item b
 
--- after is before, in a stable order by each test by which f returns `Less`
+-- `after` is `before`, in a stable order by each test by which f returns `Less`
 abbrev pub SortsAs : {F T : Type 0} → Mut F (Bor (code.Slot T) × (Bor (code.Slot T) × Unit {0})) Ordering → F → List (Slot T) → List (Slot T) → Type 0
 SortsAs {T = T} g f before after =
     (lt : Slot T → Slot T → Bool) → ComparesAs g (λ x y. lt (slot_seen (λ z. z) x) (slot_seen (λ z. z) y)) f → IsSortOf lt before after

@@ -97,7 +97,7 @@ RestsIfAbsent T s r = RestsIfNone (the_row T) s (λ o. o.slots.ghost_name) r (λ
 abbrev pub OccupiedLends : (T : RattleType) → MutBor (OccupiedEntry T.Denot) → MutBor T.Denot → Fml
 OccupiedLends T o r = follows (occupied.the_row (record { mir = named 1; lft = [] }) T) T o.ghost_name r.ghost_name (with_entry_item o.now)
 
--- or with the final parts of the lent ones in its key
+-- or with the final parts of r in its key
 abbrev pub OccupiedLendsKey : (T : RattleType) → MutBor (OccupiedEntry T.Denot) → KeyMut → Fml
 OccupiedLendsKey T o r = follows (occupied.the_row (record { mir = named 1; lft = [] }) T) key_parts.the_row o.ghost_name (lent_parts r).ghost_name (λ w. with_entry_key o.now (with_parts w))
 

@@ -21,7 +21,7 @@ LendsItem T s at r = Lends (the_row T) T s r (λ w. with_item at w s.now)
 abbrev pub LendsFound : (T : RattleType) → MutBor (List (Slot T.Denot)) → Text → Option (MutBor T.Denot) → Fml
 LendsFound T s t r = LendsIf (the_row T) T s r (λ w. option_map_or (λ i. with_item i w s.now) (place t s.now) s.now) s.now
 
--- the slots end with the final parts of the lent ones in the key at the place
+-- the slots end with the final parts of r in the key at the place
 abbrev pub LendsKeyAt : (T : RattleType) → MutBor (List (Slot T.Denot)) → ℕ → KeyMut → Fml
 LendsKeyAt T s at r = follows (the_row T) key_parts.the_row s.ghost_name (lent_parts r).ghost_name (λ w. on_key at (with_parts w) s.now)
 

@@ -30,7 +30,7 @@ use Rattle.toml_edit_tree.specs.declared.value.Value.TheVariants as values
 abbrev pub shown_slots : List (Slot Item) → List (model.Slot Node)
 shown_slots es = slot_list (slots_view es)
 
--- the item, or another one in a placeholder's stead
+-- the item, or another one in place of a placeholder
 abbrev pub or_else : Node → Node → Node
 or_else x nothing = x
 or_else x (leaf s spelling d) = leaf s spelling d

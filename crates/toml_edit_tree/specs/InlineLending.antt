@@ -48,7 +48,7 @@ LendsValueUnder s k r = LendsIf inline_row value_row s r (λ w. with_value_under
 abbrev pub LendsPut : {E : Type 0} → MutBor InlineTable → Text → Result (MutBor Value) E → Fml
 LendsPut s k r = LendsIfOk inline_row value_row s r (λ w. value_put k w s.now) s.now
 
--- the inline table ends with the final parts of the lent ones in the key at the place
+-- the inline table ends with the final parts of r in the key at the place
 abbrev pub LendsInlineKeyAt : MutBor InlineTable → ℕ → KeyMut → Fml
 LendsInlineKeyAt s at r = follows inline_row parts_row s.ghost_name (lent_parts r).ghost_name (λ w. with_inline_key at (with_parts w) s.now)
 

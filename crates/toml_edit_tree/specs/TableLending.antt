@@ -33,7 +33,7 @@ with_item_at at x t = record t { slots = with_item at x (out-Table t).slots }
 abbrev pub with_key_at : ℕ → (Key → Key) → Table → Table
 with_key_at at h t = record t { slots = on_key at h (out-Table t).slots }
 
--- the table ends with the final parts of the lent ones in the key at the place
+-- the table ends with the final parts of r in the key at the place
 abbrev pub LendsKeyAt : MutBor Table → ℕ → KeyMut → Fml
 LendsKeyAt s at r = follows table_row parts_row s.ghost_name (lent_parts r).ghost_name (λ w. with_key_at at (with_parts w) s.now)
 
