@@ -520,7 +520,7 @@ impl<T: ValueRepr + Hash> Hash for Formatted<T> {
 }
 
 /// Writes the spelling, or the default one if there is none that is a text, between the sides of
-/// the decor, of which unset ones are empty.
+/// the decor. Sides that are unset or spans are empty.
 ///
 /// Carriage returns (CR) of the decor are dropped. To get the spelling alone, use
 /// [`display_repr`](Formatted::display_repr).

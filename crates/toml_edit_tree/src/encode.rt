@@ -29,7 +29,7 @@ use toml_edit_token::write_key;
 
 /// The keys on the way to a slot or to a table, from the outermost in.
 ///
-/// Each key refers to the path before it, so that going one table down takes no memory.
+/// Each key refers to the path before it, so that paths share what they begin with.
 #[doc(hidden)]
 #[derive(Clone, Copy)]
 pub enum Path<'p, 'k> {

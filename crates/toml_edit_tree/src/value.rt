@@ -402,8 +402,10 @@ impl Value {
     }
 }
 
-/// Writes the value with its decor, of which unset sides are empty. Carriage returns (CR) outside
-/// strings are dropped.
+/// Writes the value with its decor, of which unset sides are empty.
+///
+/// Carriage returns (CR) outside strings are dropped. Before `into_mut`, spellings and decors are
+/// spans of the source, which are written as if they were unset.
 impl fmt::Display for Value {
     ghost use Rattle.toml_edit_model.specs.Conversions.{value_display};
 

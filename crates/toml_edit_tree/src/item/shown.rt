@@ -7,9 +7,10 @@ use super::Item;
 use std::fmt;
 
 /// Writes the value, the lines of the table, or the array of tables as an array of inline tables. A
-/// placeholder writes nothing.
+/// placeholder is written as nothing.
 ///
-/// As for a [`Table`](crate::Table), neither headers nor the tables that have them are written.
+/// As for a [`Table`](crate::Table), neither headers nor the tables below that have them are
+/// written.
 impl fmt::Display for Item {
     ghost output = { λ item. Some (item_display (item_view item)) };
 

@@ -63,7 +63,8 @@ pub fn is_filled(slot: &Slot<Item>) -> bool
 /// tables.
 ///
 /// Its header isn't written, and neither are the tables below it that have headers. Carriage
-/// returns (CR) outside strings are dropped.
+/// returns (CR) outside strings are dropped. Before `into_mut`, spellings and decors are spans of
+/// the source, which are written as if they were unset.
 impl fmt::Display for Table {
     ghost output = { λ table. Some (table_display (table_slots table)) };
 
