@@ -71,7 +71,7 @@ fn write_gutter<W: Write>(f: &mut Formatter<W>, width: usize) -> fmt::Result
     f.write_str("|")
 }
 
-/// Writes a mark below each character of the span, as far as it is in the line.
+/// Writes a mark below each character of the span, as far as it is in the line, and at least one.
 fn write_marks<W: Write>(f: &mut Formatter<W>, place: &Place<'_>) -> fmt::Result
     ensures { WritesOnOk W.write_str_gives f.old result
         (spaces place.now.column ++ (replicate place.now.marks 0x5E ++ newline)) f.new }

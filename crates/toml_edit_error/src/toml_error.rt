@@ -137,7 +137,8 @@ impl Hash for TomlError {
 /// below the characters of the span, and then the message.
 ///
 /// Without a span it writes the message alone. Each line ends in a line feed (LF), and lines and
-/// columns count from 1. For the message alone, see [`message`](TomlError::message).
+/// columns count from 1, columns in characters. For the message alone, see
+/// [`message`](TomlError::message).
 impl fmt::Display for TomlError {
     ghost use Rattle.std.specs.Prelude.{Some};
     ghost use Rattle.toml_edit_model.specs.Excerpt.{excerpt};
