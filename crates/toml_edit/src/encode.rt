@@ -1,4 +1,4 @@
-//! Documents to text.
+//! Writing documents.
 ghost use Rattle.std.specs.Prelude.{◌≡◌, false, ◌++◌, ◌∷◌, [], map, if◌then◌else◌};
 ghost use Rattle.std.specs.Fmt.{WritesOnOk};
 ghost use Rattle.std.specs.Option.{option_copied};
@@ -23,8 +23,11 @@ use toml_edit_key::Key;
 use toml_edit_repr::{Mode, RawString, write_raw, write_side};
 use toml_edit_tree::{Path, Table, table_has_lines, write_path, write_table_lines};
 
-/// The text of the document. The order of its headers takes memory, and the text where its end is open, of the allocator that the root's
-/// slots were made with: where that is refused, this is an error as a writer's fault is, and nothing is written.
+/// Writes the text that [`print`](DocumentMut::print) returns.
+///
+/// The order of the headers takes memory, and so does the text if its last statement has no
+/// newline: both by the allocator of the root's slots. If out of memory, nothing is written and the
+/// result is an error, as it is where the writer fails.
 impl fmt::Display for DocumentMut {
     ghost use Rattle.std.specs.Prelude.{Some};
     ghost use Rattle.toml_edit.specs.DocumentView.{print_of};
@@ -36,8 +39,10 @@ impl fmt::Display for DocumentMut {
     }
 }
 
-/// The document with this root, each of its statements with a newline: what stands before the root's lines, these, the headers in order,
-/// and what stands behind.
+/// Writes the document of this root and this trailing text, with a newline after each statement.
+///
+/// In order: the prefix of the root's decor, the lines of the root, the headers with their lines,
+/// the suffix of that decor, and the trailing text.
 pub(crate) fn write_document<W: Write>(
     f: &mut Formatter<W>,
     mode: Mode,
@@ -58,7 +63,7 @@ pub(crate) fn write_document<W: Write>(
     write_raw(f, mode, trailing)
 }
 
-/// The lines of the root. A dotted root has none.
+/// Writes the lines of the root. A dotted root has none.
 fn write_root_lines<W: Write>(f: &mut Formatter<W>, mode: Mode, root: &Table) -> fmt::Result
     ensures { WritesOnOk W.write_str_gives f.old result (root_lines (mode_of mode) (fields_view root.now) (table_slots root.now)) f.new }
 {
@@ -69,14 +74,15 @@ fn write_root_lines<W: Write>(f: &mut Formatter<W>, mode: Mode, root: &Table) ->
     }
 }
 
-/// Whether nothing is printed of the root itself, so that the first header begins the document.
+/// Returns `true` if the root has no lines, so that the first header is the first statement.
 fn headers_begin(root: &Table) -> bool
     ensures { result ≡ begins (fields_view root.now) (table_slots root.now) }
 {
     root.is_dotted() || !table_has_lines(root)
 }
 
-/// The headers in this order, each with the lines of its table behind it.
+/// Writes the headers in this order, each with the lines of its table after it. `begins` says that
+/// the first one is the first statement.
 fn write_headers<W: Write>(
     f: &mut Formatter<W>,
     mode: Mode,
@@ -94,7 +100,10 @@ fn write_headers<W: Write>(
     Ok(())
 }
 
-/// A header with what stands around it. A text before its last key that holds a newline stands before the header.
+/// Writes a header with its decors and its newline.
+///
+/// A prefix of its last key that holds a line feed (LF) is written before the header, since it
+/// can't be inside the brackets.
 fn write_header<W: Write>(
     f: &mut Formatter<W>,
     mode: Mode,
@@ -113,14 +122,14 @@ fn write_header<W: Write>(
     f.write_str("\n")
 }
 
-/// What stands before a header whose table's decor says nothing.
+/// Returns what is written for an unset prefix of a table with a header.
 fn before_header(is_first: bool) -> &'static str
     ensures { result.now ≡ header_default is_first }
 {
     if is_first { "" } else { "\n" }
 }
 
-/// The brackets of a header with what stands in them.
+/// Writes the brackets of a header, and the keys in them.
 fn write_brackets<W: Write>(
     f: &mut Formatter<W>,
     mode: Mode,
@@ -138,7 +147,8 @@ fn write_brackets<W: Write>(
     f.write_str(if header.is_element { "]]" } else { "]" })
 }
 
-/// The keys of a header, with what stands around them unless that was lifted out.
+/// Writes the keys of a header, inside the leaf decor of the last one. That decor is left out if
+/// its prefix was `lifted` before the header.
 fn write_inside_brackets<W: Write>(
     f: &mut Formatter<W>,
     mode: Mode,
@@ -156,7 +166,7 @@ fn write_inside_brackets<W: Write>(
     write_side_if(f, mode, !lifted, leaf.suffix())
 }
 
-/// The side of a decor where it is to stand.
+/// Writes the side of a decor if `stands` is set.
 fn write_side_if<W: Write>(
     f: &mut Formatter<W>,
     mode: Mode,
@@ -172,7 +182,7 @@ fn write_side_if<W: Write>(
     }
 }
 
-/// Whether the side of a decor has a newline, which is the same in each mode.
+/// Returns `true` if the side of a decor has a line feed, which is the same in both modes.
 fn has_newline(side: Option<&RawString>) -> bool
     ensures { (mode : LineMode) → result ≡ has_byte line_feed (shown_side mode [] (option_copied side.entry)) }
 {
@@ -182,6 +192,7 @@ fn has_newline(side: Option<&RawString>) -> bool
     }
 }
 
+/// Returns `true` if the text has a line feed. A span has no text here.
 fn raw_has_newline(raw: &RawString) -> bool
     ensures { (mode : LineMode) → result ≡ has_byte line_feed (shown_raw mode raw.now) }
 {

@@ -1,4 +1,4 @@
-//! The tables of a document that have headers, in the order in which these are printed.
+//! The tables of a document that have headers, in the order in which the headers are printed.
 ghost use Rattle.std.specs.Prelude.{◌≡◌, ◌++◌, ◌∷◌, [], OnOk, IfOk, false, map};
 ghost use Rattle.toml_edit_model.specs.Order.{sorted_by};
 ghost use Rattle.toml_edit_laws.specs.PrintByVisits.{by_place, enter, headed_tables, walked, walked_items, walked_node};
@@ -13,8 +13,8 @@ use toml_edit_repr::Mem;
 use toml_edit_slots::Slots;
 use toml_edit_tree::{Item, Path, Table, table_has_lines};
 
-/// A table that has a header: its place among the headers, the keys around its own, its key, whether it is an element of an array of
-/// tables, and itself.
+/// A table that has a header, with its place in the order of headers, the keys before its own, its
+/// key, and whether it is an element of an array of tables.
 #[derive(Clone, Copy)]
 pub(crate) struct Header<'p, 'a> {
     pub(crate) place: isize,
@@ -24,7 +24,10 @@ pub(crate) struct Header<'p, 'a> {
     pub(crate) table: &'a Table,
 }
 
-/// A walk over the tables: those with headers so far, and the position last seen. The keys on the way stand in the arena, once each.
+/// A walk over the tables of a document: those with headers so far, and the place of the last
+/// table.
+///
+/// The arena holds the keys on the way, once for each table.
 #[derive(Drop)]
 struct Walk<'p, 'a> {
     arena: &'p Bump,
@@ -48,7 +51,7 @@ fn enter_slots<'p, 'a>(
     Ok(())
 }
 
-/// Enters the tables of a slot: itself, or its elements, and those below.
+/// Enters the table of a slot, or the elements of its array of tables, and the tables below.
 #[cycle(walk)]
 fn enter_item<'p, 'a>(
     walk: &mut Walk<'p, 'a>,
@@ -102,7 +105,7 @@ fn enter_table<'p, 'a>(
     enter_slots(walk, &table.slots, under)
 }
 
-/// The path with one more key.
+/// Returns the path with `key` at its end.
 fn add_key<'p, 'a>(arena: &'p Bump, key: &'a Key, path: &'p Path<'p, 'a>) -> Mem<&'p Path<'p, 'a>>
     ensures { IfOk result (λ under. keys_on under.now ≡ keys_on path.now ++ (key.now ∷ [])) }
 {
@@ -112,7 +115,8 @@ fn add_key<'p, 'a>(arena: &'p Bump, key: &'a Key, path: &'p Path<'p, 'a>) -> Mem
     }
 }
 
-/// Puts a table last, if it has a header, and keeps its place in mind. A dotted table takes no part.
+/// Adds a table at the end if it has a header, and notes its place. One without a position has the
+/// place of the table before it. A dotted table is passed over.
 fn add_table<'p, 'a>(
     walk: &mut Walk<'p, 'a>,
     table: &'a Table,
@@ -140,7 +144,7 @@ fn add_table<'p, 'a>(
     Ok(())
 }
 
-/// Puts the headers in the order of their places. Those of one place stay in the order of the walk.
+/// Sorts the headers by their places. Those of one place stay in the order of the walk.
 fn sort_headers(headers: &mut Vec<Header<'_, '_>>) -> Mem<()>
     ensures { OnOk result (map header_view headers.new.items ≡ sorted_by by_place (map header_view headers.old.items)) }
 {
@@ -148,8 +152,10 @@ fn sort_headers(headers: &mut Vec<Header<'_, '_>>) -> Mem<()>
     Ok(())
 }
 
-/// The tables below the root that have headers, in the order of these. The only error is want of memory, of which a document without
-/// tables needs none.
+/// Returns the tables below the root that have headers, in the order in which the headers are
+/// printed.
+///
+/// Fails only if out of memory. A document without tables takes no memory.
 pub(crate) fn headers_in_order<'p, 'a>(
     arena: &'p Bump,
     root: &'a Table,

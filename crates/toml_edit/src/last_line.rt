@@ -1,4 +1,4 @@
-//! The last of the statements that a document is printed as.
+//! The last of the statements that are printed of a document.
 ghost use Rattle.std.specs.Prelude.{◌≡◌, [], map};
 ghost use Rattle.std.specs.Option.{option_copied};
 ghost use Rattle.toml_edit_laws.specs.PrintByVisits.{last_pair};
@@ -11,7 +11,8 @@ use toml_edit_repr::Decor;
 use toml_edit_slots::Slots;
 use toml_edit_tree::{Item, Table, Value};
 
-/// The decor of the last statement of a document with these headers, in the order of the print: of its value, or of its table.
+/// Returns the decor of the last statement of a document: of the value of a line, or of the table
+/// of a header. `headers` are in the order in which they are printed.
 pub(crate) fn last_decor<'a>(root: &'a Table, headers: &[Header<'_, 'a>]) -> Option<&'a Decor>
     ensures { option_copied result ≡ last_headed (map header_view headers.now) (last_of_root (fields_view root.now) (table_slots root.now)) }
 {
@@ -21,7 +22,7 @@ pub(crate) fn last_decor<'a>(root: &'a Table, headers: &[Header<'_, 'a>]) -> Opt
     }
 }
 
-/// The decor of the last line of the root. A dotted root has none.
+/// Returns the decor of the last line of the root. A dotted root has none.
 fn last_in_root(root: &Table) -> Option<&Decor>
     ensures { option_copied result ≡ last_of_root (fields_view root.now) (table_slots root.now) }
 {
@@ -32,7 +33,7 @@ fn last_in_root(root: &Table) -> Option<&Decor>
     }
 }
 
-/// The decor of the last line of a table of these slots, or this one before it where there is none.
+/// Returns the decor of the last line of a table of these slots, or `before` if it has no lines.
 #[cycle(last_line)]
 fn last_of_slots<'a>(slots: &'a Slots<Item>, before: Option<&'a Decor>) -> Option<&'a Decor>
     ensures { option_copied result ≡ last_line (slots_view slots.now) (option_copied before.entry) }
@@ -45,7 +46,7 @@ fn last_of_slots<'a>(slots: &'a Slots<Item>, before: Option<&'a Decor>) -> Optio
     last
 }
 
-/// The decor of the last line of an item of a table.
+/// Returns the decor of the last line of an item of a table, or `before` if it has no lines.
 #[cycle(last_line)]
 fn last_of_item<'a>(item: &'a Item, before: Option<&'a Decor>) -> Option<&'a Decor>
     ensures { option_copied result ≡ last_of (item_view item.now) (option_copied before.entry) }
@@ -63,7 +64,8 @@ fn last_of_item<'a>(item: &'a Item, before: Option<&'a Decor>) -> Option<&'a Dec
     }
 }
 
-/// The decor of the last line of a dotted inline table of these slots.
+/// Returns the decor of the last line of a dotted inline table of these slots, or `before` if it
+/// has no lines.
 #[cycle(last_pair)]
 fn last_of_pairs<'a>(slots: &'a Slots<Item>, before: Option<&'a Decor>) -> Option<&'a Decor>
     ensures { option_copied result ≡ last_pair (slots_view slots.now) (option_copied before.entry) }
@@ -76,7 +78,8 @@ fn last_of_pairs<'a>(slots: &'a Slots<Item>, before: Option<&'a Decor>) -> Optio
     last
 }
 
-/// The decor of the last line of an item of a dotted inline table.
+/// Returns the decor of the last line of an item of a dotted inline table, or `before` if it has no
+/// lines.
 #[cycle(last_pair)]
 fn last_of_pair<'a>(item: &'a Item, before: Option<&'a Decor>) -> Option<&'a Decor>
     ensures { option_copied result ≡ last_inside (item_view item.now) (option_copied before.entry) }
@@ -88,7 +91,8 @@ fn last_of_pair<'a>(item: &'a Item, before: Option<&'a Decor>) -> Option<&'a Dec
     }
 }
 
-/// The decor of the last line of a value: each has one, but a dotted inline table has those in it.
+/// Returns the decor of the last line of a value, or `before` if it is a dotted inline table
+/// without lines.
 #[cycle(last_pair)]
 fn last_of_value<'a>(value: &'a Value, before: Option<&'a Decor>) -> Option<&'a Decor>
     ensures { option_copied result ≡ last_inside (value_view value.now) (option_copied before.entry) }

@@ -1,4 +1,4 @@
-//! The text of a document, the end of which may be open: the last statement then has no newline.
+//! The text of a document whose end may be open: its last statement then has no newline.
 ghost use Rattle.std.specs.Prelude.{◌≡◌, false, [], IfOk, length, string_bytes};
 ghost use Rattle.std.specs.Fmt.{WritesOnOk};
 ghost use Rattle.std.specs.Option.{option_copied};
@@ -20,7 +20,8 @@ use std::fmt::{Formatter, Write};
 use toml_edit_repr::{Decor, Mem, Mode, RawString};
 use toml_edit_tree::{Path, Table};
 
-/// The text of the document with this root and this trailing text. The only error is want of memory.
+/// Returns the text of the document of this root and this trailing text. Fails only if out of
+/// memory.
 pub(crate) fn text_of(
     alloc: Global,
     mode: Mode,
@@ -43,8 +44,10 @@ pub(crate) fn text_of(
     Ok(text)
 }
 
-/// Writes the text of the document with this root and this trailing text. What takes memory has it of the allocator that the root's
-/// slots were made with: where that is refused, this is an error as a writer's fault is, and nothing is written.
+/// Writes the text of the document of this root and this trailing text.
+///
+/// Memory is taken by the allocator of the root's slots. If out of memory, nothing is written and
+/// the result is an error, as it is where the writer fails.
 pub(crate) fn write_text<W: Write>(
     f: &mut Formatter<W>,
     mode: Mode,
@@ -63,7 +66,7 @@ pub(crate) fn write_text<W: Write>(
     f.write_str(text.as_str())
 }
 
-// A document in a mode, shown with a newline behind each statement.
+/// A document to be written with a newline after each statement.
 #[derive(Drop)]
 struct Closed<'a> {
     mode: Mode,
@@ -81,7 +84,8 @@ impl fmt::Display for Closed<'_> {
     }
 }
 
-/// Whether the last statement has no newline: that is asked for, in the exact mode, and nothing is printed behind the statements.
+/// Returns `true` if the last statement is written without its newline: in exact mode, where
+/// `open_end` is set and nothing is written after the statements.
 fn is_left_open(mode: Mode, open_end: bool, root: &Table, trailing: &RawString) -> bool
     ensures { result ≡ leaves_open (mode_of mode) open_end (tree_view root.now trailing.now) }
 {
@@ -91,7 +95,7 @@ fn is_left_open(mode: Mode, open_end: bool, root: &Table, trailing: &RawString) 
         && raw_shows_nothing(trailing)
 }
 
-/// Whether the side of a decor is empty, as it is shown in the exact mode.
+/// Returns `true` if the side of a decor is written as nothing in exact mode.
 fn shows_nothing(side: Option<&RawString>) -> bool
     ensures { result ≡ is_empty (shown_side exact [] (option_copied side.entry)) }
 {
@@ -101,6 +105,7 @@ fn shows_nothing(side: Option<&RawString>) -> bool
     }
 }
 
+/// Returns `true` if the text is empty, or a span.
 fn raw_shows_nothing(raw: &RawString) -> bool
     ensures { result ≡ is_empty (shown_raw exact raw.now) }
 {
@@ -110,7 +115,8 @@ fn raw_shows_nothing(raw: &RawString) -> bool
     }
 }
 
-/// The length of the newline that the last statement has in the exact mode. The only error is want of memory.
+/// Returns the length in bytes of the newline after the last statement in exact mode, or 0 without
+/// statements. Fails only if out of memory.
 fn last_newline_length(root: &Table) -> Mem<usize>
     ensures { IfOk result (λ n. n ≡ length (newline_of exact (last_statement (fields_view root.now) (table_slots root.now)))) }
 {
@@ -120,7 +126,8 @@ fn last_newline_length(root: &Table) -> Mem<usize>
     Ok(newline_length(last_decor(root, headers.as_slice())))
 }
 
-/// The length of the newline of a statement with this decor: of LF, and of the CR before it where the suffix ends in one.
+/// Returns the length in bytes of the newline after a statement of this decor, or 0 without one:
+/// the line feed (LF), and the carriage return (CR) before it if the suffix ends in one.
 fn newline_length(decor: Option<&Decor>) -> usize
     ensures { result ≡ length (newline_of exact (option_copied decor.entry)) }
 {
@@ -136,7 +143,7 @@ fn newline_length(decor: Option<&Decor>) -> usize
     }
 }
 
-/// Whether the side of a decor ends in CR, as it is shown in the exact mode.
+/// Returns `true` if the side of a decor ends in a carriage return in exact mode.
 fn ends_in_carriage_return(side: Option<&RawString>) -> bool
     ensures { result ≡ ends_in_return (shown_side exact [] (option_copied side.entry)) }
 {
@@ -146,6 +153,7 @@ fn ends_in_carriage_return(side: Option<&RawString>) -> bool
     }
 }
 
+/// Returns `true` if the text ends in a carriage return. A span has no text here.
 fn raw_ends_in_carriage_return(raw: &RawString) -> bool
     ensures { result ≡ ends_in_return (shown_raw exact raw.now) }
 {

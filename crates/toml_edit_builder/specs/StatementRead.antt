@@ -37,7 +37,7 @@ abbrev pub IsWhole : Statement → Type 0
 IsWhole s = IsStatement (λ end. Unit {0}) s
 
 -- What is held between statements: the slots of the root, without those of the table of the last block, which are held by themselves,
--- the keys of that block, and how many headers there were. Where a header headed a table that was only passed through, the table stands
+-- the keys of that block, and how many headers there were. Where a header headed a table that was only passed through, the table is
 -- where it was: put in the order of their keys, they are the builder's slots.
 pub record IsHeld (b : Builder) (h : Building) : Type 0 where
   pub block : b.block ≡ names h.block.items
@@ -47,7 +47,7 @@ pub record IsHeld (b : Builder) (h : Building) : Type 0 where
   pub slots : b.slots ≡ slots_by_place (put_along b.block (slots_view h.current) (slots_view h.root))
   pub placed : ArePlaced b.start (put_along b.block (slots_view h.current) (slots_view h.root))
 
--- The statement is right and is added: the builder behind it is what is held. These events follow.
+-- The statement is right and is added: the builder after it is what is held. These events follow.
 pub record IsAdded (mode : Mode) (b : Builder) (s : Statement) (more : List Event) (new : Building) (rest : List Event) : Type 0 where
   pub node : Node
   pub is_node : IsStatementNode mode b.start s node
@@ -57,19 +57,19 @@ pub record IsAdded (mode : Mode) (b : Builder) (s : Statement) (more : List Even
   pub held : (inner : Slots) → slots_along (behind b s slots).block slots ≡ Some inner → IsHeld (behind b s slots) new
   pub rest_is : rest ≡ shortened 0 more
 
--- what reading a statement answers, where these events follow it: it is added, or the report names what stands in it
+-- what reading a statement returns, where these events follow it: it is added, or the report names what is in it
 abbrev pub ReadsStatement : Mode → Text → Builder → Statement → List Event → Building → Result (Bor (List Event)) ParseFault → Type 0
 ReadsStatement mode t b s more new (Ok r) = IsAdded mode b s more new r.now
 ReadsStatement mode t b s more new (Err e) = IfToml e (NamesOne t (faults_at b s))
 
--- The same in a version of the grammar: the statement is one of the version too, or the report may name what it has that the version hasn't.
+-- And in a version of the grammar: the statement is one of the version too, or the report may name what it has that the version hasn't.
 abbrev pub ReadsInVersion : Mode → Version → Text → Builder → Statement → List Event → Building → Result (Bor (List Event)) ParseFault → Type 0
 ReadsInVersion mode version t b s more new (Ok r) = (is_of_version version s ≡ true) × IsAdded mode b s more new r.now
 ReadsInVersion mode version t b s more new (Err e) = IfToml e (NamesOne t (late_faults version b.start s ++ faults_at b s))
 
 -- ---- a header
 
--- what a header adds, by whether its brackets are two, and where they stand
+-- what a header adds, by whether its brackets are two, and where they are
 abbrev pub kind_of : Bool → Span → Kind
 kind_of is_array brackets = if is_array then kinds.Element brackets else kinds.Table
 
@@ -87,7 +87,7 @@ abbrev pub ReadsNames : List Segment → Result (Vec (String Global) Global) Par
 ReadsNames p (Ok v) = names v.items ≡ map (λ s. s.key) p
 ReadsNames p (Err e) = IfToml e (λ r. ⊥)
 
--- The header's table is added: the builder behind it is what is held.
+-- The header's table is added: the builder after it is what is held.
 pub record IsOpened (mode : Mode) (b : Builder) (s : Statement) (new : Building) : Type 0 where
   pub slots : Slots
   pub added_is : added mode b s nothing ≡ Some slots
@@ -107,7 +107,7 @@ final_event d = event Final (length (document_text d) - length d.final) d.final
 abbrev pub tree_of : Slots → Raw → Tree
 tree_of slots trailing = record { root = root_fields spanned_form; slots = slots; trailing = trailing }
 
--- what building the tree of a document answers, in a version of the grammar: the document is accepted, and this is its tree, or the report
+-- what building the tree of a document returns, in a version of the grammar: the document is accepted, and this is its tree, or the report
 -- names a fault of its first faulty statement
 abbrev pub Builds : (mode : Mode) {S : Type 0} → Version → (S → Slots) → Text → Document → Result (S × Raw) ParseFault → Type 0
 Builds mode version view t d (Ok r) = (is_accepted_in version d ≡ true) × IsTreeOf (spanned_in mode) d (tree_of (view r.0) r.1)

@@ -59,7 +59,7 @@ pub record IsPathOf (mode : Mode) (t : Text) (s : Source) (ms : List (Mention So
   pub mentions : AreMentionsOf s start segments ms
   pub read : IsPathFrom (statement_leaf (spanned_in mode) s s.statement) start segments path
 
--- the key of a mention, and where it is spelled; its path goes on behind it, or ends there
+-- the key of a mention, and where it is spelled; its path goes on after it, or ends there
 pub record IsKeyOf (mode : Mode) (s : Source) (passes : Bool) (m : Mention Source) (k : Key) (at : Span) : Type 0 where
   pub key : k ≡ key_at (spanned_in mode) m
   pub source : m.source ≡ s
@@ -77,7 +77,7 @@ Goes t want way new (Err e) = IfToml e (λ r. (r.input ≡ t) × (option_map tab
 abbrev pub AddsPath : (mode : Mode) {A : Type 0} → Text → Addition → List (Mention Source) → Slots → Slots → Result A ParseFault → Type 0
 AddsPath mode t a ms old new result = Goes t (add_in_place mode a ms old) (path_clash a ms old) new result
 
--- adding it below a key with this item, where these mentions are the path behind the key
+-- adding it below a key with this item, where these mentions are the path after the key
 abbrev pub AddsInside : (mode : Mode) {A : Type 0} → Text → Addition → Mention Source → List (Mention Source) → Node → Node → Result A ParseFault → Type 0
 AddsInside mode t a m ms old new result = Goes t (inside a (add_in_place mode a ms) old) (clash_inside a m (path_clash a ms) old) new result
 

@@ -14,7 +14,7 @@ pub enum ChangeFault {
     Memory,
 }
 
-/// `no such path`, `wrong kind` or `out of memory`.
+/// Writes `no such path`, `wrong kind` or `out of memory`.
 impl fmt::Display for ChangeFault {
     ghost use Rattle.std.specs.Prelude.{Some};
     ghost use Rattle.toml_edit_change.specs.Faults.{fault_text};

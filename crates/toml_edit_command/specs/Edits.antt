@@ -26,7 +26,7 @@ module _ (mode : Mode) where
       (λ path v k inner. (l : Key) (old n : Node) → slot_of k (slot_list v.slots) ≡ Some (l, old) → is_value_node old ≡ true
       → set_below value inner old ≡ done n → ChangesStatement mode d t u (to_key v.path l.name) old n)
 
-  -- At a new key of the root or of a table that has a header, or below one: one statement more, behind the others of the table.
+  -- At a new key of the root or of a table that has a header, or below one: one statement more, after the others of the table.
   abbrev pub AddsOne : Document → Tree → Tree → List Text → Node → Type 0
   AddsOne d t u names value =
       AtKey t names

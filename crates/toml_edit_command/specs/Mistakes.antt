@@ -1,4 +1,4 @@
--- What is wrong with a command, and the lines that are told of a run's end.
+-- What is wrong with a command, and the lines that say how a run ended.
 use Rattle.std.specs.Prelude.{◌⊎◌, List, ◌++◌, codes, Option, IfSome}
 use Rattle.toml_edit_model.specs.Text.{Text, newline}
 use Rattle.toml_edit_model.specs.Mode.{Mode}
@@ -38,7 +38,7 @@ mistake_line Unfit = codes "tomled: does not fit" ++ newline
 
 -- ---- mistakes
 
--- It stands in the words: they are no command, or PATH is no lone path, or PATH is one and VALUE is no lone value.
+-- It is in the words: they are no command, or PATH is no lone path, or PATH is one and VALUE is no lone value.
 abbrev pub InWords : Asked → Mistake → Type 0
 InWords q Words = ¬ (IsCommand q.command)
 InWords q Path = (path : Text) × TakesPath q.command path × IsNoPath path
@@ -49,7 +49,7 @@ InWords q WrongKind = ⊥
 InWords q Unfit = ⊥
 
 module _ (mode : Mode) where
-  -- It stands in what they say of the tree: nothing is at the path, or the wrong kind, or the changed tree does not fit.
+  -- It is in what they say of the tree: nothing is at the path, or the wrong kind, or the changed tree does not fit.
   abbrev pub InTree : Action → Tree → Mistake → Type 0
   InTree a t Words = ⊥
   InTree a t Path = ⊥

@@ -23,7 +23,7 @@ pub enum Offset {
 #[derive(Clone, Copy, Debug, PartialEq, Eq, Hash)]
 pub struct DatetimeFault;
 
-/// `invalid date-time`.
+/// Writes `invalid date-time`.
 impl fmt::Display for DatetimeFault {
     ghost use Rattle.std.specs.Prelude.{Some, codes};
 

@@ -1,4 +1,4 @@
-//! The default spelling of a date-time.
+//! Writing the default spellings of dates and times.
 ghost use Rattle.std.specs.Prelude.{◌≡◌, ◌+◌, ◌<◌, true, [], ◌∷◌, ◌++◌, option_map};
 ghost use Rattle.std.specs.Fmt.{WritesOnOk};
 ghost use Rattle.toml_edit_model.specs.Spelling.{two_digits, date_text, clock_text, digit};
@@ -16,7 +16,8 @@ use crate::time::Time;
 use std::fmt;
 use std::fmt::{Formatter, Write};
 
-/// The parts that are there, with a `T` between a date and a time.
+/// Writes the date, the time of day and the offset, as far as there are such, with a `T` between a
+/// date and a time: `1979-05-27T07:32:00Z`, for example.
 impl fmt::Display for Datetime {
     ghost use Rattle.std.specs.Prelude.{Some};
     ghost use Rattle.toml_edit_datetime.specs.DatetimeView.{datetime_view};
@@ -30,6 +31,7 @@ impl fmt::Display for Datetime {
     }
 }
 
+/// Writes the date, if there is one.
 fn write_date<W: Write>(f: &mut Formatter<W>, date: Option<Date>) -> fmt::Result
     ensures { WritesOnOk W.write_str_gives f.old result (spec.part_spelling date_text (option_map date_view date)) f.new }
 {
@@ -39,7 +41,7 @@ fn write_date<W: Write>(f: &mut Formatter<W>, date: Option<Date>) -> fmt::Result
     }
 }
 
-/// Writes the time, with a `T` before it if there is a date.
+/// Writes the time of day, if there is one, with a `T` before it if there is a date.
 fn write_time<W: Write>(f: &mut Formatter<W>, date: Option<Date>, time: Option<Time>) -> fmt::Result
     ensures { WritesOnOk W.write_str_gives f.old result
         (spec.date_mark (option_map date_view date) (option_map time_view time) ++ spec.part_spelling spec.time_spelling (option_map time_view time))
@@ -52,7 +54,7 @@ fn write_time<W: Write>(f: &mut Formatter<W>, date: Option<Date>, time: Option<T
     }
 }
 
-/// Writes `Z`, or a sign and `hh:mm`.
+/// Writes `Z`, or a sign and `hh:mm`. Without an offset nothing is written.
 fn write_offset<W: Write>(f: &mut Formatter<W>, offset: Option<Offset>) -> fmt::Result
     requires { is_absent_or is_real_shift (option_map offset_view offset) ≡ true }
     ensures { WritesOnOk W.write_str_gives f.old result (spec.part_spelling spec.offset_spelling (option_map offset_view offset)) f.new }
@@ -68,7 +70,7 @@ fn write_offset<W: Write>(f: &mut Formatter<W>, offset: Option<Offset>) -> fmt::
     }
 }
 
-/// `YYYY-MM-DD`.
+/// Writes `YYYY-MM-DD`.
 impl fmt::Display for Date {
     ghost use Rattle.std.specs.Prelude.{Some};
 
@@ -84,7 +86,9 @@ impl fmt::Display for Date {
     }
 }
 
-/// `hh:mm`, and then the second and its fraction, if they are there. A fraction is written up to its last digit that isn't 0.
+/// Writes `hh:mm`, and `:ss` and a fraction of a second if they are there.
+///
+/// The fraction has one to nine digits, of which the last isn't 0 unless it is the only one.
 impl fmt::Display for Time {
     ghost use Rattle.std.specs.Prelude.{Some};
 
@@ -119,6 +123,7 @@ fn write_seconds<W: Write>(
     write_fraction(f, nanosecond)
 }
 
+/// Writes `hh:mm`.
 fn write_clock<W: Write>(f: &mut Formatter<W>, hours: u16, minutes: u16) -> fmt::Result
     requires hours { hours < 100 }
     requires minutes { minutes < 100 }
@@ -129,7 +134,7 @@ fn write_clock<W: Write>(f: &mut Formatter<W>, hours: u16, minutes: u16) -> fmt:
     write_two_digits(f, minutes)
 }
 
-/// The digits of a fraction of a second, up to its last digit that isn't 0.
+/// Writes the digits of a fraction of a second, up to the last that isn't 0, and at least one.
 fn write_fraction<W: Write>(f: &mut Formatter<W>, nanosecond: u32) -> fmt::Result
     requires { nanosecond < 1_000_000_000 }
     ensures { WritesOnOk W.write_str_gives f.old result (fraction_text nanosecond) f.new }
@@ -146,6 +151,7 @@ fn write_fraction<W: Write>(f: &mut Formatter<W>, nanosecond: u32) -> fmt::Resul
     }
 }
 
+/// Writes a number as two digits.
 fn write_two_digits<W: Write>(f: &mut Formatter<W>, n: u16) -> fmt::Result
     requires { n < 100 }
     ensures { WritesOnOk W.write_str_gives f.old result (two_digits n) f.new }
@@ -154,6 +160,7 @@ fn write_two_digits<W: Write>(f: &mut Formatter<W>, n: u16) -> fmt::Result
     write_digit(f, u32::from(n % 10))
 }
 
+/// Writes a digit.
 fn write_digit<W: Write>(f: &mut Formatter<W>, d: u32) -> fmt::Result
     requires { d < 10 }
     ensures { WritesOnOk W.write_str_gives f.old result (digit d ∷ []) f.new }

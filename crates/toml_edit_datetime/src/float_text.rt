@@ -186,6 +186,7 @@ impl FloatText {
     }
 }
 
+/// Writes the text of the float.
 impl fmt::Display for FloatText {
     ghost output = { λ float. Some float };
 

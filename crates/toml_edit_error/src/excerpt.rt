@@ -10,7 +10,10 @@ use crate::place::Place;
 use std::fmt;
 use std::fmt::{Formatter, Write};
 
-/// Writes the excerpt of a text for a message about the bytes in the span.
+/// Writes the line of `text` that the bytes from `start` up to `end` begin in, with its number and
+/// with marks below it, and then the message.
+///
+/// Each line ends in a line feed (LF).
 pub fn write_excerpt<W: Write>(
     f: &mut Formatter<W>,
     text: &str,
@@ -26,7 +29,7 @@ pub fn write_excerpt<W: Write>(
     write_message(f, message)
 }
 
-/// Writes a message as a line.
+/// Writes the message, and a line feed (LF).
 pub fn write_message<W: Write>(f: &mut Formatter<W>, message: &str) -> fmt::Result
     ensures { WritesOnOk W.write_str_gives f.old result (message.now ++ newline) f.new }
 {
@@ -34,7 +37,7 @@ pub fn write_message<W: Write>(f: &mut Formatter<W>, message: &str) -> fmt::Resu
     f.write_str("\n")
 }
 
-/// Writes the line, with its number and what is marked in it.
+/// Writes the line and the column, the line itself, and the marks below it.
 fn write_place<W: Write>(f: &mut Formatter<W>, place: &Place<'_>) -> fmt::Result
     ensures { WritesOnOk W.write_str_gives f.old result
         (place_text place.now.line place.now.column place.now.before.now place.now.after.now place.now.marks) f.new }
@@ -52,7 +55,7 @@ fn write_place<W: Write>(f: &mut Formatter<W>, place: &Place<'_>) -> fmt::Result
     write_marks(f, place)
 }
 
-/// Writes the line, after its number.
+/// Writes the number of the line, and the line.
 fn write_line<W: Write>(f: &mut Formatter<W>, place: &Place<'_>) -> fmt::Result
     ensures { WritesOnOk W.write_str_gives f.old result
         (decimal place.now.line ++ (codes " | " ++ (place.now.before.now ++ (place.now.after.now ++ newline)))) f.new }
@@ -60,7 +63,7 @@ fn write_line<W: Write>(f: &mut Formatter<W>, place: &Place<'_>) -> fmt::Result
     writeln!(f, "{} | {}{}", place.line, place.before, place.after)
 }
 
-/// Writes what stands before the bar, and the bar.
+/// Writes `width` spaces and a bar, so that the bars of all lines are below one another.
 fn write_gutter<W: Write>(f: &mut Formatter<W>, width: usize) -> fmt::Result
     ensures { WritesOnOk W.write_str_gives f.old result (spaces width ++ codes "|") f.new }
 {
@@ -68,7 +71,7 @@ fn write_gutter<W: Write>(f: &mut Formatter<W>, width: usize) -> fmt::Result
     f.write_str("|")
 }
 
-/// Writes the marks below the line.
+/// Writes a mark below each character of the span, as far as it is in the line, and at least one.
 fn write_marks<W: Write>(f: &mut Formatter<W>, place: &Place<'_>) -> fmt::Result
     ensures { WritesOnOk W.write_str_gives f.old result
         (spaces place.now.column ++ (replicate place.now.marks 0x5E ++ newline)) f.new }
@@ -78,7 +81,7 @@ fn write_marks<W: Write>(f: &mut Formatter<W>, place: &Place<'_>) -> fmt::Result
     f.write_str("\n")
 }
 
-/// Writes a character of one byte that many times.
+/// Writes a character of one byte `count` times.
 fn write_repeated<W: Write>(f: &mut Formatter<W>, character: &str, count: usize) -> fmt::Result
     requires { length character.now ≡ 1 }
     ensures { WritesOnOk W.write_str_gives f.old result (replicate count (slice_index character.now 0)) f.new }

@@ -160,8 +160,12 @@ impl Hash for TomlError {
     }
 }
 
-/// The line of the text that the message is about, with its number and what is marked in it, and the message. An error that is
-/// about no place is its message alone. Each line ends with a line feed.
+/// Writes the line and the column of the span, the line of the text that it begins in, with marks
+/// below the characters of the span, and then the message.
+///
+/// Without a span it writes the message alone. Each line ends in a line feed (LF), and lines and
+/// columns count from 1, columns in characters. For the message alone, see
+/// [`message`](TomlError::message).
 impl fmt::Display for TomlError {
     ghost use Rattle.std.specs.Prelude.{Some};
     ghost use Rattle.toml_edit_model.specs.Excerpt.{excerpt};
@@ -195,7 +199,7 @@ pub enum ParseFault {
     Memory,
 }
 
-/// The text of the error, or `out of memory` and a line feed.
+/// Writes the error as [`TomlError`] does, or `out of memory` and a line feed (LF).
 impl fmt::Display for ParseFault {
     ghost use Rattle.std.specs.Prelude.{Some};
     ghost use Rattle.toml_edit_error.specs.Fault.{fault_text};

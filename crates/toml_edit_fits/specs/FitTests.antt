@@ -24,11 +24,11 @@ module _ (mode : Mode) where
 
   -- ---- lines, pairs and values, where so many more brackets may be opened
 
-  -- behind a value: in brackets trivia, and elsewhere the end of a line
+  -- after a value: in brackets trivia, and elsewhere the end of a line
   abbrev pub may_follow : ℕ → Decor → Bool
   may_follow room d = if room == nesting_limit then ends_line mode (shown_suffix mode [] d) else is_whole (shown_suffix mode [] d)
 
-  -- what stands around the key and the value
+  -- what is around the key and the value
   abbrev pub pair_fits : ℕ → Route → Key → Decor → Bool
   pair_fits room r k d =
       key_fits r k
@@ -103,7 +103,7 @@ module _ (mode : Mode) where
 
   -- ---- tables
 
-  -- inside the brackets of a header, and before it where a newline stands in its last key's prefix
+  -- inside the brackets of a header, and before it where a newline is in its last key's prefix
   abbrev pub brackets_fit : Decor → Bool
   brackets_fit d =
       if holds_newline mode d then is_whole (shown_prefix mode [] d)
@@ -146,7 +146,7 @@ module _ (mode : Mode) where
     as_element_fits r k (inline f ss) = true
     as_element_fits r k nothing = true
 
-  -- the root, what stands around it, and the trailing text; the root is not dotted
+  -- the root, what is around it, and the trailing text; the root is not dotted
   abbrev pub root_fits : TableFields → Slots → Raw → Bool
   root_fits f ss trailing =
       (not f.is_dotted && lines_fit no_keys ss)

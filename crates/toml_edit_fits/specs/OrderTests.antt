@@ -1,4 +1,4 @@
--- Whether the headers of elements stand in order, told in one walk over the tables (TOML 1.1.0, "Array of Tables").
+-- Whether the headers of elements are in order, found in one walk over the tables (TOML 1.1.0, "Array of Tables").
 use Rattle.std.specs.Prelude.{◌≡◌, ℤ, Bool, true, false, not, ◌&&◌, ◌||◌, int_le, if◌then◌else◌, Option, None, Some, unwrap_or, option_and_then, option_map}
 use Rattle.toml_edit_model.specs.Tree.{TableFields, Node, nothing, leaf, list, inline, table, tables, Items, no_items, item, Slots, no_slots, slot, has_key}
 use Rattle.toml_edit_laws.specs.PrintByVisits.{has_own_header, root_place}
@@ -51,7 +51,7 @@ marks_of seen highest = record { seen = seen; highest = highest }
 abbrev pub place_in : Marks → TableFields → ℤ
 place_in m f = unwrap_or f.position m.seen
 
--- One more table is entered; none, where its header stands before that of the element that it is in, or, of an element, before those of
+-- One more table is entered; none, where its header is before that of the element that it is in, or, of an element, before those of
 -- the elements before it.
 abbrev pub enter : Bool → Option ℤ → Marks → TableFields → Slots → Option Marks
 enter is_element low m f ss =
@@ -64,7 +64,7 @@ enter is_element low m f ss =
 abbrev pub first_below : Bool → Option ℤ → Marks → TableFields → Option ℤ
 first_below is_element low m f = if is_element && not f.is_dotted then Some (place_in m f) else low
 
--- the marks behind the tables below these slots, or none where some header is too late
+-- the marks after the tables below these slots, or none where some header is too late
 abbrev mutual
   pub order_slots : Option ℤ → Marks → Slots → Option Marks
   order_slots low m no_slots = Some m

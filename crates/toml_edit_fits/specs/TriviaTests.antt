@@ -1,4 +1,4 @@
--- Which texts are trivia, told byte by byte (TOML 1.1.0, "Comment", "Whitespace" and "Newline").
+-- Which texts are trivia, found byte by byte (TOML 1.1.0, "Comment", "Whitespace" and "Newline").
 use Rattle.std.specs.Prelude.{Bool, true, false, not, ◌&&◌, ◌==◌, if◌then◌else◌, [], ◌∷◌, Option, None, Some, is_some}
 use Rattle.std.specs.List.{list_all}
 use Rattle.toml_edit_model.specs.Mode.{Mode, plain, exact, line_end}
@@ -9,8 +9,8 @@ abbrev pub starts_with_feed : Text → Bool
 starts_with_feed [] = false
 starts_with_feed (c ∷ t) = c == line_feed
 
--- Whether a comment is open at the end of trivia, behind one that is open or not; none, where the text is no trivia. A carriage return
--- stands only before a line feed.
+-- Whether a comment is open at the end of trivia, after one that is open or not; none, where the text is no trivia. A carriage return
+-- comes only before a line feed.
 abbrev pub open_after : Bool → Text → Option Bool
 open_after is_open [] = Some is_open
 open_after is_open (c ∷ t) =
@@ -36,7 +36,7 @@ is_final t = is_some (open_after false t)
 abbrev pub is_white : Text → Bool
 is_white t = list_all is_blank t
 
--- white space, and then perhaps a comment, behind one that is open or not
+-- white space, and then perhaps a comment, after one that is open or not
 abbrev pub ends_line_from : Bool → Text → Bool
 ends_line_from is_open [] = true
 ends_line_from is_open (c ∷ t) =

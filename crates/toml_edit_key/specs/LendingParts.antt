@@ -4,7 +4,7 @@ use Rattle.toml_edit_model.specs.Tree.{Decor, Key}
 use Rattle.toml_edit_repr.specs.contracts.repr.Decor as decor
 use Rattle.toml_edit_key.specs.contracts.key.Key as key
 
--- the key ends with the last decor behind r as its leaf decor, or as its dotted decor
+-- the key ends with the final decor of r as its leaf decor, or as its dotted decor
 abbrev pub LendsLeaf : MutBor Key → MutBor Decor → Fml
 LendsLeaf s r = Lends key.the_row decor.the_row s r (λ w. record s.now { leaf = w })
 

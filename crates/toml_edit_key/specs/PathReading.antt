@@ -8,7 +8,7 @@ use Rattle.toml_edit_model.specs.Lone.{some_text, path_key}
 use Rattle.toml_edit_laws.specs.reading.Runs.{first, split_while}
 use Rattle.toml_edit_laws.specs.reading.Tokens.{key_at}
 
--- what stands in the text before its rest
+-- what is in the text before its rest
 abbrev pub front : Text → Text → Text
 front t rest = take (length t - length rest) t
 

@@ -19,7 +19,7 @@ pub data Addition : Type 0 where
   a_table : Addition
   an_element : Addition
 
--- what stands in the way of it
+-- what is in the way of it
 abbrev pub path_clash : Addition → List (Mention Source) → Slots → Option (Mention Source × Node)
 path_clash (a_value n) ms ss = line_clash ms ss
 path_clash a_table ms ss = header_clash false ms ss
@@ -42,7 +42,7 @@ abbrev pub inside : Addition → (Slots → Option Slots) → Node → Option No
 inside (a_value n) change old = extend_in change old
 inside _ change old = change_in change old
 
--- what stands in its way at or below the item at a key
+-- what is in its way at or below the item at a key
 abbrev pub clash_inside : Addition → Mention Source → (Slots → Option (Mention Source × Node)) → Node → Option (Mention Source × Node)
 clash_inside (a_value n) m further old = extend_clash m further (Some old)
 clash_inside _ m further old = pass_clash m further (Some old)

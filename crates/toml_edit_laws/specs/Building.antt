@@ -59,7 +59,7 @@ pub record Builder : Type 0 where
   pub headers : ℕ
   pub block : List Text
 
--- before the first statement, behind a byte order mark if there is one
+-- before the first statement, after a byte order mark if there is one
 abbrev pub first_builder : Bool → Builder
 first_builder has_mark = record { slots = no_slots; start = length (mark_text has_mark); headers = 0; block = [] }
 
@@ -74,16 +74,16 @@ mentions_at b (key_line f v end) = line_mentions (source_at b (key_line f v end)
 mentions_at b (header h end) =
     header_mentions (source_at b (header h end)) [] (header_role_of h) (b.start + path_start (header h end)) [] h.path
 
--- what stands in its way
+-- what is in its way
 abbrev pub clash_at : Builder → Statement → Option (Mention Source × Node)
 clash_at b (key_line f v end) = option_and_then (line_clash (mentions_at b (key_line f v end))) (slots_along b.block b.slots)
 clash_at b (header h end) = header_clash h.is_array (mentions_at b (header h end)) b.slots
 
--- all faults that stand in it
+-- all faults that are in it
 abbrev pub faults_at : Builder → Statement → List Fault
 faults_at b s = own_faults b.start s ++ table_way_faults (clash_at b s)
 
--- behind a statement, with these slots
+-- after a statement, with these slots
 abbrev pub headers_with : ℕ → Statement → ℕ
 headers_with n (key_line f v end) = n
 headers_with n (header h end) = suc n
@@ -115,7 +115,7 @@ next_place d done s = record { source = source_of (context_behind d done) s; men
 
 -- ---- what stops a run
 
--- The document is refused: the statement behind these is its first faulty one, and this is one of its faults.
+-- The document is refused: the statement after these is its first faulty one, and this is one of its faults.
 pub record Stops (d : Document) (done : List Statement) (s : Statement) (f : Fault) : Type 0 where
   pub first : IsFirstFaulty d (done_places d done) (next_place d done s)
   pub names : IsFirstFault d f
@@ -126,7 +126,7 @@ pub record IsRefusedBy (d : Document) (f : Fault) : Type 0 where
   pub names : IsFirstFault d f
   pub refused : is_accepted d ≡ false
 
--- the builder behind the statements that were added, and the statements left
+-- the builder after the statements that were added, and the statements left
 abbrev pub Outcome : Type 0
 Outcome = Builder × List Statement
 
@@ -145,7 +145,7 @@ pub record EndsAt (d : Document) (s : Statement) (rest : List Statement) (b : Bu
 -- ---- in a mode
 
 module _ (mode : Mode) where
-  -- the slots with a statement added, whose value has this item; none where something stands in its way
+  -- the slots with a statement added, whose value has this item; none where something is in its way
   abbrev pub added : Builder → Statement → Node → Option Slots
   added b (key_line f v end) n = change_along b.block (add_line mode (mentions_at b (key_line f v end)) n) b.slots
   added b (header h end) n = add_header mode h.is_array (mentions_at b (header h end)) b.slots
@@ -164,7 +164,7 @@ module _ (mode : Mode) where
     pub block : b.block ≡ keys_in (context_behind d done).block
     pub slots : AreSlotsOf (spanned_in mode) (flat_map (λ s. s.mentions) (done_places d done)) (kept (flat_map (λ s. s.mentions) (done_places d done))) b.slots
 
-  -- What a statement does behind these: it stops the builder by a fault of its own, or by what stands in its way; else it is added, and
+  -- What a statement does after these: it stops the builder by a fault of its own, or by what is in its way; else it is added, and
   -- the builder is after it. The table of its block is there.
   pub record IsStep (d : Document) (done : List Statement) (s : Statement) (b : Builder) : Type 0 where
     pub faulty : (f : Fault) → Contains (own_faults b.start s) f → Stops d done s f
@@ -179,7 +179,7 @@ module _ (mode : Mode) where
   built_tree d b =
       record { root = root_fields (spanned_in mode); slots = b.slots; trailing = (spanned_in mode).raw (length (document_text d) - length d.final) d.final }
 
-  -- A builder stands before the first statement of a document, goes on statement by statement, and behind the last it has the tree.
+  -- A builder begins before the first statement of a document, goes on statement by statement, and after the last it has the tree.
   pub record IsBuilt (d : Document) : Type 0 where
     pub first : IsBehind d [] (first_builder d.has_mark)
     pub step : (done : List Statement) (s : Statement) (rest : List Statement) (b : Builder) → d.statements ≡ done ++ (s ∷ rest) → IsBehind d done b

@@ -12,7 +12,7 @@ abbrev pub HeadersInOrder : Type 0
 HeadersInOrder = (t : Tree) → IsInOrder comes_before (places_from (pos 0) (walk t)) (in_header_order t)
 
 -- The lines of a document, and the pairs of an inline table, are the same in order. That they are sorted in a normal form is what being
--- settled says of it, and no two of them stand before one another.
+-- settled says of it, and no two of them come before one another.
 abbrev pub LinesAreKept : Type 0
 LinesAreKept = (mss : List (List (Mention Source))) (places : List Placed) → IsPermutation places (ordered mss places)
 

@@ -1,4 +1,4 @@
--- What a statement adds where the tables of headers stay in their places: the slots are to be put in order once, behind all statements. So
+-- What a statement adds where the tables of headers stay in their places: the slots are to be put in order once, after all statements. So
 -- the table of a header takes the place of one that was only passed through, and goes last in the end (TOML 1.1.0, "Table").
 use Rattle.std.specs.Prelude.{◌≡◌, ◌≤◌, ◌<◌, ℕ, true, not, ◌&&◌, if◌then◌else◌, List, [], ◌∷◌, Option, Some, None}
 use Rattle.toml_edit_model.specs.Mode.{Mode}
@@ -12,7 +12,7 @@ use Rattle.toml_edit_laws.specs.TableTree.{headed_table, pass_below, open_elemen
 use Rattle.toml_edit_laws.specs.AddPath.{Addition, a_value, a_table, an_element}
 use Rattle.toml_edit_laws.specs.PlaceOrder.{key_place}
 
--- ---- a header's table, put where a slot stands
+-- ---- a header's table, put where a slot is
 
 -- the slot of a key, with another key and item
 abbrev pub replace_slot : Text → Key → Node → Slots → Slots
@@ -20,14 +20,14 @@ replace_slot t k n no_slots = no_slots
 replace_slot t k n (slot l m ss) = if same_text t l.name then slot k n ss else slot l m (replace_slot t k n ss)
 
 module _ (mode : Mode) where
-  -- A header of a table that was only passed through so far heads it, where it stands; no other item can be headed.
+  -- A header of a table that was only passed through so far heads it, where it is; no other item can be headed.
   abbrev pub head_table : Mention Source → Slots → Option Node → Option Slots
   head_table m ss None = Some (with_slot ss (key_at (spanned_in mode) m) (headed_table mode m no_slots))
   head_table m ss (Some (table f inner)) =
       if f.is_implicit && not f.is_dotted then Some (replace_slot m.segment.key (key_at (spanned_in mode) m) (headed_table mode m inner) ss) else None
   head_table m ss (Some n) = None
 
-  -- the slots with the table of a header at the end of the mentions' path, where it stands
+  -- the slots with the table of a header at the end of the mentions' path, where it is
   abbrev pub add_table : List (Mention Source) → Slots → Option Slots
   add_table [] ss = None
   add_table (m ∷ []) ss = head_table m ss (node_at m.segment.key ss)

@@ -22,7 +22,7 @@ module _ (version : Version) where
   all_right_in earlier [] = true
   all_right_in earlier (s ∷ rest) = is_right_in earlier s && all_right_in (earlier ++ (s ∷ [])) rest
 
--- the same in TOML 1.1
+-- that, in TOML 1.1
 abbrev pub all_right_after : List Placed → List Placed → Bool
 all_right_after earlier places = all_right_in v1_1 earlier places
 

@@ -1,4 +1,4 @@
--- Slots in the order of their places: the slots of each table stand in the order of where the spellings of their keys begin in the text.
+-- Slots in the order of their places: the slots of each table are in the order of where the spellings of their keys begin in the text.
 use Rattle.std.specs.Prelude.{◌≡◌, ◌<◌, ℕ, false, nat_lt, if◌then◌else◌, Option, Some}
 use Rattle.toml_edit_model.specs.Tree.{Raw, span, Key, Node, table, tables, Items, no_items, item, Slots, no_slots, slot, has_key}
 

@@ -17,7 +17,7 @@ comma_before is_first = if is_first then [] else codes ","
 abbrev pub last_comma : Bool → Bool → Text
 last_comma comma is_first = if is_first then [] else comma_text comma
 
--- the decor of the last value among the pairs of an inline table, behind one of this decor
+-- the decor of the last value among the pairs of an inline table, after one of this decor
 abbrev mutual
   pub last_pair : Slots → Option Decor → Option Decor
   last_pair no_slots before = before
@@ -93,7 +93,7 @@ enter w ks is_element f ss =
       seen = unwrap_or f.position w.seen;
     }
 
--- the tables below these slots, behind what was collected
+-- the tables below these slots, after what was collected
 abbrev mutual
   pub walked : Slots → List Key → Walked → Walked
   walked no_slots ks w = w
@@ -130,7 +130,7 @@ begins f ss = f.is_dotted || not (has_lines ss)
 module _ (mode : Mode) where
   -- ---- keys
 
-  -- what stands before a key that ends a path, behind these keys
+  -- what is before a key that ends a path, after these keys
   abbrev pub before_key : List Key → Key → Text
   before_key ks k = if is_empty ks then [] else dot_prefix mode k
 
@@ -140,18 +140,18 @@ module _ (mode : Mode) where
   dotted_keys is_first (k ∷ ks) =
       (if is_first then [] else dot_prefix mode k) ++ (key_text k ++ (dot_suffix mode k ++ (codes "." ++ dotted_keys false ks)))
 
-  -- What stands between a key, if there is one, and the next. No law cites this and the next: they are for code that writes the path of a
+  -- What is between a key, if there is one, and the next. No law cites this and the next: they are for code that writes the path of a
   -- header key by key.
   abbrev pub between_keys : Option Key → Key → Text
   between_keys None k = []
   between_keys (Some j) k = dot_suffix mode j ++ (codes "." ++ dot_prefix mode k)
 
-  -- the keys of a path, behind one
+  -- the keys of a path, after one
   abbrev pub written_path : Option Key → List Key → Text
   written_path before [] = []
   written_path before (k ∷ ks) = between_keys before k ++ (key_text k ++ written_path (Some k) ks)
 
-  -- the key of a line or a pair, behind these keys, with its decor and the `=`
+  -- the key of a line or a pair, after these keys, with its decor and the `=`
   abbrev pub key_part : Text → List Key → Key → Text
   key_part default ks k =
       shown_prefix mode default k.leaf ++ (dotted_keys true ks ++ (before_key ks k ++ (key_text k ++ (shown_suffix mode one_space k.leaf ++ codes "="))))
@@ -173,18 +173,18 @@ module _ (mode : Mode) where
 
   -- ---- inline tables
 
-  -- what stands between a pair whose value has this decor, if there is one, and the next
+  -- what is between a pair whose value has this decor, if there is one, and the next
   abbrev pub between_pairs : Option Decor → Text
   between_pairs None = []
   between_pairs (Some d) = shown_suffix mode [] d ++ codes ","
 
-  -- what stands between the last pair, whose value has this decor, if there is one, and the text before the brace
+  -- what is between the last pair, whose value has this decor, if there is one, and the text before the brace
   abbrev pub after_pairs : Bool → Option Decor → Text
   after_pairs comma None = []
   after_pairs comma (Some d) = shown_suffix mode one_space d ++ comma_text comma
 
   -- A value from its first byte to its last; the elements of an array, and the comma that ends them; the pairs of an inline table,
-  -- behind one whose value has this decor, each up to the end of its value.
+  -- after one whose value has this decor, each up to the end of its value.
   abbrev mutual
     pub written_value : Node → Text
     written_value (leaf s spelling d) = scalar_text s spelling
@@ -256,11 +256,11 @@ module _ (mode : Mode) where
 
   -- ---- headers
 
-  -- the prefix of the last key stands before the header where it holds a newline
+  -- the prefix of the last key is before the header where it holds a newline
   abbrev pub holds_newline : Decor → Bool
   holds_newline d = has_byte line_feed (shown_prefix mode [] d)
 
-  -- what stands inside the brackets
+  -- what is inside the brackets
   abbrev pub inside_brackets : Decor → Text → Text
   inside_brackets d path =
       (if holds_newline d then [] else shown_prefix mode [] d) ++ (path ++ (if holds_newline d then [] else shown_suffix mode [] d))

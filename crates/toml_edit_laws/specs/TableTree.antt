@@ -1,5 +1,5 @@
 -- How statements are added, one after another, to the slots of a document's tables, and where one can't be (TOML 1.1.0, "Keys",
--- "Table" and "Array of Tables"). At the end the same by numbered paths, which only proofs cite.
+-- "Table" and "Array of Tables"). At the end all this by numbered paths, which only proofs cite.
 use Rattle.std.specs.Prelude.{ℕ, zero, suc, ◌+◌, Bool, true, false, not, ◌&&◌, if◌then◌else◌, List, [], ◌∷◌, Option, Some, None, option_map, option_and_then}
 use Rattle.toml_edit_model.specs.Mode.{Mode}
 use Rattle.toml_edit_model.specs.Text.{Text, same_text}
@@ -65,7 +65,7 @@ change_at [] change ss = change ss
 change_at (at_key k ∷ p) change ss = change_under k (change_below_node p change) ss
 change_at (at_element i ∷ p) change ss = None
 
--- a statement's mentions as the table sees them in which it stands: that of its block, and the root
+-- a statement's mentions as the table that it is in sees them: that of its block, and the root
 abbrev pub own_mentions : Context → Statement → List (Mention Source)
 own_mentions c (key_line f v end) = line_mentions (source_of c (key_line f v end)) (c.start + path_start (key_line f v end)) [] f.path
 own_mentions c (header h end) = header_mentions (source_of c (header h end)) c.arrays (header_role_of h) (c.start + path_start (header h end)) [] h.path
@@ -82,7 +82,7 @@ module _ (mode : Mode) where
       if f.is_implicit then option_map (λ changed. with_node m.segment.key (table (record f { is_dotted = true }) changed) ss) (change inner) else None
   extend_below m change ss (Some n) = None
 
-  -- the slots with this item at the end of the mentions' path; none where something stands in the way
+  -- the slots with this item at the end of the mentions' path; none where something is in the way
   abbrev pub add_line : List (Mention Source) → Node → Slots → Option Slots
   add_line [] n ss = None
   add_line (m ∷ []) n ss = add_last ss (key_at (spanned_in mode) m) n (node_at m.segment.key ss)
@@ -125,7 +125,7 @@ module _ (mode : Mode) where
 
   -- ---- a statement
 
-  -- the slots of the root with a statement added, whose value has this item; none where something stands in its way
+  -- the slots of the root with a statement added, whose value has this item; none where something is in its way
   abbrev pub add_statement : Context → Statement → Node → Slots → Option Slots
   add_statement c (key_line f v end) n ss = change_at c.block (add_line (own_mentions c (key_line f v end)) n) ss
   add_statement c (header h end) n ss = add_header h.is_array (own_mentions c (header h end)) ss

@@ -24,7 +24,7 @@ kept_mention ms p =
 abbrev pub rank : {S : Type 0} → List (List (Mention S)) → Path → ℕ
 rank mss p = position_or_len (λ ms. list_any (λ m. same_path p m.path) ms) mss
 
--- By their mentions, one line stands before another: where their paths part, it has the lesser rank.
+-- By their mentions, one line is before another: where their paths part, it has the lesser rank.
 abbrev pub stands_before : {S : Type 0} → (Path → ℕ) → List (Mention S) → List (Mention S) → Bool
 stands_before rank_of [] later = true
 stands_before rank_of (m ∷ ms) [] = true

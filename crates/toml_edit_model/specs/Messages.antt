@@ -28,7 +28,7 @@ fault_messages =
     (duplicate_key ∷ codes "integer number overflowed" ∷ codes "invalid date-time" ∷ recursion_limit ∷ [])
     ++ map cannot_extend type_names
 
--- the same in a version of the grammar
+-- those messages in a version of the grammar
 abbrev pub fault_messages_in : Version → List Text
 fault_messages_in v1_0 = needs_message ∷ fault_messages
 fault_messages_in v1_1 = fault_messages

@@ -1,5 +1,5 @@
 -- The two ways to treat line endings: `plain` drops each CR outside strings and ends each statement by LF; `exact` keeps the line endings
--- of a text, and at its end the want of one (TOML 1.1.0, "Newline").
+-- of a text, and whether its last statement has one (TOML 1.1.0, "Newline").
 use Rattle.std.specs.Prelude.{Bool, true, false, ◌==◌, if◌then◌else◌, [], ◌∷◌, ◌++◌}
 use Rattle.toml_edit_model.specs.Text.{Text, newline, carriage_return, without_returns}
 

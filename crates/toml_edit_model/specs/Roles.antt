@@ -23,7 +23,7 @@ may_meet header_role implied_role = true
 may_meet array_role array_role = true
 may_meet _ _ = false
 
--- the same between pairs of one inline table ("Inline Table": it is whole where it stands)
+-- those that may meet between pairs of one inline table ("Inline Table": it is whole where it is)
 abbrev pub may_meet_inline : Role → Role → Bool
 may_meet_inline dotted_role dotted_role = true
 may_meet_inline _ _ = false

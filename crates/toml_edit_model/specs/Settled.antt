@@ -30,7 +30,7 @@ abbrev pub are_settled_pairs : List (List (Mention PairSource)) → Bool
 are_settled_pairs mss =
     is_sorted_by (pair_before mss) mss && list_all (is_kept (flat_map (λ ms. ms) mss)) mss
 
--- a line stands in order with the next statement
+-- a line is in order with the next statement
 abbrev pub has_ordered_lines : List (List (Mention Source)) → List Placed → Bool
 has_ordered_lines mss places =
     is_sorted_by (λ s t. not (is_line s.source.statement) || line_before mss s t) places

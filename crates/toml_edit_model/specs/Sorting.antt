@@ -1,4 +1,4 @@
--- What sorts leave: the same elements, and by a lawful order in this order, ties as they stood.
+-- What sorts leave: the elements that there were, and by a lawful order in this order, ties as they were.
 use Rattle.std.specs.Prelude.{◌≡◌, Bool, not, ◌&&◌, if◌then◌else◌, List, [], ◌∷◌, IsPermutation, IsSortedBy, MatchBool}
 use Rattle.std.specs.List.Sorted.{IsStableBy}
 use Rattle.std.specs.Cmp.{IsStrictWeakOrder}
@@ -56,7 +56,7 @@ module _ (enters : Node → Bool) (R : List (Slot Node) → List (Slot Node) →
   abbrev pub Reorders : List (Slot Node) → List (Slot Node) → Type 0
   Reorders before after = (mid : List (Slot Node)) × R before mid × ReordersItems mid (slots_from after)
 
--- a sort by the test lt, with what it enters; and what even a refused one leaves, the same slots at every level
+-- a sort by the test lt, with what it enters; and what even a refused one leaves: at every level, the slots that there were
 abbrev pub IsDeepSort : (Node → Bool) → (Slot Node → Slot Node → Bool) → List (Slot Node) → List (Slot Node) → Type 0
 IsDeepSort enters lt = Reorders enters (IsSortOf lt)
 

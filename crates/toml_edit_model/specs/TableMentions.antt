@@ -33,7 +33,7 @@ abbrev pub is_single : Path → Bool
 is_single (at_key k ∷ []) = true
 is_single _ = false
 
--- A slot stands where its plain header does, else where its key is first mentioned: that mention is the one whose key is kept.
+-- A slot is where its plain header is, else where its key is first mentioned: that mention is the one whose key is kept.
 abbrev pub is_slot : {S : Type 0} → List (Mention S) → Mention S → List (Mention S) → Bool
 is_slot before m after =
     is_single m.path

@@ -46,7 +46,7 @@ abbrev pub is_late_path : List Segment → Bool
 is_late_path [] = false
 is_late_path (s ∷ p) = is_late_spelling s.spelled || is_late_path p
 
--- a newline or a comment stands in the trivia
+-- a newline or a comment is in the trivia
 abbrev pub is_late_byte : ℕ → Bool
 is_late_byte c = c == line_feed || c == hash
 
@@ -82,7 +82,7 @@ abbrev pub is_value_of : Version → Value → Bool
 is_value_of v1_0 v = not (is_late_value v)
 is_value_of v1_1 v = true
 
--- ---- where they stand: each late part with the byte where it begins and its size
+-- ---- where they are: each late part with the byte where it begins and its size
 
 abbrev pub Place : Type 0
 Place = ℕ × ℕ

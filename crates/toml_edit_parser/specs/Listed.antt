@@ -17,6 +17,6 @@ pub record IsListedIn (version : Version) (r : Report) : Type 0 where
   pub marks : IsSome r.span ⊎ (r.message ≡ recursion_limit)
   pub within : SpanIsIn r.input r.span
 
--- the same in TOML 1.1
+-- that, in TOML 1.1
 abbrev pub IsListed : Report → Type 0
 IsListed = IsListedIn v1_1

@@ -35,13 +35,13 @@ pub record IsLoneRefusalIn (version : Version) (t : Text) (r : Report) : Type 0 
   pub syntax : ((v : Value) → IsLoneValue t v → ⊥) → IsSyntaxFault (fault_of r) ⊎ ValueOpensTooMany t
   pub refused : (v : Value) → IsLoneValue t v → is_accepted_value_in version v ≡ false
 
--- What reading a lone value answers: a reading of the text; out of memory alone where the text is an accepted value; a report.
+-- What reading a lone value returns: a reading of the text; out of memory alone where the text is an accepted value; a report.
 pub record ReadsLoneIn (version : Version) (t : Text) (r : Result code.Value ParseFault) : Type 0 where
   pub read : IfOk r (λ v. IsLoneReadingIn version t (value_view v))
   pub every : (v : Value) → IsLoneValue t v → is_accepted_value_in version v ≡ true → IsOk r ⊎ IsErrOf r ParseFault.Memory
   pub refused : IfErr r (λ e. IfToml e (IsLoneRefusalIn version t))
 
--- The same in TOML 1.1,
+-- And in TOML 1.1,
 abbrev pub IsLoneReading : Text → Node → Type 0
 IsLoneReading = IsLoneReadingIn v1_1
 
@@ -55,7 +55,7 @@ ReadsLone = ReadsLoneIn v1_1
 abbrev pub ReadsLoneWith : ParseOptions → Text → Result code.Value ParseFault → Type 0
 ReadsLoneWith options = ReadsLoneIn (version_of options)
 
--- The same of an item, which is the value.
+-- And of an item, which is the value.
 abbrev pub IsLoneItemReading : Text → Node → Type 0
 IsLoneItemReading t n = (is_value_node n ≡ true) × IsLoneReading t n
 

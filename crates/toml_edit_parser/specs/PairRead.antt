@@ -69,29 +69,29 @@ ends_path _ = false
 abbrev pub path_end : List Event → Option ℕ
 path_end es = position (λ e. ends_path e.kind) es
 
--- what stands between two parts
+-- what is between two parts
 abbrev pub between : Span → Span → Span
 between left right = record { start = left.end; end = max left.end right.start }
 
--- those of a pair whose path this is, where the sign `=` and the value come behind it
+-- those of a pair whose path this is, where the sign `=` and the value come after it
 abbrev pub frame_behind : Span → List Event → List Event → Option (FrameParts × List Event)
 frame_behind leading path (sign ∷ value ∷ es) =
     option_map (λ key. (record { leading = leading; path = path; before_equals = between key.span sign.span; after_equals = between sign.span value.span }, value ∷ es))
     (last_or None path)
 frame_behind leading path _ = None
 
--- the parts of a pair behind its leading text, and the events behind them
+-- the parts of a pair after its leading text, and the events after them
 abbrev pub split_frame : Span → List Event → Option (FrameParts × List Event)
 split_frame leading es = option_and_then (λ at. frame_behind leading (take at es) (drop at es)) (path_end es)
 
 -- ---- a path
 
--- the text between a dot and the key behind it, where a path begins there
+-- the text between a dot and the key after it, where a path begins there
 abbrev pub first_before : List Segment → Text
 first_before [] = []
 first_before (s ∷ rest) = s.before
 
--- a path as it is read: where the texts around its pair's key stand, where the text behind the dot before it does, and its events
+-- a path as it is read: where the texts around its pair's key are, where the text after the dot before it is, and its events
 pub record PathView : Type 0 where
   pub prefix : Span
   pub suffix : Span
@@ -101,7 +101,7 @@ pub record PathView : Type 0 where
 abbrev pub path_of : KeyPath → PathView
 path_of p = record { prefix = p.prefix; suffix = p.suffix; before = p.before; events = p.events.now }
 
--- the text before a dot, and the path behind it
+-- the text before a dot, and the path after it
 abbrev pub split_dot : KeyPath → List Event → Option (Span × PathView)
 split_dot p (a ∷ b ∷ es) = Some (a.span, record { prefix = p.prefix; suffix = p.suffix; before = b.span; events = es })
 split_dot p _ = None
@@ -127,7 +127,7 @@ pub record IsEndOfPath (p : List Segment) : Type 0 where
 
 -- ---- one pair
 
--- what stands in the way of a pair is named
+-- what is in the way of a pair is named
 abbrev pub NamesClash : Text → Option (Mention Entry × Node) → Report → Type 0
 NamesClash source clash r = (r.input ≡ source) × (c : Mention Entry × Node) × (clash ≡ Some c) × (fault_of r ≡ way_fault c)
 
@@ -141,7 +141,7 @@ abbrev pub change_inside : (Slots → Option Slots) → Node → Option Node
 change_inside change (inline f inner) = if f.is_dotted then option_map (inline f) (change inner) else None
 change_inside change _ = None
 
--- what going on below a key does to the item that stands there
+-- what going on below a key does to the item that is there
 abbrev pub AddsInside : {A : Type 0} → Text → Mention Entry → List (Mention Entry) → Node → Node → Node → Result A ParseFault → Type 0
 AddsInside source m ms n old new (Ok _) = change_inside (add_entry spanned_form ms n) old ≡ Some new
 AddsInside source m ms n old new (Err e) = IfToml e (NamesClash source (clash_below m (entry_clash ms) (Some old)))
@@ -162,7 +162,7 @@ AddsBelow k s ms n old new (Ok _) =
     option_map (λ inner. with_slot old k (inline (path_fields (Some (s.start, s.end))) inner)) (add_entry spanned_form ms n no_slots) ≡ Some new
 AddsBelow k s ms n old new (Err e) = IfToml e (λ r. ⊥)
 
--- what ending a pair with this item answers
+-- what ending a pair with this item returns
 abbrev pub EndsPair : Text → List (Mention Entry) → Node → List Event → Slots → Slots → Result (Bor (List Event)) ParseFault → Type 0
 EndsPair source ms n more old new (Ok r) = (r.now ≡ more) × (add_entry spanned_form ms n old ≡ Some new)
 EndsPair source ms n more old new (Err e) = IfToml e (NamesClash source (entry_clash ms old))
@@ -187,7 +187,7 @@ ReadsPair source f v start level more old new (Err e) = IfToml e (NamesPair sour
 
 -- ---- all pairs
 
--- where there are pairs, they stand in the source, from this byte on
+-- where there are pairs, they are in the source, from this byte on
 abbrev pub PairsStand : Text → ℕ → Pairs → Type 0
 PairsStand source start no_pairs = Unit {0}
 PairsStand source start (pair f v ps) = Stands source start (pairs_text (pair f v ps))
@@ -213,7 +213,7 @@ inline_of start close ss =
       slots = ss;
     }
 
--- what ending an inline table that opens at this byte answers
+-- what ending an inline table that opens at this byte returns
 pub record MakesInline (start : ℕ) (close : Close) (ss : Slots) (more : List Event) (n : Node) (rest : List Event) : Type 0 where
   pub rest_is : rest ≡ more
   pub node : n ≡ inline_node (inline_of start close ss)

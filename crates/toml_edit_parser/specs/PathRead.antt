@@ -1,4 +1,4 @@
--- What reading the first key of a path answers, by the events of the path.
+-- What reading the first key of a path returns, by the events of the path.
 use Rattle.std.specs.Prelude.{◌≡◌, ℕ, ◌+◌, List, [], ◌∷◌, length, Option, Some, None, Result, Ok, Err}
 use Rattle.toml_edit_model.specs.Syntax.{Segment}
 use Rattle.toml_edit_model.specs.Paths.{next_start}
@@ -22,7 +22,7 @@ segment_key own start s =
     let at = start + length s.before in
     record { name = s.key; spelling = Some (spanned_form.raw at s.spelled); leaf = own; dotted = dots_at spanned_form at s }
 
--- the first key and the path behind it
+-- the first key and the path after it
 abbrev pub IsKeyBefore : Decor → ℕ → Segment → List Segment → Key → Option KeyPath → Type 0
 IsKeyBefore own start s [] k None = k ≡ segment_key own start s
 IsKeyBefore own start s (r ∷ p) k (Some path) = (k ≡ segment_key unset start s) × IsPathFrom own (next_start start s) (r ∷ p) path

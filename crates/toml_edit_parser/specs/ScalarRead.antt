@@ -1,4 +1,4 @@
--- What reading a key's text, or a scalar, answers.
+-- What reading a key's text, or a scalar, returns.
 use Rattle.std.specs.Prelude.{◌≡◌, ℕ, ◌+◌, true, false, length, Some, String, string_bytes, Result, Ok, Err}
 use Rattle.std.specs.declared.alloc.Global.{Global}
 use Rattle.toml_edit_model.specs.Text.{Text}

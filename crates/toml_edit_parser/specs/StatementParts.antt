@@ -1,4 +1,4 @@
--- What reading the parts of a key line, or of a header, answers, by the events of the text.
+-- What reading the parts of a key line, or of a header, returns, by the events of the text.
 use Rattle.std.specs.Prelude.{◌≡◌, ◌⊎◌, ℕ, ◌+◌, ◌==◌, if◌then◌else◌, List, [], ◌∷◌, ◌++◌, length, get_or, Result, Ok, Err}
 use Rattle.std.specs.Borrow.{Bor}
 use Rattle.toml_edit_model.specs.Mode.{Mode, plain, exact, with_return}
@@ -33,7 +33,7 @@ suffix_span exact t s = if get_or t s.end 0 == carriage_return then record { sta
 
 -- ---- a key line
 
--- the events of a key line behind the text before it, and those behind the line
+-- the events of a key line after the text before it, and those after the line
 abbrev pub line_behind : ℕ → Frame → Value → List Event → List Event
 line_behind start f v more =
     key_events start f
@@ -42,7 +42,7 @@ line_behind start f v more =
 
 -- ---- a header
 
--- the events of a header behind its opening brackets, and those behind the header
+-- the events of a header after its opening brackets, and those after the header
 abbrev pub header_behind : ℕ → Header → List Event → List Event
 header_behind start h more =
     let before = start + length h.leading + length (opening_brackets h.is_array) in
@@ -70,7 +70,7 @@ module _ (mode : Mode) where
   ReadsLineParts t f v end start more n (Ok r) = IsLineRead f v end start more n r.0 r.1.now
   ReadsLineParts t f v end start more n (Err e) = IfToml e (NamesOne t (own_faults start (key_line f v end)))
 
-  -- Its value has no fault; this is its item, between the text at this span and that text behind it.
+  -- Its value has no fault; this is its item, between the text at this span and that text after it.
   pub record IsLineValue (v : Value) (start : ℕ) (before : Span) (after : Text) (more : List Event) (n : Node) (rest : List Event) : Type 0 where
     pub faultless : value_faults v start 0 ≡ []
     pub node : (i : ℕ) (b : Text) → start ≡ i + length b → before ≡ span_at i b → IsValueNode (spanned_in mode) v i b after n
@@ -80,7 +80,7 @@ module _ (mode : Mode) where
   ReadsLineValue t v start before after more n (Ok r) = IsLineValue v start before after more n r.now
   ReadsLineValue t v start before after more n (Err e) = IfToml e (NamesOne t (value_faults v start 0))
 
-  -- The path of the header is short, and this; and here its brackets end, and its suffix stands.
+  -- The path of the header is short, and this; and here its brackets end, and its suffix is.
   pub record IsHeaderRead (h : Header) (end : Text) (start : ℕ) (more : List Event) (parts : HeaderSpans) (rest : List Event) : Type 0 where
     pub short : long_path h.path ≡ []
     pub path_is : IsPathFrom (header_leaf (spanned_in mode) (start + length h.leading + length (opening_brackets h.is_array)) h)

@@ -32,7 +32,7 @@ span_at start t = record { start = start; end = start + length t }
 abbrev pub AreIn : Text → List Event → Type 0
 AreIn t es = AllByRecursion (λ e. IsSpanOf t e.span) es
 
--- the span, or the empty text where nothing stands there
+-- the span, or the empty text where nothing is there
 abbrev pub spanned_raw : Span → Raw
 spanned_raw s = if s.start == s.end then owned [] else span s.start s.end
 
@@ -73,7 +73,7 @@ abbrev pub is_comma : EventKind → Bool
 is_comma Comma = true
 is_comma _ = false
 
--- a closing bracket with what stands before it
+-- a closing bracket with what is before it
 abbrev pub split_close : List Event → Option (Close × List Event)
 split_close (a ∷ b ∷ es) = if is_comma a.kind then behind_comma b es else Some (record { comma = false; inner = a.span; end = b.span.end }, es)
   where
@@ -82,14 +82,14 @@ split_close (a ∷ b ∷ es) = if is_comma a.kind then behind_comma b es else So
     behind_comma b (c ∷ es) = Some (record { comma = true; inner = b.span; end = c.span.end }, es)
 split_close _ = None
 
--- where there are elements, they stand in the source, from this byte on
+-- where there are elements, they are in the source, from this byte on
 abbrev pub ElementsStand : Text → ℕ → Elements → Type 0
 ElementsStand source start no_elements = Unit {0}
 ElementsStand source start (element a v es) = Stands source start (elements_text (element a v es))
 
 -- ---- results
 
--- The value has no fault, and the item, put between what stands around it, is the value's.
+-- The value has no fault, and the item, put between what is around it, is the value's.
 pub record IsRead (v : Value) (start level : ℕ) (more : List Event) (n : Node) (rest : List Event) : Type 0 where
   pub faultless : value_faults v start level ≡ []
   pub rest_is : rest ≡ shortened level more
@@ -100,7 +100,7 @@ pub record IsRead (v : Value) (start level : ℕ) (more : List Event) (n : Node)
 abbrev pub NamesOne : Text → List Fault → Report → Type 0
 NamesOne source faults r = (r.input ≡ source) × Contains faults (fault_of r)
 
--- what reading this value, which begins at this byte inside so many brackets, answers, where these events follow
+-- what reading this value, which begins at this byte inside so many brackets, returns, where these events follow
 abbrev pub ReadsValue : Text → Value → ℕ → ℕ → List Event → Result (code.Value × Bor (List Event)) ParseFault → Type 0
 ReadsValue source v start level more (Ok r) = IsRead v start level more (value_view r.0) r.1.now
 ReadsValue source v start level more (Err e) = IfToml e (NamesOne source (value_faults v start level))
@@ -126,7 +126,7 @@ abbrev pub ReadsElements : Text → Elements → ℕ → ℕ → List Event → 
 ReadsElements source es start level more items (Ok r) = AreRead es start level more items r.now
 ReadsElements source es start level more items (Err e) = IfToml e (NamesOne source (elements_faults es start level))
 
--- what ending an element with this item answers
+-- what ending an element with this item returns
 pub record PutsElement (n : Node) (more : List Event) (old new : List Item) (rest : List Event) : Type 0 where
   pub rest_is : rest ≡ more
   pub added : Item
@@ -145,7 +145,7 @@ array_of start close xs =
       items = xs;
     }
 
--- what ending an array that opens at this byte answers
+-- what ending an array that opens at this byte returns
 pub record MakesArray (start : ℕ) (close : Close) (xs : Items) (more : List Event) (n : Node) (rest : List Event) : Type 0 where
   pub rest_is : rest ≡ more
   pub node : n ≡ array_node (array_of start close xs)

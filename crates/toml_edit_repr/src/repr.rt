@@ -265,6 +265,7 @@ impl Decor {
     }
 }
 
+/// Writes the sides as options, as they are read, and not as they are kept.
 impl fmt::Debug for Decor {
     fn fmt<W: Write>(&self, f: &mut Formatter<W>) -> fmt::Result {
         f.debug_struct("Decor")
@@ -407,6 +408,7 @@ pub trait ValueRepr: ScalarValue {
 #[derive(Drop)]
 struct Spelled<'a, T>(&'a T);
 
+/// Writes the default spelling.
 impl<T: ScalarValue> fmt::Display for Spelled<'_, T> {
     ghost use Rattle.std.specs.Prelude.{Some};
     ghost use Rattle.toml_edit_model.specs.DefaultSpelling.{default_spelling};
@@ -589,7 +591,11 @@ impl<T: ValueRepr + Hash> Hash for Formatted<T> {
     }
 }
 
-/// The spelling that is shown, between the shown sides of the decor. A side that is unset or a span is empty.
+/// Writes the spelling, or the default one if there is none that is a text, between the sides of
+/// the decor. Sides that are unset or spans are empty.
+///
+/// Carriage returns (CR) of the decor are dropped. To get the spelling alone, use
+/// [`display_repr`](Formatted::display_repr).
 impl<T: ValueRepr> fmt::Display for Formatted<T> {
     ghost use Rattle.std.specs.Prelude.{Some};
     ghost use Rattle.toml_edit_repr.specs.Shown.{formatted_text};

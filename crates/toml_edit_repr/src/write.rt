@@ -1,4 +1,4 @@
-//! Writing texts that are kept beside values.
+//! Writing spellings, decors and trailing texts.
 ghost use Rattle.std.specs.Prelude.{◌≡◌, ◌<◌, false, [], ◌++◌, if◌then◌else◌, length, option_and_then, IfSome, MatchOption};
 ghost use Rattle.std.specs.Option.{option_copied};
 ghost use Rattle.std.specs.Fmt.{WritesOnOk};
@@ -16,7 +16,8 @@ use memchr::memchr;
 use std::fmt;
 use std::fmt::{Formatter, Write};
 
-/// Writes the spelling of the scalar as it stands, or the default one where it has none or a span.
+/// Writes the spelling of the scalar, or the default one of its value if it has none that is a
+/// text.
 pub fn write_scalar<W: Write, T: ValueRepr>(
     f: &mut Formatter<W>,
     scalar: &Formatted<T>,
@@ -29,21 +30,23 @@ pub fn write_scalar<W: Write, T: ValueRepr>(
     }
 }
 
-/// The spelling, unless it is a span.
+/// Returns the text of a spelling, or `None` if there is none or it is a span.
 pub fn spelling_text(spelling: Option<&Repr>) -> Option<&str>
     ensures { option_copied result ≡ option_and_then text_of (option_copied spelling.entry) }
 {
     spelling?.as_raw().as_str()
 }
 
-/// The text of a decor's side, unless it is unset or a span.
+/// Returns the text of a side of a decor, or `None` if it is unset or a span.
 fn side_text(side: Option<&RawString>) -> Option<&str>
     ensures { option_copied result ≡ option_and_then text_of (option_copied side.entry) }
 {
     side?.as_str()
 }
 
-/// Writes a decor's side, in the plain mode without its carriage returns. One that is unset or a span is the default of its place.
+/// Writes a side of a decor, or `default` if it is unset or a span.
+///
+/// In plain mode the carriage returns (CR) of the side are left out, but not those of `default`.
 #[inline(always)]
 pub fn write_side<W: Write>(
     f: &mut Formatter<W>,
@@ -59,7 +62,7 @@ pub fn write_side<W: Write>(
     }
 }
 
-/// Writes the text, in the plain mode without its carriage returns. A span has none.
+/// Writes the text, without its carriage returns (CR) in plain mode. A span is written as nothing.
 pub fn write_raw<W: Write>(f: &mut Formatter<W>, mode: Mode, raw: &RawString) -> fmt::Result
     ensures { WritesOnOk W.write_str_gives f.old result (shown_raw (mode_of mode) raw.now) f.new }
 {
@@ -69,7 +72,7 @@ pub fn write_raw<W: Write>(f: &mut Formatter<W>, mode: Mode, raw: &RawString) ->
     }
 }
 
-/// Writes the comma that ends a list, if it has one and is not empty.
+/// Writes the comma that ends a list, if `comma` is set and the list isn't empty.
 pub fn write_last_comma<W: Write>(f: &mut Formatter<W>, comma: bool, is_empty: bool) -> fmt::Result
     ensures { WritesOnOk W.write_str_gives f.old result (if is_empty then [] else comma_text comma) f.new }
 {
@@ -80,7 +83,7 @@ pub fn write_last_comma<W: Write>(f: &mut Formatter<W>, comma: bool, is_empty: b
     }
 }
 
-/// Writes what is shown of the text.
+/// Writes the text, without its carriage returns in plain mode.
 #[inline(always)]
 fn write_text<W: Write>(f: &mut Formatter<W>, mode: Mode, text: &str) -> fmt::Result
     ensures { WritesOnOk W.write_str_gives f.old result (shown_text (mode_of mode) text.now) f.new }
@@ -91,7 +94,7 @@ fn write_text<W: Write>(f: &mut Formatter<W>, mode: Mode, text: &str) -> fmt::Re
     }
 }
 
-/// Writes the text without its carriage returns.
+/// Writes the text without its carriage returns (CR).
 #[inline(always)]
 pub fn write_without_returns<W: Write>(f: &mut Formatter<W>, text: &str) -> fmt::Result
     ensures { WritesOnOk W.write_str_gives f.old result (without_returns text.now) f.new }
@@ -106,7 +109,8 @@ pub fn write_without_returns<W: Write>(f: &mut Formatter<W>, text: &str) -> fmt:
     }
 }
 
-/// The same of any text. It stands apart, so that the short texts are written in place.
+/// Writes the text as [`write_without_returns`] does, whatever its length. It is never inlined, so
+/// that the short texts are written in place.
 #[inline(never)]
 fn write_longer<W: Write>(f: &mut Formatter<W>, text: &str) -> fmt::Result
     ensures { WritesOnOk W.write_str_gives f.old result (without_returns text.now) f.new }
@@ -118,13 +122,14 @@ fn write_longer<W: Write>(f: &mut Formatter<W>, text: &str) -> fmt::Result
     }
 }
 
+/// Returns `false` only if the text has no carriage return.
 fn has_return(text: &str) -> bool
     ensures { result ≡ false → without_returns text.now ≡ text.now }
 {
     memchr(b'\r', text.as_bytes()).is_some()
 }
 
-/// The text without its carriage returns, piece by piece.
+/// Writes the text without its carriage returns, piece by piece.
 #[cold]
 fn write_pieces<W: Write>(f: &mut Formatter<W>, text: &str) -> fmt::Result
     ensures { WritesOnOk W.write_str_gives f.old result (without_returns text.now) f.new }
@@ -137,7 +142,7 @@ fn write_pieces<W: Write>(f: &mut Formatter<W>, text: &str) -> fmt::Result
     f.write_str(rest)
 }
 
-/// What stands before and after the first carriage return, if there is one.
+/// Returns the texts before and after the first carriage return, or `None` if there is none.
 fn split_at_return(text: &str) -> Option<(&str, &str)>
     ensures parts { MatchOption result (without_returns text.now ≡ text.now)
         (λ p. without_returns text.now ≡ p.0.now ++ without_returns p.1.now) }

@@ -78,11 +78,11 @@ module _ {T : Type 0} where
     pub key : entry_key e ≡ Some (unwrap_or (model.lookup_key k.name (seen es)) k)
     pub leaves : (x : T) → seen (slots_with e x) ≡ model.put (model.with_item x) (record { key = k; item = x }) (seen es)
 
--- the slots end with the last item behind the reference
+-- the slots end with the final item of the reference
 abbrev pub EntryLends : (T : RattleType) → Entry T.Denot → MutBor T.Denot → Fml
 EntryLends T e r = follows (the_row T) T (entry_ref e).ghost_name r.ghost_name (slots_with e)
 
--- the same where an item is lent; they stay where it isn't
+-- they end so where an item is lent; they stay where it isn't
 abbrev pub EntryLendsOk : {E : Type 0} (T : RattleType) → Entry T.Denot → Result (MutBor T.Denot) E → Fml
 EntryLendsOk T e r = follows_if (the_row T) T (entry_ref e).ghost_name (name_if_ok (λ x. x.ghost_name) r) (slots_with e) (entry_ref e).now
 
@@ -93,11 +93,11 @@ RestsIfRefused T s r = RestsIfErr (the_row T) s (λ e. (entry_ref e).ghost_name)
 abbrev pub RestsIfAbsent : (T : RattleType) → MutBor (List (Slot T.Denot)) → Option (OccupiedEntry T.Denot) → Fml
 RestsIfAbsent T s r = RestsIfNone (the_row T) s (λ o. o.slots.ghost_name) r (λ n. n ≡ s.now)
 
--- the entry ends with the last item behind the reference in its slot, or with the last decor as one of its key's
+-- the entry ends with the final item of the reference in its slot, or with the final decor as one of its key's
 abbrev pub OccupiedLends : (T : RattleType) → MutBor (OccupiedEntry T.Denot) → MutBor T.Denot → Fml
 OccupiedLends T o r = follows (occupied.the_row (record { mir = named 1; lft = [] }) T) T o.ghost_name r.ghost_name (with_entry_item o.now)
 
--- the same with the last parts of its key behind those that are lent
+-- or with the final parts of r in its key
 abbrev pub OccupiedLendsKey : (T : RattleType) → MutBor (OccupiedEntry T.Denot) → KeyMut → Fml
 OccupiedLendsKey T o r = follows (occupied.the_row (record { mir = named 1; lft = [] }) T) key_parts.the_row o.ghost_name (lent_parts r).ghost_name (λ w. with_entry_key o.now (with_parts w))
 

@@ -1,11 +1,11 @@
--- Slots in the order of their places, and a slot put where another stands.
+-- Slots in the order of their places, and a slot put where another is.
 use Rattle.std.specs.Prelude.{Bool, List, [], ◌∷◌, nat_le, if◌then◌else◌}
 use Rattle.toml_edit_laws.specs.PlaceOrder.{key_place}
 use Rattle.toml_edit_slots.specs.declared.slots.Slot.{Slot}
 use Rattle.toml_edit_slots.specs.Slots.{is_at}
 
 module _ {T : Type 0} where
-  -- the spelling of the key of one doesn't begin behind that of the other
+  -- the spelling of the key of one doesn't begin after that of the other
   abbrev pub by_place : Slot T → Slot T → Bool
   by_place s t = nat_le (key_place s.key) (key_place t.key)
 

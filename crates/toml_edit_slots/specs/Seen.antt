@@ -17,7 +17,7 @@ seen es = map (slot_seen (λ x. x)) es
 abbrev pub pair_seen : {T : Type 0} → Key × T → Slot T
 pair_seen p = record { key = p.0; item = p.1 }
 
--- the same behind two references
+-- a key with its item, by two references, as a slot
 abbrev pub pair_read : {T : Type 0} → Bor Key × Bor T → Slot T
 pair_read p = record { key = p.0.now; item = p.1.now }
 

@@ -10,11 +10,11 @@ use Rattle.toml_edit_slots.specs.declared.index.Index.{Index}
 use Rattle.toml_edit_slots.specs.declared.index.Index.TheVariants.{Chained, Sorted}
 use Rattle.toml_edit_slots.specs.declared.places.Places.{Places}
 
--- the text stands at the place
+-- the text is at the place
 abbrev pub stands_at : List Text → ℕ → Text → Bool
 stands_at us k t = option_map_or (λ u. same_text u t) (slice_get us k) false
 
--- these texts, with one more behind them if it is none of them
+-- these texts, with one more after them if it is none of them
 abbrev pub with_text : Text → List Text → List Text
 with_text t us = if is_some (place_in t us) then us else us ++ t ∷ []
 
@@ -22,19 +22,19 @@ with_text t us = if is_some (place_in t us) then us else us ++ t ∷ []
 abbrev pub place_of : Places → Text → Option ℕ
 place_of m t = get_by_text m.names t
 
--- each text stands there with the place where it first is among these
+-- each text is noted with the place where it first is among these
 abbrev pub IsIndexOf : Places → List Text → Type 0
 IsIndexOf m us = (t : Text) → place_of m t ≡ place_in t us
 
--- the texts before the place stand there with their places
+-- the texts before the place are noted with their places
 abbrev pub IsRightBefore : ℕ → Places → List Text → Type 0
 IsRightBefore n m us = (k : ℕ) (t : Text) → k < n → slice_get us k ≡ Some t → place_of m t ≡ Some k
 
--- the text stands there with the place, and the others as before
+-- the text is noted with the place, and the others as before
 abbrev pub IsPutAt : ℕ → Text → Places → Places → Type 0
 IsPutAt n u old new = (t : Text) → place_of new t ≡ if same_text u t then Some n else place_of old t
 
--- each of the texts stands there, with whatever place
+-- each of the texts is noted, with whatever place
 abbrev pub HasTexts : Places → List Text → Type 0
 HasTexts m us = (t : Text) → is_some (place_in t us) ≡ true → is_some (place_of m t) ≡ true
 
@@ -53,7 +53,7 @@ abbrev pub HasRoom : Index → List Text → Type 0
 HasRoom (Chained c) us = (0 < length c.heads.items) × (length us ≤ length c.next.items)
 HasRoom (Sorted m) us = HasTexts m us
 
--- the same of an index, or of none
+-- such an index, or none
 abbrev pub MayIndex : Option (Box Index) → List Text → Type 0
 MayIndex None us = length us ≤ 8
 MayIndex (Some m) us = HasRoom m.value us

@@ -34,6 +34,7 @@ impl<T> fmt::Display for NoMemory<T> {
 
 impl<T: fmt::Debug + Drop> Error for NoMemory<T> {}
 
+/// Converts the error into one without a value, and drops the value that it has.
 impl<T: Drop> From<NoMemory<T>> for AllocError {
     fn from(_refused: NoMemory<T>) -> AllocError {
         AllocError

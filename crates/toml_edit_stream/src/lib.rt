@@ -1,4 +1,4 @@
-//! Where bytes come from and where they go: readers and writers that remember a fault.
+//! Inputs and outputs of bytes that remember a fault.
 #![tactic(auto)]
 
 mod streams;

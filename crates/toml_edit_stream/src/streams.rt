@@ -5,10 +5,12 @@ ghost use Rattle.std.specs.Io.KnownBytes.{ReadConsumes, WriteAppends};
 use std::error::Error;
 use std::fmt;
 
-/// A device failed. The stream that answers this says so ever after.
+/// The error of an input or an output whose device failed. The stream that returns it has failed
+/// from then on.
 #[derive(Clone, Copy, Debug, PartialEq, Eq)]
 pub struct Broken;
 
+/// Writes `broken`.
 impl fmt::Display for Broken {
     ghost use Rattle.std.specs.Prelude.{Some, codes};
 
@@ -21,37 +23,50 @@ impl fmt::Display for Broken {
 
 impl Error for Broken {}
 
-/// What bytes are read from.
+/// An input of bytes that remembers a fault.
 pub trait Input {
-    // the bytes that reads will give from here on, where they are known
+    // the bytes that are left to read, where they are known
     ghost remaining: { Self → Option (List ℕ) };
 
-    // a fault has come
+    // whether a read has failed
     ghost has_failed: { Self → Bool };
 
-    /// Reads bytes into the beginning of the buffer, and answers how many. No byte into a
-    /// non-empty buffer is the end. An `Err` takes no byte.
+    /// Reads bytes into the beginning of `buffer`, and returns how many.
+    ///
+    /// A count of 0 for a buffer that isn't empty is the end of the input.
+    ///
+    /// # Errors
+    ///
+    /// Returns [`Broken`] if the device failed. No byte of the input is lost, and
+    /// [`failed`](Self::failed) returns `true` from then on.
     fn read(&mut self, buffer: &mut [u8]) -> Result<usize, Broken>
         ensures bound { ReadsAtMost result buffer.new }
         ensures bytes { ReadConsumes (remaining self.old) (remaining self.new) result buffer.new }
         ensures ok { OnOk result (has_failed self.new ≡ has_failed self.old) }
         ensures err { OnErr result (has_failed self.new ≡ true) };
 
-    /// A read has failed.
+    /// Returns `true` if a read has failed.
     fn failed(&self) -> bool
         ensures { result ≡ has_failed self.now };
 }
 
-/// What bytes are written to.
+/// An output of bytes that remembers a fault.
 pub trait Output {
-    // the bytes that the writer holds, where they are known
+    // the bytes that the output holds, where they are known
     ghost contents: { Self → Option (List ℕ) };
 
-    // a fault has come
+    // whether a write has failed
     ghost has_failed: { Self → Bool };
 
-    /// Writes a beginning of the piece, and answers how many bytes: never none of a non-empty
-    /// piece. An `Err` wrote none.
+    /// Writes a beginning of `piece`, and returns how many bytes it has: at least one, unless
+    /// `piece` is empty.
+    ///
+    /// To write all of it, use [`write_all`](crate::write_all).
+    ///
+    /// # Errors
+    ///
+    /// Returns [`Broken`] if the device failed. No byte was written, and [`failed`](Self::failed)
+    /// returns `true` from then on.
     fn write(&mut self, piece: &[u8]) -> Result<usize, Broken>
         ensures bound { WritesAtMost result piece.now }
         ensures progress { IfOk result (λ n. 0 < length piece.now → 0 < n) }
@@ -59,7 +74,7 @@ pub trait Output {
         ensures ok { OnOk result (has_failed self.new ≡ has_failed self.old) }
         ensures err { OnErr result (has_failed self.new ≡ true) };
 
-    /// A write has failed.
+    /// Returns `true` if a write has failed.
     fn failed(&self) -> bool
         ensures { result ≡ has_failed self.now };
 }

@@ -6,7 +6,10 @@ ghost use Rattle.toml_edit_stream.specs.Watch.{watched_inner, watched_fault};
 use super::streams::{Broken, Input, Output};
 use std::io::{ErrorKind, Read, Write};
 
-/// A reader or a writer that remembers a fault: from the first on, each call fails.
+/// A reader or a writer, wrapped so that it remembers a fault: each call after the first fault
+/// fails too.
+///
+/// It is an [`Input`] over a reader and an [`Output`] over a writer.
 #[derive(Debug, Drop)]
 pub struct Watched<T> {
     inner: T,
@@ -14,7 +17,7 @@ pub struct Watched<T> {
 }
 
 impl<T> Watched<T> {
-    /// A stream over a reader or a writer, with no fault so far.
+    /// Wraps a reader or a writer. No fault is remembered yet, whatever happened before.
     pub fn new(inner: T) -> Watched<T>
         ensures inner { watched_inner result ≡ inner }
         ensures fault { watched_fault result ≡ false }
@@ -77,7 +80,7 @@ impl<T: Write + Drop> Output for Watched<T> {
     }
 }
 
-// One read, tried again where a signal interrupts it.
+/// Reads once, and again for as long as a signal interrupts it.
 fn read_once<R: Read>(reader: &mut R, buffer: &mut [u8]) -> Result<usize, Broken>
     ensures bound { ReadsAtMost result buffer.new }
     ensures bytes { ReadConsumes (R.remaining reader.old) (R.remaining reader.new) result buffer.new }
@@ -95,7 +98,8 @@ fn read_once<R: Read>(reader: &mut R, buffer: &mut [u8]) -> Result<usize, Broken
     Err(Broken)
 }
 
-// One write, tried again where a signal interrupts it. A writer that takes nothing is broken.
+/// Writes once, and again for as long as a signal interrupts it. A writer that takes nothing of a
+/// piece that isn't empty is broken.
 fn write_once<W: Write>(writer: &mut W, piece: &[u8]) -> Result<usize, Broken>
     ensures bound { WritesAtMost result piece.now }
     ensures progress { IfOk result (λ n. 0 < length piece.now → 0 < n) }

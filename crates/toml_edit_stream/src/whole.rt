@@ -7,15 +7,18 @@ use std::alloc::{AllocError, Global};
 use std::error::Error;
 use std::fmt;
 
-/// Why an input was not read to its end.
+/// The reason why an input was not read to its end.
+///
+/// Returned by [`read_to_end`].
 #[derive(Clone, Copy, Debug, PartialEq, Eq)]
 pub enum ReadFault {
-    /// There is not enough memory for its bytes.
+    /// Out of memory for the bytes.
     Memory,
-    /// The input has failed.
+    /// The input failed.
     Broken,
 }
 
+/// Writes `out of memory` or `broken`.
 impl fmt::Display for ReadFault {
     ghost use Rattle.std.specs.Prelude.{Some};
     ghost use Rattle.toml_edit_stream.specs.Whole.{fault_text};
@@ -32,6 +35,7 @@ impl fmt::Display for ReadFault {
 
 impl Error for ReadFault {}
 
+/// Converts the error into [`ReadFault::Memory`].
 impl From<AllocError> for ReadFault {
     ghost use Rattle.toml_edit_stream.specs.declared.whole.ReadFault.TheVariants.{Memory};
 
@@ -42,6 +46,7 @@ impl From<AllocError> for ReadFault {
     }
 }
 
+/// Converts the error into [`ReadFault::Broken`].
 impl From<Broken> for ReadFault {
     ghost use Rattle.toml_edit_stream.specs.declared.whole.ReadFault.TheVariants.{Broken};
 
@@ -52,9 +57,15 @@ impl From<Broken> for ReadFault {
     }
 }
 
+/// The number of bytes that are read at once.
 const CHUNK: usize = 4096;
 
-/// All bytes that the input has left.
+/// Reads the input to its end, and returns all bytes that it had left.
+///
+/// # Errors
+///
+/// Returns [`ReadFault::Memory`] if out of memory, and [`ReadFault::Broken`] if the input failed.
+/// The bytes that were read before are lost.
 pub fn read_to_end<I: Input>(alloc: Global, input: &mut I) -> Result<Vec<u8>, ReadFault>
     ensures bytes { IfOk result (λ v. IfSome (I.remaining input.old) (λ xs. v.items ≡ xs)) }
     ensures end { OnOk result (IsAtEnd (I.remaining input.new)) }
@@ -75,7 +86,12 @@ pub fn read_to_end<I: Input>(alloc: Global, input: &mut I) -> Result<Vec<u8>, Re
     Err(ReadFault::Memory)
 }
 
-/// Writes all of the text. After an `Err` the output holds a beginning of it.
+/// Writes all of `text`.
+///
+/// # Errors
+///
+/// Returns [`Broken`] if the output failed. It holds a beginning of the text then, perhaps an empty
+/// one.
 pub fn write_all<O: Output>(output: &mut O, text: &[u8]) -> Result<(), Broken>
     ensures text { OnOk result (Appends (O.contents output.old) (O.contents output.new) text.now) }
     ensures ok { OnOk result (O.has_failed output.new ≡ O.has_failed output.old) }

@@ -17,7 +17,7 @@ seen events (got a rest) = got (events a rest) rest
 seen events (deep es) = deep es
 seen events wrong = wrong
 
--- the same behind these events
+-- such a reading after these events
 abbrev pub preceded : List Event → Reading (List Event) → Reading (List Event)
 preceded es (got more rest) = got (es ++ more) rest
 preceded es (deep more) = deep (es ++ more)
@@ -44,11 +44,11 @@ abbrev pub OpenedBy : ℕ → Option Brackets → Type 0
 OpenedBy byte (Some b) = byte ≡ opening_byte b
 OpenedBy byte None = (b : Brackets) → byte ≢ opening_byte b
 
--- the end of a list whose closing bracket is at the front of this text, behind this text
+-- the end of a list whose closing bracket is at the front of this text, after this text
 abbrev pub close_read : Brackets → ℕ → Bool → Text → Text → List Event
 close_read b whole comma inner t = close_events (closing b) (closing_byte b ∷ []) (whole - length t) comma inner
 
--- the segments of a key, behind the white space before the first
+-- the segments of a key, after the white space before the first
 abbrev pub path_read : ℕ → ℕ → Text → Text → Reading (List Event)
 path_read n whole before t = seen (λ p _. path_events (whole - length t - length before) p) (reading (segments_at n before t))
 
@@ -57,11 +57,11 @@ abbrev pub equals_read : ℕ → Text → Reading (List Event)
 equals_read whole t =
     seen (λ e rest. event Equals (whole - length rest - length e.1 - 1) (codes "=") ∷ []) (reading (equals_at t))
 
--- a pair up to its value, behind its trivia
+-- a pair up to its value, after its trivia
 abbrev pub frame_read : ℕ → Text → Text → Reading (List Event)
 frame_read whole leading t = seen (λ f _. frame_events (whole - length t - length leading) f) (frame_at leading t)
 
--- what stands in front of the value of an element or a pair, behind its trivia
+-- what is in front of the value of an element or a pair, after its trivia
 abbrev pub head_read : Brackets → ℕ → Text → Text → Reading (List Event)
 head_read brackets.Array whole leading t = got (event Before (whole - length t - length leading) leading ∷ []) t
 head_read brackets.InlineTable whole leading t = frame_read whole leading t
@@ -72,7 +72,7 @@ scalar_read whole t = seen (λ v _. value_events (whole - length t) v) (lone_sca
 abbrev pub value_read : ℕ → ℕ → ℕ → Text → Reading (List Event)
 value_read n level whole t = seen (λ v _. value_events (whole - length t) v) (value_at n level (whole - length t) t)
 
--- the elements or the pairs behind an opening bracket, and the closing bracket
+-- the elements or the pairs after an opening bracket, and the closing bracket
 abbrev pub items_read : Brackets → ℕ → ℕ → ℕ → Bool → Text → Reading (List Event)
 items_read brackets.Array n level whole comma t =
     seen (λ p rest. elements_events (whole - length t) p.0 ++ close_events ArrayClose (codes "]") (whole - length rest - 1) p.1.0 p.1.1) (elements_at n level (whole - length t) comma t)

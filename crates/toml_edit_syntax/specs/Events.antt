@@ -58,7 +58,7 @@ pub record IsSpanOf (t : Text) (s : Span) : Type 0 where
   pub end : IsCharBoundary t s.end
   pub order : s.start ≤ s.end
 
--- more arrays and inline tables stand in one another in the value than may
+-- more arrays and inline tables are nested in the value than may be
 abbrev pub exceeds_depth : Value → Bool
 exceeds_depth v = nat_lt nesting_limit (depth v)
 

@@ -1,4 +1,4 @@
--- How a result stands to what reading gives.
+-- How a result relates to what reading gives.
 use Rattle.std.specs.Prelude.{◌≡◌, ℕ, List, Result, MatchResult}
 use Rattle.std.specs.Borrow.{Bor}
 use Rattle.toml_edit_syntax.specs.declared.event.Event.{Event}

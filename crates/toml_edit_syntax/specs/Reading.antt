@@ -17,7 +17,7 @@ use Rattle.toml_edit_syntax.specs.Events.{statement_events, events_from, events_
 abbrev pub end_at : Text → Read (Text × Text)
 end_at t = option_map (λ rest. ((front t (line_end_rest t), front (line_end_rest t) rest), rest)) (newline_rest (line_end_rest t))
 
--- The rest of a key line behind its trivia, which begins at this byte, and whose value stands inside so many brackets: none in a
+-- The rest of a key line after its trivia, which begins at this byte, and whose value is inside so many brackets: none in a
 -- document. Where more are open than may be, none is one too many.
 unfoldable pub key_line_at : ℕ → ℕ → Text → Text → Reading Statement
 key_line_at level at leading t =
@@ -44,14 +44,14 @@ made_header leading is_array opening path e =
       trailing = e.1.0;
     }) e.1.1
 
--- a header behind its trivia
+-- a header after its trivia
 unfoldable pub header_at : Text → Text → Reading Statement
 header_at leading t =
     let brackets = opening_at t in
     let white = split_while is_blank brackets.1 in
     follow (reading (path_at white.1)) (λ path rest. changed (made_header leading brackets.0 white.0 path) (reading (header_end_at brackets.0 rest)))
 
--- a statement behind its trivia
+-- a statement after its trivia
 unfoldable pub statement_at : ℕ → ℕ → Text → Text → Reading Statement
 statement_at level at leading t = if first t == 0x5B then header_at leading t else key_line_at level at leading t
 

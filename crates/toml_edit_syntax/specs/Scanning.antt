@@ -4,7 +4,7 @@ use Rattle.toml_edit_model.specs.Text.{Text}
 use Rattle.toml_edit_model.specs.Trivia.{is_blank, is_visible}
 use Rattle.toml_edit_laws.specs.reading.Runs.{first, split_while}
 
--- what stands before this rest
+-- what is before this rest
 abbrev pub front : Text → Text → Text
 front t rest = take (length t - length rest) t
 
@@ -25,13 +25,13 @@ scan inside (c ∷ cs) =
     let state = turn inside c (first cs) in
     if is_some state then (suc (scan (unwrap_or state false) cs).0, (scan (unwrap_or state false) cs).1) else (0, inside)
 
--- behind white space and a comment
+-- after white space and a comment
 unfoldable pub line_end_rest : Text → Text
 line_end_rest t =
     let rest = (split_while is_blank t).1 in
     if first rest == 35 then (split_while is_visible (drop 1 rest)).1 else rest
 
--- behind a newline, or at the end
+-- after a newline, or at the end
 unfoldable pub newline_rest : Text → Option Text
 newline_rest t =
     if first t == 10 then Some (drop 1 t)
@@ -52,7 +52,7 @@ equals_at t =
 unfoldable pub opening_at : Text → Bool × Text
 opening_at t = if slice_index t 1 == 0x5B then (true, drop 2 t) else (false, drop 1 t)
 
--- behind the closing brackets of a header, two of an array's element
+-- after the closing brackets of a header, two of an array's element
 unfoldable pub closing_rest : Bool → Text → Option Text
 closing_rest is_array t =
     if first t == 0x5D && (not is_array || slice_index t 1 == 0x5D) then Some (if is_array then drop 2 t else drop 1 t) else None

@@ -27,7 +27,7 @@ header_end_read whole is_array t =
     ∷ event LineEnd (close + length (closing_brackets is_array)) e.1.0
     ∷ []) (reading (header_end_at is_array t))
 
--- the events of a statement, by what reading gives of it behind its trivia
+-- the events of a statement, by what reading gives of it after its trivia
 abbrev pub statement_seen : ℕ → Text → Text → Reading Statement → Reading (List Event)
 statement_seen whole leading t r = seen (λ s _. statement_events (whole - length t - length leading) s) r
 

@@ -31,7 +31,7 @@ changed f (got a rest) = got (f a) rest
 changed f (deep es) = deep es
 changed f wrong = wrong
 
--- behind parts with these events
+-- after parts with these events
 abbrev pub behind : {A : Type 0} → List Event → Reading A → Reading A
 behind es (got a rest) = got a rest
 behind es (deep more) = deep (es ++ more)
@@ -66,7 +66,7 @@ abbrev pub lone_scalar : Text → Read Scalar → Reading Value
 lone_scalar t None = wrong
 lone_scalar t (Some p) = got (scalar p.0 (front t p.1)) p.1
 
--- a pair up to its value, behind this trivia
+-- a pair up to its value, after this trivia
 abbrev pub frame_at : Text → Text → Reading Frame
 frame_at leading t =
     follow (reading (path_at t)) (λ path rest. changed (λ white. record {
@@ -86,7 +86,7 @@ abbrev pub around : Text → Text → Around
 around before after = record { before = before; after = after }
 
 -- Inside so many brackets, at this byte of the text: a value; the elements of an array, and the pairs of an inline table, with the
--- comma that ends them, where one does, and the text before the closing bracket. The comma says that one stands before. The first
+-- comma that ends them, where one does, and the text before the closing bracket. The comma says that one comes before. The first
 -- number bounds the steps.
 unfoldable mutual
   pub value_at : ℕ → ℕ → ℕ → Text → Reading Value

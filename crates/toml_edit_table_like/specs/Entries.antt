@@ -40,7 +40,7 @@ IsViewOf P n = (x : Item) × P x × (n ≡ item_view x)
 abbrev pub with_entry_item : {X : Type 0} → (X → List (Slot Item)) → (List (Slot Item) → X → X) → TableLikeEntry X → Item → TableLikeEntry X
 with_entry_item entries with_entries e x = with_table (with_item_put entries with_entries (key_of e.key) x e.table.now) e
 
--- it ends with the last item behind the reference in its slot; it stays where none is lent
+-- it ends with the final item of the reference in its slot; it stays where none is lent
 abbrev pub EntryLends : (R : RattleType) → (R.Denot → List (Slot Item)) → (List (Slot Item) → R.Denot → R.Denot) → {E : Type 0} → MutBor (TableLikeEntry R.Denot)
     → Result (MutBor Item) E → Fml
 EntryLends R entries with_entries o r =

@@ -21,7 +21,7 @@ table_beside t = table (fields_view t) no_slots
 abbrev pub inline_beside : InlineTable → Node
 inline_beside t = inline (inline_fields t) no_slots
 
--- whether a table of either kind stands for a dotted key, and the table that does or doesn't
+-- whether a table of either kind is there for a dotted key, and the table that is or isn't
 abbrev pub stands_dotted : Node → Bool
 stands_dotted (table f ss) = f.is_dotted
 stands_dotted (inline f ss) = f.is_dotted

@@ -96,7 +96,7 @@ mut_roots es r = refl
 
 -- ---- loans
 
--- the item ends with the last slots behind r as those of its table
+-- the item ends with the final slots of r as those of its table
 abbrev pub LendsOwnSlots : MutBor Item → MutBor (List (Slot Item)) → Fml
 LendsOwnSlots s r = Lends item_row (slots_row item_row) s r (λ es. with_entries_in es s.now)
 

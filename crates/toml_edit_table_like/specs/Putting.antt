@@ -1,4 +1,4 @@
--- An item that is put under a key, where none stands.
+-- An item that is put under a key, where there is none.
 use Rattle.std.specs.Prelude.{List, [], ◌∷◌, ◌++◌, Result}
 use Rattle.std.specs.Borrow.{Fml, LendsIfOk, MutBor}
 use Rattle.std.specs.Option.{option_map_or}
@@ -17,6 +17,6 @@ item_put k x es = option_map_or (λ at. with_item at x es) (place k.name es) (es
 abbrev pub with_item_put : {X : Type 0} → (X → List (Slot Item)) → (List (Slot Item) → X → X) → Key → Item → X → X
 with_item_put entries with_entries k x t = with_entries (item_put k x (entries t)) t
 
--- it ends with the last item behind r in the slot of the key, which may be new; it stays where none is lent
+-- it ends with the final item of r in the slot of the key, which may be new; it stays where none is lent
 abbrev pub LendsPut : (R : RattleType) → (R.Denot → List (Slot Item)) → (List (Slot Item) → R.Denot → R.Denot) → {E : Type 0} → MutBor R.Denot → Key → Result (MutBor Item) E → Fml
 LendsPut R entries with_entries s k r = LendsIfOk R item_row s r (λ w. with_item_put entries with_entries k w s.now) s.now

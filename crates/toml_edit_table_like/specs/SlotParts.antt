@@ -64,7 +64,7 @@ module _ {X : Type 0} {g : Ghosts X} where
 abbrev pub RestsIfAbsent : (R : RattleType) {g : Ghosts R.Denot} → MutBor R.Denot → Option (TableLikeSlot R.Denot g) → Fml
 RestsIfAbsent R s r = RestsIfNone R s (λ p. p.table.ghost_name) r (λ n. n ≡ s.now)
 
--- the slot ends with the last item behind the reference, with the last parts of its key, or with the last decor as one of its key's
+-- the slot ends with the final item of the reference, with the final parts of its key, or with the final decor as one of its key's
 abbrev pub SlotLends : (R : RattleType) {g : Ghosts R.Denot} → MutBor (TableLikeSlot R.Denot g) → MutBor Item → Fml
 SlotLends R {g} o r = follows (lent.the_row (record { mir = named 1; lft = [] }) R g) item_row o.ghost_name r.ghost_name (with_slot_item o.now)
 

@@ -26,11 +26,11 @@ abbrev pub part_of : Form → Text → Read Text
 part_of Basic = basic_part_at
 part_of Literal = literal_part_at
 
--- a string of the form behind its opening, in at most n parts
+-- a string of the form after its opening, in at most n parts
 abbrev pub form_at : Form → ℕ → Text → Read Text
 form_at f n t = parts_at (part_of f) (delimiter_of f) n t
 
--- the form of the string that opens, and the text behind its opening
+-- the form of the string that opens, and the text after its opening
 unfoldable pub opening_at : Text → Option (Form × Text)
 opening_at t =
     if has_three quote t then Some (Basic, inside t)

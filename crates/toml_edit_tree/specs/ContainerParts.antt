@@ -30,7 +30,7 @@ use Rattle.toml_edit_tree.specs.contracts.item.Item.{the_row as item_row}
 use Rattle.toml_edit_tree.specs.contracts.table.Table.{the_row as table_row}
 use Rattle.toml_edit_tree.specs.contracts.value.Value.{the_row as value_row}
 
--- the array, the inline table, or the table, ends with the last decor behind r
+-- the array, the inline table, or the table, ends with the final decor of r
 abbrev pub LendsArrayDecor : MutBor Array → MutBor Decor → Fml
 LendsArrayDecor s r = Lends array_row decor_row s r (λ w. record s.now { decor = w })
 
@@ -44,25 +44,25 @@ LendsTableDecor s r = Lends table_row decor_row s r (λ w. record s.now { decor 
 abbrev pub holding : List (Slot Item) → InlineTable → InlineTable
 holding slots t = record t { items = slots }
 
--- it ends with the last slots behind r
+-- it ends with the final slots of r
 abbrev pub LendsInlineSlots : MutBor InlineTable → MutBor (List (Slot Item)) → Fml
 LendsInlineSlots s r = Lends inline_row (slots_row item_row) s r (λ w. holding w s.now)
 
--- the same of a table
+-- the table with these slots
 abbrev pub table_holding : List (Slot Item) → Table → Table
 table_holding slots t = record t { slots = slots }
 
 abbrev pub LendsTableSlots : MutBor Table → MutBor (List (Slot Item)) → Fml
 LendsTableSlots s r = Lends table_row (slots_row item_row) s r (λ w. table_holding w s.now)
 
--- the value ends as the last array, or the last inline table, behind r, where it is one
+-- the value ends as the final array, or the final inline table, of r, where it is one
 abbrev pub LendsArray : MutBor Value → Option (MutBor Array) → Fml
 LendsArray s r = LendsIf value_row array_row s r (λ w. values.Array w) s.now
 
 abbrev pub LendsInline : MutBor Value → Option (MutBor InlineTable) → Fml
 LendsInline s r = LendsIf value_row inline_row s r (λ w. values.InlineTable w) s.now
 
--- the item ends as the last table, or the last array of tables, behind r, where it is one
+-- the item ends as the final table, or the final array of tables, of r, where it is one
 abbrev pub LendsTable : MutBor Item → Option (MutBor Table) → Fml
 LendsTable s r = LendsIf item_row table_row s r (λ w. items.Table w) s.now
 

@@ -1,4 +1,4 @@
--- Arrays, inline tables, tables and arrays of tables as contracts see them, and what their calls answer.
+-- Arrays, inline tables, tables and arrays of tables as contracts see them, and what their calls return.
 use Rattle.std.specs.Prelude.{ℕ, ℤ, Bool, false, List, [], ◌∷◌, Option, Some, None, if◌then◌else◌}
 use Rattle.std.specs.declared.ops.Range.{Range}
 use Rattle.toml_edit_model.specs.Tree.{Raw, Decor, Key, Extent, unset, ArrayFields, InlineFields, TableFields, Node, list, inline, table, tables, Items, no_items, item, Slots, no_slots, slot, is_value_node}
@@ -34,7 +34,7 @@ table_node t = table t.fields t.slots
 abbrev pub tables_node : TablesView → Node
 tables_node a = tables a.extent a.items
 
--- items and slots that stand in a list
+-- items and slots that are in a list
 abbrev pub items_from : List Node → Items
 items_from [] = no_items
 items_from (n ∷ ns) = item n (items_from ns)
@@ -111,7 +111,7 @@ tables_in n = None
 
 -- ---- places
 
--- where it stands in the source
+-- where it is in the source
 abbrev pub range_in : Extent → Option (Range ℕ)
 range_in None = None
 range_in (Some (i, j)) = Some (record { start = i; end = j })

@@ -1,4 +1,4 @@
--- The parts of conversions: each item made a value, a container of the same slots in its new form, and what may be a table.
+-- The parts of conversions: each item made a value, a container of those slots in its new form, and what may be a table.
 use Rattle.std.specs.Prelude.{Bool, not, ◌||◌}
 use Rattle.toml_edit_model.specs.Tree.{Node, list, inline, table, tables, Items, no_items, item, Slots, no_slots, slot, is_value_node}
 use Rattle.toml_edit_model.specs.Lists.{slot_list, slots_from, item_list, items_from, is_inline_node}

@@ -8,7 +8,7 @@ use Rattle.toml_edit_tree.specs.View.{table_view, value_view}
 use Rattle.toml_edit_tree.specs.declared.table.Table.{Table}
 use Rattle.toml_edit_tree.specs.declared.value.Value.{Value}
 
--- some call of f at a value that is seen as n, or at a table, answered b
+-- some call of f at a value that is seen as n, or at a table, returned b
 abbrev pub SaysOfValue : {F : Type 0} → Shared F (Bor Value × Unit {0}) Bool → F → Node → Bool → Type 0
 SaysOfValue g f n b = (v : Value) × (value_view v ≡ n) × FnReturnsAt g f v b
 
@@ -17,6 +17,6 @@ SaysOfTable g f n b = (t : Table) × (table_node (table_view t) ≡ n) × FnRetu
 
 -- ---- at items, of which a closure is shown those that pass a test
 
--- what a `retain` of items says of n: the closure's answer where n passes, and else false
+-- what a `retain` of items says of n: the closure's result where n passes, and else false
 abbrev pub KeepsOnly : (Node → Bool) → (Node → Bool → Type 0) → Node → Bool → Type 0
 KeepsOnly test says n b = MatchBool (test n) (says n b) (b ≡ false)

@@ -7,6 +7,6 @@ use Rattle.toml_edit_tree.specs.declared.value.Value.{Value}
 use Rattle.toml_edit_tree.specs.contracts.item.Item.{the_row as item_row}
 use Rattle.toml_edit_tree.specs.contracts.value.Value.{the_row as value_row}
 
--- the item ends as the last value behind r, where it is one
+-- the item ends as the final value of r, where it is one
 abbrev pub LendsValue : MutBor Item → Option (MutBor Value) → Fml
 LendsValue s r = LendsIf item_row value_row s r (λ w. items.Value w) s.now

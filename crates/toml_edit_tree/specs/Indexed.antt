@@ -30,7 +30,7 @@ use Rattle.toml_edit_tree.specs.declared.value.Value.TheVariants as values
 abbrev pub shown_slots : List (Slot Item) → List (model.Slot Node)
 shown_slots es = slot_list (slots_view es)
 
--- the item, or another one in a placeholder's stead
+-- the item, or another one in place of a placeholder
 abbrev pub or_else : Node → Node → Node
 or_else x nothing = x
 or_else x (leaf s spelling d) = leaf s spelling d
@@ -55,7 +55,7 @@ slots_put k x es = option_map_or (λ at. with_item at x es) (place k es) (es ++ 
 abbrev pub item_put : Text → Item → Table → Table
 item_put k x t = record t { slots = slots_put k x (out-Table t).slots }
 
--- it ends with the last item behind r in the slot of the key, which may be new; it stays where none is lent
+-- it ends with the final item of r in the slot of the key, which may be new; it stays where none is lent
 abbrev pub LendsMade : {E : Type 0} → MutBor Table → Text → Result (MutBor Item) E → Fml
 LendsMade s k r = LendsIfOk table_row item_row s r (λ w. item_put k w s.now) s.now
 
@@ -105,7 +105,7 @@ item_holding (Item-F.ArrayOfTables a) es x = x
 abbrev pub with_slots : List (Slot Item) → Item → Item
 with_slots es x = item_holding (out-Item x) es x
 
--- they end with the last slots behind r, where some are lent
+-- they end with the final slots of r, where some are lent
 abbrev pub LendsValueSlots : MutBor Value → Option (MutBor (List (Slot Item))) → Fml
 LendsValueSlots s r = LendsIf value_row (slots_row item_row) s r (λ w. value_with_slots w s.now) s.now
 

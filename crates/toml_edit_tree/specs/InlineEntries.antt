@@ -76,7 +76,7 @@ with_inline_entry_key o h = record {
   held = has-on_key h (out-InlineTable o.table.now).items o.at ∙ o.held;
 }
 
--- An entry of this inline table for the key, once what stands there is made a value: what is there by its name, and what a value leaves
+-- An entry of this inline table for the key, once what is there is made a value: what is there by its name, and what a value leaves
 -- there. A present key stays as it is.
 pub record IsInlineEntryOf (t : InlineTable) (k : Key) (e : InlineEntry) : Type 0 where
   pub slots : inline_slots_of (inline_ref e).now ≡ entered k.name (inline_slots_of t)
@@ -86,11 +86,11 @@ pub record IsInlineEntryOf (t : InlineTable) (k : Key) (e : InlineEntry) : Type 
   pub leaves : (x : Value) → inline_slots_of (inline_with e x) ≡ model.put (model.with_item (value_view x)) (record { key = k; item = value_view x }) (inline_slots_of t)
   pub keeps : (x : Value) → inline_fields (inline_with e x) ≡ inline_fields t
 
--- the inline table ends with the last value behind the reference
+-- the inline table ends with the final value of the reference
 abbrev pub InlineLends : InlineEntry → MutBor Value → Fml
 InlineLends e r = follows inline_row value_row (inline_ref e).ghost_name r.ghost_name (inline_with e)
 
--- the same where a value is lent; it stays where it isn't
+-- it ends so where a value is lent; it stays where it isn't
 abbrev pub InlineLendsOk : {E : Type 0} → InlineEntry → Result (MutBor Value) E → Fml
 InlineLendsOk e r = follows_if inline_row value_row (inline_ref e).ghost_name (name_if_ok (λ x. x.ghost_name) r) (inline_with e) (inline_ref e).now
 
@@ -98,7 +98,7 @@ InlineLendsOk e r = follows_if inline_row value_row (inline_ref e).ghost_name (n
 abbrev pub InlineRestsIfRefused : {E : Type 0} → MutBor InlineTable → Result InlineEntry E → Fml
 InlineRestsIfRefused s r = RestsIfErr inline_row s (λ e. (inline_ref e).ghost_name) r (λ n. n ≡ s.now)
 
--- the entry ends with the last value behind the reference in its slot, or with the last decor as one of its key's
+-- the entry ends with the final value of the reference in its slot, or with the final decor as one of its key's
 abbrev pub InlineOccupiedLends : MutBor InlineOccupiedEntry → MutBor Value → Fml
 InlineOccupiedLends o r = follows (occupied.the_row (record { mir = named 1; lft = [] })) value_row o.ghost_name r.ghost_name (with_entry_value o.now)
 

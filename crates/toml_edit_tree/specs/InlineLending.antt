@@ -37,28 +37,28 @@ value_put k v t =
           ((out-InlineTable t).items ++ record { key = new_key k; item = items.Value v } ∷ []);
     }
 
--- the inline table ends with the last value behind r in the slot at the place, or in that of the key, where a value is lent
+-- the inline table ends with the final value of r in the slot at the place, or in that of the key, where a value is lent
 abbrev pub LendsValueAt : MutBor InlineTable → ℕ → MutBor Value → Fml
 LendsValueAt s at r = Lends inline_row value_row s r (λ w. with_value_at at w s.now)
 
 abbrev pub LendsValueUnder : MutBor InlineTable → Text → Option (MutBor Value) → Fml
 LendsValueUnder s k r = LendsIf inline_row value_row s r (λ w. with_value_under k w s.now) s.now
 
--- it ends with the last value behind r in the slot of the key, which may be new; it stays where none is lent
+-- it ends with the final value of r in the slot of the key, which may be new; it stays where none is lent
 abbrev pub LendsPut : {E : Type 0} → MutBor InlineTable → Text → Result (MutBor Value) E → Fml
 LendsPut s k r = LendsIfOk inline_row value_row s r (λ w. value_put k w s.now) s.now
 
--- the inline table ends with the last parts of the key at the place behind those that are lent
+-- the inline table ends with the final parts of r in the key at the place
 abbrev pub LendsInlineKeyAt : MutBor InlineTable → ℕ → KeyMut → Fml
 LendsInlineKeyAt s at r = follows inline_row parts_row s.ghost_name (lent_parts r).ghost_name (λ w. with_inline_key at (with_parts w) s.now)
 
--- it ends with the last decor behind r as one of the key's at the place
+-- it ends with the final decor of r as one of the key's at the place
 abbrev pub LendsInlineLeafAt : MutBor InlineTable → ℕ → MutBor Decor → Fml
 LendsInlineLeafAt s at r = Lends inline_row decor_row s r (λ w. with_inline_key at (λ k. record k { leaf = w }) s.now)
 
 abbrev pub LendsInlineDottedAt : MutBor InlineTable → ℕ → MutBor Decor → Fml
 LendsInlineDottedAt s at r = Lends inline_row decor_row s r (λ w. with_inline_key at (λ k. record k { dotted = w }) s.now)
 
--- the item ends as the last value behind r
+-- the item ends as the final value of r
 abbrev pub LendsOwnValue : MutBor Item → MutBor Value → Fml
 LendsOwnValue s r = Lends item_row value_row s r (λ w. items.Value w)

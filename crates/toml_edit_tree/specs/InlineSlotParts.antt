@@ -51,7 +51,7 @@ with_slot_key o h = record {
   within = subst (λ n. o.at < n) (sym (length-on_key h (out-InlineTable o.table.now).items o.at)) o.within;
 }
 
--- the inline table ends with the last item behind r in the slot at the place
+-- the inline table ends with the final item of r in the slot at the place
 abbrev pub LendsInlineItemAt : MutBor InlineTable → ℕ → MutBor Item → Fml
 LendsInlineItemAt s at r = Lends inline_row item_row s r (λ w. with_inline_item at w s.now)
 
@@ -59,7 +59,7 @@ LendsInlineItemAt s at r = Lends inline_row item_row s r (λ w. with_inline_item
 abbrev pub SlotRestsIfAbsent : MutBor InlineTable → Option InlineSlotMut → Fml
 SlotRestsIfAbsent s r = RestsIfNone inline_row s (λ o. (slot_ref o).ghost_name) r (λ n. n ≡ s.now)
 
--- the slot ends with the last item behind the reference, with the last parts of its key, or with the last decor as one of its key's
+-- the slot ends with the final item of the reference, with the final parts of its key, or with the final decor as one of its key's
 abbrev pub SlotLends : MutBor InlineSlotMut → MutBor Item → Fml
 SlotLends o r = follows (lent.the_row (record { mir = named 1; lft = [] })) item_row o.ghost_name r.ghost_name (with_slot_item o.now)
 

@@ -1,4 +1,4 @@
--- The values that stand in an inline table by place.
+-- The values that are in an inline table by place.
 use Rattle.std.specs.Prelude.{◌≡◌, ℕ, zero, suc, Bool, true, List, [], ◌∷◌, Option, Some, is_some, slice_get, option_and_then, IfSome}
 use Rattle.std.proofs.Common.{refl, ap}
 use Rattle.toml_edit_model.specs.Conversions.{made_value_or}
@@ -19,7 +19,7 @@ value_at at es = option_and_then value_held (slice_get (items_of es) at)
 abbrev pub has_value_at : ℕ → List (Slot Item) → Bool
 has_value_at at es = is_some (value_at at es)
 
--- another item in the slot at a place: what stood there made a value, and d in a placeholder's stead
+-- another item in the slot at a place: what was there made a value, and d in place of a placeholder
 abbrev pub MakesValueAt : Node → ℕ → List (Slot Item) → List (Slot Item) → Type 0
 MakesValueAt d at es fs =
     (w : Item) × (fs ≡ with_item at w es) × (is_some (value_held w) ≡ true) × IfSome (slice_get (items_of es) at) (λ x. item_view w ≡ made_value_or d (item_view x))

@@ -1,4 +1,4 @@
--- What `get_values` answers, behind its references.
+-- What `get_values` returns, without its references.
 use Rattle.std.specs.Prelude.{List, Vec, map}
 use Rattle.std.specs.Borrow.{Bor}
 use Rattle.std.specs.declared.alloc.Global.{Global}

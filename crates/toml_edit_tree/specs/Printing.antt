@@ -11,7 +11,7 @@ use Rattle.toml_edit_model.specs.Print.{Line, one_space, dot_prefix, dot_suffix,
 use Rattle.toml_edit_laws.specs.PrintByVisits.{has_dotted_lines, has_inside_of}
 use Rattle.toml_edit_tree.specs.declared.encode.Path as paths
 
--- the same as `WritesOnOk`, where the answer has a value
+-- as `WritesOnOk`, where the result has a value
 abbrev pub WritesWithAnswer : {W A : Type 0} → (W → List ℕ → W → Type 0) → Formatter W → Result A Error → List ℕ → Formatter W → Type 0
 WritesWithAnswer took f r bs g = IsPlainFormatter f → IsOk r → HasWritten took f bs g
 
@@ -48,7 +48,7 @@ module _ (mode : Mode) where
 
   -- ---- keys
 
-  -- what stands before a key that ends a path, behind these keys
+  -- what is before a key that ends a path, after these keys
   abbrev pub before_key : List Key → Key → Text
   before_key ks k = if is_empty ks then [] else dot_prefix mode k
 
@@ -58,7 +58,7 @@ module _ (mode : Mode) where
   dotted_keys is_first (k ∷ ks) =
       (if is_first then [] else dot_prefix mode k) ++ (key_text k ++ (dot_suffix mode k ++ (codes "." ++ dotted_keys false ks)))
 
-  -- the key of a line or a pair, behind these keys, with its decor and the `=`
+  -- the key of a line or a pair, after these keys, with its decor and the `=`
   abbrev pub key_part : Text → List Key → Key → Text
   key_part default ks k =
       shown_prefix mode default k.leaf ++ (dotted_keys true ks ++ (before_key ks k ++ (key_text k ++ (shown_suffix mode one_space k.leaf ++ codes "="))))
@@ -96,17 +96,17 @@ module _ (mode : Mode) where
       shown_prefix mode default (last_leaf l.keys) ++ (path_text (segments mode l.keys) ++ (shown_suffix mode one_space (last_leaf l.keys) ++ (codes "=" ++
       (shown_prefix mode one_space (node_decor l.item) ++ value_text l.value))))
 
-  -- what stands between a pair of this decor, if there is one, and the next
+  -- what is between a pair of this decor, if there is one, and the next
   abbrev pub between_pairs : Option Decor → Text
   between_pairs None = []
   between_pairs (Some d) = shown_suffix mode [] d ++ codes ","
 
-  -- what stands between the last pair, of this decor, if there is one, and the text before the brace
+  -- what is between the last pair, of this decor, if there is one, and the text before the brace
   abbrev pub after_pairs : Bool → Option Decor → Text
   after_pairs comma None = []
   after_pairs comma (Some d) = shown_suffix mode one_space d ++ comma_text comma
 
-  -- the pairs behind one of this decor, up to the end of the last value
+  -- the pairs after one of this decor, up to the end of the last value
   abbrev pub pairs_shown : Option Decor → List Line → Text
   pairs_shown before [] = []
   pairs_shown before (l ∷ ls) = between_pairs before ++ (line_start one_space l ++ pairs_shown (Some (node_decor l.item)) ls)

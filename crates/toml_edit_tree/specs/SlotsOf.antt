@@ -23,7 +23,7 @@ slots_of t = slot_list (table_slots t)
 abbrev pub inline_slots_of : InlineTable → List (Slot Node)
 inline_slots_of t = slot_list (inline_view t).slots
 
--- a key with its item, behind two references and by themselves
+-- a key with its item, by two references and by themselves
 abbrev pub slot_read : Bor Key × Bor Item → Slot Node
 slot_read p = record { key = p.0.now; item = item_view p.1.now }
 
@@ -40,7 +40,7 @@ formatted_slot s = if is_value_node s.item then record { key = cleared_key s.key
 abbrev pub AddsSlots : Table → List (Key × Item) → Table → Type 0
 AddsSlots old ps new = (slots_of new ≡ extended (map slot_taken ps) (slots_of old)) × (fields_view new ≡ fields_view old)
 
--- some call of f at the slot's name, and at an item that is seen as its item, answered b
+-- some call of f at the slot's name, and at an item that is seen as its item, returned b
 abbrev pub SaysOfItem : {F : Type 0} → Shared F (Bor Text × (Bor Item × Unit {0})) Bool → F → Slot Node → Bool → Type 0
 SaysOfItem g f s b = (x : Item) × (item_view x ≡ s.item) × FnReturnsAtTwo g f s.key.name x b
 

@@ -17,9 +17,9 @@ use Rattle.toml_edit_tree.specs.View.{item_view, value_view}
 abbrev pub items_seen : List (code.Slot Item) → List (Slot Node)
 items_seen es = map (slot_seen item_view) es
 
--- ---- closures that compare two slots, by their keys and what stands under them
+-- ---- closures that compare two slots, by their keys and what is under them
 
--- each call of f at two slots answers `Less` just where lt holds of them
+-- each call of f at two slots returns `Less` just where lt holds of them
 abbrev pub ComparesItems : {F : Type 0} → Mut F (Bor Key × (Bor Item × (Bor Key × (Bor Item × Unit {0})))) Ordering → (Slot Node → Slot Node → Bool) → F → Type 0
 ComparesItems g lt =
     AlwaysReturns g (λ a r. is_lt r ≡ lt (record { key = a.0.now; item = item_view a.1.0.now }) (record { key = a.1.1.0.now; item = item_view a.1.1.1.0.now }))
@@ -28,7 +28,7 @@ abbrev pub ComparesPairs : {F : Type 0} → Mut F (Bor Key × (Bor Value × (Bor
 ComparesPairs g lt =
     AlwaysReturns g (λ a r. is_lt r ≡ lt (record { key = a.0.now; item = value_view a.1.0.now }) (record { key = a.1.1.0.now; item = value_view a.1.1.1.0.now }))
 
--- ---- sorts by each test by which f answers `Less`
+-- ---- sorts by each test by which f returns `Less`
 
 -- of the slots of a table, with those of the dotted tables inside
 abbrev pub SortsTableAs : {F : Type 0} → Mut F (Bor Key × (Bor Item × (Bor Key × (Bor Item × Unit {0})))) Ordering → F → List (Slot Node) → List (Slot Node) → Type 0
@@ -48,7 +48,7 @@ SortsItemAs enters g f before after = (lt : Slot Node → Slot Node → Bool) �
 abbrev pub SortsItemsAs : {F : Type 0} → Mut F (Bor Key × (Bor Item × (Bor Key × (Bor Item × Unit {0})))) Ordering → F → List (Slot Node) → List (Slot Node) → Type 0
 SortsItemsAs g f before after = (lt : Slot Node → Slot Node → Bool) → ComparesItems g lt f → IsSortOf lt before after
 
--- ---- one answer about two slots
+-- ---- one result for two slots
 
 -- where f compares by lt, it is as lt has it
 abbrev pub AnswersItems : {F : Type 0} → Mut F (Bor Key × (Bor Item × (Bor Key × (Bor Item × Unit {0})))) Ordering → F → Slot Node → Slot Node → Ordering → Type 0

@@ -80,11 +80,11 @@ pub record IsEntryOf (t : Table) (k : Key) (e : Entry) : Type 0 where
   pub leaves : (x : Item) → slots_of (table_with e x) ≡ model.put (model.with_item (item_view x)) (record { key = k; item = item_view x }) (slots_of t)
   pub keeps : (x : Item) → fields_view (table_with e x) ≡ fields_view t
 
--- the table ends with the last item behind the reference
+-- the table ends with the final item of the reference
 abbrev pub EntryLends : Entry → MutBor Item → Fml
 EntryLends e r = follows table_row item_row (entry_ref e).ghost_name r.ghost_name (table_with e)
 
--- the same where an item is lent; it stays where it isn't
+-- it ends so where an item is lent; it stays where it isn't
 abbrev pub EntryLendsOk : {E : Type 0} → Entry → Result (MutBor Item) E → Fml
 EntryLendsOk e r = follows_if table_row item_row (entry_ref e).ghost_name (name_if_ok (λ x. x.ghost_name) r) (table_with e) (entry_ref e).now
 
@@ -95,7 +95,7 @@ RestsIfRefused s r = RestsIfErr table_row s (λ e. (entry_ref e).ghost_name) r (
 abbrev pub RestsIfAbsent : MutBor Table → Option OccupiedEntry → Fml
 RestsIfAbsent s r = RestsIfNone table_row s (λ o. o.table.ghost_name) r (λ n. n ≡ s.now)
 
--- the entry ends with the last item behind the reference in its slot, or with the last decor as one of its key's
+-- the entry ends with the final item of the reference in its slot, or with the final decor as one of its key's
 abbrev pub OccupiedLends : MutBor OccupiedEntry → MutBor Item → Fml
 OccupiedLends o r = follows (occupied.the_row (record { mir = named 1; lft = [] })) item_row o.ghost_name r.ghost_name (with_entry_item o.now)
 

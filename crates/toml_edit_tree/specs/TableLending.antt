@@ -22,7 +22,7 @@ abbrev pub with_item_under : Text → Item → Table → Table
 with_item_under k x t =
     record t { slots = option_map_or (λ at. with_item at x (out-Table t).slots) (place k (out-Table t).slots) (out-Table t).slots }
 
--- the table ends with the last item behind r in the slot of the key, where an item is lent
+-- the table ends with the final item of r in the slot of the key, where an item is lent
 abbrev pub LendsHeld : MutBor Table → Text → Option (MutBor Item) → Fml
 LendsHeld s k r = LendsIf table_row item_row s r (λ w. with_item_under k w s.now) s.now
 
@@ -33,11 +33,11 @@ with_item_at at x t = record t { slots = with_item at x (out-Table t).slots }
 abbrev pub with_key_at : ℕ → (Key → Key) → Table → Table
 with_key_at at h t = record t { slots = on_key at h (out-Table t).slots }
 
--- the table ends with the last parts of the key at the place behind those that are lent
+-- the table ends with the final parts of r in the key at the place
 abbrev pub LendsKeyAt : MutBor Table → ℕ → KeyMut → Fml
 LendsKeyAt s at r = follows table_row parts_row s.ghost_name (lent_parts r).ghost_name (λ w. with_key_at at (with_parts w) s.now)
 
--- the table ends with the last item behind r in the slot at the place, or with the last decor as one of the key's there
+-- the table ends with the final item of r in the slot at the place, or with the final decor as one of the key's there
 abbrev pub LendsItemAt : MutBor Table → ℕ → MutBor Item → Fml
 LendsItemAt s at r = Lends table_row item_row s r (λ w. with_item_at at w s.now)
 

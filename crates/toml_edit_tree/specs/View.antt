@@ -1,4 +1,4 @@
--- The tree that an item, a table and a document stand for.
+-- The tree that an item, a table and a document represent.
 use Rattle.std.specs.Prelude.{List, map, string_bytes}
 use Rattle.std.specs.Bool.{then_some}
 use Rattle.toml_edit_model.specs.Scalars.{string, integer, float, boolean, datetime}

@@ -267,7 +267,10 @@ impl Array {
     }
 }
 
-/// The array between the sides of its decor, which are empty where they are unset.
+/// Writes the array with its decor, of which unset sides are empty.
+///
+/// Carriage returns (CR) outside strings are dropped. Before `into_mut`, spellings and decors are
+/// spans of the source, which are written as if they were unset.
 impl fmt::Display for Array {
     ghost use Rattle.std.specs.Prelude.{Some};
     ghost use Rattle.toml_edit_model.specs.Conversions.{value_display};

@@ -156,6 +156,7 @@ fn make_inside(item: &mut Item)
     }
 }
 
+/// Makes each item in a table a value.
 #[cycle(convert)]
 fn make_inside_table(table: &mut Table)
     ensures { table_node (table_view table.new) ≡ inside_made (table_node (table_view table.old)) }
@@ -163,6 +164,7 @@ fn make_inside_table(table: &mut Table)
     make_slots(&mut table.slots);
 }
 
+/// Makes each item in an array of tables a value.
 #[cycle(convert)]
 fn make_inside_tables(tables: &mut ArrayOfTables)
     ensures { tables_node (tables_view tables.new) ≡ inside_made (tables_node (tables_view tables.old)) }
@@ -170,6 +172,7 @@ fn make_inside_tables(tables: &mut ArrayOfTables)
     make_items(&mut tables.values);
 }
 
+/// Makes the item of each slot a value. What it holds comes first, so that no table is left inside.
 #[cycle(convert)]
 fn make_slots(slots: &mut Slots<Item>)
     ensures { slots_view slots.new ≡ each_slot_made (slots_view slots.old) }
@@ -181,6 +184,7 @@ fn make_slots(slots: &mut Slots<Item>)
     }
 }
 
+/// Makes each item a value, from the inside out.
 #[cycle(convert)]
 fn make_items(items: &mut Vec<Item>)
     ensures { items_view items.new.items ≡ each_made (items_view items.old.items) }
@@ -200,6 +204,7 @@ fn renew(item: &mut Item)
     drop(mem::replace(item, made));
 }
 
+/// Returns a table as an inline table, an array of tables as an array, and any other item as it is.
 fn renewed(item: Item) -> Item
     ensures { item_view result ≡ in_new_form (item_view item) }
 {
@@ -308,6 +313,7 @@ fn tables_of_items(items: Vec<Item>) -> ArrayOfTables
     ArrayOfTables { values, span: None }
 }
 
+/// Makes each inline table a table.
 fn make_tables(items: &mut Vec<Item>)
     ensures { items_view items.new.items ≡ tables_made (items_view items.old.items) }
 {
@@ -324,6 +330,7 @@ fn make_table(item: &mut Item)
     drop(mem::replace(item, made));
 }
 
+/// Returns an inline table as a table, and any other item as it is.
 fn as_table(item: Item) -> Item
     ensures { item_view result ≡ made_table (item_view item) }
 {

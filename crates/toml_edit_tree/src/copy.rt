@@ -12,6 +12,7 @@ use std::alloc::Global;
 use toml_edit_repr::Mem;
 use toml_edit_slots::{Slot, Slots};
 
+/// Copies an item, with all that it holds.
 #[cycle(copy)]
 pub(crate) fn copy_item(item: &Item, alloc: Global) -> Mem<Item>
     ensures { IfOk result (λ copy. item_view copy ≡ item_view item.now) }
@@ -24,6 +25,7 @@ pub(crate) fn copy_item(item: &Item, alloc: Global) -> Mem<Item>
     }
 }
 
+/// Copies a value, with its spelling and its decor.
 #[cycle(copy)]
 pub(crate) fn copy_value(value: &Value, alloc: Global) -> Mem<Value>
     ensures { IfOk result (λ copy. value_view copy ≡ value_view value.now) }
@@ -39,6 +41,7 @@ pub(crate) fn copy_value(value: &Value, alloc: Global) -> Mem<Value>
     }
 }
 
+/// Copies an array, with its decor and what is before its closing bracket.
 #[cycle(copy)]
 pub(crate) fn copy_array(array: &Array, alloc: Global) -> Mem<Array>
     ensures { IfOk result (λ copy. array_view copy ≡ array_view array.now) }
@@ -55,6 +58,7 @@ pub(crate) fn copy_array(array: &Array, alloc: Global) -> Mem<Array>
     })
 }
 
+/// Copies an inline table, with its decor and what is before its closing brace.
 #[cycle(copy)]
 pub(crate) fn copy_inline(table: &InlineTable, alloc: Global) -> Mem<InlineTable>
     ensures { IfOk result (λ copy. inline_view copy ≡ inline_view table.now) }
@@ -73,6 +77,7 @@ pub(crate) fn copy_inline(table: &InlineTable, alloc: Global) -> Mem<InlineTable
     })
 }
 
+/// Copies a table, with its decor, its flags and its position.
 #[cycle(copy)]
 pub(crate) fn copy_table(table: &Table, alloc: Global) -> Mem<Table>
     ensures { IfOk result (λ copy. table_view copy ≡ table_view table.now) }
@@ -89,6 +94,7 @@ pub(crate) fn copy_table(table: &Table, alloc: Global) -> Mem<Table>
     })
 }
 
+/// Copies an array of tables.
 #[cycle(copy)]
 pub(crate) fn copy_tables(tables: &ArrayOfTables, alloc: Global) -> Mem<ArrayOfTables>
     ensures { IfOk result (λ copy. tables_view copy ≡ tables_view tables.now) }
@@ -100,6 +106,7 @@ pub(crate) fn copy_tables(tables: &ArrayOfTables, alloc: Global) -> Mem<ArrayOfT
     })
 }
 
+/// Copies the items of an array or of an array of tables, placeholders included.
 #[cycle(copy)]
 fn copy_items(items: &Vec<Item>, alloc: Global) -> Mem<Vec<Item>>
     ensures { IfOk result (λ copy. items_view copy.items ≡ items_view items.now.items) }
@@ -111,6 +118,7 @@ fn copy_items(items: &Vec<Item>, alloc: Global) -> Mem<Vec<Item>>
     Ok(copies)
 }
 
+/// Copies the slots of a table, placeholders included. Keys keep their spellings and decors.
 #[cycle(copy)]
 fn copy_slots(slots: &Slots<Item>, alloc: Global) -> Mem<Slots<Item>>
     ensures { IfOk result (λ copy. slots_view copy ≡ slots_view slots.now) }

@@ -1,5 +1,7 @@
-//! Replacing the spans of items by texts, in place, with a function for each type that holds
-//! others.
+//! Replacing the spans of items by the texts of the source, in place, with a function for each type
+//! that holds others.
+//!
+//! A call that runs out of memory leaves some of the spans.
 ghost use Rattle.std.specs.Prelude.{◌≡◌, OnOk};
 ghost use Rattle.toml_edit_model.specs.Tree.{IsWellMade, ItemsAreWellMade, SlotsAreWellMade};
 ghost use Rattle.toml_edit_tree.specs.Containers.{array_node, inline_node, table_node, tables_node};
@@ -16,6 +18,7 @@ use std::alloc::Global;
 use toml_edit_repr::Mem;
 use toml_edit_slots::Slots;
 
+/// Replaces the spans in an item, and in all that it holds.
 #[cycle(despan)]
 pub(crate) fn despan_item(item: &mut Item, alloc: Global, source: &str) -> Mem<()>
     requires fits { NodeFits source.now (item_view item.old) }
@@ -30,6 +33,7 @@ pub(crate) fn despan_item(item: &mut Item, alloc: Global, source: &str) -> Mem<(
     }
 }
 
+/// Replaces the spans of a value: of its spelling, its decor and what it holds.
 #[cycle(despan)]
 pub(crate) fn despan_value(value: &mut Value, alloc: Global, source: &str) -> Mem<()>
     requires fits { NodeFits source.now (value_view value.old) }
@@ -47,6 +51,7 @@ pub(crate) fn despan_value(value: &mut Value, alloc: Global, source: &str) -> Me
     }
 }
 
+/// Replaces the spans in an array, and forgets where in the source it was.
 #[cycle(despan)]
 fn despan_array(array: &mut Array, alloc: Global, source: &str) -> Mem<()>
     requires fits { NodeFits source.now (array_node (array_view array.old)) }
@@ -60,6 +65,7 @@ fn despan_array(array: &mut Array, alloc: Global, source: &str) -> Mem<()>
     Ok(())
 }
 
+/// Replaces the spans in an inline table, and forgets where in the source it was.
 #[cycle(despan)]
 fn despan_inline(table: &mut InlineTable, alloc: Global, source: &str) -> Mem<()>
     requires fits { NodeFits source.now (inline_node (inline_view table.old)) }
@@ -73,6 +79,7 @@ fn despan_inline(table: &mut InlineTable, alloc: Global, source: &str) -> Mem<()
     Ok(())
 }
 
+/// Replaces the spans in a table, and forgets where in the source it was.
 #[cycle(despan)]
 pub(crate) fn despan_table(table: &mut Table, alloc: Global, source: &str) -> Mem<()>
     requires fits { NodeFits source.now (table_node (table_view table.old)) }
@@ -85,6 +92,7 @@ pub(crate) fn despan_table(table: &mut Table, alloc: Global, source: &str) -> Me
     Ok(())
 }
 
+/// Replaces the spans in an array of tables, and forgets where in the source it was.
 #[cycle(despan)]
 fn despan_tables(tables: &mut ArrayOfTables, alloc: Global, source: &str) -> Mem<()>
     requires fits { NodeFits source.now (tables_node (tables_view tables.old)) }
@@ -96,6 +104,7 @@ fn despan_tables(tables: &mut ArrayOfTables, alloc: Global, source: &str) -> Mem
     Ok(())
 }
 
+/// Replaces the spans of each item of an array.
 #[cycle(despan)]
 fn despan_items(items: &mut Vec<Item>, alloc: Global, source: &str) -> Mem<()>
     requires fits { ItemsFit source.now (items_view items.old.items) }
@@ -108,6 +117,7 @@ fn despan_items(items: &mut Vec<Item>, alloc: Global, source: &str) -> Mem<()>
     Ok(())
 }
 
+/// Replaces the spans of each key and of its item.
 #[cycle(despan)]
 fn despan_slots(slots: &mut Slots<Item>, alloc: Global, source: &str) -> Mem<()>
     requires fits { SlotsFit source.now (slots_view slots.old) }

@@ -1,4 +1,4 @@
-//! Trees to text.
+//! Writing the lines of tables and the texts of values.
 ghost use Rattle.std.specs.Prelude.{◌≡◌, true, [], ◌∷◌, ◌++◌, IfOk};
 ghost use Rattle.std.specs.Option.{option_copied};
 ghost use Rattle.std.specs.Fmt.{WritesOnOk};
@@ -28,16 +28,22 @@ use toml_edit_slots::Slots;
 use toml_edit_token::write_key;
 
 /// The keys on the way to a slot or to a table, from the outermost in.
+///
+/// Each key refers to the path before it, so that paths share what they begin with.
 #[doc(hidden)]
 #[derive(Clone, Copy)]
 pub enum Path<'p, 'k> {
     /// No keys.
     Root,
-    /// A key behind others.
+    /// A path, and one more key at its end.
     Under(&'p Path<'p, 'k>, &'k Key),
 }
 
-/// The lines of a table: its values, and in their place those of dotted tables and of dotted inline tables.
+/// Writes the lines of a table: one for each value, and in their place those of dotted tables and
+/// of dotted inline tables.
+///
+/// The keys of each line begin below the table. Its header isn't written, and neither are the
+/// tables below it that have headers.
 #[doc(hidden)]
 pub fn write_table_lines<W: Write>(f: &mut Formatter<W>, mode: Mode, table: &Table) -> fmt::Result
     ensures { WritesOnOk W.write_str_gives f.old result (lines_text (mode_of mode) (table_lines (mode_of mode) (table_slots table.now) [])) f.new }
@@ -45,7 +51,7 @@ pub fn write_table_lines<W: Write>(f: &mut Formatter<W>, mode: Mode, table: &Tab
     write_lines(f, mode, &table.slots, &Path::Root)
 }
 
-/// The lines of the slots of a table, in order.
+/// Writes the lines of the slots of a table, in order. Their keys begin with those of `path`.
 #[cycle(lines)]
 fn write_lines<'p, 'a, W: Write>(
     f: &mut Formatter<W>,
@@ -62,7 +68,9 @@ fn write_lines<'p, 'a, W: Write>(
     Ok(())
 }
 
-/// The lines of a slot of a table: those in a dotted table, and those of a value. Another table has a header, and its lines behind that.
+/// Writes the lines of one slot of a table: those of a value, or those in a dotted table.
+///
+/// The lines of any other table are written after its header.
 #[cycle(lines)]
 fn write_item_lines<'p, 'a, W: Write>(
     f: &mut Formatter<W>,
@@ -87,7 +95,7 @@ fn write_item_lines<'p, 'a, W: Write>(
     }
 }
 
-/// The lines of the slots of a dotted inline table, in order.
+/// Writes the lines of the slots of a dotted inline table, in order.
 #[cycle(inside_lines)]
 fn write_inside_lines<'p, 'a, W: Write>(
     f: &mut Formatter<W>,
@@ -104,7 +112,7 @@ fn write_inside_lines<'p, 'a, W: Write>(
     Ok(())
 }
 
-/// The lines of a slot of an inline table: those in a table, and those of a value.
+/// Writes the lines of one slot of a dotted inline table: those of a value, or those in any table.
 #[cycle(inside_lines)]
 fn write_inside_item<'p, 'a, W: Write>(
     f: &mut Formatter<W>,
@@ -123,7 +131,7 @@ fn write_inside_item<'p, 'a, W: Write>(
     }
 }
 
-/// The lines of a value: those in a dotted inline table, and one of any other value.
+/// Writes the lines of a value: those in a dotted inline table, or the one of any other value.
 #[cycle(inside_lines)]
 fn write_value_lines<'p, 'a, W: Write>(
     f: &mut Formatter<W>,
@@ -147,7 +155,7 @@ fn write_value_lines<'p, 'a, W: Write>(
     }
 }
 
-/// Whether a table has lines.
+/// Returns `true` if [`write_table_lines`] writes a line of the table.
 #[doc(hidden)]
 pub fn table_has_lines(table: &Table) -> bool
     ensures { result ≡ has_lines (table_slots table.now) }
@@ -155,7 +163,7 @@ pub fn table_has_lines(table: &Table) -> bool
     have_lines(&table.slots)
 }
 
-/// Whether a table of these slots has lines.
+/// Returns `true` if a table of these slots has lines.
 #[cycle(has_lines)]
 fn have_lines(slots: &Slots<Item>) -> bool
     ensures { result ≡ has_lines (slots_view slots.now) }
@@ -169,7 +177,7 @@ fn have_lines(slots: &Slots<Item>) -> bool
     false
 }
 
-/// Whether an item of a table has lines there.
+/// Returns `true` if the item has lines where it is in a table.
 #[cycle(has_lines)]
 fn item_has_lines(item: &Item) -> bool
     ensures { result ≡ has_lines_in_table (item_view item.now) }
@@ -181,7 +189,7 @@ fn item_has_lines(item: &Item) -> bool
     }
 }
 
-/// Whether a dotted inline table of these slots has lines.
+/// Returns `true` if a dotted inline table of these slots has lines.
 #[cycle(has_inside)]
 fn have_lines_inside(slots: &Slots<Item>) -> bool
     ensures { result ≡ has_inside (slots_view slots.now) }
@@ -195,7 +203,7 @@ fn have_lines_inside(slots: &Slots<Item>) -> bool
     false
 }
 
-/// Whether an item of a dotted inline table has lines there.
+/// Returns `true` if the item has lines where it is in a dotted inline table.
 #[cycle(has_inside)]
 fn item_has_lines_inside(item: &Item) -> bool
     ensures { result ≡ has_lines_inside (item_view item.now) }
@@ -207,7 +215,8 @@ fn item_has_lines_inside(item: &Item) -> bool
     }
 }
 
-/// Whether a value has lines: each has one, but a dotted inline table has those in it.
+/// Returns `true` if the value has lines: a dotted inline table may have none, and any other value
+/// has one.
 #[cycle(has_inside)]
 fn value_has_lines(value: &Value) -> bool
     ensures { result ≡ has_lines_inside (value_view value.now) }
@@ -218,7 +227,9 @@ fn value_has_lines(value: &Value) -> bool
     }
 }
 
-/// The line of a value.
+/// Writes the line of a value, up to its line feed (LF).
+///
+/// In exact mode, a carriage return (CR) before it comes from the suffix of the value.
 fn write_line<W: Write>(
     f: &mut Formatter<W>,
     mode: Mode,
@@ -238,7 +249,8 @@ fn write_line<W: Write>(
     f.write_str("\n")
 }
 
-/// The key with what stands around it, and the `=`.
+/// Writes the keys of a line or a pair, inside the leaf decor of the last one, and `=`. An unset
+/// prefix is written as `default`, and an unset suffix as one space.
 fn write_key_part<W: Write>(
     f: &mut Formatter<W>,
     mode: Mode,
@@ -257,7 +269,7 @@ fn write_key_part<W: Write>(
     f.write_str("=")
 }
 
-/// The keys of a path, each with the dot after it.
+/// Writes the keys of a path with their dotted decors, and a dot after each.
 fn write_dotted_keys<W: Write>(f: &mut Formatter<W>, mode: Mode, path: &Path<'_, '_>) -> fmt::Result
     ensures { WritesOnOk W.write_str_gives f.old result (dotted_keys (mode_of mode) true (keys_on path.now)) f.new }
 {
@@ -273,7 +285,7 @@ fn write_dotted_keys<W: Write>(f: &mut Formatter<W>, mode: Mode, path: &Path<'_,
     }
 }
 
-/// What stands between the dot before the key, if there is one, and the key.
+/// Writes the prefix of the dotted decor of the key, unless `path` has no key before it.
 fn write_before_key<W: Write>(
     f: &mut Formatter<W>,
     mode: Mode,
@@ -288,7 +300,10 @@ fn write_before_key<W: Write>(
     }
 }
 
-/// The keys of a header, of which this one stands behind the path, without what stands around them.
+/// Writes the keys of `path` and then `key`, with dots between them.
+///
+/// Of the dotted decors, the sides at the two ends are left out. The leaf decor of `key` is up to
+/// the caller.
 #[doc(hidden)]
 pub fn write_path<W: Write>(
     f: &mut Formatter<W>,
@@ -303,7 +318,7 @@ pub fn write_path<W: Write>(
     write_key_text(f, key)
 }
 
-/// The spelling of the key as it stands, or the default one.
+/// Writes the spelling of the key, or the default one if it has none that is a text.
 fn write_key_text<W: Write>(f: &mut Formatter<W>, key: &Key) -> fmt::Result
     ensures { WritesOnOk W.write_str_gives f.old result (key_text key.now) f.new }
 {
@@ -313,7 +328,7 @@ fn write_key_text<W: Write>(f: &mut Formatter<W>, key: &Key) -> fmt::Result
     }
 }
 
-/// The spelling of the value as it stands, or the default one.
+/// Writes the value without its decor.
 #[cycle(print)]
 fn write_value_text<W: Write>(f: &mut Formatter<W>, mode: Mode, value: &Value) -> fmt::Result
     ensures { WritesOnOk W.write_str_gives f.old result (node_text (mode_of mode) (value_view value.now)) f.new }
@@ -329,7 +344,7 @@ fn write_value_text<W: Write>(f: &mut Formatter<W>, mode: Mode, value: &Value) -
     }
 }
 
-/// The array, from bracket to bracket.
+/// Writes the array from `[` to `]`.
 #[cycle(print)]
 fn write_array_text<W: Write>(f: &mut Formatter<W>, mode: Mode, array: &Array) -> fmt::Result
     ensures { WritesOnOk W.write_str_gives f.old result (node_text (mode_of mode) (array_node (array_view array.now))) f.new }
@@ -340,7 +355,8 @@ fn write_array_text<W: Write>(f: &mut Formatter<W>, mode: Mode, array: &Array) -
     f.write_str("]")
 }
 
-/// The values in order, with commas between them, and one after the last if it is to stand there.
+/// Writes the values in order, with commas between them, and one after the last if `comma` is set.
+/// Other items are left out.
 #[cycle(print)]
 fn write_items<W: Write>(
     f: &mut Formatter<W>,
@@ -360,7 +376,7 @@ fn write_items<W: Write>(
     write_last_comma(f, comma, is_first)
 }
 
-/// A value in an array, and the comma before it.
+/// Writes a value of an array with its decor, after a comma unless it is the first.
 #[cycle(print)]
 fn write_element<W: Write>(
     f: &mut Formatter<W>,
@@ -379,14 +395,14 @@ fn write_element<W: Write>(
     write_side(f, mode, decor.suffix(), "")
 }
 
-/// What stands before an element whose decor says nothing.
+/// Returns what is written for an unset prefix of an element.
 fn default_before(is_first: bool) -> &'static str
     ensures { result.now ≡ element_default is_first }
 {
     if is_first { "" } else { " " }
 }
 
-/// The inline table, from brace to brace.
+/// Writes the inline table from `{` to `}`.
 #[cycle(print)]
 fn write_inline_text<W: Write>(f: &mut Formatter<W>, mode: Mode, table: &InlineTable) -> fmt::Result
     ensures { WritesOnOk W.write_str_gives f.old result (node_text (mode_of mode) (inline_node (inline_view table.now))) f.new }
@@ -398,8 +414,11 @@ fn write_inline_text<W: Write>(f: &mut Formatter<W>, mode: Mode, table: &InlineT
     f.write_str("}")
 }
 
-/// The pairs of the slots up to the end of the last value, behind a pair of this decor. What follows the value of a pair depends on
-/// whether another comes, so it is written later: the answer is the decor of the last pair.
+/// Writes the pairs of the slots, up to the end of the last value, and returns the decor of the
+/// last value.
+///
+/// `before` is the decor of the value that was written before them. What follows a value depends on
+/// whether another pair comes, so its suffix is written later.
 #[cycle(print)]
 fn write_pairs<'p, 'a, W: Write>(
     f: &mut Formatter<W>,
@@ -421,7 +440,7 @@ fn write_pairs<'p, 'a, W: Write>(
     Ok(last)
 }
 
-/// The pairs of a slot: those in a table, and those of a value.
+/// Writes the pairs of one slot, as [`write_pairs`] does: those of a value, or those in any table.
 #[cycle(print)]
 fn write_item_pairs<'p, 'a, W: Write>(
     f: &mut Formatter<W>,
@@ -443,7 +462,8 @@ fn write_item_pairs<'p, 'a, W: Write>(
     }
 }
 
-/// The pairs of a value: those in a dotted inline table, and one of any other value.
+/// Writes the pairs of a value, as [`write_pairs`] does: those in a dotted inline table, or the one
+/// of any other value.
 #[cycle(print)]
 fn write_value_pairs<'p, 'a, W: Write>(
     f: &mut Formatter<W>,
@@ -474,7 +494,7 @@ fn write_value_pairs<'p, 'a, W: Write>(
     }
 }
 
-/// A pair up to the end of its value, behind a pair of this decor.
+/// Writes a pair up to the end of its value, and before it the end of the pair before.
 #[cycle(print)]
 fn write_pair<W: Write>(
     f: &mut Formatter<W>,
@@ -493,7 +513,7 @@ fn write_pair<W: Write>(
     write_value_text(f, mode, value)
 }
 
-/// What follows the value of a pair that another follows, and the comma.
+/// Writes the end of a pair that another follows: the suffix of its value, and a comma.
 fn write_between_pairs<W: Write>(
     f: &mut Formatter<W>,
     mode: Mode,
@@ -510,7 +530,8 @@ fn write_between_pairs<W: Write>(
     }
 }
 
-/// What follows the value of the last pair, and the comma if it is to stand there.
+/// Writes the end of the last pair: the suffix of its value, which is one space if unset, and a
+/// comma if `comma` is set. Without pairs nothing is written.
 fn write_after_pairs<W: Write>(
     f: &mut Formatter<W>,
     mode: Mode,
@@ -528,7 +549,7 @@ fn write_after_pairs<W: Write>(
     }
 }
 
-/// The array between the sides of its decor, which are empty where they are unset.
+/// Writes the array with its decor, in plain mode. Unset sides are written as nothing.
 pub(crate) fn write_array<W: Write>(f: &mut Formatter<W>, array: &Array) -> fmt::Result
     ensures { WritesOnOk W.write_str_gives f.old result (value_display (array_node (array_view array.now))) f.new }
 {
@@ -537,7 +558,7 @@ pub(crate) fn write_array<W: Write>(f: &mut Formatter<W>, array: &Array) -> fmt:
     write_side(f, Mode::Plain, array.decor().suffix(), "")
 }
 
-/// The inline table between the sides of its decor, which are empty where they are unset.
+/// Writes the inline table with its decor, in plain mode. Unset sides are written as nothing.
 pub(crate) fn write_inline<W: Write>(f: &mut Formatter<W>, table: &InlineTable) -> fmt::Result
     ensures { WritesOnOk W.write_str_gives f.old result (value_display (inline_node (inline_view table.now))) f.new }
 {

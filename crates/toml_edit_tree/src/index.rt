@@ -28,7 +28,7 @@ pub enum IndexFault {
     Memory,
 }
 
-/// `wrong kind of item` or `out of memory`.
+/// Writes `wrong kind of item` or `out of memory`.
 impl fmt::Display for IndexFault {
     ghost use Rattle.toml_edit_tree.specs.Faults.{fault_text};
 
@@ -44,6 +44,7 @@ impl fmt::Display for IndexFault {
 
 impl Error for IndexFault {}
 
+/// Converts the error into [`IndexFault::Memory`].
 impl From<AllocError> for IndexFault {
     ghost use Rattle.toml_edit_tree.specs.declared.index.IndexFault.TheVariants.{Memory};
 
@@ -54,6 +55,7 @@ impl From<AllocError> for IndexFault {
     }
 }
 
+/// Converts the error into [`IndexFault::Memory`], and drops the value that it has.
 impl<T: Drop> From<NoMemory<T>> for IndexFault {
     ghost use Rattle.toml_edit_tree.specs.declared.index.IndexFault.TheVariants.{Memory};
 

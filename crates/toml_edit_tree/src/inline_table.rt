@@ -344,8 +344,11 @@ impl InlineTable {
     }
 }
 
-/// The inline table between the sides of its decor, which are empty where they are unset. One that
-/// stands for a dotted key is written in braces too.
+/// Writes the inline table with its decor, of which unset sides are empty.
+///
+/// One that is there for a dotted key is written in braces too. Carriage returns (CR) outside
+/// strings are dropped. Before `into_mut`, spellings and decors are spans of the source, which are
+/// written as if they were unset.
 impl fmt::Display for InlineTable {
     ghost use Rattle.std.specs.Prelude.{Some};
     ghost use Rattle.toml_edit_model.specs.Conversions.{value_display};

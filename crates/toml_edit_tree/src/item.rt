@@ -267,6 +267,7 @@ pub fn array(alloc: Global) -> Item
     Item::ArrayOfTables(ArrayOfTables::new(alloc))
 }
 
+/// Converts a value into an item.
 impl From<Value> for Item {
     ghost from_gives = { λ value x. item_view x ≡ value_view value };
 
@@ -275,6 +276,7 @@ impl From<Value> for Item {
     }
 }
 
+/// Converts a table into an item.
 impl From<Table> for Item {
     ghost from_gives = { λ table x. item_view x ≡ table_node (table_view table) };
 
@@ -283,6 +285,7 @@ impl From<Table> for Item {
     }
 }
 
+/// Converts an array of tables into an item.
 impl From<ArrayOfTables> for Item {
     ghost from_gives = { λ array x. item_view x ≡ tables_node (tables_view array) };
 

@@ -1,4 +1,4 @@
-//! The lines of a table or an inline table as the keys and values that they show.
+//! Listing the lines of a table, or the pairs of an inline table, by their keys and values.
 ghost use Rattle.std.specs.Prelude.{◌≡◌, [], ◌∷◌, ◌++◌, IfOk, OnOk, map};
 ghost use Rattle.toml_edit_model.specs.Iterating.{inline_values, line_value, table_values};
 ghost use Rattle.toml_edit_model.specs.Mode.{plain};
@@ -19,8 +19,15 @@ use toml_edit_repr::Mem;
 use toml_edit_slots::Slots;
 
 impl Table {
-    /// The keys and the value of each line that is printed of the table, in order: its values, and in their place those of dotted tables and of
-    /// dotted inline tables. The only error is want of memory.
+    /// Returns the keys and the value of each line that is printed of the table, in order.
+    ///
+    /// Dotted tables and dotted inline tables give their own lines in their place, with the keys
+    /// from this table down to each value. The lines of any other table are printed after its
+    /// header, and left out here. To get the slots themselves, use [`iter`](Self::iter).
+    ///
+    /// # Errors
+    ///
+    /// Returns an `AllocError` if out of memory.
     pub fn get_values(&self, alloc: Global) -> Mem<Vec<(Vec<&Key>, &Value)>>
         ensures { IfOk result (λ lines. values_read lines.items ≡ table_values (slots_of self.now)) }
     {
@@ -31,8 +38,15 @@ impl Table {
 }
 
 impl InlineTable {
-    /// The keys and the value of each pair that is printed of the inline table, in order: its values, and in their place those of tables and of
-    /// dotted inline tables. The only error is want of memory.
+    /// Returns the keys and the value of each pair that is printed of the inline table, in order.
+    ///
+    /// Tables and dotted inline tables give their own pairs in their place, with the keys from this
+    /// inline table down to each value. To get the slots that have values, use
+    /// [`iter`](Self::iter).
+    ///
+    /// # Errors
+    ///
+    /// Returns an `AllocError` if out of memory.
     pub fn get_values(&self, alloc: Global) -> Mem<Vec<(Vec<&Key>, &Value)>>
         ensures { IfOk result (λ lines. values_read lines.items ≡ inline_values (inline_slots_of self.now)) }
     {
@@ -42,7 +56,7 @@ impl InlineTable {
     }
 }
 
-/// The lines of the slots of a table, in order.
+/// Adds the lines of the slots of a table, in order. Their keys begin with those of `path`.
 #[cycle(table_values)]
 fn add_lines<'p, 'a>(
     alloc: Global,
@@ -60,7 +74,8 @@ fn add_lines<'p, 'a>(
     Ok(())
 }
 
-/// The lines of a slot of a table: those in a dotted table, and those of a value. Another table has a header.
+/// Adds the lines of one slot of a table: those of a value, or those in a dotted table. The lines
+/// of any other table are printed after its header.
 #[cycle(table_values)]
 fn add_item_lines<'p, 'a>(
     alloc: Global,
@@ -85,7 +100,7 @@ fn add_item_lines<'p, 'a>(
     }
 }
 
-/// The lines of the slots of an inline table, in order.
+/// Adds the lines of the slots of an inline table, in order.
 #[cycle(inside_values)]
 fn add_inside_lines<'p, 'a>(
     alloc: Global,
@@ -103,7 +118,7 @@ fn add_inside_lines<'p, 'a>(
     Ok(())
 }
 
-/// The lines of a slot of an inline table: those in a table, and those of a value.
+/// Adds the lines of one slot of an inline table: those of a value, or those in any table.
 #[cycle(inside_values)]
 fn add_inside_item<'p, 'a>(
     alloc: Global,
@@ -122,7 +137,7 @@ fn add_inside_item<'p, 'a>(
     }
 }
 
-/// The lines of a value: those in a dotted inline table, and one of any other value.
+/// Adds the lines of a value: those in a dotted inline table, or the one of any other value.
 #[cycle(inside_values)]
 fn add_value_lines<'p, 'a>(
     alloc: Global,
@@ -146,7 +161,7 @@ fn add_value_lines<'p, 'a>(
     }
 }
 
-/// One line: the keys of the path with the key behind them, and the value.
+/// Adds one line: the keys of `path` and then `key`, and the value.
 fn add_line<'a>(
     alloc: Global,
     value: &'a Value,
@@ -164,7 +179,7 @@ fn add_line<'a>(
     Ok(())
 }
 
-/// The keys of a path, from the outermost in.
+/// Adds the keys of a path, from the outermost in.
 fn push_keys<'a>(path: &Path<'_, 'a>, keys: &mut Vec<&'a Key>) -> Mem<()>
     ensures { OnOk result (keys_read keys.new.items ≡ keys_read keys.old.items ++ keys_on path.now) }
 {

@@ -30,6 +30,7 @@ pub fn put_in_order(slots: &mut Slots<Item>) -> Mem<()>
     Ok(())
 }
 
+/// Sorts the slots of a table or of the tables of an array, and of those below.
 #[cycle(order)]
 fn order_item(item: &mut Item) -> Mem<()>
     ensures { OnOk result (item_view item.new ≡ node_by_place (item_view item.old)) }
@@ -42,6 +43,7 @@ fn order_item(item: &mut Item) -> Mem<()>
     }
 }
 
+/// Sorts the slots of a table and of those below it.
 #[cycle(order)]
 fn order_table(table: &mut Table) -> Mem<()>
     ensures { OnOk result (table_node (table_view table.new) ≡ node_by_place (table_node (table_view table.old))) }
@@ -49,6 +51,7 @@ fn order_table(table: &mut Table) -> Mem<()>
     put_in_order(&mut table.slots)
 }
 
+/// Sorts the slots of each table of an array of tables, and of those below.
 #[cycle(order)]
 fn order_tables(tables: &mut ArrayOfTables) -> Mem<()>
     ensures { OnOk result (tables_node (tables_view tables.new) ≡ node_by_place (tables_node (tables_view tables.old))) }
@@ -56,6 +59,7 @@ fn order_tables(tables: &mut ArrayOfTables) -> Mem<()>
     order_items(&mut tables.values)
 }
 
+/// Sorts the slots of each item that is or has tables.
 #[cycle(order)]
 fn order_items(items: &mut Vec<Item>) -> Mem<()>
     ensures { OnOk result (items_view items.new.items ≡ items_by_place (items_view items.old.items)) }

@@ -402,7 +402,10 @@ impl Value {
     }
 }
 
-/// The value between the sides of its decor, which are empty where they are unset.
+/// Writes the value with its decor, of which unset sides are empty.
+///
+/// Carriage returns (CR) outside strings are dropped. Before `into_mut`, spellings and decors are
+/// spans of the source, which are written as if they were unset.
 impl fmt::Display for Value {
     ghost use Rattle.toml_edit_model.specs.Conversions.{value_display};
 
@@ -421,6 +424,7 @@ impl fmt::Display for Value {
     }
 }
 
+/// Converts a text into a string of default spelling, with its decor unset.
 impl From<String> for Value {
     ghost from_gives = { λ text v. value_view v ≡ leaf (string (string_bytes text)) None unset };
 
@@ -429,6 +433,7 @@ impl From<String> for Value {
     }
 }
 
+/// Converts a number into an integer of default spelling, with its decor unset.
 impl From<i64> for Value {
     ghost from_gives = { λ number v. value_view v ≡ leaf (integer number) None unset };
 
@@ -437,6 +442,7 @@ impl From<i64> for Value {
     }
 }
 
+/// Converts a boolean into a value of default spelling, with its decor unset.
 impl From<bool> for Value {
     ghost from_gives = { λ truth v. value_view v ≡ leaf (boolean truth) None unset };
 
@@ -445,6 +451,7 @@ impl From<bool> for Value {
     }
 }
 
+/// Converts a float into a value that is spelled by its text, with its decor unset.
 impl From<FloatText> for Value {
     ghost from_gives = { λ x v. value_view v ≡ leaf (float x) None unset };
 
@@ -453,6 +460,7 @@ impl From<FloatText> for Value {
     }
 }
 
+/// Converts a date-time into a value of default spelling, with its decor unset.
 impl From<Datetime> for Value {
     ghost from_gives = { λ d v. value_view v ≡ leaf (datetime (datetime_view d)) None unset };
 
@@ -461,6 +469,7 @@ impl From<Datetime> for Value {
     }
 }
 
+/// Converts a date into a date-time of default spelling, with its decor unset.
 impl From<Date> for Value {
     ghost from_gives = { λ d v. value_view v ≡ leaf (datetime (of_date (date_view d))) None unset };
 
@@ -469,6 +478,7 @@ impl From<Date> for Value {
     }
 }
 
+/// Converts a time of day into a date-time of default spelling, with its decor unset.
 impl From<Time> for Value {
     ghost from_gives = { λ t v. value_view v ≡ leaf (datetime (of_time (time_view t))) None unset };
 
@@ -477,6 +487,7 @@ impl From<Time> for Value {
     }
 }
 
+/// Converts an array into the value that it is, with its decor.
 impl From<Array> for Value {
     ghost from_gives = { λ array v. value_view v ≡ array_node (array_view array) };
 
@@ -485,6 +496,7 @@ impl From<Array> for Value {
     }
 }
 
+/// Converts an inline table into the value that it is, with its decor.
 impl From<InlineTable> for Value {
     ghost from_gives = { λ table v. value_view v ≡ inline_node (inline_view table) };
 

@@ -1,4 +1,4 @@
--- The first late part of a list of events, told event by event.
+-- The first late part of a list of events, found event by event.
 use Rattle.std.specs.Prelude.{◌-◌, Bool, true, false, if◌then◌else◌, List, [], ◌∷◌, Contains, Option, Some, None}
 use Rattle.std.specs.List.{AllByRecursion}
 use Rattle.std.specs.Option.{option_or}
@@ -21,7 +21,7 @@ AreIn t es = AllByRecursion (λ e. IsSpanOf t e.span) es
 abbrev pub NamesLate : List Place → Span → Type 0
 NamesLate places s = Contains places (s.start, s.end - s.start)
 
--- What stands before these events is an inline table's own: the next pair, or the closing bracket, is one's.
+-- What is before these events is an inline table's own: the next pair, or the closing bracket, is one's.
 abbrev pub is_in_inline_table : List Event → Bool
 is_in_inline_table [] = false
 is_in_inline_table (e ∷ es) = of_kind e.kind (is_in_inline_table es)

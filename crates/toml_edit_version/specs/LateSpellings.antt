@@ -1,4 +1,4 @@
--- The first late part of a text that is spelled, told from left to right.
+-- The first late part of a text that is spelled, found from left to right.
 use Rattle.std.specs.Prelude.{ℕ, ◌+◌, Bool, false, not, ◌&&◌, ◌==◌, nat_lt, if◌then◌else◌, [], ◌∷◌, length, slice_index, Option, Some, None, is_some}
 use Rattle.std.specs.Option.{option_or}
 use Rattle.toml_edit_model.specs.Text.{Text, quote, backslash}
@@ -34,7 +34,7 @@ abbrev pub late_escape : ℕ → Text → Option Span
 late_escape i [] = None
 late_escape i (c ∷ t) = if c == quote then first_escape (i + 1) t else None
 
--- Behind the hour and the minute stands no `:`. A time alone has a `:` at its third byte, and one behind a date begins at its twelfth.
+-- After the hour and the minute there is no `:`. A time alone has a `:` at its third byte, and one after a date begins at its twelfth.
 abbrev pub clock_at : Text → ℕ
 clock_at t = if slice_index t 2 == 0x3A then 0 else 11
 

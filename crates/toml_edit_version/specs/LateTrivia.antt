@@ -1,4 +1,4 @@
--- The first newline or comment of trivia, told from left to right.
+-- The first newline or comment of trivia, found from left to right.
 use Rattle.std.specs.Prelude.{ℕ, ◌+◌, Bool, not, ◌&&◌, ◌==◌, if◌then◌else◌, [], ◌∷◌, Option, Some, None}
 use Rattle.std.specs.List.{prefix_len}
 use Rattle.toml_edit_model.specs.Text.{Text, line_feed, carriage_return, hash}

@@ -1,4 +1,4 @@
-//! The print of a document, written to an output.
+//! Printing a document to an output.
 ghost use Rattle.std.specs.Prelude.{◌≡◌, false, true, OnOk, IsErrOf};
 ghost use Rattle.std.specs.Io.KnownBytes.{Appends};
 ghost use Rattle.toml_edit_stream.specs.Whole.{AppendsBeginning};
@@ -11,15 +11,18 @@ use std::fmt;
 use toml_edit_slots::NoMemory;
 use toml_edit_stream::{Broken, Output, write_all};
 
-/// Why a document is not printed whole.
+/// The reason why a document was not printed in full.
+///
+/// Returned by [`DocumentMut::print_to`].
 #[derive(Clone, Copy, Debug, PartialEq, Eq)]
 pub enum PrintFault {
-    /// There is not enough memory. Nothing was written.
+    /// Out of memory. Nothing was written.
     Memory,
-    /// The output has failed. It holds a beginning of the print.
+    /// The output failed. It holds the beginning of the text that was written before.
     Device,
 }
 
+/// Writes `out of memory` or `write failed`.
 impl fmt::Display for PrintFault {
     ghost use Rattle.std.specs.Prelude.{Some};
     ghost use Rattle.toml_edit.specs.Faults.{fault_text};
@@ -36,6 +39,7 @@ impl fmt::Display for PrintFault {
 
 impl Error for PrintFault {}
 
+/// Converts the error into [`PrintFault::Memory`].
 impl From<AllocError> for PrintFault {
     ghost use Rattle.toml_edit.specs.declared.document.print.PrintFault.TheVariants.{Memory};
 
@@ -46,6 +50,7 @@ impl From<AllocError> for PrintFault {
     }
 }
 
+/// Converts the error into [`PrintFault::Memory`], and drops the value that it has.
 impl<T: Drop> From<NoMemory<T>> for PrintFault {
     ghost use Rattle.toml_edit.specs.declared.document.print.PrintFault.TheVariants.{Memory};
 
@@ -56,6 +61,7 @@ impl<T: Drop> From<NoMemory<T>> for PrintFault {
     }
 }
 
+/// Converts the error into [`PrintFault::Device`].
 impl From<Broken> for PrintFault {
     ghost use Rattle.toml_edit.specs.declared.document.print.PrintFault.TheVariants.{Device};
 
@@ -67,9 +73,16 @@ impl From<Broken> for PrintFault {
 }
 
 impl DocumentMut {
-    /// Writes the text of the document, as `print` makes it, to an output that has not failed. The
-    /// errors are want of memory, found before anything is written, and a fault of the output,
-    /// which holds a beginning of the text then.
+    /// Writes the text that [`print`](Self::print) returns to an output that has not failed.
+    ///
+    /// The text is made in memory first. To check before that it can be read back, use
+    /// [`fits`](Self::fits).
+    ///
+    /// # Errors
+    ///
+    /// Returns [`PrintFault::Memory`] if out of memory, and then nothing was written. Returns
+    /// [`PrintFault::Device`] if the output failed, and then it holds a beginning of the text,
+    /// perhaps an empty one.
     pub fn print_to<W: Output>(&self, alloc: Global, out: &mut W) -> Result<(), PrintFault>
         requires { W.has_failed out.old ≡ false }
         ensures prints { OnOk result (Appends (W.contents out.old) (W.contents out.new) (print_of self.now)) }

@@ -83,6 +83,7 @@ struct DefaultSpelling<'a> {
     name: &'a str,
 }
 
+/// Writes the default spelling of the name.
 impl fmt::Display for DefaultSpelling<'_> {
     ghost output = { λ s. Some (key_spelling s.name.now) };
 

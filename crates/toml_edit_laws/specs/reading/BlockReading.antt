@@ -9,11 +9,11 @@ use Rattle.toml_edit_laws.specs.reading.Tokens.{prepend, escape_at}
 
 -- ---- quotes, newlines and gaps
 
--- how many bytes c stand at the front
+-- how many bytes c are at the front
 abbrev pub run_of : ℕ → Text → ℕ
 run_of c t = prefix_len (λ x. x == c) t
 
--- three bytes c stand at the front
+-- three bytes c are at the front
 abbrev pub has_three : ℕ → Text → Bool
 has_three c t = (first t == c && slice_index t 1 == c) && slice_index t 2 == c
 
@@ -47,7 +47,7 @@ gap_len (c ∷ cs) = if is_gap_byte c (first cs) then suc (gap_len cs) else 0
 unfoldable pub literal_part_at : Text → Read Text
 literal_part_at t = if is_literal (first t) then Some (first t ∷ [], drop 1 t) else None
 
--- behind a backslash, white space and newlines that are dropped, or an escape
+-- after a backslash, white space and newlines that are dropped, or an escape
 unfoldable pub escaped_at : Text → Read Text
 escaped_at t =
     if has_byte line_feed (take (gap_len t) t) then Some ([], drop (gap_len t) t)
@@ -62,7 +62,7 @@ basic_part_at t =
 
 -- ---- the string
 
--- A string behind its opening and the newline there, in at most n parts. Of three to five quotes the last three close it, and of
+-- A string after its opening and the newline there, in at most n parts. Of three to five quotes the last three close it, and of
 -- more the third to fifth.
 unfoldable pub parts_at : (Text → Read Text) → ℕ → ℕ → Text → Read Text
 parts_at part_at c zero t = None

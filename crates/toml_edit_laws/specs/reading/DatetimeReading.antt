@@ -60,7 +60,7 @@ clock_at text = do
   minute ← after_byte 0x3A hour.1 >>= two_at
   Some ((hour.0, minute.0), minute.1)
 
--- the digits behind a point, as nanoseconds
+-- the digits after a point, as nanoseconds
 unfoldable pub fraction_at : Text → Read ℕ
 fraction_at text =
     let len = prefix_len is_ascii_digit text in

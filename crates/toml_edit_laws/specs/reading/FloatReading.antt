@@ -13,23 +13,23 @@ is_float_byte c = (is_ascii_alphanumeric c || c == underscore) || ((c == 0x2B ||
 abbrev pub is_digits_byte : ℕ → Bool
 is_digits_byte c = is_digit c 10 || c == underscore
 
--- the text behind an optional sign
+-- the text after an optional sign
 abbrev pub without_sign : Text → Text
 without_sign t = if first t == 0x2B || first t == 0x2D then drop 1 t else t
 
--- the text behind digits with single underscores between them, where `after_digit` says that a digit stands before
+-- the text after digits with single underscores between them, where `after_digit` says that a digit is before
 unfoldable pub after_digits : Bool → Text → Option Text
 after_digits after_digit [] = if after_digit then Some [] else None
 after_digits after_digit (c ∷ cs) =
     if is_digit c 10 || (after_digit && c == underscore) then after_digits (is_digit c 10) cs
     else if after_digit then Some (c ∷ cs) else None
 
--- the text behind the digits is there, and passes
+-- the text after the digits is there, and passes
 abbrev pub passes : (Text → Bool) → Option Text → Bool
 passes p None = false
 passes p (Some t) = p t
 
--- a 0 stands before another digit
+-- a 0 is before another digit
 abbrev pub leads_with_zero : Text → Bool
 leads_with_zero t = first t == 0x30 && is_digits_byte (slice_index t 1)
 
@@ -46,7 +46,7 @@ abbrev pub is_fraction_or_exponent : Text → Bool
 is_fraction_or_exponent t =
     if first t == 0x2E then passes is_end_or_exponent (after_digits false (drop 1 t)) else is_exponent t
 
--- digits of which no 0 stands before another, and a fraction or an exponent
+-- digits of which no 0 is before another, and a fraction or an exponent
 abbrev pub is_decimal_float : Text → Bool
 is_decimal_float t = not (leads_with_zero t) && passes is_fraction_or_exponent (after_digits false t)
 

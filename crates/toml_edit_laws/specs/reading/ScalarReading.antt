@@ -15,7 +15,7 @@ use Rattle.toml_edit_laws.specs.reading.Tokens.{string_at, integer_of}
 abbrev pub is_stop : ℕ → Bool
 is_stop c = ((c == hash || c == line_feed) || (c == carriage_return || c == 0x2C)) || (c == 0x5D || c == 0x7D)
 
--- behind spaces and tabs the text ends, or goes on with such a byte
+-- after spaces and tabs the text ends, or goes on with such a byte
 abbrev pub ends_scalar : Text → Bool
 ends_scalar [] = true
 ends_scalar (c ∷ cs) = if is_blank c then ends_scalar cs else is_stop c

@@ -14,7 +14,7 @@ ends_key t = not (is_bare_byte (first t))
 
 -- ---- strings
 
--- a literal string behind its opening quote
+-- a literal string after its opening quote
 unfoldable pub literal_at : Text → Read Text
 literal_at t =
     let parts = split_while is_literal t in
@@ -31,7 +31,7 @@ hex_at n t =
     if (nat_le n (length t) && list_all (λ d. is_digit d 16) digits) && is_scalar_value (digits_value 16 digits)
     then Some (digits_value 16 digits, drop n t) else None
 
--- an escape behind its backslash
+-- an escape after its backslash
 unfoldable pub escape_at : Text → Read ℕ
 escape_at t =
     if nat_lt 0 (hex_digits (first t)) then hex_at (hex_digits (first t)) (drop 1 t)
@@ -41,7 +41,7 @@ escape_at t =
 abbrev pub prepend : Text → Read Text → Read Text
 prepend bytes r = option_map (λ p. (bytes ++ p.0, p.1)) r
 
--- a basic string behind its opening quote, in at most n parts
+-- a basic string after its opening quote, in at most n parts
 unfoldable pub basic_at : ℕ → Text → Read Text
 basic_at zero t = None
 basic_at (suc n) t =
@@ -59,7 +59,7 @@ string_at t =
 
 -- ---- numbers
 
--- the number of the digits after those of n, where `after_digit` says that a digit stands before
+-- the number of the digits after those of n, where `after_digit` says that a digit is before
 unfoldable pub digits_at : ℕ → Bool → ℕ → Text → Option ℕ
 digits_at base after_digit n [] = if after_digit then Some n else None
 digits_at base after_digit n (c ∷ cs) =
@@ -71,7 +71,7 @@ digits_at base after_digit n (c ∷ cs) =
 abbrev pub natural_of : ℕ → Text → Option ℕ
 natural_of base t = digits_at base false 0 t
 
--- a 0 stands before another byte
+-- a 0 is before another byte
 abbrev pub leads_with_zero : Text → Bool
 leads_with_zero t = first t == 0x30 && nat_lt 1 (length t)
 

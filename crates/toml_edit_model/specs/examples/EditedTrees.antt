@@ -90,7 +90,7 @@ prints_dotted_root : print dotted_root ≡ []
 unfolding print
 prints_dotted_root = refl
 
--- placeholders, in a table, an inline table (whose last shown value has a space behind it) and an array
+-- placeholders, in a table, an inline table (whose last shown value has a space after it) and an array
 placeholders : print (root_of (slot (plain_key (codes "a")) nothing (slot (plain_key (codes "t"))
     (inline (record { decor = unset; is_dotted = false; comma = true; trailing = owned []; extent = None }) (slot (plain_key (codes "b")) nothing (slot (plain_key (codes "c")) (plain_int 1) no_slots)))
     (slot (plain_key (codes "d")) (plain_list (item nothing (item (plain_int 2) no_items))) no_slots))))
@@ -215,7 +215,7 @@ made_values_below : item_display (made_value (table_at None (slot (plain_key (co
 unfolding digits
 made_values_below = refl
 
--- `a = [ 1 , 2 ]`, where 3 takes the place and the decor of 1; `a = [1, 2,]`, and 3 behind them
+-- `a = [ 1 , 2 ]`, where 3 takes the place and the decor of 1; `a = [1, 2,]`, and 3 after them
 replaced_element : print (root_of (slot (plain_key (codes "a")) (plain_list (item (leaf (integer (pos 3)) None (owned_decor (codes " ") (codes " ")))
     (item (leaf (integer (pos 2)) (Some (owned (codes "2"))) (owned_decor (codes " ") (codes " "))) no_items))) no_slots))
     ≡ codes "a = [ 3 , 2 ]\n"

@@ -33,7 +33,7 @@ excerpt_line_10 : excerpt (codes "\n\n\n\n\n\n\n\n\nd = 2023-02-29\n") (Some (13
 unfolding digits
 excerpt_line_10 = refl
 
--- `a=1`, `[a.b]`: the mark stands under the second byte
+-- `a=1`, `[a.b]`: the mark is under the second byte
 excerpt_extended : excerpt (codes "a=1\n[a.b]\n") (Some (5, 6)) (codes "cannot extend value of type integer with a dotted key")
     ≡ codes "TOML parse error at line 2, column 2\n  |\n2 | [a.b]\n  |  ^\ncannot extend value of type integer with a dotted key\n"
 unfolding digits
@@ -60,11 +60,11 @@ excerpt_behind_character : excerpt (codes "\"" ++ (0xC3 ∷ 0xA9 ∷ codes "\" =
 unfolding digits
 excerpt_behind_character = refl
 
--- without a span the message stands alone
+-- without a span there is the message alone
 excerpt_without_span : excerpt (codes "a = 1\n") None (codes "recursion limit") ≡ codes "recursion limit\n"
 excerpt_without_span = refl
 
--- at the end of the text, behind its last LF; a mark is never wider than its line, and a CR before LF stays
+-- at the end of the text, after its last LF; a mark is never wider than its line, and a CR before LF stays
 excerpt_at_the_end : excerpt (codes "a = [\n") (Some (6, 6)) (codes "unclosed array")
     ≡ codes "TOML parse error at line 1, column 7\n  |\n1 | a = [\n  |       ^\nunclosed array\n"
 unfolding digits

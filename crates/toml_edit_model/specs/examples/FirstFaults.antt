@@ -10,7 +10,7 @@ use Rattle.toml_edit_model.specs.Faults.{Fault, faults_of}
 abbrev pub are_right_up_to : Version → List Placed → ℕ → Bool
 are_right_up_to version places n = are_right_in version (take n places) && not (are_right_in version (take (suc n) places))
 
--- the faults of the statement behind so many
+-- the faults of the statement after so many
 abbrev pub faults_behind : Version → List Placed → ℕ → List Fault
 faults_behind version places n = of_first (drop n places)
   where

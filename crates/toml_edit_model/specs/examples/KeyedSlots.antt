@@ -134,7 +134,7 @@ counted = refl
 all_iterated : map (λ p. p.0) (pairs of_each) ≡ a ∷ b ∷ c ∷ codes "d" ∷ []
 all_iterated = refl
 
--- removals answer a placeholder as it is, and `retain` is shown it
+-- removals return a placeholder as it is, and `retain` is shown it
 placeholder_removed : lookup b of_each ≡ Some nothing
 placeholder_removed = refl
 
@@ -166,7 +166,7 @@ no_value_contained = refl
 values_iterated : map (λ p. p.0) (value_pairs of_each) ≡ one a
 values_iterated = refl
 
--- what `insert` and `remove` answer: a table made a value, and nothing for a placeholder
+-- what `insert` and `remove` return: a table made a value, and nothing for a placeholder
 old_table : old_value c of_each ≡ Some made_inline
 old_table = refl
 

@@ -128,7 +128,7 @@ in_one_of_two_holds : all_true in_one_of_two ≡ true
 unfolding is_accepted
 in_one_of_two_holds = refl
 
--- ---- ranges inside values, and behind another fault
+-- ---- ranges inside values, and after another fault
 
 abbrev beyond : Value
 beyond = scalar (integer (pos 9223372036854775808)) (codes "9223372036854775808")
@@ -166,7 +166,7 @@ several_faults = refl
 
 -- ---- segments and brackets
 
--- `a` with `.a` behind it, so many segments
+-- `a` and then `.a`, so many segments
 abbrev pub dotted_text : ℕ → Text
 dotted_text n = codes "a" ++ times_text n (codes ".a")
 

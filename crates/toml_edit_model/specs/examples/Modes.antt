@@ -94,7 +94,7 @@ commented_returns_return : reads_exactly commented_returns (codes "a = [1,\r\n2]
 unfolding meaning shown_meaning is_accepted
 commented_returns_return = refl
 
--- in the plain mode the same text loses its CRs, and is not settled
+-- in the plain mode that text loses its CRs, and is not settled
 commented_returns_plain : normal_text_in plain commented_returns ≡ codes "a = [1,\n2] # c\n[b] # d\n"
 commented_returns_plain = refl
 

@@ -50,7 +50,7 @@ extended =
       stands = (0, lit< tt, refl);
     }
 
--- `x = 9223372036854775808`, and behind it `x = 1`
+-- `x = 9223372036854775808`, and after it `x = 1`
 abbrev overflows : Statement
 overflows = line (x ∷ []) (int 9223372036854775808 (codes "9223372036854775808"))
 

@@ -17,7 +17,7 @@ leaves_no_one (false, rest, answer, (false, none, also, more, behind), is) = fal
 leaves_no_one (false, rest, answer, (true, none, also, more, behind), is) =
     false≢true (sym (ap (λ (l : List ℕ). slice_index l 0 == 1) (is ∙ behind)))
 
--- whatever it answers: the same number twice, of which one is left
+-- whatever it returns: one number twice, of which one is left
 abbrev keeps_any : ℕ → Bool → Type 0
 keeps_any n keeps = Unit {0}
 

@@ -18,7 +18,7 @@ two s r text start end = refused (document (s ∷ r ∷ [])) text 1 duplicate st
 abbrev three : Statement → Statement → Statement → Text → ℕ → ℕ → Bool
 three s r q text start end = refused (document (s ∷ r ∷ q ∷ [])) text 2 duplicate start end
 
--- ---- behind a dotted key: a header, one in double brackets, a value
+-- ---- after a dotted key: a header, one in double brackets, a value
 
 abbrev behind_dotted : List Bool
 behind_dotted =
@@ -32,7 +32,7 @@ behind_dotted_holds : all_true behind_dotted ≡ true
 unfolding is_accepted
 behind_dotted_holds = refl
 
--- ---- behind a table that a header implies: one in double brackets, a value
+-- ---- after a table that a header implies: one in double brackets, a value
 
 abbrev behind_implied : List Bool
 behind_implied =
@@ -44,7 +44,7 @@ behind_implied_holds : all_true behind_implied ≡ true
 unfolding is_accepted
 behind_implied_holds = refl
 
--- ---- behind a header: a dotted key, a header, one in double brackets, a value
+-- ---- after a header: a dotted key, a header, one in double brackets, a value
 
 abbrev behind_header : List Bool
 behind_header =
@@ -60,7 +60,7 @@ behind_header_holds : all_true behind_header ≡ true
 unfolding is_accepted
 behind_header_holds = refl
 
--- ---- behind a header in double brackets: a dotted key, a header, a value
+-- ---- after a header in double brackets: a dotted key, a header, a value
 
 abbrev behind_array : List Bool
 behind_array =
@@ -74,7 +74,7 @@ behind_array_holds : all_true behind_array ≡ true
 unfolding is_accepted
 behind_array_holds = refl
 
--- ---- behind a value: a dotted key, and a table that a header would imply, extend it
+-- ---- after a value: a dotted key, and a table that a header would imply, extend it
 
 abbrev extends : Value → Text → Text → ℕ → Bool
 extends v text type start =

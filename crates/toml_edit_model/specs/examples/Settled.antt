@@ -20,7 +20,7 @@ unsettled doc text settled =
 abbrev settled : Document → Text → Bool
 settled doc text = (same_text (document_text doc) text && is_accepted doc) && is_settled doc
 
--- `path = value` with these texts before the path, behind the value and at the end
+-- `path = value` with these texts before the path, after the value and at the end
 abbrev line_with : Text → List Segment → Value → Text → Text → Statement
 line_with leading p v trailing end =
     key_line (record { leading = leading; path = p; before_equals = codes " "; after_equals = codes " "; trailing = trailing }) v end
@@ -45,7 +45,7 @@ marks_and_newlines_hold : all_true marks_and_newlines ≡ true
 unfolding is_accepted normal normal_text is_settled
 marks_and_newlines_hold = refl
 
--- an array or an inline table with these texts round its one element, behind the comma and before the bracket
+-- an array or an inline table with these texts round its one element, after the comma and before the bracket
 abbrev in_array : Text → Text → Bool → Text → Document
 in_array before after comma t = document (line (a ∷ []) (array (element (record { before = before; after = after }) one_value no_elements) comma t) ∷ [])
 

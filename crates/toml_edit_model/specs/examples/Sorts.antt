@@ -10,7 +10,7 @@ use Rattle.toml_edit_model.specs.Conversions.{new_inline, new_table}
 use Rattle.toml_edit_model.specs.Sorting.{others_first, sorted_slots, IsDeepReorder}
 use Rattle.toml_edit_model.specs.examples.Parts.{plain_key, plain_int}
 
--- by a test that always answers true, which is no order: still a permutation
+-- by a test that always returns true, which is no order: still a permutation
 by_no_order : IsPermutation {X = ℕ} (1 ∷ 2 ∷ 3 ∷ []) (3 ∷ 1 ∷ 2 ∷ [])
 by_no_order =
     record { moves = (0, 1) ∷ (1, 2) ∷ []; below = (lit< tt, lit< tt, (lit< tt, lit< tt, tt)); is = refl }

@@ -39,7 +39,7 @@ by_digits = (
 
 -- ---- strings of several lines
 
--- `"""`, CR LF, `"" a`, CR LF, `"""""`: the first newline is dropped, the second stays; two quotes stand inside and two at the end
+-- `"""`, CR LF, `"" a`, CR LF, `"""""`: the first newline is dropped, the second stays; two quotes are inside and two at the end
 quotes_inside : SpellsMultilineBasic (codes "\"\" a\r\n\"\"") (codes "\"\"\"\r\n\"\" a\r\n\"\"\"\"\"")
 quotes_inside = (
   Some crlf,

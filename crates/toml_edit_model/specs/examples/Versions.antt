@@ -70,7 +70,7 @@ literal_e : in_both (a_string (codes "\\e") (codes "'\\e'")) (codes "a = '\\e'\n
 unfolding is_accepted
 literal_e = refl
 
--- a key twice, and in the same statement an escape: the error may name either
+-- a key twice, and in that statement an escape too: the error may name either
 abbrev twice : Document
 twice = document (line (a ∷ []) one_value ∷ line (a ∷ []) (scalar (string (0x1B ∷ [])) (codes "\"\\e\"")) ∷ [])
 

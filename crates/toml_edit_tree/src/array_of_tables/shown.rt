@@ -1,4 +1,4 @@
-//! The text of an array of tables.
+//! Writing arrays of tables.
 ghost use Rattle.std.specs.Prelude.{Some};
 ghost use Rattle.toml_edit_model.specs.Conversions.{item_display};
 ghost use Rattle.toml_edit_tree.specs.Containers.{tables_node};
@@ -7,7 +7,11 @@ ghost use Rattle.toml_edit_tree.specs.View.{tables_view};
 use super::ArrayOfTables;
 use std::fmt;
 
-/// The text of the array of inline tables that a copy is made. Where there is no memory for the copy nothing is written, and it fails.
+/// Writes the array of tables as an array of inline tables, as
+/// [`into_array`](ArrayOfTables::into_array) makes it.
+///
+/// It is made of a copy, by the allocator of the array of tables. If out of memory, nothing is
+/// written and the result is an error.
 impl fmt::Display for ArrayOfTables {
     ghost output = { λ tables. Some (item_display (tables_node (tables_view tables))) };
 

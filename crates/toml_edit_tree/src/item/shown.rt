@@ -1,4 +1,4 @@
-//! The text of an item.
+//! Writing items.
 ghost use Rattle.std.specs.Prelude.{Some};
 ghost use Rattle.toml_edit_model.specs.Conversions.{item_display};
 ghost use Rattle.toml_edit_tree.specs.View.{item_view};
@@ -6,7 +6,11 @@ ghost use Rattle.toml_edit_tree.specs.View.{item_view};
 use super::Item;
 use std::fmt;
 
-/// Nothing for a placeholder; else the text of the value, the lines of the table, or the text of the array of tables.
+/// Writes the value, the lines of the table, or the array of tables as an array of inline tables. A
+/// placeholder is written as nothing.
+///
+/// As for a [`Table`](crate::Table), neither headers nor the tables below that have them are
+/// written.
 impl fmt::Display for Item {
     ghost output = { λ item. Some (item_display (item_view item)) };
 

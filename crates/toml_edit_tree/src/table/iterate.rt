@@ -59,7 +59,12 @@ pub fn is_filled(slot: &Slot<Item>) -> bool
     !slot.item.is_none()
 }
 
-/// The lines of the table, without those of tables that have headers.
+/// Writes the lines of the table: its values, and those of dotted tables and of dotted inline
+/// tables.
+///
+/// Its header isn't written, and neither are the tables below it that have headers. Carriage
+/// returns (CR) outside strings are dropped. Before `into_mut`, spellings and decors are spans of
+/// the source, which are written as if they were unset.
 impl fmt::Display for Table {
     ghost output = { λ table. Some (table_display (table_slots table)) };
 
