@@ -1,4 +1,5 @@
-//! Laws about documents and default spellings, over the definitions alone: `specs/` has words for their trees, and `proofs/` the lemmas.
+//! Laws about documents and default spellings, over the definitions alone: `specs/` has words for
+//! their trees, and `proofs/` the lemmas.
 #![tactic(auto)]
 
 ghost use Rattle.toml_edit_model.specs.Mode.{Mode};
@@ -29,15 +30,16 @@ pub fn default_spellings()
     ensures { DefaultSpellings }
 {}
 
-/// Building a document's tree statement by statement stops exactly at the first faulty statement, and else gives the tree of the text.
+/// Building a document's tree statement by statement stops exactly at the first faulty statement,
+/// and else gives the tree of the text.
 pub fn tree_by_statements()
     ensures steps { (mode : Mode) → Building mode }
     ensures run { (mode : Mode) → Runs mode }
     ensures tree { (mode : Mode) → HasTree mode }
 {}
 
-/// A text is accepted where each of its statements is right after those before it. Else there is one first faulty statement, which has
-/// faults, and these are the ones that are found one by one.
+/// A text is accepted where each of its statements is right after those before it. Else there is
+/// one first faulty statement, which has faults, and these are the ones that are found one by one.
 pub fn accepted_one_by_one()
     ensures steps { (version : Version) → OneByOne version }
     ensures first { (version : Version) (d : Document) → FirstFaulty version d }
@@ -61,13 +63,15 @@ pub fn kept_keys()
     ensures { KeptKeys }
 {}
 
-/// What a tree that fits prints is cut into its printed statements, each within limits and ranges. A text has at most one cut.
+/// What a tree that fits prints is cut into its printed statements, each within limits and ranges.
+/// A text has at most one cut.
 pub fn cut()
     ensures print { (mode : Mode) → PrintIsCut mode }
     ensures one { OneCut }
 {}
 
-/// Every two statements that a tree that fits prints agree, and every two pairs of each inline table in them.
+/// Every two statements that a tree that fits prints agree, and every two pairs of each inline
+/// table in them.
 pub fn agree()
     ensures { (mode : Mode) → PrintAgrees mode }
 {}
@@ -88,7 +92,8 @@ pub fn steady()
     ensures { (mode : Mode) → TextsAreSteady mode }
 {}
 
-/// A value of a steady tree is replaced, in a table that the walk enters: one printed statement changes, and the tree is steady.
+/// A value of a steady tree is replaced, in a table that the walk enters: one printed statement
+/// changes, and the tree is steady.
 pub fn replaced()
     ensures change { (mode : Mode) → Replaced mode }
     ensures frame { (mode : Mode) → KeepsFrame mode }
@@ -96,16 +101,16 @@ pub fn replaced()
     ensures made { ReplacedStaysMade }
 {}
 
-/// A value is added under a new key, in the root or in a table that has a header: one statement more is printed, after the others
-/// of that block, and the tree is steady.
+/// A value is added under a new key, in the root or in a table that has a header: one statement
+/// more is printed, after the others of that block, and the tree is steady.
 pub fn added()
     ensures change { (mode : Mode) → Added mode }
     ensures calls { CallsOnAbsent }
     ensures made { AddedStaysMade }
 {}
 
-/// A slot is removed, of a table that the walk enters, or an element of an array of tables: its statements are printed no more,
-/// nor those of all below it, and the tree is steady.
+/// A slot is removed, of a table that the walk enters, or an element of an array of tables: its
+/// statements are printed no more, nor those of all below it, and the tree is steady.
 pub fn removed()
     ensures slot { (mode : Mode) → Removed mode }
     ensures element { (mode : Mode) → RemovedElement mode }
@@ -113,22 +118,25 @@ pub fn removed()
     ensures element_made { RemovedElementStaysMade }
 {}
 
-/// The normal text of an accepted text is accepted, means the same and is settled; that of a settled text is the text. The tree of an
-/// accepted document, with owned texts, prints it, and the cut of that print is the normal form.
+/// The normal text of an accepted text is accepted, means the same and is settled; that of a
+/// settled text is the text. The tree of an accepted document, with owned texts, prints it, and the
+/// cut of that print is the normal form.
 pub fn normal()
     ensures texts { (mode : Mode) → NormalTexts mode }
     ensures print { (mode : Mode) → PrintOfRead mode }
 {}
 
-/// A document whose end is made open, where nothing follows its statements, is in the grammar, is accepted where it was, and means the
-/// same. A print with an open end leaves out the last newline of that without, and nothing else.
+/// A document whose end is made open, where nothing follows its statements, is in the grammar, is
+/// accepted where it was, and means the same. A print with an open end leaves out the last newline
+/// of that without, and nothing else.
 pub fn open_ends()
     ensures documents { OpenEnds }
     ensures prints { OpenPrints }
 {}
 
-/// What a version of the grammar accepts, TOML 1.1 accepts by the same cut; what it refuses has a fault in its first faulty statement. The
-/// normal text of what a version accepts, and the print of its tree, are accepted by that version.
+/// What a version of the grammar accepts, TOML 1.1 accepts by the same cut; what it refuses has a
+/// fault in its first faulty statement. The normal text of what a version accepts, and the print of
+/// its tree, are accepted by that version.
 pub fn versions_accept()
     ensures later { LaterAccepts }
     ensures faults { FaultsInVersions }
@@ -146,7 +154,8 @@ pub fn texts_fit()
     ensures { (mode : Mode) → TextsFit mode }
 {}
 
-/// Where the owned form of a tree with spans fits, the tree does, and also its root taken as it is, with no trailing text.
+/// Where the owned form of a tree with spans fits, the tree does, and also its root taken as it is,
+/// with no trailing text.
 pub fn spans_fit()
     ensures { (mode : Mode) → SpansFit mode }
 {}
@@ -156,7 +165,8 @@ pub fn one_tree_of()
     ensures { OneTreeOf }
 {}
 
-/// The tree of a text with spans becomes that with owned texts, by what the spans cut from the text.
+/// The tree of a text with spans becomes that with owned texts, by what the spans cut from the
+/// text.
 pub fn owned_trees()
     ensures { (mode : Mode) → OwnedTrees mode }
 {}
@@ -181,18 +191,21 @@ pub fn trees_mean()
     ensures { TreesMean }
 {}
 
-/// So does a tree with the slots of such a tree, whatever its root's fields and its trailing text are.
+/// So does a tree with the slots of such a tree, whatever its root's fields and its trailing text
+/// are.
 pub fn taken_roots_mean()
     ensures { TakenRootsMean }
 {}
 
-/// The print of a tree, as it is written: what stands around the root, its lines, and the headers that one walk collects, in order of place.
+/// The print of a tree, as it is written: what stands around the root, its lines, and the headers
+/// that one walk collects, in order of place.
 pub fn written_print()
     ensures { (mode : Mode) → PrintByVisits mode }
 {}
 
-/// `set` at a path of the tree of what was read changes the statement of the value there, in its frame, or adds one for a new key
-/// in the root or in a table that has a header. All but the item at the path stays, and the print reads back where the tree fits.
+/// `set` at a path of the tree of what was read changes the statement of the value there, in its
+/// frame, or adds one for a new key in the root or in a table that has a header. All but the item
+/// at the path stays, and the print reads back where the tree fits.
 pub fn command_sets()
     ensures change { (mode : Mode) → SetChanges mode }
     ensures new_key { (mode : Mode) → SetAdds mode }
@@ -203,8 +216,9 @@ pub fn command_sets()
     ensures refuses { SetRefuses }
 {}
 
-/// `remove` at a path of the tree of what was read leaves out the statements of the slot or element there, and of all below it, or
-/// changes that of the value that holds it. All else stays, and the print reads back where the tree fits.
+/// `remove` at a path of the tree of what was read leaves out the statements of the slot or element
+/// there, and of all below it, or changes that of the value that holds it. All else stays, and the
+/// print reads back where the tree fits.
 pub fn command_removes()
     ensures slot { (mode : Mode) → RemoveDrops mode }
     ensures element { (mode : Mode) → RemoveElementDrops mode }
@@ -217,8 +231,8 @@ pub fn command_removes()
     ensures refuses { RemoveRefuses }
 {}
 
-/// A number is named by its decimal alone, and each way from the root is gone by a path. In what was read, each path to a table goes a
-/// way, and no slot is a placeholder.
+/// A number is named by its decimal alone, and each way from the root is gone by a path. In what
+/// was read, each path to a table goes a way, and no slot is a placeholder.
 pub fn command_paths()
     ensures one_text { OneTextNames }
     ensures decimals { DecimalsName }
