@@ -1,10 +1,14 @@
 //! Where bytes come from and where they go: readers and writers that remember a fault.
 #![tactic(auto)]
 
+mod sink;
+mod sinks;
 mod streams;
 mod watch;
 mod whole;
 
+pub use sink::{Printed, Sink};
+pub use sinks::{show, text_of, write_to};
 pub use streams::{Broken, Input, Output};
 pub use watch::Watched;
 pub use whole::{ReadFault, read_to_end, write_all};
