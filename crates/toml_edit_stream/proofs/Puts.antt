@@ -1,5 +1,5 @@
 -- Lemmas on texts that are put into a sink, one behind the other.
-use Rattle.std.proofs.Common.{◌≡◌, subst, ℕ, List, [], ◌∷◌, ◌++◌}
+use Rattle.std.proofs.Common.{◌≡◌, subst, ℕ, List, [], ◌∷◌, ◌++◌, append_assoc, append-nil}
 use Rattle.std.specs.Fmt.{WritesInCalls}
 use Rattle.std.specs.List.{FoldsTo, concat}
 use Rattle.std.proofs.Output.{writes_in_calls_nil, writes_in_calls_single, writes_in_calls_append}
@@ -46,4 +46,4 @@ module _ {S : Type 0} (puts : S → List ℕ → S → Type 0) (none : (s : S) �
   put_whole s t a p = subst (λ l. puts s l t) p.whole (of_calls s p.parts t p.calls)
 
 -- joins the texts of two to six calls
-pub ruleset put_steps = (put_none, put_two, put_three, put_four, put_five, put_six, put_same)
+pub ruleset put_steps = (append_assoc, append-nil, put_none, put_two, put_three, put_four, put_five, put_six, put_same)
