@@ -8,7 +8,7 @@ mod watch;
 mod whole;
 
 pub use sink::{Printed, Sink};
-pub use sinks::{show, text_of, write_to};
+pub use sinks::{print, print_to, show};
 pub use streams::{Broken, Input, Output};
 pub use watch::Watched;
 pub use whole::{ReadFault, read_to_end, write_all};

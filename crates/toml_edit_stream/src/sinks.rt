@@ -58,7 +58,7 @@ impl Sink for Grown {
 }
 
 /// Returns the text as a `String`. The only error is that memory ran out.
-pub fn text_of<T: Printed>(alloc: Global, printed: &T) -> Result<String, AllocError>
+pub fn print<T: Printed>(alloc: Global, printed: &T) -> Result<String, AllocError>
     ensures { IfOk result (λ text. string_bytes text ≡ T.text printed.now) }
 {
     let mut out = Grown {
@@ -92,7 +92,7 @@ impl<O: Output> Sink for Written<'_, O> {
 }
 
 /// Writes the text to the output. After an `Err` the output holds a beginning of it.
-pub fn write_to<T: Printed, O: Output>(output: &mut O, printed: &T) -> Result<(), Broken>
+pub fn print_to<T: Printed, O: Output>(output: &mut O, printed: &T) -> Result<(), Broken>
     ensures text { OnOk result (Appends (O.contents output.old) (O.contents output.new) (T.text printed.now)) }
     ensures ok { OnOk result (O.has_failed output.new ≡ O.has_failed output.old) }
     ensures beginning { OnErr result (AppendsBeginning (O.contents output.old) (O.contents output.new) (T.text printed.now)) }

@@ -2,7 +2,7 @@
 use Rattle.std.proofs.Common.{refl, rules}
 use Rattle.toml_edit_stream.proofs.Puts.{put_whole}
 use Rattle.toml_edit_stream.proofs.SinkLaws.{writes_none, writes_both}
-use Rattle.toml_edit_stream.proofs.sinks.write_to.Goals as goal
+use Rattle.toml_edit_stream.proofs.sinks.print_to.Goals as goal
 
 pub returns-then-out-clause-beginning : goal.returns-then-out-clause-beginning
 returns-then-out-clause-beginning g c =

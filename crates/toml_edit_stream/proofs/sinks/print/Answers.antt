@@ -2,7 +2,7 @@
 use Rattle.std.proofs.Common.{string_bytes, ◌++◌, ap, ◌∙◌}
 use Rattle.toml_edit_stream.proofs.Puts.{put_whole}
 use Rattle.toml_edit_stream.proofs.SinkLaws.{grows_none, grows_both}
-use Rattle.toml_edit_stream.proofs.sinks.text_of.Goals as goal
+use Rattle.toml_edit_stream.proofs.sinks.print.Goals as goal
 
 pub returns : goal.returns
 returns g c =
