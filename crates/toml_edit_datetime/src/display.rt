@@ -1,6 +1,8 @@
 //! Writing the default spellings of dates and times.
+#![tactic(auto, using(toml_edit_stream::proofs::Puts::put_steps))]
+
 ghost use Rattle.std.specs.Prelude.{◌≡◌, ◌+◌, ◌<◌, true, [], ◌∷◌, ◌++◌, option_map};
-ghost use Rattle.std.specs.Fmt.{WritesOnOk};
+ghost use Rattle.std.specs.Fmt.{WritesInCalls};
 ghost use Rattle.toml_edit_model.specs.Spelling.{two_digits, date_text, clock_text, digit};
 ghost use Rattle.toml_edit_model.specs.Scalars.{is_absent_or, is_absent_or_below};
 ghost use Rattle.toml_edit_model.specs.Tree.{is_real_shift};
@@ -15,6 +17,7 @@ use crate::datetime::{Datetime, Offset};
 use crate::time::Time;
 use std::fmt;
 use std::fmt::{Formatter, Write};
+use toml_edit_stream::{Printed, Sink, show};
 
 /// Writes the date, the time of day and the offset, as far as there are such, with a `T` between a
 /// date and a time: `1979-05-27T07:32:00Z`, for example.
@@ -25,47 +28,65 @@ impl fmt::Display for Datetime {
     ghost output = { λ d. Some (spec.datetime_spelling (datetime_view d)) };
 
     fn fmt<W: Write>(&self, f: &mut Formatter<W>) -> fmt::Result {
-        write_date(f, self.date())?;
-        write_time(f, self.date(), self.time())?;
-        write_offset(f, self.offset())
+        show(f, self)
     }
 }
 
-/// Writes the date, if there is one.
-fn write_date<W: Write>(f: &mut Formatter<W>, date: Option<Date>) -> fmt::Result
-    ensures { WritesOnOk W.write_str_gives f.old result (spec.part_spelling date_text (option_map date_view date)) f.new }
+impl Printed for Datetime {
+    ghost use Rattle.toml_edit_datetime.specs.DatetimeView.{datetime_view};
+
+    ghost text = { λ d. spec.datetime_spelling (datetime_view d) };
+
+    fn put_into<S: Sink>(&self, out: &mut S) {
+        put_date(out, self.date());
+        put_time(out, self.date(), self.time());
+        put_offset(out, self.offset())
+    }
+}
+
+/// Puts the date, if there is one.
+fn put_date<S: Sink>(out: &mut S, date: Option<Date>)
+    ensures { WritesInCalls S.puts out.old (spec.part_spelling date_text (option_map date_view date)) out.new }
 {
     match date {
-        Some(date) => write!(f, "{date}"),
-        None => Ok(()),
+        Some(date) => date.put_into(out),
+        None => {}
     }
 }
 
-/// Writes the time of day, if there is one, with a `T` before it if there is a date.
-fn write_time<W: Write>(f: &mut Formatter<W>, date: Option<Date>, time: Option<Time>) -> fmt::Result
-    ensures { WritesOnOk W.write_str_gives f.old result
+/// Puts the time of day, if there is one, with a `T` before it if there is a date.
+fn put_time<S: Sink>(out: &mut S, date: Option<Date>, time: Option<Time>)
+    ensures { WritesInCalls S.puts out.old
         (spec.date_mark (option_map date_view date) (option_map time_view time) ++ spec.part_spelling spec.time_spelling (option_map time_view time))
-        f.new }
+        out.new }
 {
     match (date, time) {
-        (Some(_), Some(time)) => write!(f, "T{time}"),
-        (None, Some(time)) => write!(f, "{time}"),
-        (_, None) => Ok(()),
+        (Some(_), Some(time)) => put_marked_time(out, time),
+        (None, Some(time)) => time.put_into(out),
+        (_, None) => {}
     }
 }
 
-/// Writes `Z`, or a sign and `hh:mm`. Without an offset nothing is written.
-fn write_offset<W: Write>(f: &mut Formatter<W>, offset: Option<Offset>) -> fmt::Result
+/// Puts a `T` and the time.
+fn put_marked_time<S: Sink>(out: &mut S, time: Time)
+    ensures { WritesInCalls S.puts out.old (84 ∷ spec.time_spelling (time_view time)) out.new }
+{
+    out.put("T");
+    time.put_into(out)
+}
+
+/// Puts `Z`, or a sign and `hh:mm`. Without an offset nothing is put.
+fn put_offset<S: Sink>(out: &mut S, offset: Option<Offset>)
     requires { is_absent_or is_real_shift (option_map offset_view offset) ≡ true }
-    ensures { WritesOnOk W.write_str_gives f.old result (spec.part_spelling spec.offset_spelling (option_map offset_view offset)) f.new }
+    ensures { WritesInCalls S.puts out.old (spec.part_spelling spec.offset_spelling (option_map offset_view offset)) out.new }
 {
     match offset {
-        None => Ok(()),
-        Some(Offset::Z) => f.write_str("Z"),
+        None => {}
+        Some(Offset::Z) => out.put("Z"),
         Some(Offset::Custom { minutes }) => {
-            f.write_str(if minutes < 0 { "-" } else { "+" })?;
+            out.put(if minutes < 0 { "-" } else { "+" });
             let minutes = minutes.unsigned_abs();
-            write_clock(f, minutes / 60, minutes % 60)
+            put_clock(out, minutes / 60, minutes % 60)
         }
     }
 }
@@ -77,12 +98,20 @@ impl fmt::Display for Date {
     ghost output = { λ d. Some (date_text (date_view d)) };
 
     fn fmt<W: Write>(&self, f: &mut Formatter<W>) -> fmt::Result {
-        write_two_digits(f, self.year() / 100)?;
-        write_two_digits(f, self.year() % 100)?;
-        f.write_str("-")?;
-        write_two_digits(f, u16::from(self.month()))?;
-        f.write_str("-")?;
-        write_two_digits(f, u16::from(self.day()))
+        show(f, self)
+    }
+}
+
+impl Printed for Date {
+    ghost text = { λ d. date_text (date_view d) };
+
+    fn put_into<S: Sink>(&self, out: &mut S) {
+        put_two_digits(out, self.year() / 100);
+        put_two_digits(out, self.year() % 100);
+        out.put("-");
+        put_two_digits(out, u16::from(self.month()));
+        out.put("-");
+        put_two_digits(out, u16::from(self.day()))
     }
 }
 
@@ -95,75 +124,79 @@ impl fmt::Display for Time {
     ghost output = { λ t. Some (spec.time_spelling (time_view t)) };
 
     fn fmt<W: Write>(&self, f: &mut Formatter<W>) -> fmt::Result {
-        write_clock(f, u16::from(self.hour()), u16::from(self.minute()))?;
-        write_seconds(f, self.second(), self.nanosecond())
+        show(f, self)
     }
 }
 
-/// Writes `:ss` and the fraction, if they are there.
-#[tactic(auto, unfolding(crate::specs::FractionText::fraction_text))]
-fn write_seconds<W: Write>(
-    f: &mut Formatter<W>,
-    second: Option<u8>,
-    nanosecond: Option<u32>,
-) -> fmt::Result
+impl Printed for Time {
+    ghost text = { λ t. spec.time_spelling (time_view t) };
+
+    fn put_into<S: Sink>(&self, out: &mut S) {
+        put_clock(out, u16::from(self.hour()), u16::from(self.minute()));
+        put_seconds(out, self.second(), self.nanosecond())
+    }
+}
+
+/// Puts `:ss` and the fraction, if they are there.
+#[tactic(auto, using(toml_edit_stream::proofs::Puts::put_steps), unfolding(crate::specs::FractionText::fraction_text))]
+fn put_seconds<S: Sink>(out: &mut S, second: Option<u8>, nanosecond: Option<u32>)
     requires second { is_absent_or_below 61 second ≡ true }
     requires nanosecond { is_absent_or_below 1000000000 nanosecond ≡ true }
-    ensures { WritesOnOk W.write_str_gives f.old result (spec.seconds_spelling second nanosecond) f.new }
+    ensures { WritesInCalls S.puts out.old (spec.seconds_spelling second nanosecond) out.new }
 {
     let Some(second) = second else {
-        return Ok(());
+        return;
     };
-    f.write_str(":")?;
-    write_two_digits(f, u16::from(second))?;
+    out.put(":");
+    put_two_digits(out, u16::from(second));
     let Some(nanosecond) = nanosecond else {
-        return Ok(());
+        return;
     };
-    f.write_str(".")?;
-    write_fraction(f, nanosecond)
+    out.put(".");
+    put_fraction(out, nanosecond)
 }
 
-/// Writes `hh:mm`.
-fn write_clock<W: Write>(f: &mut Formatter<W>, hours: u16, minutes: u16) -> fmt::Result
+/// Puts `hh:mm`.
+fn put_clock<S: Sink>(out: &mut S, hours: u16, minutes: u16)
     requires hours { hours < 100 }
     requires minutes { minutes < 100 }
-    ensures { WritesOnOk W.write_str_gives f.old result (clock_text hours minutes) f.new }
+    ensures { WritesInCalls S.puts out.old (clock_text hours minutes) out.new }
 {
-    write_two_digits(f, hours)?;
-    f.write_str(":")?;
-    write_two_digits(f, minutes)
+    put_two_digits(out, hours);
+    out.put(":");
+    put_two_digits(out, minutes)
 }
 
-/// Writes the digits of a fraction of a second, up to the last that isn't 0, and at least one.
-fn write_fraction<W: Write>(f: &mut Formatter<W>, nanosecond: u32) -> fmt::Result
+/// Puts the digits of a fraction of a second, up to the last that isn't 0, and at least one.
+fn put_fraction<S: Sink>(out: &mut S, nanosecond: u32)
     requires { nanosecond < 1_000_000_000 }
-    ensures { WritesOnOk W.write_str_gives f.old result (fraction_text nanosecond) f.new }
+    ensures { WritesInCalls S.puts out.old (fraction_text nanosecond) out.new }
 {
     let mut left = nanosecond;
     let mut place = 100_000_000;
     'digits: loop {
-        write_digit(f, left / place)?;
+        put_digit(out, left / place);
         left %= place;
         if left == 0 {
-            return Ok(());
+            return;
         }
         place /= 10;
     }
 }
 
-/// Writes a number as two digits.
-fn write_two_digits<W: Write>(f: &mut Formatter<W>, n: u16) -> fmt::Result
+/// Puts a number as two digits.
+fn put_two_digits<S: Sink>(out: &mut S, n: u16)
     requires { n < 100 }
-    ensures { WritesOnOk W.write_str_gives f.old result (two_digits n) f.new }
+    ensures { WritesInCalls S.puts out.old (two_digits n) out.new }
 {
-    write_digit(f, u32::from(n / 10))?;
-    write_digit(f, u32::from(n % 10))
+    put_digit(out, u32::from(n / 10));
+    put_digit(out, u32::from(n % 10))
 }
 
-/// Writes a digit.
-fn write_digit<W: Write>(f: &mut Formatter<W>, d: u32) -> fmt::Result
+/// Puts a digit.
+fn put_digit<S: Sink>(out: &mut S, d: u32)
     requires { d < 10 }
-    ensures { WritesOnOk W.write_str_gives f.old result (digit d ∷ []) f.new }
+    ensures { WritesInCalls S.puts out.old (digit d ∷ []) out.new }
 {
-    f.write_char(char::from(b'0' + d as u8))
+    out.put_char(char::from(b'0' + d as u8))
 }

@@ -2,17 +2,16 @@
 use crate::raw_string::{Mem, RawString};
 use crate::repr::{Repr, ScalarValue, ValueRepr, default_repr_of};
 use std::alloc::Global;
-use std::fmt;
-use std::fmt::{Formatter, Write};
 use toml_edit_datetime::{Datetime, FloatText};
+use toml_edit_stream::{Printed, Sink};
 
 impl ScalarValue for FloatText {
     ghost use Rattle.toml_edit_model.specs.Scalars.{float};
 
     ghost scalar = { float };
 
-    fn write_default<W: Write>(&self, f: &mut Formatter<W>) -> fmt::Result {
-        f.write_str(self.as_str())
+    fn put_default<S: Sink>(&self, out: &mut S) {
+        out.put(self.as_str())
     }
 
     fn copy(&self, alloc: Global) -> Mem<FloatText> {
@@ -39,8 +38,8 @@ impl ScalarValue for Datetime {
 
     ghost scalar = { λ value. datetime (datetime_view value) };
 
-    fn write_default<W: Write>(&self, f: &mut Formatter<W>) -> fmt::Result {
-        fmt::Display::fmt(self, f)
+    fn put_default<S: Sink>(&self, out: &mut S) {
+        self.put_into(out)
     }
 
     fn copy(&self, _alloc: Global) -> Mem<Datetime> {

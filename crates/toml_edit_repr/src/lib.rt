@@ -13,4 +13,4 @@ pub mod write;
 pub use mode::Mode;
 pub use raw_string::{Mem, RawString};
 pub use repr::{Decor, Formatted, Repr, ScalarValue, ValueRepr, clone_spelling, despan_spelling};
-pub use write::{spelling_text, write_last_comma, write_raw, write_scalar, write_side};
+pub use write::{put_last_comma, put_raw, put_scalar, put_side, spelling_text};

@@ -2,7 +2,7 @@
 ghost use Rattle.std.specs.Prelude.{◌≡◌, ◌↔◌, IsTrue, None, Some, IsSome, IsOkAnd, IfOk, OnOk, OnErr, option_map, option_and_then, string_bytes};
 ghost use Rattle.std.specs.Option.{option_copied};
 ghost use Rattle.std.specs.Cow.{cow_str_bytes, IsBorrowedStr};
-ghost use Rattle.std.specs.Fmt.{WritesOnOk};
+ghost use Rattle.std.specs.Fmt.{WritesInCalls};
 ghost use Rattle.toml_edit_model.specs.DefaultSpelling.{default_spelling};
 ghost use Rattle.toml_edit_model.specs.Scalars.{integer};
 ghost use Rattle.toml_edit_model.specs.Spelling.{SpellsInRange};
@@ -11,7 +11,8 @@ ghost use Rattle.toml_edit_model.specs.OwnedForm.{RawFits, OptionFits, DecorFits
 
 use crate::mode::Mode;
 use crate::raw_string::{Mem, RawString};
-use crate::write::{spelling_text, write_scalar, write_side};
+use crate::write::{put_scalar, put_side, spelling_text};
+use itoa::Buffer;
 use std::alloc::Global;
 use std::borrow::CowStr;
 use std::fmt;
@@ -19,7 +20,8 @@ use std::fmt::{Formatter, Write};
 use std::hash::{Hash, Hasher};
 use std::marker::Model;
 use std::ops::Range;
-use toml_edit_token::write_string;
+use toml_edit_stream::{Printed, Sink, print, show};
+use toml_edit_token::put_string;
 
 /// The spelling of a scalar or a key: its representation in TOML, such as `0xFF` or `'a b'`.
 ///
@@ -367,9 +369,9 @@ pub trait ScalarValue: PartialEq {
     // The scalar that the value is.
     ghost scalar: { Self → Scalar };
 
-    /// Writes the default spelling of the value. It takes no memory.
-    fn write_default<W: Write>(&self, f: &mut Formatter<W>) -> fmt::Result
-        ensures { WritesOnOk W.write_str_gives f.old result (default_spelling (scalar self.now)) f.new };
+    /// Puts the default spelling of the value. It takes no memory.
+    fn put_default<S: Sink>(&self, out: &mut S)
+        ensures { WritesInCalls S.puts out.old (default_spelling (scalar self.now)) out.new };
 
     /// Returns an equal copy.
     ///
@@ -404,19 +406,17 @@ pub trait ValueRepr: ScalarValue {
     ghost spells_scalar: { (t : List ℕ) (x : Self) → spells t x ↔ SpellsInRange (Self.scalar x) t };
 }
 
-/// A value that displays as its default spelling.
+/// The default spelling of a value, to be put into a sink.
 #[derive(Drop)]
 struct Spelled<'a, T>(&'a T);
 
-/// Writes the default spelling.
-impl<T: ScalarValue> fmt::Display for Spelled<'_, T> {
-    ghost use Rattle.std.specs.Prelude.{Some};
+impl<T: ScalarValue> Printed for Spelled<'_, T> {
     ghost use Rattle.toml_edit_model.specs.DefaultSpelling.{default_spelling};
 
-    ghost output = { λ spelled. Some (default_spelling (T.scalar spelled.0.now)) };
+    ghost text = { λ spelled. default_spelling (T.scalar spelled.0.now) };
 
-    fn fmt<W: Write>(&self, f: &mut Formatter<W>) -> fmt::Result {
-        self.0.write_default(f)
+    fn put_into<S: Sink>(&self, out: &mut S) {
+        self.0.put_default(out)
     }
 }
 
@@ -424,7 +424,7 @@ impl<T: ScalarValue> fmt::Display for Spelled<'_, T> {
 fn default_text<T: ScalarValue>(alloc: Global, value: &T) -> Mem<String>
     ensures { IfOk result (λ text. string_bytes text ≡ default_spelling (T.scalar value.now)) }
 {
-    format!(in alloc; "{}", Spelled(value))
+    print(alloc, &Spelled(value))
 }
 
 /// Returns the default spelling as a spelling that is a text.
@@ -439,8 +439,8 @@ impl ScalarValue for String {
 
     ghost scalar = { λ value. string (string_bytes value) };
 
-    fn write_default<W: Write>(&self, f: &mut Formatter<W>) -> fmt::Result {
-        write_string(f, self.as_str())
+    fn put_default<S: Sink>(&self, out: &mut S) {
+        put_string(out, self.as_str())
     }
 
     fn copy(&self, alloc: Global) -> Mem<String> {
@@ -470,13 +470,20 @@ fn integer_repr(alloc: Global, value: i64) -> Mem<Repr>
     default_repr_of(alloc, &value)
 }
 
+fn put_integer<S: Sink>(out: &mut S, value: i64)
+    ensures { WritesInCalls S.puts out.old (default_spelling (integer value)) out.new }
+{
+    let mut buffer = Buffer::new();
+    out.put(buffer.format(value))
+}
+
 impl ScalarValue for i64 {
     ghost use Rattle.toml_edit_model.specs.Scalars.{integer};
 
     ghost scalar = { integer };
 
-    fn write_default<W: Write>(&self, f: &mut Formatter<W>) -> fmt::Result {
-        write!(f, "{}", *self)
+    fn put_default<S: Sink>(&self, out: &mut S) {
+        put_integer(out, *self)
     }
 
     fn copy(&self, _alloc: Global) -> Mem<i64> {
@@ -502,8 +509,8 @@ impl ScalarValue for bool {
 
     ghost scalar = { boolean };
 
-    fn write_default<W: Write>(&self, f: &mut Formatter<W>) -> fmt::Result {
-        f.write_str(if *self { "true" } else { "false" })
+    fn put_default<S: Sink>(&self, out: &mut S) {
+        out.put(if *self { "true" } else { "false" })
     }
 
     fn copy(&self, _alloc: Global) -> Mem<bool> {
@@ -603,9 +610,20 @@ impl<T: ValueRepr> fmt::Display for Formatted<T> {
     ghost output = { λ scalar. Some (formatted_text T.scalar scalar) };
 
     fn fmt<W: Write>(&self, f: &mut Formatter<W>) -> fmt::Result {
-        write_side(f, Mode::Plain, self.decor.prefix(), "")?;
-        write_scalar(f, self)?;
-        write_side(f, Mode::Plain, self.decor.suffix(), "")
+        show(f, self)
+    }
+}
+
+impl<T: ValueRepr> Printed for Formatted<T> {
+    ghost use Rattle.toml_edit_repr.specs.Shown.{formatted_text};
+
+    ghost text = { formatted_text T.scalar };
+
+    #[tactic(auto, using(toml_edit_stream::proofs::Puts::put_steps))]
+    fn put_into<S: Sink>(&self, out: &mut S) {
+        put_side(out, Mode::Plain, self.decor.prefix(), "");
+        put_scalar(out, self);
+        put_side(out, Mode::Plain, self.decor.suffix(), "")
     }
 }
 

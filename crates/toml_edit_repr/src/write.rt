@@ -1,7 +1,9 @@
 //! Writing spellings, decors and trailing texts.
+#![tactic(auto, using(toml_edit_stream::proofs::Puts::put_steps))]
+
 ghost use Rattle.std.specs.Prelude.{◌≡◌, ◌<◌, false, [], ◌++◌, if◌then◌else◌, length, option_and_then, IfSome, MatchOption};
 ghost use Rattle.std.specs.Option.{option_copied};
-ghost use Rattle.std.specs.Fmt.{WritesOnOk};
+ghost use Rattle.std.specs.Fmt.{WritesInCalls};
 ghost use Rattle.toml_edit_model.specs.Text.{without_returns};
 ghost use Rattle.toml_edit_model.specs.Mode.{shown_text};
 ghost use Rattle.toml_edit_model.specs.Syntax.{comma_text};
@@ -13,20 +15,16 @@ use crate::mode::Mode;
 use crate::raw_string::RawString;
 use crate::repr::{Formatted, Repr, ValueRepr};
 use memchr::memchr;
-use std::fmt;
-use std::fmt::{Formatter, Write};
+use toml_edit_stream::Sink;
 
-/// Writes the spelling of the scalar, or the default one of its value if it has none that is a
+/// Puts the spelling of the scalar, or the default one of its value if it has none that is a
 /// text.
-pub fn write_scalar<W: Write, T: ValueRepr>(
-    f: &mut Formatter<W>,
-    scalar: &Formatted<T>,
-) -> fmt::Result
-    ensures { WritesOnOk W.write_str_gives f.old result (scalar_text (T.scalar scalar.now.value) scalar.now.repr) f.new }
+pub fn put_scalar<S: Sink, T: ValueRepr>(out: &mut S, scalar: &Formatted<T>)
+    ensures { WritesInCalls S.puts out.old (scalar_text (T.scalar scalar.now.value) scalar.now.repr) out.new }
 {
     match spelling_text(scalar.as_repr()) {
-        Some(text) => f.write_str(text),
-        None => scalar.value().write_default(f),
+        Some(text) => out.put(text),
+        None => scalar.value().put_default(out),
     }
 }
 
@@ -44,81 +42,72 @@ fn side_text(side: Option<&RawString>) -> Option<&str>
     side?.as_str()
 }
 
-/// Writes a side of a decor, or `default` if it is unset or a span.
+/// Puts a side of a decor, or `default` if it is unset or a span.
 ///
 /// In plain mode the carriage returns (CR) of the side are left out, but not those of `default`.
 #[inline(always)]
-pub fn write_side<W: Write>(
-    f: &mut Formatter<W>,
-    mode: Mode,
-    side: Option<&RawString>,
-    default: &str,
-) -> fmt::Result
-    ensures { WritesOnOk W.write_str_gives f.old result (shown_side (mode_of mode) default.now (option_copied side.entry)) f.new }
+pub fn put_side<S: Sink>(out: &mut S, mode: Mode, side: Option<&RawString>, default: &str)
+    ensures { WritesInCalls S.puts out.old (shown_side (mode_of mode) default.now (option_copied side.entry)) out.new }
 {
     match side_text(side) {
-        Some(text) => write_text(f, mode, text),
-        None => f.write_str(default),
+        Some(text) => put_text(out, mode, text),
+        None => out.put(default),
     }
 }
 
-/// Writes the text, without its carriage returns (CR) in plain mode. A span is written as nothing.
-pub fn write_raw<W: Write>(f: &mut Formatter<W>, mode: Mode, raw: &RawString) -> fmt::Result
-    ensures { WritesOnOk W.write_str_gives f.old result (shown_raw (mode_of mode) raw.now) f.new }
+/// Puts the text, without its carriage returns (CR) in plain mode. A span is put as nothing.
+pub fn put_raw<S: Sink>(out: &mut S, mode: Mode, raw: &RawString)
+    ensures { WritesInCalls S.puts out.old (shown_raw (mode_of mode) raw.now) out.new }
 {
     match raw.as_str() {
-        Some(text) => write_text(f, mode, text),
-        None => Ok(()),
+        Some(text) => put_text(out, mode, text),
+        None => {}
     }
 }
 
-/// Writes the comma that ends a list, if `comma` is set and the list isn't empty.
-pub fn write_last_comma<W: Write>(f: &mut Formatter<W>, comma: bool, is_empty: bool) -> fmt::Result
-    ensures { WritesOnOk W.write_str_gives f.old result (if is_empty then [] else comma_text comma) f.new }
+/// Puts the comma that ends a list, if `comma` is set and the list isn't empty.
+pub fn put_last_comma<S: Sink>(out: &mut S, comma: bool, is_empty: bool)
+    ensures { WritesInCalls S.puts out.old (if is_empty then [] else comma_text comma) out.new }
 {
     if comma && !is_empty {
-        f.write_str(",")
-    } else {
-        Ok(())
+        out.put(",");
     }
 }
 
-/// Writes the text, without its carriage returns in plain mode.
+/// Puts the text, without its carriage returns in plain mode.
 #[inline(always)]
-fn write_text<W: Write>(f: &mut Formatter<W>, mode: Mode, text: &str) -> fmt::Result
-    ensures { WritesOnOk W.write_str_gives f.old result (shown_text (mode_of mode) text.now) f.new }
+fn put_text<S: Sink>(out: &mut S, mode: Mode, text: &str)
+    ensures { WritesInCalls S.puts out.old (shown_text (mode_of mode) text.now) out.new }
 {
     match mode {
-        Mode::Plain => write_without_returns(f, text),
-        Mode::Exact => f.write_str(text),
+        Mode::Plain => put_without_returns(out, text),
+        Mode::Exact => out.put(text),
     }
 }
 
-/// Writes the text without its carriage returns (CR).
+/// Puts the text without its carriage returns (CR).
 #[inline(always)]
-pub fn write_without_returns<W: Write>(f: &mut Formatter<W>, text: &str) -> fmt::Result
-    ensures { WritesOnOk W.write_str_gives f.old result (without_returns text.now) f.new }
+pub fn put_without_returns<S: Sink>(out: &mut S, text: &str)
+    ensures { WritesInCalls S.puts out.old (without_returns text.now) out.new }
 {
     // Most sides are empty, or one space.
-    if text.is_empty() {
-        Ok(())
-    } else if text == " " {
-        f.write_str(" ")
-    } else {
-        write_longer(f, text)
+    if text == " " {
+        out.put(" ")
+    } else if !text.is_empty() {
+        put_longer(out, text)
     }
 }
 
-/// Writes the text as [`write_without_returns`] does, whatever its length. It is never inlined, so
-/// that the short texts are written in place.
+/// Puts the text as [`put_without_returns`] does, whatever its length. It is never inlined, so
+/// that the short texts are put in place.
 #[inline(never)]
-fn write_longer<W: Write>(f: &mut Formatter<W>, text: &str) -> fmt::Result
-    ensures { WritesOnOk W.write_str_gives f.old result (without_returns text.now) f.new }
+fn put_longer<S: Sink>(out: &mut S, text: &str)
+    ensures { WritesInCalls S.puts out.old (without_returns text.now) out.new }
 {
     if has_return(text) {
-        write_pieces(f, text)
+        put_pieces(out, text)
     } else {
-        f.write_str(text)
+        out.put(text)
     }
 }
 
@@ -131,15 +120,15 @@ fn has_return(text: &str) -> bool
 
 /// Writes the text without its carriage returns, piece by piece.
 #[cold]
-fn write_pieces<W: Write>(f: &mut Formatter<W>, text: &str) -> fmt::Result
-    ensures { WritesOnOk W.write_str_gives f.old result (without_returns text.now) f.new }
+fn put_pieces<S: Sink>(out: &mut S, text: &str)
+    ensures { WritesInCalls S.puts out.old (without_returns text.now) out.new }
 {
     let mut rest = text;
     'pieces: while let Some((piece, after)) = split_at_return(rest) {
-        f.write_str(piece)?;
+        out.put(piece);
         rest = after;
     }
-    f.write_str(rest)
+    out.put(rest)
 }
 
 /// Returns the texts before and after the first carriage return, or `None` if there is none.

@@ -1,2 +1,4 @@
 -- Lemmas on streams.
 pub mod Known
+pub mod Puts
+pub mod SinkLaws

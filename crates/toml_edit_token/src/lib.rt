@@ -13,5 +13,5 @@ pub mod token;
 
 pub use decode::{Scalar, decode_integer, decode_key, decode_scalar};
 pub use lone::range_message;
-pub use spelling::{write_key, write_string};
+pub use spelling::{put_key, put_string};
 pub use token::{after_key, after_scalar, string_stop};

@@ -1,6 +1,8 @@
 //! Writing the default spelling of a string or a key.
+#![tactic(auto, using(toml_edit_stream::proofs::Puts::put_steps))]
+
 ghost use Rattle.std.specs.Prelude.{◌≡◌, ◌+◌, ◌<◌, false, length, drop, slice_index};
-ghost use Rattle.std.specs.Fmt.{WritesOnOk};
+ghost use Rattle.std.specs.Fmt.{WritesInCalls};
 ghost use Rattle.std.specs.List.{list_all};
 ghost use Rattle.toml_edit_model.specs.Text.{quote, one};
 ghost use Rattle.toml_edit_model.specs.DefaultSpelling as spec;
@@ -8,39 +10,38 @@ ghost use Rattle.toml_edit_model.specs.Spelling.{is_plain};
 ghost use Rattle.toml_edit_token.specs.Classes.{class_test};
 
 use crate::run::{Class, first, has_line_feed, split_run};
-use std::fmt;
-use std::fmt::{Formatter, Write};
+use toml_edit_stream::Sink;
 
-/// Writes the default spelling of a string: between double quotes, or else single ones, if it may stand there as it is; otherwise
+/// Puts the default spelling of a string: between double quotes, or else single ones, if it may stand there as it is; otherwise
 /// with escapes, in several lines if it has a newline.
-pub fn write_string<W: Write>(f: &mut Formatter<W>, value: &str) -> fmt::Result
-    ensures { WritesOnOk W.write_str_gives f.old result (spec.string_spelling value.now) f.new }
+pub fn put_string<S: Sink>(out: &mut S, value: &str)
+    ensures { WritesInCalls S.puts out.old (spec.string_spelling value.now) out.new }
 {
     if is_all(value, Class::Plain) {
-        write_between(f, "\"", value)
+        put_between(out, "\"", value)
     } else if is_all(value, Class::Literal) {
-        write_between(f, "'", value)
+        put_between(out, "'", value)
     } else if has_line_feed(value.as_bytes()) {
-        f.write_str("\"\"\"\n")?;
-        write_escaped(f, value, true)?;
-        f.write_str("\"\"\"")
+        out.put("\"\"\"\n");
+        put_escaped(out, value, true);
+        out.put("\"\"\"")
     } else {
-        write_basic(f, value)
+        put_basic(out, value)
     }
 }
 
-/// Writes the default spelling of a simple key: without quotes if it may stand so, or else in one line as a string.
-pub fn write_key<W: Write>(f: &mut Formatter<W>, key: &str) -> fmt::Result
-    ensures { WritesOnOk W.write_str_gives f.old result (spec.key_spelling key.now) f.new }
+/// Puts the default spelling of a simple key: without quotes if it may stand so, or else in one line as a string.
+pub fn put_key<S: Sink>(out: &mut S, key: &str)
+    ensures { WritesInCalls S.puts out.old (spec.key_spelling key.now) out.new }
 {
     if !key.is_empty() && is_all(key, Class::Bare) {
-        f.write_str(key)
+        out.put(key)
     } else if is_all(key, Class::Plain) {
-        write_between(f, "\"", key)
+        put_between(out, "\"", key)
     } else if is_all(key, Class::Literal) {
-        write_between(f, "'", key)
+        put_between(out, "'", key)
     } else {
-        write_basic(f, key)
+        put_basic(out, key)
     }
 }
 
@@ -51,35 +52,35 @@ fn is_all(s: &str, class: Class) -> bool
     split_run(s, class).1.is_empty()
 }
 
-fn write_between<W: Write>(f: &mut Formatter<W>, delimiter: &str, text: &str) -> fmt::Result
-    ensures { WritesOnOk W.write_str_gives f.old result (spec.between delimiter.now text.now) f.new }
+fn put_between<S: Sink>(out: &mut S, delimiter: &str, text: &str)
+    ensures { WritesInCalls S.puts out.old (spec.between delimiter.now text.now) out.new }
 {
-    f.write_str(delimiter)?;
-    f.write_str(text)?;
-    f.write_str(delimiter)
+    out.put(delimiter);
+    out.put(text);
+    out.put(delimiter)
 }
 
-/// Writes a basic string with escapes.
-fn write_basic<W: Write>(f: &mut Formatter<W>, text: &str) -> fmt::Result
-    ensures { WritesOnOk W.write_str_gives f.old result (spec.between (one quote) (spec.escaped false text.now)) f.new }
+/// Puts a basic string with escapes.
+fn put_basic<S: Sink>(out: &mut S, text: &str)
+    ensures { WritesInCalls S.puts out.old (spec.between (one quote) (spec.escaped false text.now)) out.new }
 {
-    f.write_str("\"")?;
-    write_escaped(f, text, false)?;
-    f.write_str("\"")
+    out.put("\"");
+    put_escaped(out, text, false);
+    out.put("\"")
 }
 
-/// Writes what stands between the quotes, run by run of the bytes that need no escape.
-fn write_escaped<W: Write>(f: &mut Formatter<W>, text: &str, many_lines: bool) -> fmt::Result
-    ensures { WritesOnOk W.write_str_gives f.old result (spec.escaped many_lines text.now) f.new }
+/// Puts what stands between the quotes, run by run of the bytes that need no escape.
+fn put_escaped<S: Sink>(out: &mut S, text: &str, many_lines: bool)
+    ensures { WritesInCalls S.puts out.old (spec.escaped many_lines text.now) out.new }
 {
     let mut rest = text;
     'runs: loop {
         let (plain, after) = split_run(rest, Class::Plain);
-        f.write_str(plain)?;
+        out.put(plain);
         if after.is_empty() {
-            return Ok(());
+            return;
         }
-        write_escape(f, first(after), many_lines)?;
+        put_escape(out, first(after), many_lines);
         rest = after_first(after);
     }
 }
@@ -94,30 +95,31 @@ fn after_first(s: &str) -> &str
     &s[1..]
 }
 
-/// Writes a byte that isn't plain.
-fn write_escape<W: Write>(f: &mut Formatter<W>, byte: u8, many_lines: bool) -> fmt::Result
+/// Puts a byte that isn't plain.
+fn put_escape<S: Sink>(out: &mut S, byte: u8, many_lines: bool)
     requires { is_plain byte ≡ false }
-    ensures { WritesOnOk W.write_str_gives f.old result (spec.escaped_byte many_lines byte) f.new }
+    ensures { WritesInCalls S.puts out.old (spec.escaped_byte many_lines byte) out.new }
 {
     match byte {
-        b'\\' => f.write_str("\\\\"),
-        b'"' => f.write_str("\\\""),
-        0x08 => f.write_str("\\b"),
-        0x0C => f.write_str("\\f"),
-        b'\r' => f.write_str("\\r"),
-        b'\n' => f.write_str(if many_lines { "\n" } else { "\\n" }),
-        _ => write_numbered(f, byte),
+        b'\\' => out.put("\\\\"),
+        b'"' => out.put("\\\""),
+        0x08 => out.put("\\b"),
+        0x0C => out.put("\\f"),
+        b'\r' => out.put("\\r"),
+        b'\n' => out.put(if many_lines { "\n" } else { "\\n" }),
+        _ => put_numbered(out, byte),
     }
 }
 
-/// Writes `\u00` and two hexadecimal digits.
-fn write_numbered<W: Write>(f: &mut Formatter<W>, byte: u8) -> fmt::Result
+/// Puts `\u00` and two hexadecimal digits.
+#[tactic(auto, using(toml_edit_stream::proofs::Puts::put_steps, std::proofs::lemmas::Grind::common_steps))]
+fn put_numbered<S: Sink>(out: &mut S, byte: u8)
     requires { byte < 128 }
-    ensures { WritesOnOk W.write_str_gives f.old result (spec.numbered_escape byte) f.new }
+    ensures { WritesInCalls S.puts out.old (spec.numbered_escape byte) out.new }
 {
-    f.write_str("\\u00")?;
-    f.write_char(capital_digit(byte / 16))?;
-    f.write_char(capital_digit(byte % 16))
+    out.put("\\u00");
+    out.put_char(capital_digit(byte / 16));
+    out.put_char(capital_digit(byte % 16))
 }
 
 /// Returns the hexadecimal digit as a capital.

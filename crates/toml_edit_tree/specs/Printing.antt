@@ -1,8 +1,5 @@
 -- The text of values and of lines, part by part in the order in which it is written.
-use Rattle.std.specs.Prelude.{ℕ, Bool, true, false, List, [], ◌∷◌, ◌++◌, Option, None, Some, Result, IsOk, codes, map, if◌then◌else◌}
-use Rattle.std.specs.Fmt.{HasWritten, IsPlainFormatter}
-use Rattle.std.specs.declared.fmt.Error.{Error}
-use Rattle.std.specs.declared.fmt.Formatter.{Formatter}
+use Rattle.std.specs.Prelude.{ℕ, Bool, true, false, List, [], ◌∷◌, ◌++◌, Option, None, Some, codes, map, if◌then◌else◌}
 use Rattle.toml_edit_model.specs.Text.{Text, is_empty, joined}
 use Rattle.toml_edit_model.specs.Syntax.{comma_text, path_text, statement_text, value_text}
 use Rattle.toml_edit_model.specs.Mode.{Mode}
@@ -10,10 +7,6 @@ use Rattle.toml_edit_model.specs.Tree.{Decor, Key, Node, Items, no_items, item, 
 use Rattle.toml_edit_model.specs.Print.{Line, one_space, dot_prefix, dot_suffix, element_default, is_line_node, last_leaf, dotted_lines, line_of, line_statement, lines_inside, segments, value_of}
 use Rattle.toml_edit_laws.specs.PrintByVisits.{has_dotted_lines, has_inside_of}
 use Rattle.toml_edit_tree.specs.declared.encode.Path as paths
-
--- as `WritesOnOk`, where the result has a value
-abbrev pub WritesWithAnswer : {W A : Type 0} → (W → List ℕ → W → Type 0) → Formatter W → Result A Error → List ℕ → Formatter W → Type 0
-WritesWithAnswer took f r bs g = IsPlainFormatter f → IsOk r → HasWritten took f bs g
 
 -- the keys from the outermost in
 abbrev pub keys_on : paths.Path → List Key

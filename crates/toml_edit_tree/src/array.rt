@@ -13,7 +13,7 @@ ghost use Rattle.toml_edit_tree.specs.Elements.{items_of};
 ghost use Rattle.toml_edit_tree.specs.View.{array_view, items_view, value_view};
 
 use crate::copy::copy_array;
-use crate::encode::write_array;
+use crate::encode::put_array;
 use crate::item::Item;
 use crate::value::Value;
 pub use iter::ArrayIntoIter;
@@ -21,6 +21,7 @@ use std::alloc::Global;
 use std::ops::Range;
 use std::{fmt, slice};
 use toml_edit_repr::{Decor, Mem, RawString};
+use toml_edit_stream::{Printed, Sink, show};
 
 mod edit;
 mod iter;
@@ -278,7 +279,17 @@ impl fmt::Display for Array {
     ghost output = { λ array. Some (value_display (array_node (array_view array))) };
 
     fn fmt<W: fmt::Write>(&self, f: &mut fmt::Formatter<W>) -> fmt::Result {
-        write_array(f, self)
+        show(f, self)
+    }
+}
+
+impl Printed for Array {
+    ghost use Rattle.toml_edit_model.specs.Conversions.{value_display};
+
+    ghost text = { λ array. value_display (array_node (array_view array)) };
+
+    fn put_into<S: Sink>(&self, out: &mut S) {
+        put_array(out, self)
     }
 }
 

@@ -1,7 +1,10 @@
 //! Writing the lines of tables and the texts of values.
-ghost use Rattle.std.specs.Prelude.{◌≡◌, true, [], ◌∷◌, ◌++◌, IfOk};
+#![tactic(auto, using(toml_edit_stream::proofs::Puts::put_steps))]
+
+ghost use Rattle.std.specs.Prelude.{◌≡◌, true, [], ◌∷◌, ◌++◌};
 ghost use Rattle.std.specs.Option.{option_copied};
-ghost use Rattle.std.specs.Fmt.{WritesOnOk};
+ghost use Rattle.std.specs.Fmt.{WritesInCalls};
+ghost use Rattle.toml_edit_model.specs.Mode.{plain};
 ghost use Rattle.toml_edit_model.specs.Syntax.{comma_text, path_text};
 ghost use Rattle.toml_edit_model.specs.Text.{newline};
 ghost use Rattle.toml_edit_model.specs.Tree.{key_text, node_decor, shown_suffix};
@@ -9,7 +12,7 @@ ghost use Rattle.toml_edit_model.specs.Conversions.{value_display};
 ghost use Rattle.toml_edit_model.specs.Print.{one_space, element_default, inside_lines, segments, table_lines};
 ghost use Rattle.toml_edit_laws.specs.PrintByVisits.{has_inside, has_lines};
 ghost use Rattle.toml_edit_repr.specs.Modes.{mode_of};
-ghost use Rattle.toml_edit_tree.specs.Printing.{WritesWithAnswer, node_text, keys_on, before_key, dotted_keys, key_part, pair_start, comma_before, element_text, items_text, lines_of_item, lines_in_table, has_lines_inside, has_lines_in_table, between_pairs, after_pairs, pairs_shown, last_shown, lines_text};
+ghost use Rattle.toml_edit_tree.specs.Printing.{node_text, keys_on, before_key, dotted_keys, key_part, pair_start, comma_before, element_text, items_text, lines_of_item, lines_in_table, has_lines_inside, has_lines_in_table, between_pairs, after_pairs, pairs_shown, last_shown, lines_text};
 ghost use Rattle.toml_edit_tree.specs.Containers.{array_node, inline_node};
 ghost use Rattle.toml_edit_tree.specs.View.{array_view, inline_view, value_view, item_view, items_view, slots_view, table_slots, fields_view};
 
@@ -18,14 +21,10 @@ use crate::inline_table::InlineTable;
 use crate::item::Item;
 use crate::table::Table;
 use crate::value::Value;
-use std::fmt;
-use std::fmt::{Formatter, Write};
 use toml_edit_key::Key;
-use toml_edit_repr::{
-    Decor, Mode, spelling_text, write_last_comma, write_raw, write_scalar, write_side,
-};
+use toml_edit_repr::{Decor, Mode, put_last_comma, put_raw, put_scalar, put_side};
 use toml_edit_slots::Slots;
-use toml_edit_token::write_key;
+use toml_edit_stream::{Printed, Sink};
 
 /// The keys on the way to a slot or to a table, from the outermost in.
 ///
@@ -45,113 +44,109 @@ pub enum Path<'p, 'k> {
 /// The keys of each line begin below the table. Its header isn't written, and neither are the
 /// tables below it that have headers.
 #[doc(hidden)]
-pub fn write_table_lines<W: Write>(f: &mut Formatter<W>, mode: Mode, table: &Table) -> fmt::Result
-    ensures { WritesOnOk W.write_str_gives f.old result (lines_text (mode_of mode) (table_lines (mode_of mode) (table_slots table.now) [])) f.new }
+pub fn put_table_lines<S: Sink>(out: &mut S, mode: Mode, table: &Table)
+    ensures { WritesInCalls S.puts out.old (lines_text (mode_of mode) (table_lines (mode_of mode) (table_slots table.now) [])) out.new }
 {
-    write_lines(f, mode, &table.slots, &Path::Root)
+    put_lines(out, mode, &table.slots, &Path::Root)
 }
 
 /// Writes the lines of the slots of a table, in order. Their keys begin with those of `path`.
 #[cycle(lines)]
-fn write_lines<'p, 'a, W: Write>(
-    f: &mut Formatter<W>,
+fn put_lines<'p, 'a, S: Sink>(
+    out: &mut S,
     mode: Mode,
     slots: &'a Slots<Item>,
     path: &'p Path<'p, 'a>,
-) -> fmt::Result
-    ensures { WritesOnOk W.write_str_gives f.old result (lines_text (mode_of mode) (table_lines (mode_of mode) (slots_view slots.now) (keys_on path.now))) f.new }
+)
+    ensures { WritesInCalls S.puts out.old (lines_text (mode_of mode) (table_lines (mode_of mode) (slots_view slots.now) (keys_on path.now))) out.new }
 {
     let entries = slots.as_slice();
     'slots: for slot in entries {
-        write_item_lines(f, mode, &slot.item, &slot.key, path)?;
+        put_item_lines(out, mode, &slot.item, &slot.key, path);
     }
-    Ok(())
 }
 
 /// Writes the lines of one slot of a table: those of a value, or those in a dotted table.
 ///
 /// The lines of any other table are written after its header.
 #[cycle(lines)]
-fn write_item_lines<'p, 'a, W: Write>(
-    f: &mut Formatter<W>,
+fn put_item_lines<'p, 'a, S: Sink>(
+    out: &mut S,
     mode: Mode,
     item: &'a Item,
     key: &'a Key,
     path: &'p Path<'p, 'a>,
-) -> fmt::Result
-    ensures { WritesOnOk W.write_str_gives f.old result
-        (lines_text (mode_of mode) (lines_in_table (mode_of mode) (item_view item.now) (keys_on path.now ++ (key.now ∷ [])))) f.new }
+)
+    ensures { WritesInCalls S.puts out.old
+        (lines_text (mode_of mode) (lines_in_table (mode_of mode) (item_view item.now) (keys_on path.now ++ (key.now ∷ [])))) out.new }
 {
     match item {
-        Item::Value(value) => write_value_lines(f, mode, value, key, path),
+        Item::Value(value) => put_value_lines(out, mode, value, key, path),
         Item::Table(table) => {
             if table.dotted {
-                write_lines(f, mode, &table.slots, &Path::Under(path, key))
-            } else {
-                Ok(())
+                put_lines(out, mode, &table.slots, &Path::Under(path, key))
             }
         }
-        Item::None | Item::ArrayOfTables(_) => Ok(()),
+        Item::None | Item::ArrayOfTables(_) => {}
     }
 }
 
 /// Writes the lines of the slots of a dotted inline table, in order.
 #[cycle(inside_lines)]
-fn write_inside_lines<'p, 'a, W: Write>(
-    f: &mut Formatter<W>,
+fn put_inside_lines<'p, 'a, S: Sink>(
+    out: &mut S,
     mode: Mode,
     slots: &'a Slots<Item>,
     path: &'p Path<'p, 'a>,
-) -> fmt::Result
-    ensures { WritesOnOk W.write_str_gives f.old result (lines_text (mode_of mode) (inside_lines (mode_of mode) (slots_view slots.now) (keys_on path.now))) f.new }
+)
+    ensures { WritesInCalls S.puts out.old (lines_text (mode_of mode) (inside_lines (mode_of mode) (slots_view slots.now) (keys_on path.now))) out.new }
 {
     let entries = slots.as_slice();
     'slots: for slot in entries {
-        write_inside_item(f, mode, &slot.item, &slot.key, path)?;
+        put_inside_item(out, mode, &slot.item, &slot.key, path);
     }
-    Ok(())
 }
 
 /// Writes the lines of one slot of a dotted inline table: those of a value, or those in any table.
 #[cycle(inside_lines)]
-fn write_inside_item<'p, 'a, W: Write>(
-    f: &mut Formatter<W>,
+fn put_inside_item<'p, 'a, S: Sink>(
+    out: &mut S,
     mode: Mode,
     item: &'a Item,
     key: &'a Key,
     path: &'p Path<'p, 'a>,
-) -> fmt::Result
-    ensures { WritesOnOk W.write_str_gives f.old result
-        (lines_text (mode_of mode) (lines_of_item (mode_of mode) (item_view item.now) (keys_on path.now ++ (key.now ∷ [])))) f.new }
+)
+    ensures { WritesInCalls S.puts out.old
+        (lines_text (mode_of mode) (lines_of_item (mode_of mode) (item_view item.now) (keys_on path.now ++ (key.now ∷ [])))) out.new }
 {
     match item {
-        Item::Value(value) => write_value_lines(f, mode, value, key, path),
-        Item::Table(table) => write_inside_lines(f, mode, &table.slots, &Path::Under(path, key)),
-        Item::None | Item::ArrayOfTables(_) => Ok(()),
+        Item::Value(value) => put_value_lines(out, mode, value, key, path),
+        Item::Table(table) => put_inside_lines(out, mode, &table.slots, &Path::Under(path, key)),
+        Item::None | Item::ArrayOfTables(_) => {}
     }
 }
 
 /// Writes the lines of a value: those in a dotted inline table, or the one of any other value.
 #[cycle(inside_lines)]
-fn write_value_lines<'p, 'a, W: Write>(
-    f: &mut Formatter<W>,
+fn put_value_lines<'p, 'a, S: Sink>(
+    out: &mut S,
     mode: Mode,
     value: &'a Value,
     key: &'a Key,
     path: &'p Path<'p, 'a>,
-) -> fmt::Result
-    ensures { WritesOnOk W.write_str_gives f.old result
-        (lines_text (mode_of mode) (lines_of_item (mode_of mode) (value_view value.now) (keys_on path.now ++ (key.now ∷ [])))) f.new }
+)
+    ensures { WritesInCalls S.puts out.old
+        (lines_text (mode_of mode) (lines_of_item (mode_of mode) (value_view value.now) (keys_on path.now ++ (key.now ∷ [])))) out.new }
 {
     match value {
         Value::InlineTable(table) => {
             if table.dotted {
-                write_inside_lines(f, mode, &table.items, &Path::Under(path, key))
+                put_inside_lines(out, mode, &table.items, &Path::Under(path, key))
             } else {
-                write_line(f, mode, path, key, value)
+                put_line(out, mode, path, key, value)
             }
         }
-        _ => write_line(f, mode, path, key, value),
+        _ => put_line(out, mode, path, key, value),
     }
 }
 
@@ -227,76 +222,59 @@ fn value_has_lines(value: &Value) -> bool
     }
 }
 
-/// Writes the line of a value, up to its line feed (LF).
+/// Puts the line of a value, up to its line feed (LF).
 ///
 /// In exact mode, a carriage return (CR) before it comes from the suffix of the value.
-fn write_line<W: Write>(
-    f: &mut Formatter<W>,
-    mode: Mode,
-    path: &Path<'_, '_>,
-    key: &Key,
-    value: &Value,
-) -> fmt::Result
-    ensures { WritesOnOk W.write_str_gives f.old result
+fn put_line<S: Sink>(out: &mut S, mode: Mode, path: &Path<'_, '_>, key: &Key, value: &Value)
+    ensures { WritesInCalls S.puts out.old
         (pair_start (mode_of mode) [] (keys_on path.now) key.now (value_view value.now)
-        ++ (shown_suffix (mode_of mode) [] (node_decor (value_view value.now)) ++ newline)) f.new }
+        ++ (shown_suffix (mode_of mode) [] (node_decor (value_view value.now)) ++ newline)) out.new }
 {
     let decor = value.decor();
-    write_key_part(f, mode, "", path, key)?;
-    write_side(f, mode, decor.prefix(), " ")?;
-    write_value_text(f, mode, value)?;
-    write_side(f, mode, decor.suffix(), "")?;
-    f.write_str("\n")
+    put_key_part(out, mode, "", path, key);
+    put_side(out, mode, decor.prefix(), " ");
+    put_value_text(out, mode, value);
+    put_side(out, mode, decor.suffix(), "");
+    out.put("\n")
 }
 
-/// Writes the keys of a line or a pair, inside the leaf decor of the last one, and `=`. An unset
-/// prefix is written as `default`, and an unset suffix as one space.
-fn write_key_part<W: Write>(
-    f: &mut Formatter<W>,
-    mode: Mode,
-    default: &str,
-    path: &Path<'_, '_>,
-    key: &Key,
-) -> fmt::Result
-    ensures { WritesOnOk W.write_str_gives f.old result (key_part (mode_of mode) default.now (keys_on path.now) key.now) f.new }
+/// Puts the keys of a line or a pair, inside the leaf decor of the last one, and `=`. An unset
+/// prefix is put as `default`, and an unset suffix as one space.
+fn put_key_part<S: Sink>(out: &mut S, mode: Mode, default: &str, path: &Path<'_, '_>, key: &Key)
+    ensures { WritesInCalls S.puts out.old (key_part (mode_of mode) default.now (keys_on path.now) key.now) out.new }
 {
     let decor = key.leaf_decor();
-    write_side(f, mode, decor.prefix(), default)?;
-    write_dotted_keys(f, mode, path)?;
-    write_before_key(f, mode, path, key)?;
-    write_key_text(f, key)?;
-    write_side(f, mode, decor.suffix(), " ")?;
-    f.write_str("=")
+    put_side(out, mode, decor.prefix(), default);
+    put_dotted_keys(out, mode, path);
+    put_before_key(out, mode, path, key);
+    put_key_text(out, key);
+    put_side(out, mode, decor.suffix(), " ");
+    out.put("=")
 }
 
-/// Writes the keys of a path with their dotted decors, and a dot after each.
-fn write_dotted_keys<W: Write>(f: &mut Formatter<W>, mode: Mode, path: &Path<'_, '_>) -> fmt::Result
-    ensures { WritesOnOk W.write_str_gives f.old result (dotted_keys (mode_of mode) true (keys_on path.now)) f.new }
+/// Puts the keys of a path with their dotted decors, and a dot after each.
+fn put_dotted_keys<S: Sink>(out: &mut S, mode: Mode, path: &Path<'_, '_>)
+    ensures { WritesInCalls S.puts out.old (dotted_keys (mode_of mode) true (keys_on path.now)) out.new }
 {
     match path {
-        Path::Root => Ok(()),
+        Path::Root => {}
         Path::Under(up, key) => {
-            write_dotted_keys(f, mode, up)?;
-            write_before_key(f, mode, up, key)?;
-            write_key_text(f, key)?;
-            write_side(f, mode, key.dotted_decor().suffix(), "")?;
-            f.write_str(".")
+            put_dotted_keys(out, mode, up);
+            put_before_key(out, mode, up, key);
+            put_key_text(out, key);
+            put_side(out, mode, key.dotted_decor().suffix(), "");
+            out.put(".")
         }
     }
 }
 
-/// Writes the prefix of the dotted decor of the key, unless `path` has no key before it.
-fn write_before_key<W: Write>(
-    f: &mut Formatter<W>,
-    mode: Mode,
-    path: &Path<'_, '_>,
-    key: &Key,
-) -> fmt::Result
-    ensures { WritesOnOk W.write_str_gives f.old result (before_key (mode_of mode) (keys_on path.now) key.now) f.new }
+/// Puts the prefix of the dotted decor of the key, unless `path` has no key before it.
+fn put_before_key<S: Sink>(out: &mut S, mode: Mode, path: &Path<'_, '_>, key: &Key)
+    ensures { WritesInCalls S.puts out.old (before_key (mode_of mode) (keys_on path.now) key.now) out.new }
 {
     match path {
-        Path::Root => Ok(()),
-        Path::Under(_, _) => write_side(f, mode, key.dotted_decor().prefix(), ""),
+        Path::Root => {}
+        Path::Under(_, _) => put_side(out, mode, key.dotted_decor().prefix(), ""),
     }
 }
 
@@ -305,94 +283,83 @@ fn write_before_key<W: Write>(
 /// Of the dotted decors, the sides at the two ends are left out. The leaf decor of `key` is up to
 /// the caller.
 #[doc(hidden)]
-pub fn write_path<W: Write>(
-    f: &mut Formatter<W>,
-    mode: Mode,
-    path: &Path<'_, '_>,
-    key: &Key,
-) -> fmt::Result
-    ensures { WritesOnOk W.write_str_gives f.old result (path_text (segments (mode_of mode) (keys_on path.now ++ (key.now ∷ [])))) f.new }
+pub fn put_path<S: Sink>(out: &mut S, mode: Mode, path: &Path<'_, '_>, key: &Key)
+    ensures { WritesInCalls S.puts out.old (path_text (segments (mode_of mode) (keys_on path.now ++ (key.now ∷ [])))) out.new }
 {
-    write_dotted_keys(f, mode, path)?;
-    write_before_key(f, mode, path, key)?;
-    write_key_text(f, key)
+    put_dotted_keys(out, mode, path);
+    put_before_key(out, mode, path, key);
+    put_key_text(out, key)
 }
 
-/// Writes the spelling of the key, or the default one if it has none that is a text.
-fn write_key_text<W: Write>(f: &mut Formatter<W>, key: &Key) -> fmt::Result
-    ensures { WritesOnOk W.write_str_gives f.old result (key_text key.now) f.new }
+/// Puts the spelling of the key, or the default one if it has none that is a text.
+fn put_key_text<S: Sink>(out: &mut S, key: &Key)
+    ensures { WritesInCalls S.puts out.old (key_text key.now) out.new }
 {
-    match spelling_text(key.as_repr()) {
-        Some(text) => f.write_str(text),
-        None => write_key(f, key.get()),
-    }
+    key.put_into(out)
 }
 
 /// Writes the value without its decor.
 #[cycle(print)]
-fn write_value_text<W: Write>(f: &mut Formatter<W>, mode: Mode, value: &Value) -> fmt::Result
-    ensures { WritesOnOk W.write_str_gives f.old result (node_text (mode_of mode) (value_view value.now)) f.new }
+fn put_value_text<S: Sink>(out: &mut S, mode: Mode, value: &Value)
+    ensures { WritesInCalls S.puts out.old (node_text (mode_of mode) (value_view value.now)) out.new }
 {
     match value {
-        Value::String(scalar) => write_scalar(f, scalar),
-        Value::Integer(scalar) => write_scalar(f, scalar),
-        Value::Float(scalar) => write_scalar(f, scalar),
-        Value::Boolean(scalar) => write_scalar(f, scalar),
-        Value::Datetime(scalar) => write_scalar(f, scalar),
-        Value::Array(array) => write_array_text(f, mode, array),
-        Value::InlineTable(table) => write_inline_text(f, mode, table),
+        Value::String(scalar) => put_scalar(out, scalar),
+        Value::Integer(scalar) => put_scalar(out, scalar),
+        Value::Float(scalar) => put_scalar(out, scalar),
+        Value::Boolean(scalar) => put_scalar(out, scalar),
+        Value::Datetime(scalar) => put_scalar(out, scalar),
+        Value::Array(array) => put_array_text(out, mode, array),
+        Value::InlineTable(table) => put_inline_text(out, mode, table),
     }
 }
 
 /// Writes the array from `[` to `]`.
 #[cycle(print)]
-fn write_array_text<W: Write>(f: &mut Formatter<W>, mode: Mode, array: &Array) -> fmt::Result
-    ensures { WritesOnOk W.write_str_gives f.old result (node_text (mode_of mode) (array_node (array_view array.now))) f.new }
+fn put_array_text<S: Sink>(out: &mut S, mode: Mode, array: &Array)
+    ensures { WritesInCalls S.puts out.old (node_text (mode_of mode) (array_node (array_view array.now))) out.new }
 {
-    f.write_str("[")?;
-    write_items(f, mode, &array.values, array.trailing_comma)?;
-    write_raw(f, mode, &array.trailing)?;
-    f.write_str("]")
+    out.put("[");
+    put_items(out, mode, &array.values, array.trailing_comma);
+    put_raw(out, mode, &array.trailing);
+    out.put("]")
 }
 
 /// Writes the values in order, with commas between them, and one after the last if `comma` is set.
 /// Other items are left out.
 #[cycle(print)]
-fn write_items<W: Write>(
-    f: &mut Formatter<W>,
-    mode: Mode,
-    items: &Vec<Item>,
-    comma: bool,
-) -> fmt::Result
-    ensures { WritesOnOk W.write_str_gives f.old result (items_text (mode_of mode) comma true (items_view items.now.items)) f.new }
+fn put_items<S: Sink>(out: &mut S, mode: Mode, items: &Vec<Item>, comma: bool)
+    ensures { WritesInCalls S.puts out.old (items_text (mode_of mode) comma true (items_view items.now.items)) out.new }
 {
     let mut is_first = true;
     'items: for item in items {
         if let Item::Value(value) = item {
-            write_element(f, mode, value, is_first)?;
+            put_element(out, mode, value, is_first);
             is_first = false;
         }
     }
-    write_last_comma(f, comma, is_first)
+    put_last_comma(out, comma, is_first)
 }
 
 /// Writes a value of an array with its decor, after a comma unless it is the first.
 #[cycle(print)]
-fn write_element<W: Write>(
-    f: &mut Formatter<W>,
-    mode: Mode,
-    value: &Value,
-    is_first: bool,
-) -> fmt::Result
-    ensures { WritesOnOk W.write_str_gives f.old result (element_text (mode_of mode) is_first (value_view value.now)) f.new }
+fn put_element<S: Sink>(out: &mut S, mode: Mode, value: &Value, is_first: bool)
+    ensures { WritesInCalls S.puts out.old (element_text (mode_of mode) is_first (value_view value.now)) out.new }
 {
     let decor = value.decor();
+    put_comma_before(out, is_first);
+    put_side(out, mode, decor.prefix(), default_before(is_first));
+    put_value_text(out, mode, value);
+    put_side(out, mode, decor.suffix(), "")
+}
+
+/// Puts the comma before an element that is not the first.
+fn put_comma_before<S: Sink>(out: &mut S, is_first: bool)
+    ensures { WritesInCalls S.puts out.old (comma_before is_first) out.new }
+{
     if !is_first {
-        f.write_str(",")?;
+        out.put(",")
     }
-    write_side(f, mode, decor.prefix(), default_before(is_first))?;
-    write_value_text(f, mode, value)?;
-    write_side(f, mode, decor.suffix(), "")
 }
 
 /// Returns what is written for an unset prefix of an element.
@@ -404,165 +371,169 @@ fn default_before(is_first: bool) -> &'static str
 
 /// Writes the inline table from `{` to `}`.
 #[cycle(print)]
-fn write_inline_text<W: Write>(f: &mut Formatter<W>, mode: Mode, table: &InlineTable) -> fmt::Result
-    ensures { WritesOnOk W.write_str_gives f.old result (node_text (mode_of mode) (inline_node (inline_view table.now))) f.new }
+fn put_inline_text<S: Sink>(out: &mut S, mode: Mode, table: &InlineTable)
+    ensures { WritesInCalls S.puts out.old (node_text (mode_of mode) (inline_node (inline_view table.now))) out.new }
 {
-    f.write_str("{")?;
-    let last = write_pairs(f, mode, &table.items, &Path::Root, None)?;
-    write_after_pairs(f, mode, table.trailing_comma, last)?;
-    write_raw(f, mode, &table.trailing)?;
-    f.write_str("}")
+    out.put("{");
+    let last = put_pairs(out, mode, &table.items, &Path::Root, None);
+    put_after_pairs(out, mode, table.trailing_comma, last);
+    put_raw(out, mode, &table.trailing);
+    out.put("}")
 }
 
-/// Writes the pairs of the slots, up to the end of the last value, and returns the decor of the
+/// Puts the pairs of the slots, up to the end of the last value, and returns the decor of the
 /// last value.
 ///
-/// `before` is the decor of the value that was written before them. What follows a value depends on
-/// whether another pair comes, so its suffix is written later.
+/// `before` is the decor of the value that was put before them. What follows a value depends on
+/// whether another pair comes, so its suffix is put later.
 #[cycle(print)]
-fn write_pairs<'p, 'a, W: Write>(
-    f: &mut Formatter<W>,
+fn put_pairs<'p, 'a, S: Sink>(
+    out: &mut S,
     mode: Mode,
     slots: &'a Slots<Item>,
     path: &'p Path<'p, 'a>,
     before: Option<&'a Decor>,
-) -> Result<Option<&'a Decor>, fmt::Error>
-    ensures last { IfOk result (λ last. option_copied last
-        ≡ last_shown (option_copied before.entry) (inside_lines (mode_of mode) (slots_view slots.now) (keys_on path.now))) }
-    ensures writes { WritesWithAnswer W.write_str_gives f.old result
-        (pairs_shown (mode_of mode) (option_copied before.entry) (inside_lines (mode_of mode) (slots_view slots.now) (keys_on path.now))) f.new }
+) -> Option<&'a Decor>
+    ensures last { option_copied result
+        ≡ last_shown (option_copied before.entry) (inside_lines (mode_of mode) (slots_view slots.now) (keys_on path.now)) }
+    ensures text { WritesInCalls S.puts out.old
+        (pairs_shown (mode_of mode) (option_copied before.entry) (inside_lines (mode_of mode) (slots_view slots.now) (keys_on path.now))) out.new }
 {
     let mut last = before;
     let entries = slots.as_slice();
     'slots: for slot in entries {
-        last = write_item_pairs(f, mode, &slot.item, &slot.key, path, last)?;
+        last = put_item_pairs(out, mode, &slot.item, &slot.key, path, last);
     }
-    Ok(last)
+    last
 }
 
 /// Writes the pairs of one slot, as [`write_pairs`] does: those of a value, or those in any table.
 #[cycle(print)]
-fn write_item_pairs<'p, 'a, W: Write>(
-    f: &mut Formatter<W>,
+fn put_item_pairs<'p, 'a, S: Sink>(
+    out: &mut S,
     mode: Mode,
     item: &'a Item,
     key: &'a Key,
     path: &'p Path<'p, 'a>,
     before: Option<&'a Decor>,
-) -> Result<Option<&'a Decor>, fmt::Error>
-    ensures last { IfOk result (λ last. option_copied last
-        ≡ last_shown (option_copied before.entry) (lines_of_item (mode_of mode) (item_view item.now) (keys_on path.now ++ (key.now ∷ [])))) }
-    ensures writes { WritesWithAnswer W.write_str_gives f.old result
-        (pairs_shown (mode_of mode) (option_copied before.entry) (lines_of_item (mode_of mode) (item_view item.now) (keys_on path.now ++ (key.now ∷ [])))) f.new }
+) -> Option<&'a Decor>
+    ensures last { option_copied result
+        ≡ last_shown (option_copied before.entry) (lines_of_item (mode_of mode) (item_view item.now) (keys_on path.now ++ (key.now ∷ []))) }
+    ensures text { WritesInCalls S.puts out.old
+        (pairs_shown (mode_of mode) (option_copied before.entry) (lines_of_item (mode_of mode) (item_view item.now) (keys_on path.now ++ (key.now ∷ [])))) out.new }
 {
     match item {
-        Item::Value(value) => write_value_pairs(f, mode, value, key, path, before),
-        Item::Table(table) => write_pairs(f, mode, &table.slots, &Path::Under(path, key), before),
-        Item::None | Item::ArrayOfTables(_) => Ok(before),
+        Item::Value(value) => put_value_pairs(out, mode, value, key, path, before),
+        Item::Table(table) => put_pairs(out, mode, &table.slots, &Path::Under(path, key), before),
+        Item::None | Item::ArrayOfTables(_) => before,
     }
 }
 
 /// Writes the pairs of a value, as [`write_pairs`] does: those in a dotted inline table, or the one
 /// of any other value.
 #[cycle(print)]
-fn write_value_pairs<'p, 'a, W: Write>(
-    f: &mut Formatter<W>,
+fn put_value_pairs<'p, 'a, S: Sink>(
+    out: &mut S,
     mode: Mode,
     value: &'a Value,
     key: &'a Key,
     path: &'p Path<'p, 'a>,
     before: Option<&'a Decor>,
-) -> Result<Option<&'a Decor>, fmt::Error>
-    ensures last { IfOk result (λ last. option_copied last
-        ≡ last_shown (option_copied before.entry) (lines_of_item (mode_of mode) (value_view value.now) (keys_on path.now ++ (key.now ∷ [])))) }
-    ensures writes { WritesWithAnswer W.write_str_gives f.old result
-        (pairs_shown (mode_of mode) (option_copied before.entry) (lines_of_item (mode_of mode) (value_view value.now) (keys_on path.now ++ (key.now ∷ [])))) f.new }
+) -> Option<&'a Decor>
+    ensures last { option_copied result
+        ≡ last_shown (option_copied before.entry) (lines_of_item (mode_of mode) (value_view value.now) (keys_on path.now ++ (key.now ∷ []))) }
+    ensures text { WritesInCalls S.puts out.old
+        (pairs_shown (mode_of mode) (option_copied before.entry) (lines_of_item (mode_of mode) (value_view value.now) (keys_on path.now ++ (key.now ∷ [])))) out.new }
 {
     match value {
         Value::InlineTable(table) => {
             if table.dotted {
-                write_pairs(f, mode, &table.items, &Path::Under(path, key), before)
+                put_pairs(out, mode, &table.items, &Path::Under(path, key), before)
             } else {
-                write_pair(f, mode, value, key, path, before)?;
-                Ok(Some(value.decor()))
+                put_pair(out, mode, value, key, path, before);
+                Some(value.decor())
             }
         }
         _ => {
-            write_pair(f, mode, value, key, path, before)?;
-            Ok(Some(value.decor()))
+            put_pair(out, mode, value, key, path, before);
+            Some(value.decor())
         }
     }
 }
 
 /// Writes a pair up to the end of its value, and before it the end of the pair before.
 #[cycle(print)]
-fn write_pair<W: Write>(
-    f: &mut Formatter<W>,
+fn put_pair<S: Sink>(
+    out: &mut S,
     mode: Mode,
     value: &Value,
     key: &Key,
     path: &Path<'_, '_>,
     before: Option<&Decor>,
-) -> fmt::Result
-    ensures { WritesOnOk W.write_str_gives f.old result
-        (between_pairs (mode_of mode) (option_copied before.entry) ++ pair_start (mode_of mode) one_space (keys_on path.now) key.now (value_view value.now)) f.new }
+)
+    ensures { WritesInCalls S.puts out.old
+        (between_pairs (mode_of mode) (option_copied before.entry) ++ pair_start (mode_of mode) one_space (keys_on path.now) key.now (value_view value.now)) out.new }
 {
-    write_between_pairs(f, mode, before)?;
-    write_key_part(f, mode, " ", path, key)?;
-    write_side(f, mode, value.decor().prefix(), " ")?;
-    write_value_text(f, mode, value)
+    put_between_pairs(out, mode, before);
+    put_key_part(out, mode, " ", path, key);
+    put_side(out, mode, value.decor().prefix(), " ");
+    put_value_text(out, mode, value)
 }
 
-/// Writes the end of a pair that another follows: the suffix of its value, and a comma.
-fn write_between_pairs<W: Write>(
-    f: &mut Formatter<W>,
-    mode: Mode,
-    before: Option<&Decor>,
-) -> fmt::Result
-    ensures { WritesOnOk W.write_str_gives f.old result (between_pairs (mode_of mode) (option_copied before.entry)) f.new }
+/// Puts the end of a pair that another follows: the suffix of its value, and a comma.
+fn put_between_pairs<S: Sink>(out: &mut S, mode: Mode, before: Option<&Decor>)
+    ensures { WritesInCalls S.puts out.old (between_pairs (mode_of mode) (option_copied before.entry)) out.new }
 {
     match before {
-        None => Ok(()),
+        None => {}
         Some(decor) => {
-            write_side(f, mode, decor.suffix(), "")?;
-            f.write_str(",")
+            put_side(out, mode, decor.suffix(), "");
+            out.put(",")
         }
     }
 }
 
-/// Writes the end of the last pair: the suffix of its value, which is one space if unset, and a
-/// comma if `comma` is set. Without pairs nothing is written.
-fn write_after_pairs<W: Write>(
-    f: &mut Formatter<W>,
-    mode: Mode,
-    comma: bool,
-    last: Option<&Decor>,
-) -> fmt::Result
-    ensures { WritesOnOk W.write_str_gives f.old result (after_pairs (mode_of mode) comma (option_copied last.entry)) f.new }
+/// Puts the end of the last pair: the suffix of its value, which is one space if unset, and a
+/// comma if `comma` is set. Without pairs nothing is put.
+fn put_after_pairs<S: Sink>(out: &mut S, mode: Mode, comma: bool, last: Option<&Decor>)
+    ensures { WritesInCalls S.puts out.old (after_pairs (mode_of mode) comma (option_copied last.entry)) out.new }
 {
     match last {
-        None => Ok(()),
+        None => {}
         Some(pair) => {
-            write_side(f, mode, pair.suffix(), " ")?;
-            write_last_comma(f, comma, false)
+            put_side(out, mode, pair.suffix(), " ");
+            put_last_comma(out, comma, false)
         }
     }
 }
 
-/// Writes the array with its decor, in plain mode. Unset sides are written as nothing.
-pub(crate) fn write_array<W: Write>(f: &mut Formatter<W>, array: &Array) -> fmt::Result
-    ensures { WritesOnOk W.write_str_gives f.old result (value_display (array_node (array_view array.now))) f.new }
-{
-    write_side(f, Mode::Plain, array.decor().prefix(), "")?;
-    write_array_text(f, Mode::Plain, array)?;
-    write_side(f, Mode::Plain, array.decor().suffix(), "")
+/// A value, of which the text is without what stands around it.
+#[doc(hidden)]
+#[derive(Drop)]
+pub struct Bare<'a>(pub &'a Value);
+
+impl Printed for Bare<'_> {
+    ghost text = { λ bare. node_text plain (value_view bare.0.now) };
+
+    fn put_into<S: Sink>(&self, out: &mut S) {
+        put_value_text(out, Mode::Plain, self.0)
+    }
 }
 
-/// Writes the inline table with its decor, in plain mode. Unset sides are written as nothing.
-pub(crate) fn write_inline<W: Write>(f: &mut Formatter<W>, table: &InlineTable) -> fmt::Result
-    ensures { WritesOnOk W.write_str_gives f.old result (value_display (inline_node (inline_view table.now))) f.new }
+/// Puts the array with its decor, in plain mode. Unset sides are put as nothing.
+pub(crate) fn put_array<S: Sink>(out: &mut S, array: &Array)
+    ensures { WritesInCalls S.puts out.old (value_display (array_node (array_view array.now))) out.new }
 {
-    write_side(f, Mode::Plain, table.decor().prefix(), "")?;
-    write_inline_text(f, Mode::Plain, table)?;
-    write_side(f, Mode::Plain, table.decor().suffix(), "")
+    put_side(out, Mode::Plain, array.decor().prefix(), "");
+    put_array_text(out, Mode::Plain, array);
+    put_side(out, Mode::Plain, array.decor().suffix(), "")
+}
+
+/// Puts the inline table with its decor, in plain mode. Unset sides are put as nothing.
+pub(crate) fn put_inline<S: Sink>(out: &mut S, table: &InlineTable)
+    ensures { WritesInCalls S.puts out.old (value_display (inline_node (inline_view table.now))) out.new }
+{
+    put_side(out, Mode::Plain, table.decor().prefix(), "");
+    put_inline_text(out, Mode::Plain, table);
+    put_side(out, Mode::Plain, table.decor().suffix(), "")
 }

@@ -16,7 +16,7 @@ ghost use Rattle.toml_edit_tree.specs.SlotsOf.{inline_slots_of};
 ghost use Rattle.toml_edit_tree.specs.View.{inline_view, slots_view, value_view};
 
 use crate::copy::copy_inline;
-use crate::encode::write_inline;
+use crate::encode::put_inline;
 use crate::item::Item;
 use crate::value::Value;
 pub use entry::{InlineEntry, InlineOccupiedEntry, InlineVacantEntry};
@@ -28,6 +28,7 @@ use std::{fmt, slice};
 use toml_edit_key::Key;
 use toml_edit_repr::{Decor, Mem, RawString};
 use toml_edit_slots::{Slot, Slots};
+use toml_edit_stream::{Printed, Sink, show};
 
 mod at;
 mod change;
@@ -356,7 +357,17 @@ impl fmt::Display for InlineTable {
     ghost output = { λ table. Some (value_display (inline_node (inline_view table))) };
 
     fn fmt<W: fmt::Write>(&self, f: &mut fmt::Formatter<W>) -> fmt::Result {
-        write_inline(f, self)
+        show(f, self)
+    }
+}
+
+impl Printed for InlineTable {
+    ghost use Rattle.toml_edit_model.specs.Conversions.{value_display};
+
+    ghost text = { λ table. value_display (inline_node (inline_view table)) };
+
+    fn put_into<S: Sink>(&self, out: &mut S) {
+        put_inline(out, self)
     }
 }
 

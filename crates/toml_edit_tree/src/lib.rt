@@ -22,7 +22,7 @@ pub mod value;
 pub use array::{Array, ArrayIntoIter, ArrayIter};
 pub use array_of_tables::{ArrayOfTables, ArrayOfTablesIntoIter, ArrayOfTablesIter};
 #[doc(hidden)]
-pub use encode::{Path, table_has_lines, write_path, write_table_lines};
+pub use encode::{Bare, Path, put_path, put_table_lines, table_has_lines};
 pub use index::{Index, IndexFault};
 pub use inline_table::{
     InlineEntry, InlineOccupiedEntry, InlineSlotMut, InlineTable, InlineTableIntoIter,

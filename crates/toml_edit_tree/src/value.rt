@@ -17,13 +17,14 @@ ghost use Rattle.toml_edit_model.specs.OwnedForm.{NodeFits, owned_node};
 use crate::array::Array;
 use crate::copy::copy_value;
 use crate::despan::despan_value;
-use crate::encode::{write_array, write_inline};
+use crate::encode::{put_array, put_inline};
 use crate::inline_table::InlineTable;
 use std::alloc::Global;
 use std::fmt;
 use std::ops::Range;
 use toml_edit_datetime::{Date, Datetime, FloatText, Time};
 use toml_edit_repr::{Decor, Formatted, Mem, RawString};
+use toml_edit_stream::{Printed, Sink, show};
 use toml_edit_token::Scalar;
 
 mod make;
@@ -412,14 +413,24 @@ impl fmt::Display for Value {
     ghost output = { λ value. Some (value_display (value_view value)) };
 
     fn fmt<W: fmt::Write>(&self, f: &mut fmt::Formatter<W>) -> fmt::Result {
+        show(f, self)
+    }
+}
+
+impl Printed for Value {
+    ghost use Rattle.toml_edit_model.specs.Conversions.{value_display};
+
+    ghost text = { λ value. value_display (value_view value) };
+
+    fn put_into<S: Sink>(&self, out: &mut S) {
         match self {
-            Value::String(scalar) => scalar.fmt(f),
-            Value::Integer(scalar) => scalar.fmt(f),
-            Value::Float(scalar) => scalar.fmt(f),
-            Value::Boolean(scalar) => scalar.fmt(f),
-            Value::Datetime(scalar) => scalar.fmt(f),
-            Value::Array(array) => write_array(f, array),
-            Value::InlineTable(table) => write_inline(f, table),
+            Value::String(scalar) => scalar.put_into(out),
+            Value::Integer(scalar) => scalar.put_into(out),
+            Value::Float(scalar) => scalar.put_into(out),
+            Value::Boolean(scalar) => scalar.put_into(out),
+            Value::Datetime(scalar) => scalar.put_into(out),
+            Value::Array(array) => put_array(out, array),
+            Value::InlineTable(table) => put_inline(out, table),
         }
     }
 }

@@ -10,14 +10,14 @@ ghost use Rattle.toml_edit_model.specs.Spelling.{SpellsKey};
 ghost use Rattle.toml_edit_repr.specs.Views.{text_of};
 ghost use Rattle.toml_edit_key.specs.KeyMutView.{lent_parts, key_of};
 
-use super::shown::{default_spelling, displayed};
+use super::shown::{default_spelling, displayed, put_spelling};
 use super::{Key, KeyParts};
 use std::alloc::Global;
 use std::borrow::CowStr;
 use std::fmt;
 use std::fmt::{Formatter, Write};
-use toml_edit_repr::{Decor, Mem, Repr, spelling_text};
-use toml_edit_token::write_key;
+use toml_edit_repr::{Decor, Mem, Repr};
+use toml_edit_stream::{Printed, Sink, show};
 
 /// A mutable reference to all of a key but its name.
 ///
@@ -145,9 +145,14 @@ impl fmt::Display for KeyMut<'_> {
     ghost output = { λ m. Some (key_text (key_of m)) };
 
     fn fmt<W: Write>(&self, f: &mut Formatter<W>) -> fmt::Result {
-        match spelling_text(self.as_repr()) {
-            Some(spelling) => f.write_str(spelling),
-            None => write_key(f, self.name),
-        }
+        show(f, self)
+    }
+}
+
+impl Printed for KeyMut<'_> {
+    ghost text = { λ m. key_text (key_of m) };
+
+    fn put_into<S: Sink>(&self, out: &mut S) {
+        put_spelling(out, self.name, self.as_repr())
     }
 }

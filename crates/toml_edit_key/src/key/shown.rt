@@ -2,6 +2,7 @@
 ghost use Rattle.std.specs.Prelude.{◌≡◌, Some, IsSome, IsOkAnd, IfOk, option_and_then, string_bytes};
 ghost use Rattle.std.specs.Option.{option_copied};
 ghost use Rattle.std.specs.Cow.{cow_str_bytes, IsBorrowedStr};
+ghost use Rattle.std.specs.Fmt.{WritesInCalls};
 ghost use Rattle.toml_edit_model.specs.Tree.{owned, key_text, shown_spelling};
 ghost use Rattle.toml_edit_model.specs.DefaultSpelling.{key_spelling};
 ghost use Rattle.toml_edit_model.specs.Keys.{new_key};
@@ -14,7 +15,8 @@ use std::borrow::CowStr;
 use std::fmt;
 use std::fmt::{Formatter, Write};
 use toml_edit_repr::{Mem, RawString, Repr, spelling_text};
-use toml_edit_token::write_key;
+use toml_edit_stream::{Printed, Sink, print, show};
+use toml_edit_token::put_key;
 
 impl Key {
     /// Returns the default spelling of the name, whatever the key's own one is.
@@ -50,7 +52,7 @@ pub(crate) fn default_spelling(alloc: Global, name: &str) -> Mem<Repr>
     ensures default { IfOk result (λ repr. repr ≡ owned (key_spelling name.now)) }
     ensures spelled { SpellsKey name.now (key_spelling name.now) }
 {
-    let spelling = DefaultSpelling { name }.to_string(alloc)?;
+    let spelling = print(alloc, &DefaultSpelling { name })?;
     Ok(Repr::new(RawString::from(spelling)))
 }
 
@@ -61,7 +63,7 @@ pub(crate) fn displayed<'a>(alloc: Global, name: &'a str, repr: Option<&'a Repr>
 {
     match spelling_text(repr) {
         Some(spelling) => Ok(CowStr::Borrowed(spelling)),
-        None => Ok(CowStr::Owned(DefaultSpelling { name }.to_string(alloc)?)),
+        None => Ok(CowStr::Owned(print(alloc, &DefaultSpelling { name })?)),
     }
 }
 
@@ -70,25 +72,39 @@ impl fmt::Display for Key {
     ghost output = { λ key. Some (key_text key) };
 
     fn fmt<W: Write>(&self, f: &mut Formatter<W>) -> fmt::Result {
-        match spelling_text(self.as_repr()) {
-            Some(spelling) => f.write_str(spelling),
-            None => write_key(f, self.get()),
-        }
+        show(f, self)
     }
 }
 
-/// A name that displays as its default spelling.
+impl Printed for Key {
+    ghost text = { key_text };
+
+    fn put_into<S: Sink>(&self, out: &mut S) {
+        put_spelling(out, self.get(), self.as_repr())
+    }
+}
+
+// Puts the spelling if it is a text, else the default one of the name.
+pub(crate) fn put_spelling<S: Sink>(out: &mut S, name: &str, repr: Option<&Repr>)
+    ensures { WritesInCalls S.puts out.old (shown_spelling (key_spelling name.now) (option_copied repr.entry)) out.new }
+{
+    match spelling_text(repr) {
+        Some(spelling) => out.put(spelling),
+        None => put_key(out, name),
+    }
+}
+
+// A name, printed by its default spelling.
 #[derive(Drop)]
 struct DefaultSpelling<'a> {
     name: &'a str,
 }
 
-/// Writes the default spelling of the name.
-impl fmt::Display for DefaultSpelling<'_> {
-    ghost output = { λ s. Some (key_spelling s.name.now) };
+impl Printed for DefaultSpelling<'_> {
+    ghost text = { λ s. key_spelling s.name.now };
 
-    fn fmt<W: Write>(&self, f: &mut Formatter<W>) -> fmt::Result {
-        write_key(f, self.name)
+    fn put_into<S: Sink>(&self, out: &mut S) {
+        put_key(out, self.name)
     }
 }
 

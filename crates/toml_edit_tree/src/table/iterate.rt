@@ -10,11 +10,12 @@ ghost use Rattle.toml_edit_tree.specs.SlotsOf.{all_left, pair_taken, slots_of};
 ghost use Rattle.toml_edit_tree.specs.View.{item_view, table_slots};
 
 use super::{Iter, Table};
-use crate::encode::write_table_lines;
+use crate::encode::put_table_lines;
 use crate::item::Item;
 use std::{fmt, vec};
 use toml_edit_repr::Mode;
 use toml_edit_slots::Slot;
+use toml_edit_stream::{Printed, Sink, show};
 
 impl Table {
     /// Returns the number of slots, placeholders included.
@@ -69,7 +70,15 @@ impl fmt::Display for Table {
     ghost output = { λ table. Some (table_display (table_slots table)) };
 
     fn fmt<W: fmt::Write>(&self, f: &mut fmt::Formatter<W>) -> fmt::Result {
-        write_table_lines(f, Mode::Plain, self)
+        show(f, self)
+    }
+}
+
+impl Printed for Table {
+    ghost text = { λ table. table_display (table_slots table) };
+
+    fn put_into<S: Sink>(&self, out: &mut S) {
+        put_table_lines(out, Mode::Plain, self)
     }
 }
 

@@ -1,13 +1,13 @@
 -- The text so far, and the lines of the slots to come, are all lines.
 use Rattle.std.proofs.Common.{◌≡◌, List, ℕ, ◌++◌, drop}
-use Rattle.std.specs.Fmt.{HasWritten, IsPlainFormatter}
+use Rattle.std.specs.Fmt.{WritesInCalls}
 use Rattle.toml_edit_model.specs.Print.{inside_lines}
 use Rattle.toml_edit_repr.specs.Modes.{mode_of}
 use Rattle.toml_edit_tree.specs.Printing.{keys_on, lines_text}
 use Rattle.toml_edit_tree.specs.View.{slots_view}
 use Rattle.toml_edit_tree.proofs.encode.+inside_lines.Given as goal
 
-abbrev pub invariant-write_inside_lines-slots : goal.invariant-write_inside_lines-slots
-invariant-write_inside_lines-slots g l =
-    IsPlainFormatter l.initial.f → (done : List ℕ) × HasWritten g.W.Write.write_str_gives l.initial.f done l.f
+abbrev pub invariant-put_inside_lines-slots : goal.invariant-put_inside_lines-slots
+invariant-put_inside_lines-slots g l =
+    (done : List ℕ) × WritesInCalls g.S.Sink.puts l.initial.out done l.out
     × (done ++ lines_text (mode_of l.mode) (inside_lines (mode_of l.mode) (slots_view (drop l.slot-index l.entries)) (keys_on l.path)) ≡ lines_text (mode_of l.mode) (inside_lines (mode_of l.mode) (slots_view l.entries) (keys_on l.path)))

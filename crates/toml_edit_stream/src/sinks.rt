@@ -1,0 +1,107 @@
+//! The three sinks: a formatter, a text, and an output. Each remembers its first fault, and takes nothing after it.
+ghost use Rattle.std.specs.Prelude.{◌≡◌, IfOk, OnOk, OnErr, string_bytes, true};
+ghost use Rattle.std.specs.Fmt.{WritesOnOk};
+ghost use Rattle.std.specs.Io.KnownBytes.{Appends};
+ghost use Rattle.toml_edit_stream.specs.Whole.{AppendsBeginning};
+
+use super::sink::{Printed, Sink};
+use super::streams::{Broken, Output};
+use super::whole::write_all;
+use std::alloc::{AllocError, Global};
+use std::fmt;
+use std::fmt::{Formatter, Write};
+
+#[derive(Drop)]
+struct Shown<'a, W> {
+    f: &'a mut Formatter<W>,
+    failed: bool,
+}
+
+impl<W: Write> Sink for Shown<'_, W> {
+    ghost use Rattle.toml_edit_stream.specs.Sinks.{Shows};
+
+    ghost puts = { λ s text t. Shows W.write_str_gives s.failed s.f text t.failed t.f };
+
+    fn put(&mut self, text: &str) {
+        if !self.failed {
+            self.failed = self.f.write_str(text).is_err();
+        }
+    }
+}
+
+/// Writes the text to the formatter, up to the first fault of its writer.
+pub fn show<T: Printed, W: Write>(f: &mut Formatter<W>, printed: &T) -> fmt::Result
+    ensures { WritesOnOk W.write_str_gives f.old result (T.text printed.now) f.new }
+{
+    let mut out = Shown { f, failed: false };
+    printed.put_into(&mut out);
+    if out.failed { Err(fmt::Error) } else { Ok(()) }
+}
+
+#[derive(Drop)]
+struct Grown {
+    text: String,
+    refused: bool,
+}
+
+impl Sink for Grown {
+    ghost use Rattle.std.specs.Prelude.{string_bytes};
+    ghost use Rattle.toml_edit_stream.specs.Sinks.{Grows};
+
+    ghost puts = { λ s text t. Grows s.refused (string_bytes s.text) text t.refused (string_bytes t.text) };
+
+    fn put(&mut self, text: &str) {
+        if !self.refused {
+            self.refused = self.text.push_str(text).is_err();
+        }
+    }
+}
+
+/// Returns the text as a `String`. The only error is that memory ran out.
+pub fn print<T: Printed>(alloc: Global, printed: &T) -> Result<String, AllocError>
+    ensures { IfOk result (λ text. string_bytes text ≡ T.text printed.now) }
+{
+    let mut out = Grown {
+        text: String::new(alloc),
+        refused: false,
+    };
+    printed.put_into(&mut out);
+    let Grown { text, refused } = out;
+    if refused {
+        return Err(AllocError);
+    }
+    Ok(text)
+}
+
+#[derive(Drop)]
+struct Written<'a, O> {
+    output: &'a mut O,
+    broken: bool,
+}
+
+impl<O: Output> Sink for Written<'_, O> {
+    ghost use Rattle.toml_edit_stream.specs.Sinks.{Writes};
+
+    ghost puts = { λ s text t. Writes O.contents O.has_failed s.broken s.output text t.broken t.output };
+
+    fn put(&mut self, text: &str) {
+        if !self.broken {
+            self.broken = write_all(self.output, text.as_bytes()).is_err();
+        }
+    }
+}
+
+/// Writes the text to the output. After an `Err` the output holds a beginning of it.
+pub fn print_to<T: Printed, O: Output>(output: &mut O, printed: &T) -> Result<(), Broken>
+    ensures text { OnOk result (Appends (O.contents output.old) (O.contents output.new) (T.text printed.now)) }
+    ensures ok { OnOk result (O.has_failed output.new ≡ O.has_failed output.old) }
+    ensures beginning { OnErr result (AppendsBeginning (O.contents output.old) (O.contents output.new) (T.text printed.now)) }
+    ensures err { OnErr result (O.has_failed output.new ≡ true) }
+{
+    let mut out = Written {
+        output,
+        broken: false,
+    };
+    printed.put_into(&mut out);
+    if out.broken { Err(Broken) } else { Ok(()) }
+}
