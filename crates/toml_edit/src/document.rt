@@ -3,7 +3,6 @@ ghost use Rattle.std.specs.Prelude.{◌≡◌, true};
 ghost use Rattle.toml_edit.specs.Roots.{is_table, tree_under};
 ghost use Rattle.toml_edit_model.specs.OwnedForm.{IsOver};
 
-use crate::open_end::text_of;
 use crate::root::table_of;
 use std::alloc::Global;
 use toml_edit_builder as builder;
@@ -525,20 +524,6 @@ impl DocumentMut {
         ensures free { IsOk result }
     {
         Ok(tree_fits(self.mode, self.as_table(), &self.trailing))
-    }
-
-    /// The text of the document: with its line endings where they are kept, and else with line feeds alone and a newline behind the last
-    /// statement. The only error is want of memory.
-    pub fn print(&self, alloc: Global) -> Mem<String>
-        ensures { IfOk result (λ s. string_bytes s ≡ print_of self.now) }
-    {
-        text_of(
-            alloc,
-            self.mode,
-            self.open_end,
-            self.as_table(),
-            &self.trailing,
-        )
     }
 }
 

@@ -1,6 +1,8 @@
 //! Documents to text.
+#![tactic(auto, using(toml_edit_stream::proofs::Puts::put_steps))]
+
 ghost use Rattle.std.specs.Prelude.{◌≡◌, false, ◌++◌, ◌∷◌, [], map, if◌then◌else◌};
-ghost use Rattle.std.specs.Fmt.{WritesOnOk};
+ghost use Rattle.std.specs.Fmt.{WritesInCalls};
 ghost use Rattle.std.specs.Option.{option_copied};
 ghost use Rattle.toml_edit_model.specs.Mode.{Mode as LineMode};
 ghost use Rattle.toml_edit_model.specs.Syntax.{closing_brackets, opening_brackets, path_text};
@@ -12,61 +14,41 @@ ghost use Rattle.toml_edit_repr.specs.Modes.{mode_of};
 ghost use Rattle.toml_edit_tree.specs.Printing.{keys_on};
 ghost use Rattle.toml_edit_tree.specs.View.{fields_view, table_slots, tree_view};
 ghost use Rattle.toml_edit.specs.HeadersView.{header_view};
+ghost use Rattle.toml_edit.specs.Ordered.{ArePrintedInOrder};
 
-use crate::document::DocumentMut;
-use crate::headers::{Header, headers_in_order};
-use crate::open_end::write_text;
-use bumpalo::Bump;
-use std::fmt;
-use std::fmt::{Formatter, Write};
+use crate::headers::Header;
 use toml_edit_key::Key;
-use toml_edit_repr::{Mode, RawString, write_raw, write_side};
-use toml_edit_tree::{Path, Table, table_has_lines, write_path, write_table_lines};
+use toml_edit_repr::{Mode, RawString, put_raw, put_side};
+use toml_edit_stream::Sink;
+use toml_edit_tree::{Path, Table, put_path, put_table_lines, table_has_lines};
 
-/// The text of the document. The order of its headers takes memory, and the text where its end is open, of the allocator that the root's
-/// slots were made with: where that is refused, this is an error as a writer's fault is, and nothing is written.
-impl fmt::Display for DocumentMut {
-    ghost use Rattle.std.specs.Prelude.{Some};
-    ghost use Rattle.toml_edit.specs.DocumentView.{print_of};
-
-    ghost output = { λ d. Some (print_of d) };
-
-    fn fmt<W: Write>(&self, f: &mut Formatter<W>) -> fmt::Result {
-        write_text(f, self.mode, self.open_end, self.as_table(), &self.trailing)
-    }
-}
-
-/// The document with this root, each of its statements with a newline: what stands before the root's lines, these, the headers in order,
-/// and what stands behind.
-pub(crate) fn write_document<W: Write>(
-    f: &mut Formatter<W>,
+/// Puts the document with these headers in order, each of its statements with a newline: what
+/// stands before the root's lines, these, the headers, and what stands behind.
+pub(crate) fn put_document<S: Sink>(
+    out: &mut S,
     mode: Mode,
     root: &Table,
+    headers: &[Header<'_, '_>],
     trailing: &RawString,
-) -> fmt::Result
-    ensures { WritesOnOk W.write_str_gives f.old result (print_in (mode_of mode) false (tree_view root.now trailing.now)) f.new }
+)
+    requires { ArePrintedInOrder (mode_of mode) (fields_view root.now) (table_slots root.now) (map header_view headers.now) }
+    ensures { WritesInCalls S.puts out.old (print_in (mode_of mode) false (tree_view root.now trailing.now)) out.new }
 {
-    let arena = Bump::new(root.slots.allocator());
-    let top = Path::Root;
-    let Ok(headers) = headers_in_order(&arena, root, &top) else {
-        return Err(fmt::Error);
-    };
-    write_side(f, mode, root.decor().prefix(), "")?;
-    write_root_lines(f, mode, root)?;
-    write_headers(f, mode, headers.as_slice(), headers_begin(root))?;
-    write_side(f, mode, root.decor().suffix(), "")?;
-    write_raw(f, mode, trailing)
+    put_side(out, mode, root.decor().prefix(), "");
+    put_root_lines(out, mode, root);
+    put_headers(out, mode, headers, headers_begin(root));
+    put_side(out, mode, root.decor().suffix(), "");
+    put_raw(out, mode, trailing)
 }
 
 /// The lines of the root. A dotted root has none.
-fn write_root_lines<W: Write>(f: &mut Formatter<W>, mode: Mode, root: &Table) -> fmt::Result
-    ensures { WritesOnOk W.write_str_gives f.old result (root_lines (mode_of mode) (fields_view root.now) (table_slots root.now)) f.new }
+fn put_root_lines<S: Sink>(out: &mut S, mode: Mode, root: &Table)
+    ensures { WritesInCalls S.puts out.old (root_lines (mode_of mode) (fields_view root.now) (table_slots root.now)) out.new }
 {
     if root.is_dotted() {
-        Ok(())
-    } else {
-        write_table_lines(f, mode, root)
+        return;
     }
+    put_table_lines(out, mode, root)
 }
 
 /// Whether nothing is printed of the root itself, so that the first header begins the document.
@@ -77,40 +59,29 @@ fn headers_begin(root: &Table) -> bool
 }
 
 /// The headers in this order, each with the lines of its table behind it.
-fn write_headers<W: Write>(
-    f: &mut Formatter<W>,
-    mode: Mode,
-    headers: &[Header<'_, '_>],
-    begins: bool,
-) -> fmt::Result
-    ensures { WritesOnOk W.write_str_gives f.old result (headers_text (mode_of mode) begins (map header_view headers.now)) f.new }
+fn put_headers<S: Sink>(out: &mut S, mode: Mode, headers: &[Header<'_, '_>], begins: bool)
+    ensures { WritesInCalls S.puts out.old (headers_text (mode_of mode) begins (map header_view headers.now)) out.new }
 {
     let mut is_first = begins;
     'headers: for header in headers {
-        write_header(f, mode, header, is_first)?;
-        write_table_lines(f, mode, header.table)?;
+        put_header(out, mode, header, is_first);
+        put_table_lines(out, mode, header.table);
         is_first = false;
     }
-    Ok(())
 }
 
 /// A header with what stands around it. A text before its last key that holds a newline stands before the header.
-fn write_header<W: Write>(
-    f: &mut Formatter<W>,
-    mode: Mode,
-    header: &Header<'_, '_>,
-    is_first: bool,
-) -> fmt::Result
-    ensures { WritesOnOk W.write_str_gives f.old result (header_text (mode_of mode) is_first (header_view header.now)) f.new }
+fn put_header<S: Sink>(out: &mut S, mode: Mode, header: &Header<'_, '_>, is_first: bool)
+    ensures { WritesInCalls S.puts out.old (header_text (mode_of mode) is_first (header_view header.now)) out.new }
 {
     let leaf = header.key.leaf_decor();
     let decor = header.table.decor();
     let lifted = has_newline(leaf.prefix());
-    write_side_if(f, mode, lifted, leaf.prefix())?;
-    write_side(f, mode, decor.prefix(), before_header(is_first))?;
-    write_brackets(f, mode, header, lifted)?;
-    write_side(f, mode, decor.suffix(), "")?;
-    f.write_str("\n")
+    put_side_if(out, mode, lifted, leaf.prefix());
+    put_side(out, mode, decor.prefix(), before_header(is_first));
+    put_brackets(out, mode, header, lifted);
+    put_side(out, mode, decor.suffix(), "");
+    out.put("\n")
 }
 
 /// What stands before a header whose table's decor says nothing.
@@ -121,54 +92,42 @@ fn before_header(is_first: bool) -> &'static str
 }
 
 /// The brackets of a header with what stands in them.
-fn write_brackets<W: Write>(
-    f: &mut Formatter<W>,
-    mode: Mode,
-    header: &Header<'_, '_>,
-    lifted: bool,
-) -> fmt::Result
+fn put_brackets<S: Sink>(out: &mut S, mode: Mode, header: &Header<'_, '_>, lifted: bool)
     requires { lifted ≡ holds_newline (mode_of mode) header.now.key.now.leaf }
-    ensures { WritesOnOk W.write_str_gives f.old result
+    ensures { WritesInCalls S.puts out.old
         (opening_brackets header.now.is_element
         ++ (inside_brackets (mode_of mode) header.now.key.now.leaf (path_text (segments (mode_of mode) (keys_on header.now.path.now ++ (header.now.key.now ∷ []))))
-        ++ closing_brackets header.now.is_element)) f.new }
+        ++ closing_brackets header.now.is_element)) out.new }
 {
-    f.write_str(if header.is_element { "[[" } else { "[" })?;
-    write_inside_brackets(f, mode, header.path, header.key, lifted)?;
-    f.write_str(if header.is_element { "]]" } else { "]" })
+    out.put(if header.is_element { "[[" } else { "[" });
+    put_inside_brackets(out, mode, header.path, header.key, lifted);
+    out.put(if header.is_element { "]]" } else { "]" })
 }
 
 /// The keys of a header, with what stands around them unless that was lifted out.
-fn write_inside_brackets<W: Write>(
-    f: &mut Formatter<W>,
+fn put_inside_brackets<S: Sink>(
+    out: &mut S,
     mode: Mode,
     path: &Path<'_, '_>,
     key: &Key,
     lifted: bool,
-) -> fmt::Result
+)
     requires { lifted ≡ holds_newline (mode_of mode) key.now.leaf }
-    ensures { WritesOnOk W.write_str_gives f.old result
-        (inside_brackets (mode_of mode) key.now.leaf (path_text (segments (mode_of mode) (keys_on path.now ++ (key.now ∷ []))))) f.new }
+    ensures { WritesInCalls S.puts out.old
+        (inside_brackets (mode_of mode) key.now.leaf (path_text (segments (mode_of mode) (keys_on path.now ++ (key.now ∷ []))))) out.new }
 {
     let leaf = key.leaf_decor();
-    write_side_if(f, mode, !lifted, leaf.prefix())?;
-    write_path(f, mode, path, key)?;
-    write_side_if(f, mode, !lifted, leaf.suffix())
+    put_side_if(out, mode, !lifted, leaf.prefix());
+    put_path(out, mode, path, key);
+    put_side_if(out, mode, !lifted, leaf.suffix())
 }
 
 /// The side of a decor where it is to stand.
-fn write_side_if<W: Write>(
-    f: &mut Formatter<W>,
-    mode: Mode,
-    stands: bool,
-    side: Option<&RawString>,
-) -> fmt::Result
-    ensures { WritesOnOk W.write_str_gives f.old result (if stands then shown_side (mode_of mode) [] (option_copied side.entry) else []) f.new }
+fn put_side_if<S: Sink>(out: &mut S, mode: Mode, stands: bool, side: Option<&RawString>)
+    ensures { WritesInCalls S.puts out.old (if stands then shown_side (mode_of mode) [] (option_copied side.entry) else []) out.new }
 {
     if stands {
-        write_side(f, mode, side, "")
-    } else {
-        Ok(())
+        put_side(out, mode, side, "")
     }
 }
 

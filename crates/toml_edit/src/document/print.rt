@@ -1,15 +1,21 @@
-//! The print of a document, written to an output.
-ghost use Rattle.std.specs.Prelude.{◌≡◌, false, true, OnOk, IsErrOf};
+//! The print of a document, as a text, and written to an output or to a formatter.
+ghost use Rattle.std.specs.Prelude.{◌≡◌, [], false, true, OnOk, IfOk, IsErrOf, string_bytes};
 ghost use Rattle.std.specs.Io.KnownBytes.{Appends};
 ghost use Rattle.toml_edit_stream.specs.Whole.{AppendsBeginning};
+ghost use Rattle.toml_edit_tree.specs.Printing.{keys_on};
 ghost use Rattle.toml_edit.specs.DocumentView.{print_of};
 
 use super::DocumentMut;
+use crate::open_end::Laid;
+use bumpalo::Bump;
 use std::alloc::{AllocError, Global};
 use std::error::Error;
 use std::fmt;
+use toml_edit_repr::Mem;
 use toml_edit_slots::NoMemory;
-use toml_edit_stream::{Broken, Output, write_all};
+use toml_edit_stream as stream;
+use toml_edit_stream::{Broken, Output, show};
+use toml_edit_tree::Path;
 
 /// Why a document is not printed whole.
 #[derive(Clone, Copy, Debug, PartialEq, Eq)]
@@ -66,10 +72,57 @@ impl From<Broken> for PrintFault {
     }
 }
 
+/// Writes the text of the document. The order of its headers takes memory, of the allocator that the
+/// root's slots were made with: where that is refused, this is an error as a writer's fault is, and
+/// nothing is written.
+impl fmt::Display for DocumentMut {
+    ghost use Rattle.std.specs.Prelude.{Some};
+
+    ghost output = { λ d. Some (print_of d) };
+
+    fn fmt<W: fmt::Write>(&self, f: &mut fmt::Formatter<W>) -> fmt::Result {
+        let arena = Bump::new(self.as_table().slots.allocator());
+        let top = Path::Root;
+        match self.lay_out(&arena, &top) {
+            Ok(laid) => show(f, &laid),
+            Err(_) => Err(fmt::Error),
+        }
+    }
+}
+
 impl DocumentMut {
-    /// Writes the text of the document, as `print` makes it, to an output that has not failed. The
-    /// errors are want of memory, found before anything is written, and a fault of the output,
-    /// which holds a beginning of the text then.
+    ghost use Rattle.toml_edit.specs.LaidView.{laid_text};
+
+    // The document with its headers in the order of the print.
+    fn lay_out<'a>(&'a self, arena: &'a Bump, top: &'a Path<'a, 'a>) -> Mem<Laid<'a>>
+        requires { keys_on top.now ≡ [] }
+        ensures { IfOk result (λ laid. laid_text laid ≡ print_of self.now) }
+    {
+        let root = self.as_table();
+        Laid::new(arena, top, self.mode, self.open_end, root, &self.trailing)
+    }
+
+    /// Returns the text of the document: with its line endings where they are kept, and else with
+    /// line feeds alone and a newline behind the last statement.
+    ///
+    /// # Errors
+    ///
+    /// The only error is out of memory.
+    pub fn print(&self, alloc: Global) -> Mem<String>
+        ensures { IfOk result (λ s. string_bytes s ≡ print_of self.now) }
+    {
+        let arena = Bump::new(alloc);
+        let top = Path::Root;
+        let laid = self.lay_out(&arena, &top)?;
+        stream::print(alloc, &laid)
+    }
+
+    /// Writes the text of the document to an output that has not failed, piece by piece.
+    ///
+    /// # Errors
+    ///
+    /// Returns `Memory` where the headers can't be put in order, before anything is written, and
+    /// `Device` for a fault of the output, which holds a beginning of the text then.
     pub fn print_to<W: Output>(&self, alloc: Global, out: &mut W) -> Result<(), PrintFault>
         requires { W.has_failed out.old ≡ false }
         ensures prints { OnOk result (Appends (W.contents out.old) (W.contents out.new) (print_of self.now)) }
@@ -78,8 +131,10 @@ impl DocumentMut {
         ensures device { IsErrOf result PrintFault.Device → (W.has_failed out.new ≡ true)
             × AppendsBeginning (W.contents out.old) (W.contents out.new) (print_of self.now) }
     {
-        let text = self.print(alloc)?;
-        write_all(out, text.as_bytes())?;
+        let arena = Bump::new(alloc);
+        let top = Path::Root;
+        let laid = self.lay_out(&arena, &top)?;
+        stream::print_to(out, &laid)?;
         Ok(())
     }
 }
