@@ -12,3 +12,5 @@ pub mod LastLineLaws
 pub mod FoundLastLaws
 pub mod OpenEndLaws
 pub mod PlainReads
+pub mod TailLaws
+pub mod HoldLaws

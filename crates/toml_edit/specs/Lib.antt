@@ -5,6 +5,10 @@ pub mod HeadersView
 pub mod DocumentLending
 pub mod Faults
 pub mod LastLines
+pub mod Ordered
+pub mod LaidView
+pub mod Tails
+pub mod Holding
 -- What contracts of the crates below cite, for a program that lists `toml_edit` alone.
 pub use Rattle.toml_edit_model.specs as model
 pub use Rattle.toml_edit_laws.specs as laws

@@ -3,7 +3,6 @@ ghost use Rattle.std.specs.Prelude.{◌≡◌, true};
 ghost use Rattle.toml_edit.specs.Roots.{is_table, tree_under};
 ghost use Rattle.toml_edit_model.specs.OwnedForm.{IsOver};
 
-use crate::open_end::text_of;
 use crate::root::table_of;
 use std::alloc::Global;
 use toml_edit_builder as builder;
@@ -655,28 +654,6 @@ impl DocumentMut {
         ensures free { IsOk result }
     {
         Ok(tree_fits(self.mode, self.as_table(), &self.trailing))
-    }
-
-    /// Returns the text of the document.
-    ///
-    /// Where line endings are kept it has them. Else it has line feeds (LF) alone, and a newline
-    /// after the last statement. What was parsed and not changed gives the normal form of its
-    /// source. `Display` writes this text too, and [`print_to`](Self::print_to) writes it to an
-    /// [`Output`](crate::Output). [`fits`](Self::fits) checks that it is valid.
-    ///
-    /// # Errors
-    ///
-    /// Fails if memory runs out.
-    pub fn print(&self, alloc: Global) -> Mem<String>
-        ensures { IfOk result (λ s. string_bytes s ≡ print_of self.now) }
-    {
-        text_of(
-            alloc,
-            self.mode,
-            self.open_end,
-            self.as_table(),
-            &self.trailing,
-        )
     }
 }
 

@@ -1,6 +1,8 @@
-//! Writing documents.
+//! Putting documents into sinks.
+#![tactic(auto, using(toml_edit_stream::proofs::Puts::put_steps))]
+
 ghost use Rattle.std.specs.Prelude.{◌≡◌, false, ◌++◌, ◌∷◌, [], map, if◌then◌else◌};
-ghost use Rattle.std.specs.Fmt.{WritesOnOk};
+ghost use Rattle.std.specs.Fmt.{WritesInCalls};
 ghost use Rattle.std.specs.Option.{option_copied};
 ghost use Rattle.toml_edit_model.specs.Mode.{Mode as LineMode};
 ghost use Rattle.toml_edit_model.specs.Syntax.{closing_brackets, opening_brackets, path_text};
@@ -12,66 +14,43 @@ ghost use Rattle.toml_edit_repr.specs.Modes.{mode_of};
 ghost use Rattle.toml_edit_tree.specs.Printing.{keys_on};
 ghost use Rattle.toml_edit_tree.specs.View.{fields_view, table_slots, tree_view};
 ghost use Rattle.toml_edit.specs.HeadersView.{header_view};
+ghost use Rattle.toml_edit.specs.Ordered.{ArePrintedInOrder};
 
-use crate::document::DocumentMut;
-use crate::headers::{Header, headers_in_order};
-use crate::open_end::write_text;
-use bumpalo::Bump;
-use std::fmt;
-use std::fmt::{Formatter, Write};
+use crate::headers::Header;
 use toml_edit_key::Key;
-use toml_edit_repr::{Mode, RawString, write_raw, write_side};
-use toml_edit_tree::{Path, Table, table_has_lines, write_path, write_table_lines};
+use toml_edit_repr::{Mode, RawString, put_raw, put_side};
+use toml_edit_stream::Sink;
+use toml_edit_tree::{Path, Table, put_path, put_table_lines, table_has_lines};
 
-/// Writes the text that [`print`](DocumentMut::print) returns.
-///
-/// The order of the headers takes memory, and so does the text if its last statement has no
-/// newline: both by the allocator of the root's slots. If out of memory, nothing is written and the
-/// result is an error, as it is where the writer fails.
-impl fmt::Display for DocumentMut {
-    ghost use Rattle.std.specs.Prelude.{Some};
-    ghost use Rattle.toml_edit.specs.DocumentView.{print_of};
-
-    ghost output = { λ d. Some (print_of d) };
-
-    fn fmt<W: Write>(&self, f: &mut Formatter<W>) -> fmt::Result {
-        write_text(f, self.mode, self.open_end, self.as_table(), &self.trailing)
-    }
-}
-
-/// Writes the document of this root and this trailing text, with a newline after each statement.
+/// Puts the document with these headers in order, with a newline after each statement.
 ///
 /// In order: the prefix of the root's decor, the lines of the root, the headers with their lines,
 /// the suffix of that decor, and the trailing text.
-pub(crate) fn write_document<W: Write>(
-    f: &mut Formatter<W>,
+pub(crate) fn put_document<S: Sink>(
+    out: &mut S,
     mode: Mode,
     root: &Table,
+    headers: &[Header<'_, '_>],
     trailing: &RawString,
-) -> fmt::Result
-    ensures { WritesOnOk W.write_str_gives f.old result (print_in (mode_of mode) false (tree_view root.now trailing.now)) f.new }
+)
+    requires { ArePrintedInOrder (mode_of mode) (fields_view root.now) (table_slots root.now) (map header_view headers.now) }
+    ensures { WritesInCalls S.puts out.old (print_in (mode_of mode) false (tree_view root.now trailing.now)) out.new }
 {
-    let arena = Bump::new(root.slots.allocator());
-    let top = Path::Root;
-    let Ok(headers) = headers_in_order(&arena, root, &top) else {
-        return Err(fmt::Error);
-    };
-    write_side(f, mode, root.decor().prefix(), "")?;
-    write_root_lines(f, mode, root)?;
-    write_headers(f, mode, headers.as_slice(), headers_begin(root))?;
-    write_side(f, mode, root.decor().suffix(), "")?;
-    write_raw(f, mode, trailing)
+    put_side(out, mode, root.decor().prefix(), "");
+    put_root_lines(out, mode, root);
+    put_headers(out, mode, headers, headers_begin(root));
+    put_side(out, mode, root.decor().suffix(), "");
+    put_raw(out, mode, trailing)
 }
 
-/// Writes the lines of the root. A dotted root has none.
-fn write_root_lines<W: Write>(f: &mut Formatter<W>, mode: Mode, root: &Table) -> fmt::Result
-    ensures { WritesOnOk W.write_str_gives f.old result (root_lines (mode_of mode) (fields_view root.now) (table_slots root.now)) f.new }
+/// Puts the lines of the root. A dotted root has none.
+fn put_root_lines<S: Sink>(out: &mut S, mode: Mode, root: &Table)
+    ensures { WritesInCalls S.puts out.old (root_lines (mode_of mode) (fields_view root.now) (table_slots root.now)) out.new }
 {
     if root.is_dotted() {
-        Ok(())
-    } else {
-        write_table_lines(f, mode, root)
+        return;
     }
+    put_table_lines(out, mode, root)
 }
 
 /// Returns `true` if the root has no lines, so that the first header is the first statement.
@@ -81,45 +60,34 @@ fn headers_begin(root: &Table) -> bool
     root.is_dotted() || !table_has_lines(root)
 }
 
-/// Writes the headers in this order, each with the lines of its table after it. `begins` says that
+/// Puts the headers in this order, each with the lines of its table after it. `begins` says that
 /// the first one is the first statement.
-fn write_headers<W: Write>(
-    f: &mut Formatter<W>,
-    mode: Mode,
-    headers: &[Header<'_, '_>],
-    begins: bool,
-) -> fmt::Result
-    ensures { WritesOnOk W.write_str_gives f.old result (headers_text (mode_of mode) begins (map header_view headers.now)) f.new }
+fn put_headers<S: Sink>(out: &mut S, mode: Mode, headers: &[Header<'_, '_>], begins: bool)
+    ensures { WritesInCalls S.puts out.old (headers_text (mode_of mode) begins (map header_view headers.now)) out.new }
 {
     let mut is_first = begins;
     'headers: for header in headers {
-        write_header(f, mode, header, is_first)?;
-        write_table_lines(f, mode, header.table)?;
+        put_header(out, mode, header, is_first);
+        put_table_lines(out, mode, header.table);
         is_first = false;
     }
-    Ok(())
 }
 
-/// Writes a header with its decors and its newline.
+/// Puts a header with its decors and its newline.
 ///
-/// A prefix of its last key that holds a line feed (LF) is written before the header, since it
-/// can't be inside the brackets.
-fn write_header<W: Write>(
-    f: &mut Formatter<W>,
-    mode: Mode,
-    header: &Header<'_, '_>,
-    is_first: bool,
-) -> fmt::Result
-    ensures { WritesOnOk W.write_str_gives f.old result (header_text (mode_of mode) is_first (header_view header.now)) f.new }
+/// A prefix of its last key that holds a line feed (LF) is put before the header, since it can't be
+/// inside the brackets.
+fn put_header<S: Sink>(out: &mut S, mode: Mode, header: &Header<'_, '_>, is_first: bool)
+    ensures { WritesInCalls S.puts out.old (header_text (mode_of mode) is_first (header_view header.now)) out.new }
 {
     let leaf = header.key.leaf_decor();
     let decor = header.table.decor();
     let lifted = has_newline(leaf.prefix());
-    write_side_if(f, mode, lifted, leaf.prefix())?;
-    write_side(f, mode, decor.prefix(), before_header(is_first))?;
-    write_brackets(f, mode, header, lifted)?;
-    write_side(f, mode, decor.suffix(), "")?;
-    f.write_str("\n")
+    put_side_if(out, mode, lifted, leaf.prefix());
+    put_side(out, mode, decor.prefix(), before_header(is_first));
+    put_brackets(out, mode, header, lifted);
+    put_side(out, mode, decor.suffix(), "");
+    out.put("\n")
 }
 
 /// Returns what is written for an unset prefix of a table with a header.
@@ -129,56 +97,44 @@ fn before_header(is_first: bool) -> &'static str
     if is_first { "" } else { "\n" }
 }
 
-/// Writes the brackets of a header, and the keys in them.
-fn write_brackets<W: Write>(
-    f: &mut Formatter<W>,
-    mode: Mode,
-    header: &Header<'_, '_>,
-    lifted: bool,
-) -> fmt::Result
+/// Puts the brackets of a header, and the keys in them.
+fn put_brackets<S: Sink>(out: &mut S, mode: Mode, header: &Header<'_, '_>, lifted: bool)
     requires { lifted ≡ holds_newline (mode_of mode) header.now.key.now.leaf }
-    ensures { WritesOnOk W.write_str_gives f.old result
+    ensures { WritesInCalls S.puts out.old
         (opening_brackets header.now.is_element
         ++ (inside_brackets (mode_of mode) header.now.key.now.leaf (path_text (segments (mode_of mode) (keys_on header.now.path.now ++ (header.now.key.now ∷ []))))
-        ++ closing_brackets header.now.is_element)) f.new }
+        ++ closing_brackets header.now.is_element)) out.new }
 {
-    f.write_str(if header.is_element { "[[" } else { "[" })?;
-    write_inside_brackets(f, mode, header.path, header.key, lifted)?;
-    f.write_str(if header.is_element { "]]" } else { "]" })
+    out.put(if header.is_element { "[[" } else { "[" });
+    put_inside_brackets(out, mode, header.path, header.key, lifted);
+    out.put(if header.is_element { "]]" } else { "]" })
 }
 
-/// Writes the keys of a header, inside the leaf decor of the last one. That decor is left out if
-/// its prefix was `lifted` before the header.
-fn write_inside_brackets<W: Write>(
-    f: &mut Formatter<W>,
+/// Puts the keys of a header, inside the leaf decor of the last one. That decor is left out if its
+/// prefix was `lifted` before the header.
+fn put_inside_brackets<S: Sink>(
+    out: &mut S,
     mode: Mode,
     path: &Path<'_, '_>,
     key: &Key,
     lifted: bool,
-) -> fmt::Result
+)
     requires { lifted ≡ holds_newline (mode_of mode) key.now.leaf }
-    ensures { WritesOnOk W.write_str_gives f.old result
-        (inside_brackets (mode_of mode) key.now.leaf (path_text (segments (mode_of mode) (keys_on path.now ++ (key.now ∷ []))))) f.new }
+    ensures { WritesInCalls S.puts out.old
+        (inside_brackets (mode_of mode) key.now.leaf (path_text (segments (mode_of mode) (keys_on path.now ++ (key.now ∷ []))))) out.new }
 {
     let leaf = key.leaf_decor();
-    write_side_if(f, mode, !lifted, leaf.prefix())?;
-    write_path(f, mode, path, key)?;
-    write_side_if(f, mode, !lifted, leaf.suffix())
+    put_side_if(out, mode, !lifted, leaf.prefix());
+    put_path(out, mode, path, key);
+    put_side_if(out, mode, !lifted, leaf.suffix())
 }
 
-/// Writes the side of a decor if `stands` is set.
-fn write_side_if<W: Write>(
-    f: &mut Formatter<W>,
-    mode: Mode,
-    stands: bool,
-    side: Option<&RawString>,
-) -> fmt::Result
-    ensures { WritesOnOk W.write_str_gives f.old result (if stands then shown_side (mode_of mode) [] (option_copied side.entry) else []) f.new }
+/// Puts the side of a decor if `stands` is set.
+fn put_side_if<S: Sink>(out: &mut S, mode: Mode, stands: bool, side: Option<&RawString>)
+    ensures { WritesInCalls S.puts out.old (if stands then shown_side (mode_of mode) [] (option_copied side.entry) else []) out.new }
 {
     if stands {
-        write_side(f, mode, side, "")
-    } else {
-        Ok(())
+        put_side(out, mode, side, "")
     }
 }
 

@@ -70,6 +70,7 @@
 pub mod document;
 mod encode;
 mod headers;
+mod held;
 mod item;
 mod last_line;
 pub mod laws;

@@ -1,6 +1,8 @@
 //! The text of a document whose end may be open: its last statement then has no newline.
-ghost use Rattle.std.specs.Prelude.{◌≡◌, false, [], IfOk, length, string_bytes};
-ghost use Rattle.std.specs.Fmt.{WritesOnOk};
+#![tactic(auto, using(toml_edit_stream::proofs::Puts::put_steps))]
+
+ghost use Rattle.std.specs.Prelude.{◌≡◌, [], IfOk, length, map};
+ghost use Rattle.std.specs.Fmt.{WritesInCalls};
 ghost use Rattle.std.specs.Option.{option_copied};
 ghost use Rattle.toml_edit_model.specs.Mode.{ends_in_return, exact};
 ghost use Rattle.toml_edit_model.specs.Text.{is_empty};
@@ -8,79 +10,100 @@ ghost use Rattle.toml_edit_model.specs.Tree.{shown_raw, shown_side};
 ghost use Rattle.toml_edit_model.specs.Print.{leaves_open, print_in};
 ghost use Rattle.toml_edit_repr.specs.Modes.{mode_of};
 ghost use Rattle.toml_edit_tree.specs.View.{fields_view, table_slots, tree_view};
-ghost use Rattle.toml_edit.specs.LastLines.{last_statement, newline_of};
+ghost use Rattle.toml_edit_tree.specs.Printing.{keys_on};
+ghost use Rattle.toml_edit.specs.HeadersView.{header_view};
+ghost use Rattle.toml_edit.specs.LastLines.{newline_of};
+ghost use Rattle.toml_edit.specs.Ordered.{ArePrintedInOrder, EndInOrder};
 
-use crate::encode::write_document;
-use crate::headers::headers_in_order;
+use crate::encode::put_document;
+use crate::headers::{Header, headers_in_order};
+use crate::held::put_but_newline;
 use crate::last_line::last_decor;
 use bumpalo::Bump;
-use std::alloc::Global;
-use std::fmt;
-use std::fmt::{Formatter, Write};
 use toml_edit_repr::{Decor, Mem, Mode, RawString};
+use toml_edit_stream::{Printed, Sink};
 use toml_edit_tree::{Path, Table};
 
-/// Returns the text of the document of this root and this trailing text. Fails only if out of
-/// memory.
-pub(crate) fn text_of(
-    alloc: Global,
-    mode: Mode,
-    open_end: bool,
-    root: &Table,
-    trailing: &RawString,
-) -> Mem<String>
-    ensures { IfOk result (λ s. string_bytes s ≡ print_in (mode_of mode) open_end (tree_view root.now trailing.now)) }
-{
-    let closed = Closed {
-        mode,
-        root,
-        trailing,
-    };
-    let mut text = closed.to_string(alloc)?;
-    if is_left_open(mode, open_end, root, trailing) {
-        let newline = last_newline_length(root)?;
-        text.truncate(text.len() - newline);
-    }
-    Ok(text)
-}
-
-/// Writes the text of the document of this root and this trailing text.
-///
-/// Memory is taken by the allocator of the root's slots. If out of memory, nothing is written and
-/// the result is an error, as it is where the writer fails.
-pub(crate) fn write_text<W: Write>(
-    f: &mut Formatter<W>,
-    mode: Mode,
-    open_end: bool,
-    root: &Table,
-    trailing: &RawString,
-) -> fmt::Result
-    ensures { WritesOnOk W.write_str_gives f.old result (print_in (mode_of mode) open_end (tree_view root.now trailing.now)) f.new }
-{
-    if !is_left_open(mode, open_end, root, trailing) {
-        return write_document(f, mode, root, trailing);
-    }
-    let Ok(text) = text_of(root.slots.allocator(), mode, open_end, root, trailing) else {
-        return Err(fmt::Error);
-    };
-    f.write_str(text.as_str())
-}
-
-/// A document to be written with a newline after each statement.
+/// A document with its headers in the order of the print.
 #[derive(Drop)]
-struct Closed<'a> {
+pub(crate) struct Laid<'a> {
     mode: Mode,
+    open_end: bool,
     root: &'a Table,
     trailing: &'a RawString,
+    headers: Vec<Header<'a, 'a>>,
+    ghost ordered: { ArePrintedInOrder (mode_of mode) (fields_view root.now) (table_slots root.now) (map header_view headers.items) },
+    ghost last: { EndInOrder (fields_view root.now) (table_slots root.now) (map header_view headers.items) },
 }
 
-impl fmt::Display for Closed<'_> {
-    ghost use Rattle.std.specs.Prelude.{Some};
+impl<'a> Laid<'a> {
+    ghost use Rattle.toml_edit.specs.LaidView.{closed_text, laid_text};
 
-    ghost output = { λ d. Some (print_in (mode_of d.mode) false (tree_view d.root.now d.trailing.now)) };
+    /// Lays out the document with this root and this trailing text. The keys on the way to its
+    /// headers stand in the arena. The only error is out of memory.
+    pub(crate) fn new(
+        arena: &'a Bump,
+        top: &'a Path<'a, 'a>,
+        mode: Mode,
+        open_end: bool,
+        root: &'a Table,
+        trailing: &'a RawString,
+    ) -> Mem<Laid<'a>>
+        requires { keys_on top.now ≡ [] }
+        ensures { IfOk result (λ laid. laid_text laid ≡ print_in (mode_of mode) open_end (tree_view root.now trailing.now)) }
+    {
+        let headers = headers_in_order(arena, root, top)?;
+        Ok(Laid {
+            mode,
+            open_end,
+            root,
+            trailing,
+            headers,
+        })
+    }
 
-    fn fmt<W: Write>(&self, f: &mut Formatter<W>) -> fmt::Result {
-        write_document(f, self.mode, self.root, self.trailing)
+    /// Puts the document with a newline behind each of its statements.
+    fn put_closed<S: Sink>(&self, out: &mut S)
+        ensures { WritesInCalls S.puts out.old (closed_text self.now) out.new }
+    {
+        put_document(
+            out,
+            self.mode,
+            self.root,
+            self.headers.as_slice(),
+            self.trailing,
+        )
+    }
+}
+
+impl Printed for Laid<'_> {
+    ghost use Rattle.toml_edit.specs.LaidView.{laid_text};
+
+    ghost text = { laid_text };
+
+    fn put_into<S: Sink>(&self, out: &mut S) {
+        if is_left_open(self.mode, self.open_end, self.root, self.trailing) {
+            let last = last_decor(self.root, self.headers.as_slice());
+            put_but_newline(out, &Closed { laid: self }, newline_length(last))
+        } else {
+            self.put_closed(out)
+        }
+    }
+}
+
+/// A document that is laid out, with a newline behind each of its statements.
+#[derive(Drop)]
+struct Closed<'l, 'a> {
+    laid: &'l Laid<'a>,
+}
+
+impl Printed for Closed<'_, '_> {
+    ghost use Rattle.toml_edit.specs.LaidView.{closed_text};
+
+    ghost text = { λ closed. closed_text closed.laid.now };
+
+    fn put_into<S: Sink>(&self, out: &mut S) {
+        self.laid.put_closed(out)
     }
 }
 
@@ -113,17 +136,6 @@ fn raw_shows_nothing(raw: &RawString) -> bool
         Some(text) => text.is_empty(),
         None => true,
     }
-}
-
-/// Returns the length in bytes of the newline after the last statement in exact mode, or 0 without
-/// statements. Fails only if out of memory.
-fn last_newline_length(root: &Table) -> Mem<usize>
-    ensures { IfOk result (λ n. n ≡ length (newline_of exact (last_statement (fields_view root.now) (table_slots root.now)))) }
-{
-    let arena = Bump::new(root.slots.allocator());
-    let top = Path::Root;
-    let headers = headers_in_order(&arena, root, &top)?;
-    Ok(newline_length(last_decor(root, headers.as_slice())))
 }
 
 /// Returns the length in bytes of the newline after a statement of this decor, or 0 without one:

@@ -1,15 +1,21 @@
-//! Printing a document to an output.
-ghost use Rattle.std.specs.Prelude.{◌≡◌, false, true, OnOk, IsErrOf};
+//! Printing a document: as a text, to an output, or to a formatter.
+ghost use Rattle.std.specs.Prelude.{◌≡◌, [], false, true, OnOk, IfOk, IsErrOf, string_bytes};
 ghost use Rattle.std.specs.Io.KnownBytes.{Appends};
 ghost use Rattle.toml_edit_stream.specs.Whole.{AppendsBeginning};
+ghost use Rattle.toml_edit_tree.specs.Printing.{keys_on};
 ghost use Rattle.toml_edit.specs.DocumentView.{print_of};
 
 use super::DocumentMut;
+use crate::open_end::Laid;
+use bumpalo::Bump;
 use std::alloc::{AllocError, Global};
 use std::error::Error;
 use std::fmt;
+use toml_edit_repr::Mem;
 use toml_edit_slots::NoMemory;
-use toml_edit_stream::{Broken, Output, write_all};
+use toml_edit_stream as stream;
+use toml_edit_stream::{Broken, Output, show};
+use toml_edit_tree::Path;
 
 /// The reason why a document was not printed in full.
 ///
@@ -72,11 +78,60 @@ impl From<Broken> for PrintFault {
     }
 }
 
+/// Writes the text of the document. The order of its headers takes memory, of the allocator that the
+/// root's slots were made with: where that is refused, this is an error as a writer's fault is, and
+/// nothing is written.
+impl fmt::Display for DocumentMut {
+    ghost use Rattle.std.specs.Prelude.{Some};
+
+    ghost output = { λ d. Some (print_of d) };
+
+    fn fmt<W: fmt::Write>(&self, f: &mut fmt::Formatter<W>) -> fmt::Result {
+        let arena = Bump::new(self.as_table().slots.allocator());
+        let top = Path::Root;
+        match self.lay_out(&arena, &top) {
+            Ok(laid) => show(f, &laid),
+            Err(_) => Err(fmt::Error),
+        }
+    }
+}
+
 impl DocumentMut {
+    ghost use Rattle.toml_edit.specs.LaidView.{laid_text};
+
+    /// Returns the document with its headers in the order of the print. Fails only if out of
+    /// memory.
+    fn lay_out<'a>(&'a self, arena: &'a Bump, top: &'a Path<'a, 'a>) -> Mem<Laid<'a>>
+        requires { keys_on top.now ≡ [] }
+        ensures { IfOk result (λ laid. laid_text laid ≡ print_of self.now) }
+    {
+        let root = self.as_table();
+        Laid::new(arena, top, self.mode, self.open_end, root, &self.trailing)
+    }
+
+    /// Returns the text of the document.
+    ///
+    /// Where line endings are kept it has them. Else it has line feeds (LF) alone, and a newline
+    /// after the last statement. What was parsed and not changed gives the normal form of its
+    /// source. `Display` writes this text too, and [`print_to`](Self::print_to) writes it to an
+    /// [`Output`](crate::Output). [`fits`](Self::fits) checks that it is valid.
+    ///
+    /// # Errors
+    ///
+    /// Fails if memory runs out.
+    pub fn print(&self, alloc: Global) -> Mem<String>
+        ensures { IfOk result (λ s. string_bytes s ≡ print_of self.now) }
+    {
+        let arena = Bump::new(alloc);
+        let top = Path::Root;
+        let laid = self.lay_out(&arena, &top)?;
+        stream::print(alloc, &laid)
+    }
+
     /// Writes the text that [`print`](Self::print) returns to an output that has not failed.
     ///
-    /// The text is made in memory first. To check before that it can be read back, use
-    /// [`fits`](Self::fits).
+    /// The text is written piece by piece and never held as a whole, so many small writes reach the
+    /// output. To check before that it can be read back, use [`fits`](Self::fits).
     ///
     /// # Errors
     ///
@@ -91,8 +146,10 @@ impl DocumentMut {
         ensures device { IsErrOf result PrintFault.Device → (W.has_failed out.new ≡ true)
             × AppendsBeginning (W.contents out.old) (W.contents out.new) (print_of self.now) }
     {
-        let text = self.print(alloc)?;
-        write_all(out, text.as_bytes())?;
+        let arena = Bump::new(alloc);
+        let top = Path::Root;
+        let laid = self.lay_out(&arena, &top)?;
+        stream::print_to(out, &laid)?;
         Ok(())
     }
 }

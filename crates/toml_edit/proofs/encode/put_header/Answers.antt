@@ -1,25 +1,20 @@
 -- The parts of a header, one after the other.
-use Rattle.std.proofs.Common.{[], refl, ap, ◌∙◌, rules}
-use Rattle.std.proofs.lemmas.Grind.{put_five}
+use Rattle.std.proofs.Common.{[], refl, ap, ◌∙◌}
 use Rattle.std.specs.Option.{option_copied}
 use Rattle.toml_edit_model.specs.Tree.{Decor, shown_side}
 use Rattle.toml_edit_model.specs.Text.{has_byte, line_feed}
 use Rattle.toml_edit_model.specs.Print.{header_default}
 use Rattle.toml_edit_repr.specs.Modes.{mode_of}
+use Rattle.toml_edit_stream.proofs.Puts.{put_five}
 use Rattle.toml_edit_tree.specs.Printing.{keys_on}
 use Rattle.toml_edit.specs.HeadersView.{header_view}
 use Rattle.toml_edit.proofs.HeaderLaws.{header-by-parts}
-use Rattle.toml_edit.proofs.encode.write_header.Goals as goal
+use Rattle.toml_edit.proofs.encode.put_header.Goals as goal
 
 pub returns : goal.returns
-returns g c all ok =
+returns g c =
     let h = c.args.header.now in
-    let one = c.write_side_if.ensures all (search rules) in
-    let two = c.write_side.ensures one.plain (search rules) in
-    let three = c.write_brackets.ensures two.plain (search rules) in
-    let four = c.write_side-2.ensures three.plain (search rules) in
-    let five = c.write_str.ensures.writes four.plain ok in
-    put_five _ _ _ _ _ _ _ _ _ _ _ _ _ one two three four five
+    put_five _ _ _ _ _ _ _ _ _ _ _ _ c.put_side_if.ensures c.put_side.ensures c.put_brackets.ensures c.put_side-2.ensures c.put.ensures
     (header-by-parts (mode_of c.args.mode) c.args.is_first (header_view h) (keys_on h.path.now) h.key.now refl _ _ _ _
     (c.has_newline-lifted.ensures (mode_of c.args.mode)
     ∙ ap (λ o. has_byte line_feed (shown_side (mode_of c.args.mode) [] o)) (c.prefix.ensures ∙ ap (λ (x : Decor). x.prefix) c.leaf_decor-leaf.ensures))
