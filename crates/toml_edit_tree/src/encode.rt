@@ -150,7 +150,7 @@ fn put_value_lines<'p, 'a, S: Sink>(
     }
 }
 
-/// Returns `true` if [`write_table_lines`] writes a line of the table.
+/// Returns `true` if [`put_table_lines`] writes a line of the table.
 #[doc(hidden)]
 pub fn table_has_lines(table: &Table) -> bool
     ensures { result ≡ has_lines (table_slots table.now) }
@@ -407,7 +407,7 @@ fn put_pairs<'p, 'a, S: Sink>(
     last
 }
 
-/// Writes the pairs of one slot, as [`write_pairs`] does: those of a value, or those in any table.
+/// Writes the pairs of one slot, as [`put_pairs`] does: those of a value, or those in any table.
 #[cycle(print)]
 fn put_item_pairs<'p, 'a, S: Sink>(
     out: &mut S,
@@ -429,7 +429,7 @@ fn put_item_pairs<'p, 'a, S: Sink>(
     }
 }
 
-/// Writes the pairs of a value, as [`write_pairs`] does: those in a dotted inline table, or the one
+/// Writes the pairs of a value, as [`put_pairs`] does: those in a dotted inline table, or the one
 /// of any other value.
 #[cycle(print)]
 fn put_value_pairs<'p, 'a, S: Sink>(
