@@ -6,7 +6,7 @@ use Rattle.toml_edit_repr.specs.Modes.{mode_of}
 use Rattle.toml_edit_tree.specs.View.{tree_view}
 use Rattle.toml_edit.specs.declared.open_end.Laid.{Laid}
 
--- its text, with a newline behind each statement
+-- its text, with a newline after each statement
 abbrev pub closed_text : Laid → Text
 closed_text l = print_in (mode_of l.mode) false (tree_view l.root.now l.trailing.now)
 

@@ -1,21 +1,21 @@
--- What a text ends in, of a carriage return and a line feed.
+-- The end of a text that may be a newline.
 use Rattle.std.specs.Prelude.{ℕ, List, [], ◌∷◌, ◌==◌, if◌then◌else◌}
 use Rattle.toml_edit_model.specs.Text.{Text, carriage_return, line_feed}
 use Rattle.toml_edit.specs.declared.held.Tail.{Tail}
 use Rattle.toml_edit.specs.declared.held.Tail.TheVariants.{Nothing, Return, Feed, Both}
 
--- after a line feed more
+-- the tail after a line feed more
 abbrev pub after_feed : Tail → Tail
 after_feed Nothing = Feed
 after_feed Return = Both
 after_feed Feed = Feed
 after_feed Both = Feed
 
--- after a byte more
+-- the tail after a byte more
 abbrev pub tail_step : Tail → ℕ → Tail
 tail_step t c = if c == carriage_return then Return else (if c == line_feed then after_feed t else Nothing)
 
--- after these bytes more
+-- the tail after these bytes more
 abbrev pub tail_after : Tail → Text → Tail
 tail_after t [] = t
 tail_after t (c ∷ cs) = tail_after (tail_step t c) cs

@@ -75,8 +75,8 @@ fn put_headers<S: Sink>(out: &mut S, mode: Mode, headers: &[Header<'_, '_>], beg
 
 /// Puts a header with its decors and its newline.
 ///
-/// A prefix of its last key that holds a line feed (LF) is put before the header, since it can't be
-/// inside the brackets.
+/// If the prefix of its last key has a line feed (LF), it is put before the header, since it can't
+/// be inside the brackets.
 fn put_header<S: Sink>(out: &mut S, mode: Mode, header: &Header<'_, '_>, is_first: bool)
     ensures { WritesInCalls S.puts out.old (header_text (mode_of mode) is_first (header_view header.now)) out.new }
 {
@@ -90,7 +90,7 @@ fn put_header<S: Sink>(out: &mut S, mode: Mode, header: &Header<'_, '_>, is_firs
     out.put("\n")
 }
 
-/// Returns what is written for an unset prefix of a table with a header.
+/// Returns the text of an unset prefix of a header.
 fn before_header(is_first: bool) -> &'static str
     ensures { result.now ≡ header_default is_first }
 {
@@ -129,7 +129,7 @@ fn put_inside_brackets<S: Sink>(
     put_side_if(out, mode, !lifted, leaf.suffix())
 }
 
-/// Puts the side of a decor if `stands` is set.
+/// Puts the side of a decor if `stands` is set, and nothing if not.
 fn put_side_if<S: Sink>(out: &mut S, mode: Mode, stands: bool, side: Option<&RawString>)
     ensures { WritesInCalls S.puts out.old (if stands then shown_side (mode_of mode) [] (option_copied side.entry) else []) out.new }
 {

@@ -27,7 +27,8 @@ pub(crate) struct Header<'p, 'a> {
 /// A walk over the tables of a document: those with headers so far, and the place of the last
 /// table.
 ///
-/// The arena holds the keys on the way, once for each table.
+/// The arena holds a path for each table. It is its key and a reference to the path of its parent,
+/// so no path is copied.
 #[derive(Drop)]
 struct Walk<'p, 'a> {
     arena: &'p Bump,

@@ -9,7 +9,8 @@ ghost use Rattle.toml_edit.specs.Tails.{tail_step, tail_after, tail_text};
 
 use toml_edit_stream::{Printed, Sink};
 
-/// What a text ends in, of a carriage return and a line feed.
+/// The end of a text that may be a newline: a carriage return (CR), a line feed (LF), both in this
+/// order, or nothing.
 #[derive(Clone, Copy)]
 enum Tail {
     Nothing,
@@ -18,7 +19,7 @@ enum Tail {
     Both,
 }
 
-/// Returns what a text ends in after one byte more.
+/// Returns the tail of a text that ended in `tail`, after one byte more.
 fn step(tail: Tail, byte: u8) -> Tail
     ensures { result ≡ tail_step tail byte }
 {
@@ -32,7 +33,8 @@ fn step(tail: Tail, byte: u8) -> Tail
     }
 }
 
-/// Returns what a text ends in after these bytes more, of which the last two tell.
+/// Returns the tail of a text that ended in `tail`, after these bytes more. It depends on the last
+/// two of them.
 fn after(tail: Tail, bytes: &[u8]) -> Tail
     ensures { result ≡ tail_after tail bytes.now }
 {
@@ -58,7 +60,7 @@ fn text_of(tail: Tail) -> &'static str
     }
 }
 
-/// Returns the beginning of the tail's text, so many bytes short.
+/// Returns the tail as a text, without its last `count` bytes.
 fn text_before(tail: Tail, count: usize) -> &'static str
     ensures { result.now ≡ take (length (tail_text tail) - count) (tail_text tail) }
 {
@@ -69,7 +71,10 @@ fn text_before(tail: Tail, count: usize) -> &'static str
     }
 }
 
-/// A sink before another one: what the text so far ends in is held back.
+/// A sink that puts its texts into another one, and holds back the tail of all of them so far.
+///
+/// Only at the end is it known which newline is the last. Until then, the tail is put as soon as a
+/// text after it shows that it is not.
 #[derive(Drop)]
 struct Held<'a, S> {
     out: &'a mut S,
@@ -84,6 +89,7 @@ impl<S: Sink> Sink for Held<'_, S> {
     fn put(&mut self, text: &str) {
         let tail = after(self.tail, text.as_bytes());
         let held = text_of(tail).len();
+        // A shorter text only adds to the tail.
         if held <= text.len() {
             self.out.put(text_of(self.tail));
             self.out.put(&text[..text.len() - held]);
@@ -92,7 +98,7 @@ impl<S: Sink> Sink for Held<'_, S> {
     }
 }
 
-/// Puts the text without the newline that it ends in, of so many bytes.
+/// Puts the text without the newline at its end, which has `count` bytes.
 pub(crate) fn put_but_newline<T: Printed, S: Sink>(out: &mut S, printed: &T, count: usize)
     ensures { (d : Option Decor) → (front : List ℕ) → count ≡ length (newline_of exact d) → front ++ newline_of exact d ≡ T.text printed.now
         → WritesInCalls S.puts out.old front out.new }

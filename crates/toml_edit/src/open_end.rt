@@ -1,4 +1,4 @@
-//! The text of a document whose end may be open: its last statement then has no newline.
+//! The text of a document. If its end is open, the last statement has no newline.
 #![tactic(auto, using(toml_edit_stream::proofs::Puts::put_steps))]
 
 ghost use Rattle.std.specs.Prelude.{◌≡◌, [], IfOk, length, map};
@@ -25,6 +25,8 @@ use toml_edit_stream::{Printed, Sink};
 use toml_edit_tree::{Path, Table};
 
 /// A document with its headers in the order of the print.
+///
+/// They are put in order once, for the text and for the last statement.
 #[derive(Drop)]
 pub(crate) struct Laid<'a> {
     mode: Mode,
@@ -39,8 +41,12 @@ pub(crate) struct Laid<'a> {
 impl<'a> Laid<'a> {
     ghost use Rattle.toml_edit.specs.LaidView.{closed_text, laid_text};
 
-    /// Lays out the document with this root and this trailing text. The keys on the way to its
-    /// headers stand in the arena. The only error is out of memory.
+    /// Lays out the document with this root and this trailing text. The arena holds the paths of
+    /// its headers.
+    ///
+    /// # Errors
+    ///
+    /// Fails if memory runs out.
     pub(crate) fn new(
         arena: &'a Bump,
         top: &'a Path<'a, 'a>,
@@ -62,7 +68,7 @@ impl<'a> Laid<'a> {
         })
     }
 
-    /// Puts the document with a newline behind each of its statements.
+    /// Puts the document with a newline after each of its statements.
     fn put_closed<S: Sink>(&self, out: &mut S)
         ensures { WritesInCalls S.puts out.old (closed_text self.now) out.new }
     {
@@ -91,7 +97,7 @@ impl Printed for Laid<'_> {
     }
 }
 
-/// A document that is laid out, with a newline behind each of its statements.
+/// A laid-out document that is printed with a newline after each of its statements.
 #[derive(Drop)]
 struct Closed<'l, 'a> {
     laid: &'l Laid<'a>,
@@ -107,8 +113,8 @@ impl Printed for Closed<'_, '_> {
     }
 }
 
-/// Returns `true` if the last statement is written without its newline: in exact mode, where
-/// `open_end` is set and nothing is written after the statements.
+/// Returns `true` if the last statement is printed without its newline: in exact mode, if
+/// `open_end` is set and nothing is printed after the statements.
 fn is_left_open(mode: Mode, open_end: bool, root: &Table, trailing: &RawString) -> bool
     ensures { result ≡ leaves_open (mode_of mode) open_end (tree_view root.now trailing.now) }
 {
@@ -118,7 +124,7 @@ fn is_left_open(mode: Mode, open_end: bool, root: &Table, trailing: &RawString) 
         && raw_shows_nothing(trailing)
 }
 
-/// Returns `true` if the side of a decor is written as nothing in exact mode.
+/// Returns `true` if the side of a decor is printed as nothing in exact mode.
 fn shows_nothing(side: Option<&RawString>) -> bool
     ensures { result ≡ is_empty (shown_side exact [] (option_copied side.entry)) }
 {

@@ -1,4 +1,4 @@
-//! Writing the default spellings of dates and times.
+//! Putting the default spellings of dates and times into sinks.
 #![tactic(auto, using(toml_edit_stream::proofs::Puts::put_steps))]
 
 ghost use Rattle.std.specs.Prelude.{◌≡◌, ◌+◌, ◌<◌, true, [], ◌∷◌, ◌++◌, option_map};
@@ -67,7 +67,7 @@ fn put_time<S: Sink>(out: &mut S, date: Option<Date>, time: Option<Time>)
     }
 }
 
-/// Puts a `T` and the time.
+/// Puts a `T` and the time after it.
 fn put_marked_time<S: Sink>(out: &mut S, time: Time)
     ensures { WritesInCalls S.puts out.old (84 ∷ spec.time_spelling (time_view time)) out.new }
 {

@@ -43,7 +43,7 @@ pub struct Key {
     parts: KeyParts,
 }
 
-/// What a `KeyMut` can change of a key.
+/// The parts of a key that a `KeyMut` can change.
 #[derive(Debug, Drop)]
 pub(crate) struct KeyParts {
     leaf: Decor,

@@ -24,7 +24,7 @@ pub type Mem<T> = Result<T, AllocError>;
 /// The forms of a raw text. Short texts are stored in place.
 #[derive(Debug, Drop)]
 enum Inner {
-    // these three take no memory
+    // These three take no memory.
     Empty,
     Space,
     Short(ArrayString<16>),
@@ -50,8 +50,8 @@ pub struct RawString {
     inner: Inner,
 }
 
-// By hand, as for all that trees are made of: a crate that drops one then proves one call, and not
-// one for each part.
+/// By hand, as for all that trees are made of: a crate that drops one then proves one call, and not
+/// one for each part.
 impl Drop for RawString {
     fn drop(self) {
         let RawString { inner } = self;

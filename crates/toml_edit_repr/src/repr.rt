@@ -369,7 +369,9 @@ pub trait ScalarValue: PartialEq {
     // The scalar that the value is.
     ghost scalar: { Self → Scalar };
 
-    /// Puts the default spelling of the value. It takes no memory.
+    /// Puts the default spelling of the value into the sink.
+    ///
+    /// Takes no memory but what the sink takes.
     fn put_default<S: Sink>(&self, out: &mut S)
         ensures { WritesInCalls S.puts out.old (default_spelling (scalar self.now)) out.new };
 
@@ -420,7 +422,7 @@ impl<T: ScalarValue> Printed for Spelled<'_, T> {
     }
 }
 
-/// Returns the default spelling as a text.
+/// Returns the default spelling of the value as a `String`.
 fn default_text<T: ScalarValue>(alloc: Global, value: &T) -> Mem<String>
     ensures { IfOk result (λ text. string_bytes text ≡ default_spelling (T.scalar value.now)) }
 {
@@ -462,7 +464,8 @@ impl ValueRepr for String {
     }
 }
 
-// By value, so that the proof knows the range of the integer.
+/// Returns the default spelling of an integer. It is passed by value, so that the proof knows its
+/// range.
 fn integer_repr(alloc: Global, value: i64) -> Mem<Repr>
     ensures default { IfOk result (λ repr. repr ≡ owned (default_spelling (integer value))) }
     ensures spelled { ∥ SpellsInRange (integer value) (default_spelling (integer value)) ∥₁ }
@@ -470,6 +473,7 @@ fn integer_repr(alloc: Global, value: i64) -> Mem<Repr>
     default_repr_of(alloc, &value)
 }
 
+/// Puts the integer in decimal, with a minus sign if it is negative.
 fn put_integer<S: Sink>(out: &mut S, value: i64)
     ensures { WritesInCalls S.puts out.old (default_spelling (integer value)) out.new }
 {

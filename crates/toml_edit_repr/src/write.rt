@@ -1,4 +1,4 @@
-//! Writing spellings, decors and trailing texts.
+//! Putting spellings, decors and trailing texts into sinks.
 #![tactic(auto, using(toml_edit_stream::proofs::Puts::put_steps))]
 
 ghost use Rattle.std.specs.Prelude.{◌≡◌, ◌<◌, false, [], ◌++◌, if◌then◌else◌, length, option_and_then, IfSome, MatchOption};
@@ -17,8 +17,7 @@ use crate::repr::{Formatted, Repr, ValueRepr};
 use memchr::memchr;
 use toml_edit_stream::Sink;
 
-/// Puts the spelling of the scalar, or the default one of its value if it has none that is a
-/// text.
+/// Puts the spelling of the scalar, or the default one of its value if it has none that is a text.
 pub fn put_scalar<S: Sink, T: ValueRepr>(out: &mut S, scalar: &Formatted<T>)
     ensures { WritesInCalls S.puts out.old (scalar_text (T.scalar scalar.now.value) scalar.now.repr) out.new }
 {
@@ -74,7 +73,7 @@ pub fn put_last_comma<S: Sink>(out: &mut S, comma: bool, is_empty: bool)
     }
 }
 
-/// Puts the text, without its carriage returns in plain mode.
+/// Puts the text, without its carriage returns (CR) in plain mode.
 #[inline(always)]
 fn put_text<S: Sink>(out: &mut S, mode: Mode, text: &str)
     ensures { WritesInCalls S.puts out.old (shown_text (mode_of mode) text.now) out.new }
@@ -118,7 +117,7 @@ fn has_return(text: &str) -> bool
     memchr(b'\r', text.as_bytes()).is_some()
 }
 
-/// Writes the text without its carriage returns, piece by piece.
+/// Puts the text without its carriage returns (CR), piece by piece.
 #[cold]
 fn put_pieces<S: Sink>(out: &mut S, text: &str)
     ensures { WritesInCalls S.puts out.old (without_returns text.now) out.new }

@@ -1,4 +1,4 @@
--- What each of the three sinks takes, whether it had a fault before, and has one after.
+-- What a call does to each of the three sinks: `before` and `after` say whether it has a fault.
 use Rattle.std.specs.Prelude.{◌≡◌, ℕ, Bool, true, false, List, ◌++◌, Option}
 use Rattle.std.specs.Borrow.{MutBor}
 use Rattle.std.specs.declared.fmt.Formatter.{Formatter}
@@ -6,18 +6,18 @@ use Rattle.std.specs.Fmt.{IsPlainFormatter, HasWritten}
 use Rattle.std.specs.Io.KnownBytes.{Appends}
 use Rattle.toml_edit_stream.specs.Whole.{AppendsBeginning}
 
--- a formatter: it was written the text, unless it has a fault
+-- a formatter: the text was written to it, unless it has a fault
 pub record Shows {W : Type 0} (took : W → List ℕ → W → Type 0) (before : Bool) (f : MutBor (Formatter W)) (text : List ℕ) (after : Bool) (g : MutBor (Formatter W)) : Type 0 where
   pub same_reference : g.ghost_name ≡ f.ghost_name
   pub clean : after ≡ false → before ≡ false
   pub wrote : after ≡ false → IsPlainFormatter f.now → HasWritten took f.now text g.now
 
--- a text: it grew by the other, unless memory ran out
+-- a `String`: it grew by the text, unless memory ran out
 pub record Grows (before : Bool) (old text : List ℕ) (after : Bool) (new : List ℕ) : Type 0 where
   pub clean : after ≡ false → before ≡ false
   pub grew : after ≡ false → new ≡ old ++ text
 
--- an output: it was written the text, or a beginning of it up to a fault, and nothing after one
+-- an output: the text was written to it, or a beginning up to a fault, and nothing after a fault
 pub record Writes {O : Type 0} (contents : O → Option (List ℕ)) (has_failed : O → Bool) (before : Bool) (o : MutBor O) (text : List ℕ) (after : Bool) (p : MutBor O) : Type 0 where
   pub same_reference : p.ghost_name ≡ o.ghost_name
   pub clean : after ≡ false → before ≡ false

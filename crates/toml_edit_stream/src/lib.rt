@@ -1,4 +1,4 @@
-//! Inputs and outputs of bytes that remember a fault.
+//! Inputs and outputs of bytes that remember a fault, and the sinks that texts are put into.
 #![tactic(auto)]
 
 mod sink;

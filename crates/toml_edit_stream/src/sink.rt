@@ -1,18 +1,22 @@
-//! What texts are put into, and what can be put there.
+//! Sinks, which texts are put into, and values that have a text.
 ghost use Rattle.std.specs.Prelude.{List, ℕ};
 ghost use Rattle.std.specs.Char.{encode_utf8};
 ghost use Rattle.std.specs.Fmt.{WritesInCalls};
 
-/// What takes texts, one behind the other. It answers no call: who made it asks it for a fault.
+/// A sink: texts are put into it, one after another.
+///
+/// No call of a sink has an error. A sink that can fail remembers its fault, and whoever made it
+/// looks for that at the end. So code that puts a text has no error to hand on, and can be written
+/// once for all sinks.
 pub trait Sink {
-    // what one call takes: the sink before it, the text, and the sink after it
+    // What a call does: the sink before it, the text, and the sink after it.
     ghost puts: { Self → List ℕ → Self → Type 0 };
 
-    /// Takes the text.
+    /// Puts the text into the sink.
     fn put(&mut self, text: &str)
         ensures { WritesInCalls puts self.old text.now self.new };
 
-    /// Takes the character.
+    /// Puts the character into the sink, as UTF-8.
     final fn put_char(&mut self, character: char)
     where
         Self: Sized,
@@ -23,9 +27,9 @@ pub trait Sink {
     }
 }
 
-/// What has a text that can be put into any sink.
+/// A value that has a text, which can be put into any sink.
 pub trait Printed {
-    // its text
+    // The text.
     ghost text: { Self → List ℕ };
 
     /// Puts the text into the sink, piece by piece.

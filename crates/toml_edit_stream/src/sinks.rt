@@ -1,4 +1,5 @@
-//! The three sinks: a formatter, a text, and an output. Each remembers its first fault, and takes nothing after it.
+//! Three sinks: over a formatter, a `String` and an output. Each remembers its first fault, and
+//! takes nothing after it.
 ghost use Rattle.std.specs.Prelude.{◌≡◌, IfOk, OnOk, OnErr, string_bytes, true};
 ghost use Rattle.std.specs.Fmt.{WritesOnOk};
 ghost use Rattle.std.specs.Io.KnownBytes.{Appends};
@@ -11,6 +12,7 @@ use std::alloc::{AllocError, Global};
 use std::fmt;
 use std::fmt::{Formatter, Write};
 
+/// A sink that writes to a formatter, up to the first fault of its writer.
 #[derive(Drop)]
 struct Shown<'a, W> {
     f: &'a mut Formatter<W>,
@@ -29,7 +31,12 @@ impl<W: Write> Sink for Shown<'_, W> {
     }
 }
 
-/// Writes the text to the formatter, up to the first fault of its writer.
+/// Writes the text to the formatter.
+///
+/// # Errors
+///
+/// Returns [`fmt::Error`] if the writer of the formatter failed. The rest of the text is not
+/// written then.
 pub fn show<T: Printed, W: Write>(f: &mut Formatter<W>, printed: &T) -> fmt::Result
     ensures { WritesOnOk W.write_str_gives f.old result (T.text printed.now) f.new }
 {
@@ -38,6 +45,7 @@ pub fn show<T: Printed, W: Write>(f: &mut Formatter<W>, printed: &T) -> fmt::Res
     if out.failed { Err(fmt::Error) } else { Ok(()) }
 }
 
+/// A sink that grows a `String`, until memory runs out.
 #[derive(Drop)]
 struct Grown {
     text: String,
@@ -57,7 +65,11 @@ impl Sink for Grown {
     }
 }
 
-/// Returns the text as a `String`. The only error is that memory ran out.
+/// Returns the text as a `String`.
+///
+/// # Errors
+///
+/// Fails if memory runs out.
 pub fn print<T: Printed>(alloc: Global, printed: &T) -> Result<String, AllocError>
     ensures { IfOk result (λ text. string_bytes text ≡ T.text printed.now) }
 {
@@ -73,6 +85,7 @@ pub fn print<T: Printed>(alloc: Global, printed: &T) -> Result<String, AllocErro
     Ok(text)
 }
 
+/// A sink that writes to an output, up to the first fault of that.
 #[derive(Drop)]
 struct Written<'a, O> {
     output: &'a mut O,
@@ -91,7 +104,12 @@ impl<O: Output> Sink for Written<'_, O> {
     }
 }
 
-/// Writes the text to the output. After an `Err` the output holds a beginning of it.
+/// Writes the text to the output, piece by piece.
+///
+/// # Errors
+///
+/// Returns [`Broken`] if the output failed. It holds a beginning of the text then, perhaps an empty
+/// one.
 pub fn print_to<T: Printed, O: Output>(output: &mut O, printed: &T) -> Result<(), Broken>
     ensures text { OnOk result (Appends (O.contents output.old) (O.contents output.new) (T.text printed.now)) }
     ensures ok { OnOk result (O.has_failed output.new ≡ O.has_failed output.old) }

@@ -55,13 +55,13 @@ pub enum Class {
     Blank,
     /// All but control characters, and tab.
     Visible,
-    /// What means itself between double quotes.
+    /// The bytes that need no escape between double quotes.
     Plain,
-    /// What may be between single quotes.
+    /// The bytes that may be between single quotes.
     Literal,
-    /// What may be in a bare key.
+    /// The bytes that may be in a bare key.
     Bare,
-    /// What may be in a number, a boolean, a date or a time.
+    /// The bytes that may be in a number, a boolean, a date or a time.
     Word,
 }
 
@@ -106,7 +106,7 @@ const BARE: u8 = 16;
 
 const WORD: u8 = 32;
 
-// For each byte a letter, whose low six bits are the flags above.
+/// For each byte a letter, whose low six bits are the flags above.
 static CLASSES: [u8; 256] = *b"\
     @@@@@@@@@O@@@@@@@@@@@@@@@@@@@@@@\
     ONJNNNNFNNNnN~nN~~~~~~~~~~nNNNNN\

@@ -1,4 +1,4 @@
-//! Writing the default spelling of a string or a key.
+//! Putting the default spellings of strings and keys into sinks.
 #![tactic(auto, using(toml_edit_stream::proofs::Puts::put_steps))]
 
 ghost use Rattle.std.specs.Prelude.{◌≡◌, ◌+◌, ◌<◌, false, length, drop, slice_index};
@@ -12,8 +12,10 @@ ghost use Rattle.toml_edit_token.specs.Classes.{class_test};
 use crate::run::{Class, first, has_line_feed, split_run};
 use toml_edit_stream::Sink;
 
-/// Puts the default spelling of a string: between double quotes, or else single ones, if it may stand there as it is; otherwise
-/// with escapes, in several lines if it has a newline.
+/// Puts the default spelling of a string.
+///
+/// It is in double quotes if it needs no escapes there, else in single quotes if it can be, else in
+/// double quotes with escapes: on several lines if it has a newline.
 pub fn put_string<S: Sink>(out: &mut S, value: &str)
     ensures { WritesInCalls S.puts out.old (spec.string_spelling value.now) out.new }
 {
@@ -30,7 +32,7 @@ pub fn put_string<S: Sink>(out: &mut S, value: &str)
     }
 }
 
-/// Puts the default spelling of a simple key: without quotes if it may stand so, or else in one line as a string.
+/// Puts the default spelling of a simple key: bare if it can be, else as a string on one line.
 pub fn put_key<S: Sink>(out: &mut S, key: &str)
     ensures { WritesInCalls S.puts out.old (spec.key_spelling key.now) out.new }
 {
@@ -52,6 +54,7 @@ fn is_all(s: &str, class: Class) -> bool
     split_run(s, class).1.is_empty()
 }
 
+/// Puts the text between two delimiters, which are the same.
 fn put_between<S: Sink>(out: &mut S, delimiter: &str, text: &str)
     ensures { WritesInCalls S.puts out.old (spec.between delimiter.now text.now) out.new }
 {
@@ -60,7 +63,7 @@ fn put_between<S: Sink>(out: &mut S, delimiter: &str, text: &str)
     out.put(delimiter)
 }
 
-/// Puts a basic string with escapes.
+/// Puts a basic string with escapes, on one line.
 fn put_basic<S: Sink>(out: &mut S, text: &str)
     ensures { WritesInCalls S.puts out.old (spec.between (one quote) (spec.escaped false text.now)) out.new }
 {
@@ -69,7 +72,9 @@ fn put_basic<S: Sink>(out: &mut S, text: &str)
     out.put("\"")
 }
 
-/// Puts what stands between the quotes, run by run of the bytes that need no escape.
+/// Puts the text with escapes and without quotes, run by run of the bytes that need no escape.
+///
+/// A line feed (LF) is put as it is if `many_lines` is set.
 fn put_escaped<S: Sink>(out: &mut S, text: &str, many_lines: bool)
     ensures { WritesInCalls S.puts out.old (spec.escaped many_lines text.now) out.new }
 {
@@ -95,7 +100,7 @@ fn after_first(s: &str) -> &str
     &s[1..]
 }
 
-/// Puts a byte that isn't plain.
+/// Puts the escape of a byte that isn't plain, or a line feed (LF) if `many_lines` is set.
 fn put_escape<S: Sink>(out: &mut S, byte: u8, many_lines: bool)
     requires { is_plain byte ≡ false }
     ensures { WritesInCalls S.puts out.old (spec.escaped_byte many_lines byte) out.new }
@@ -111,7 +116,7 @@ fn put_escape<S: Sink>(out: &mut S, byte: u8, many_lines: bool)
     }
 }
 
-/// Puts `\u00` and two hexadecimal digits.
+/// Puts the byte as `\u00` and two hexadecimal digits.
 #[tactic(auto, using(toml_edit_stream::proofs::Puts::put_steps, std::proofs::lemmas::Grind::common_steps))]
 fn put_numbered<S: Sink>(out: &mut S, byte: u8)
     requires { byte < 128 }

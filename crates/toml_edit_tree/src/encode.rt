@@ -1,4 +1,4 @@
-//! Writing the lines of tables and the texts of values.
+//! Putting the lines of tables and the texts of values into sinks.
 #![tactic(auto, using(toml_edit_stream::proofs::Puts::put_steps))]
 
 ghost use Rattle.std.specs.Prelude.{◌≡◌, true, [], ◌∷◌, ◌++◌};
@@ -28,7 +28,7 @@ use toml_edit_stream::{Printed, Sink};
 
 /// The keys on the way to a slot or to a table, from the outermost in.
 ///
-/// Each key refers to the path before it, so that paths share what they begin with.
+/// Each key refers to the path before it, so paths share their beginnings and none is copied.
 #[doc(hidden)]
 #[derive(Clone, Copy)]
 pub enum Path<'p, 'k> {
@@ -38,11 +38,11 @@ pub enum Path<'p, 'k> {
     Under(&'p Path<'p, 'k>, &'k Key),
 }
 
-/// Writes the lines of a table: one for each value, and in their place those of dotted tables and
+/// Puts the lines of a table: one for each value, and in their place those of dotted tables and
 /// of dotted inline tables.
 ///
-/// The keys of each line begin below the table. Its header isn't written, and neither are the
-/// tables below it that have headers.
+/// The keys of each line begin below the table. Its header isn't put, and neither are the tables
+/// below it that have headers.
 #[doc(hidden)]
 pub fn put_table_lines<S: Sink>(out: &mut S, mode: Mode, table: &Table)
     ensures { WritesInCalls S.puts out.old (lines_text (mode_of mode) (table_lines (mode_of mode) (table_slots table.now) [])) out.new }
@@ -50,7 +50,7 @@ pub fn put_table_lines<S: Sink>(out: &mut S, mode: Mode, table: &Table)
     put_lines(out, mode, &table.slots, &Path::Root)
 }
 
-/// Writes the lines of the slots of a table, in order. Their keys begin with those of `path`.
+/// Puts the lines of the slots of a table, in order. Their keys begin with those of `path`.
 #[cycle(lines)]
 fn put_lines<'p, 'a, S: Sink>(
     out: &mut S,
@@ -66,9 +66,9 @@ fn put_lines<'p, 'a, S: Sink>(
     }
 }
 
-/// Writes the lines of one slot of a table: those of a value, or those in a dotted table.
+/// Puts the lines of one slot of a table: those of a value, or those in a dotted table.
 ///
-/// The lines of any other table are written after its header.
+/// The lines of any other table are put after its header.
 #[cycle(lines)]
 fn put_item_lines<'p, 'a, S: Sink>(
     out: &mut S,
@@ -91,7 +91,7 @@ fn put_item_lines<'p, 'a, S: Sink>(
     }
 }
 
-/// Writes the lines of the slots of a dotted inline table, in order.
+/// Puts the lines of the slots of a dotted inline table, in order.
 #[cycle(inside_lines)]
 fn put_inside_lines<'p, 'a, S: Sink>(
     out: &mut S,
@@ -107,7 +107,7 @@ fn put_inside_lines<'p, 'a, S: Sink>(
     }
 }
 
-/// Writes the lines of one slot of a dotted inline table: those of a value, or those in any table.
+/// Puts the lines of one slot of a dotted inline table: those of a value, or those in any table.
 #[cycle(inside_lines)]
 fn put_inside_item<'p, 'a, S: Sink>(
     out: &mut S,
@@ -126,7 +126,7 @@ fn put_inside_item<'p, 'a, S: Sink>(
     }
 }
 
-/// Writes the lines of a value: those in a dotted inline table, or the one of any other value.
+/// Puts the lines of a value: those in a dotted inline table, or the one of any other value.
 #[cycle(inside_lines)]
 fn put_value_lines<'p, 'a, S: Sink>(
     out: &mut S,
@@ -150,7 +150,7 @@ fn put_value_lines<'p, 'a, S: Sink>(
     }
 }
 
-/// Returns `true` if [`put_table_lines`] writes a line of the table.
+/// Returns `true` if [`put_table_lines`] puts a line.
 #[doc(hidden)]
 pub fn table_has_lines(table: &Table) -> bool
     ensures { result ≡ has_lines (table_slots table.now) }
@@ -278,7 +278,7 @@ fn put_before_key<S: Sink>(out: &mut S, mode: Mode, path: &Path<'_, '_>, key: &K
     }
 }
 
-/// Writes the keys of `path` and then `key`, with dots between them.
+/// Puts the keys of `path` and then `key`, with dots between them.
 ///
 /// Of the dotted decors, the sides at the two ends are left out. The leaf decor of `key` is up to
 /// the caller.
@@ -298,7 +298,7 @@ fn put_key_text<S: Sink>(out: &mut S, key: &Key)
     key.put_into(out)
 }
 
-/// Writes the value without its decor.
+/// Puts the value without its decor.
 #[cycle(print)]
 fn put_value_text<S: Sink>(out: &mut S, mode: Mode, value: &Value)
     ensures { WritesInCalls S.puts out.old (node_text (mode_of mode) (value_view value.now)) out.new }
@@ -314,7 +314,7 @@ fn put_value_text<S: Sink>(out: &mut S, mode: Mode, value: &Value)
     }
 }
 
-/// Writes the array from `[` to `]`.
+/// Puts the array from `[` to `]`.
 #[cycle(print)]
 fn put_array_text<S: Sink>(out: &mut S, mode: Mode, array: &Array)
     ensures { WritesInCalls S.puts out.old (node_text (mode_of mode) (array_node (array_view array.now))) out.new }
@@ -325,7 +325,7 @@ fn put_array_text<S: Sink>(out: &mut S, mode: Mode, array: &Array)
     out.put("]")
 }
 
-/// Writes the values in order, with commas between them, and one after the last if `comma` is set.
+/// Puts the values in order, with commas between them, and one after the last if `comma` is set.
 /// Other items are left out.
 #[cycle(print)]
 fn put_items<S: Sink>(out: &mut S, mode: Mode, items: &Vec<Item>, comma: bool)
@@ -341,7 +341,7 @@ fn put_items<S: Sink>(out: &mut S, mode: Mode, items: &Vec<Item>, comma: bool)
     put_last_comma(out, comma, is_first)
 }
 
-/// Writes a value of an array with its decor, after a comma unless it is the first.
+/// Puts a value of an array with its decor, after a comma unless it is the first.
 #[cycle(print)]
 fn put_element<S: Sink>(out: &mut S, mode: Mode, value: &Value, is_first: bool)
     ensures { WritesInCalls S.puts out.old (element_text (mode_of mode) is_first (value_view value.now)) out.new }
@@ -362,14 +362,14 @@ fn put_comma_before<S: Sink>(out: &mut S, is_first: bool)
     }
 }
 
-/// Returns what is written for an unset prefix of an element.
+/// Returns the text of an unset prefix of an element.
 fn default_before(is_first: bool) -> &'static str
     ensures { result.now ≡ element_default is_first }
 {
     if is_first { "" } else { " " }
 }
 
-/// Writes the inline table from `{` to `}`.
+/// Puts the inline table from `{` to `}`.
 #[cycle(print)]
 fn put_inline_text<S: Sink>(out: &mut S, mode: Mode, table: &InlineTable)
     ensures { WritesInCalls S.puts out.old (node_text (mode_of mode) (inline_node (inline_view table.now))) out.new }
@@ -407,7 +407,7 @@ fn put_pairs<'p, 'a, S: Sink>(
     last
 }
 
-/// Writes the pairs of one slot, as [`put_pairs`] does: those of a value, or those in any table.
+/// Puts the pairs of one slot, as [`put_pairs`] does: those of a value, or those in any table.
 #[cycle(print)]
 fn put_item_pairs<'p, 'a, S: Sink>(
     out: &mut S,
@@ -429,7 +429,7 @@ fn put_item_pairs<'p, 'a, S: Sink>(
     }
 }
 
-/// Writes the pairs of a value, as [`put_pairs`] does: those in a dotted inline table, or the one
+/// Puts the pairs of a value, as [`put_pairs`] does: those in a dotted inline table, or the one
 /// of any other value.
 #[cycle(print)]
 fn put_value_pairs<'p, 'a, S: Sink>(
@@ -461,7 +461,7 @@ fn put_value_pairs<'p, 'a, S: Sink>(
     }
 }
 
-/// Writes a pair up to the end of its value, and before it the end of the pair before.
+/// Puts a pair up to the end of its value, and before it the end of the pair before.
 #[cycle(print)]
 fn put_pair<S: Sink>(
     out: &mut S,
@@ -507,7 +507,7 @@ fn put_after_pairs<S: Sink>(out: &mut S, mode: Mode, comma: bool, last: Option<&
     }
 }
 
-/// A value, of which the text is without what stands around it.
+/// A value that is printed without its decor, in plain mode.
 #[doc(hidden)]
 #[derive(Drop)]
 pub struct Bare<'a>(pub &'a Value);

@@ -78,9 +78,10 @@ impl From<Broken> for PrintFault {
     }
 }
 
-/// Writes the text of the document. The order of its headers takes memory, of the allocator that the
-/// root's slots were made with: where that is refused, this is an error as a writer's fault is, and
-/// nothing is written.
+/// Writes the text that [`print`](DocumentMut::print) returns.
+///
+/// The order of the headers takes memory, by the allocator of the root's slots. If out of memory,
+/// nothing is written and the result is an error, as it is if the writer fails.
 impl fmt::Display for DocumentMut {
     ghost use Rattle.std.specs.Prelude.{Some};
 
@@ -99,8 +100,11 @@ impl fmt::Display for DocumentMut {
 impl DocumentMut {
     ghost use Rattle.toml_edit.specs.LaidView.{laid_text};
 
-    /// Returns the document with its headers in the order of the print. Fails only if out of
-    /// memory.
+    /// Returns the document with its headers in the order of the print.
+    ///
+    /// # Errors
+    ///
+    /// Fails if memory runs out.
     fn lay_out<'a>(&'a self, arena: &'a Bump, top: &'a Path<'a, 'a>) -> Mem<Laid<'a>>
         requires { keys_on top.now ≡ [] }
         ensures { IfOk result (λ laid. laid_text laid ≡ print_of self.now) }
@@ -130,8 +134,9 @@ impl DocumentMut {
 
     /// Writes the text that [`print`](Self::print) returns to an output that has not failed.
     ///
-    /// The text is written piece by piece and never held as a whole, so many small writes reach the
-    /// output. To check before that it can be read back, use [`fits`](Self::fits).
+    /// The text is written piece by piece, in many small writes, and is never held as a whole. Only
+    /// the order of the headers takes memory, before the first write. To check that the text can be
+    /// read back, use [`fits`](Self::fits).
     ///
     /// # Errors
     ///

@@ -84,7 +84,7 @@ impl Printed for Key {
     }
 }
 
-// Puts the spelling if it is a text, else the default one of the name.
+/// Puts the spelling if it is a text, else the default one of the name.
 pub(crate) fn put_spelling<S: Sink>(out: &mut S, name: &str, repr: Option<&Repr>)
     ensures { WritesInCalls S.puts out.old (shown_spelling (key_spelling name.now) (option_copied repr.entry)) out.new }
 {
@@ -94,7 +94,7 @@ pub(crate) fn put_spelling<S: Sink>(out: &mut S, name: &str, repr: Option<&Repr>
     }
 }
 
-// A name, printed by its default spelling.
+/// A name that is printed in its default spelling.
 #[derive(Drop)]
 struct DefaultSpelling<'a> {
     name: &'a str,
