@@ -43,6 +43,17 @@ pub trait Input {
 }
 
 /// What bytes are written to.
+///
+/// # Examples
+///
+/// ```rust,ignore
+/// if output.failed() {
+///     return Err(PrintFault::Device);
+/// }
+/// document.print_to(alloc, output)
+/// ```
+///
+/// From `write_to` of the guide, docs/GUIDE.md.
 pub trait Output {
     // the bytes that the writer holds, where they are known
     ghost contents: { Self → Option (List ℕ) };

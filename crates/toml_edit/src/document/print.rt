@@ -12,6 +12,17 @@ use toml_edit_slots::NoMemory;
 use toml_edit_stream::{Broken, Output, write_all};
 
 /// Why a document is not printed whole.
+///
+/// # Examples
+///
+/// ```rust,ignore
+/// if output.failed() {
+///     return Err(PrintFault::Device);
+/// }
+/// document.print_to(alloc, output)
+/// ```
+///
+/// From `write_to` of the guide, docs/GUIDE.md.
 #[derive(Clone, Copy, Debug, PartialEq, Eq)]
 pub enum PrintFault {
     /// There is not enough memory. Nothing was written.
@@ -70,6 +81,17 @@ impl DocumentMut {
     /// Writes the text of the document, as `print` makes it, to an output that has not failed. The
     /// errors are want of memory, found before anything is written, and a fault of the output,
     /// which holds a beginning of the text then.
+    ///
+    /// # Examples
+    ///
+    /// ```rust,ignore
+    /// if output.failed() {
+    ///     return Err(PrintFault::Device);
+    /// }
+    /// document.print_to(alloc, output)
+    /// ```
+    ///
+    /// From `write_to` of the guide, docs/GUIDE.md.
     pub fn print_to<W: Output>(&self, alloc: Global, out: &mut W) -> Result<(), PrintFault>
         requires { W.has_failed out.old ≡ false }
         ensures prints { OnOk result (Appends (W.contents out.old) (W.contents out.new) (print_of self.now)) }
