@@ -428,7 +428,8 @@ impl DocumentMut {
     /// ```rust,ignore
     /// match DocumentMut::from_str(alloc, text) {
     ///     Ok(_document) => Ok(String::new(alloc)),
-    ///     Err(fault) => fault.to_string(alloc),
+    ///     Err(ParseFault::Toml(error)) => error.to_string(alloc),
+    ///     Err(ParseFault::Memory) => Err(AllocError),
     /// }
     /// ```
     ///

@@ -9,6 +9,15 @@ use toml_edit_tree::{Item, Value, item};
 ///
 /// A [`Value`] keeps its decor and its spelling. For a `&str`, which needs an allocator, use
 /// [`Value::string`].
+///
+/// # Examples
+///
+/// ```rust,ignore
+/// let item = toml_edit::value(datetime);
+/// drop(table.insert(key, item).map_err(no_memory)?);
+/// ```
+///
+/// From `set_date_time` of the guide, docs/GUIDE.md.
 pub fn value<V: Into<Value>>(value: V) -> Item
     ensures { (made : Value) × V.converts value made × (item_view result ≡ value_view made) }
 {

@@ -3,6 +3,14 @@ ghost use Rattle.std.specs.Prelude.{◌≡◌, true};
 ghost use Rattle.toml_edit_model.specs.Scalars.{is_real_date};
 
 /// A day of the Gregorian calendar in the years 0 to 9999. (TOML, "Local Date".)
+///
+/// # Examples
+///
+/// ```rust,ignore
+/// let date = Date::new(year, month, day)?;
+/// ```
+///
+/// From `utc` of the guide, docs/GUIDE.md.
 #[derive(Clone, Copy, Debug, PartialEq, Eq, Hash)]
 pub struct Date {
     year: u16,

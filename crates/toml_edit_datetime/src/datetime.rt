@@ -11,6 +11,14 @@ use std::error::Error;
 use std::fmt;
 
 /// The offset of a local time from Coordinated Universal Time. (TOML, "Offset Date-Time".)
+///
+/// # Examples
+///
+/// ```rust,ignore
+/// Datetime::new(Some(date), Some(time), Some(Offset::Z))
+/// ```
+///
+/// From `utc` of the guide, docs/GUIDE.md.
 #[derive(Clone, Copy, Debug, PartialEq, Eq, Hash)]
 pub enum Offset {
     /// The offset 0, written `Z`.
@@ -20,6 +28,14 @@ pub enum Offset {
 }
 
 /// The error of a text that is no date-time, or one out of range.
+///
+/// # Examples
+///
+/// ```rust,ignore
+/// Err(DatetimeFault) => Ok(false),
+/// ```
+///
+/// From `set_date_time` of the guide, docs/GUIDE.md.
 #[derive(Clone, Copy, Debug, PartialEq, Eq, Hash)]
 pub struct DatetimeFault;
 
@@ -38,6 +54,16 @@ impl Error for DatetimeFault {}
 
 /// A date, a time of day, or both, then perhaps with an offset of less than a day. (TOML, "Offset
 /// Date-Time", "Local Date-Time", "Local Date", "Local Time".)
+///
+/// # Examples
+///
+/// ```rust,ignore
+/// let date = Date::new(year, month, day)?;
+/// let time = Time::new(hour, minute, Some(0), None)?;
+/// Datetime::new(Some(date), Some(time), Some(Offset::Z))
+/// ```
+///
+/// From `utc` of the guide, docs/GUIDE.md.
 #[derive(Clone, Copy, Debug, PartialEq, Eq, Hash)]
 pub struct Datetime {
     date: Option<Date>,

@@ -111,6 +111,17 @@ pub fn is_float(text: &str) -> bool
 ///
 /// Floats are equal if their texts are: `1.0` and `1.00` differ. A contract sees a float as its
 /// text.
+///
+/// # Examples
+///
+/// ```rust,ignore
+/// match FloatText::from_text(alloc, text)? {
+///     Some(float) => Ok(Some(Value::from(float))),
+///     None => Ok(None),
+/// }
+/// ```
+///
+/// From `float_of` of the guide, docs/GUIDE.md.
 #[derive(Debug, Drop)]
 pub struct FloatText {
     text: String,

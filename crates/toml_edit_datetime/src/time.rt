@@ -4,6 +4,14 @@ ghost use Rattle.toml_edit_model.specs.Scalars.{is_real_time};
 
 /// A time of day, to the nanosecond. The second may be missing, and may be 60. (TOML, "Local
 /// Time".)
+///
+/// # Examples
+///
+/// ```rust,ignore
+/// let time = Time::new(hour, minute, Some(0), None)?;
+/// ```
+///
+/// From `utc` of the guide, docs/GUIDE.md.
 #[derive(Clone, Copy, Debug, PartialEq, Eq, Hash)]
 pub struct Time {
     hour: u8,

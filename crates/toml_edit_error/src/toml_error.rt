@@ -19,10 +19,7 @@ use std::ops::Range;
 /// # Examples
 ///
 /// ```rust,ignore
-/// match DocumentMut::from_str(alloc, text) {
-///     Ok(_document) => Ok(String::new(alloc)),
-///     Err(fault) => fault.to_string(alloc),
-/// }
+/// Err(ParseFault::Toml(error)) => error.to_string(alloc),
 /// ```
 ///
 /// From `report` of the guide, docs/GUIDE.md.
@@ -191,6 +188,16 @@ impl fmt::Display for TomlError {
 impl Error for TomlError {}
 
 /// The error of a call that parses a text. See the example of [`TomlError`].
+///
+/// # Examples
+///
+/// ```rust,ignore
+/// Ok(_document) => Ok(String::new(alloc)),
+/// Err(ParseFault::Toml(error)) => error.to_string(alloc),
+/// Err(ParseFault::Memory) => Err(AllocError),
+/// ```
+///
+/// From `report` of the guide, docs/GUIDE.md.
 #[derive(Debug, Drop)]
 pub enum ParseFault {
     /// The text is refused.

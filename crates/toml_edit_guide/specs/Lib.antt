@@ -1,4 +1,9 @@
 -- What the contracts of the guide cite.
 pub mod Adds
+pub mod Dates
+pub mod Either
 pub mod Names
 pub mod Paths
+pub mod Reports
+pub mod Sorts
+pub mod Spellings

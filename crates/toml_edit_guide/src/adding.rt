@@ -1,12 +1,17 @@
 //! Adding values, tables and elements.
-ghost use Rattle.std.specs.Prelude.{◌≡◌, IfNone, IfSome, IsNone, IsTrue, OnErr, OnOk};
-ghost use Rattle.toml_edit_guide.specs.Adds.{OnlySets};
+ghost use Rattle.std.specs.Prelude.{◌≡◌, IfNone, IfOk, IfSome, IsNone, IsTrue, OnErr, OnOk, Some, is_some, option_map, string_bytes};
+ghost use Rattle.toml_edit_guide.specs.Adds.{defaulted, described, OnlySets};
 ghost use Rattle.toml_edit.specs.model.Slots.{has_slot, inserted};
-ghost use Rattle.toml_edit.specs.tree.SlotsOf.{slots_of};
+ghost use Rattle.toml_edit.specs.tree.InlineEntries.{inline_key, inline_value};
+ghost use Rattle.toml_edit.specs.tree.SlotsOf.{inline_slots_of, slots_of};
+ghost use Rattle.toml_edit.specs.tree.TableEntries.{entry_item, entry_key};
 ghost use Rattle.toml_edit.specs.tree.View.{array_view, item_view};
 
 use std::alloc::{AllocError, Global};
-use toml_edit::{Array, ArrayOfTables, InlineTable, Item, Mem, NoMemory, RawString, Table, Value};
+use toml_edit::{
+    Array, ArrayOfTables, Entry, InlineEntry, InlineTable, Item, Mem, NoMemory, RawString, Table,
+    Value,
+};
 
 /// Drops what found no memory, and returns the error.
 pub fn no_memory<T: Drop>(_refused: NoMemory<T>) -> AllocError {
@@ -50,6 +55,42 @@ pub fn add_table(alloc: Global, root: &mut Table, name: &str, key: &str, value: 
     Ok(())
 }
 
+/// Adds a table below a new one, which has no header of its own.
+pub fn add_nested(
+    alloc: Global,
+    root: &mut Table,
+    outer: &str,
+    inner: &str,
+    table: Table,
+) -> Mem<()>
+    ensures ok { OnOk result (OnlySets outer.now (slots_of root.old) (slots_of root.new)) }
+    ensures err { OnErr result (root.new ≡ root.old) }
+{
+    let mut above = Table::new(alloc);
+    above.set_implicit(true);
+    drop(above.insert(inner, Item::Table(table)).map_err(no_memory)?);
+    drop(root.insert(outer, Item::Table(above)).map_err(no_memory)?);
+    Ok(())
+}
+
+/// Adds a value to an inline table under a dotted key.
+pub fn add_dotted(
+    alloc: Global,
+    table: &mut InlineTable,
+    outer: &str,
+    inner: &str,
+    value: Value,
+) -> Mem<()>
+    ensures ok { OnOk result (OnlySets outer.now (inline_slots_of table.old) (inline_slots_of table.new)) }
+    ensures err { OnErr result (inline_slots_of table.new ≡ inline_slots_of table.old) }
+{
+    let mut below = InlineTable::new(alloc);
+    below.set_dotted(true);
+    drop(below.insert(inner, value).map_err(no_memory)?);
+    drop(table.insert(outer, Value::from(below)).map_err(no_memory)?);
+    Ok(())
+}
+
 /// Adds an element to the array of tables under the key, or makes one in place of anything else.
 pub fn add_element(alloc: Global, root: &mut Table, name: &str, element: Table) -> Mem<()> {
     if let Some(Item::ArrayOfTables(tables)) = root.get_mut(name) {
@@ -65,10 +106,34 @@ pub fn add_element(alloc: Global, root: &mut Table, name: &str, element: Table) 
 
 /// Inserts the item under a new key, and leaves an existing one alone.
 pub fn set_default(table: &mut Table, key: &str, item: Item) -> Mem<()>
-    ensures { OnErr result (table.new ≡ table.old) }
+    ensures ok { OnOk result
+        (slots_of table.new ≡ defaulted key.now (item_view item) (slots_of table.old)) }
+    ensures err { OnErr result (table.new ≡ table.old) }
 {
     table.entry(key)?.or_insert(item)?;
     Ok(())
+}
+
+/// Returns what an insertion by the entry will do, as `adds key` or `replaces key`.
+pub fn describe(alloc: Global, entry: &Entry<'_>) -> Mem<String>
+    ensures { IfOk result (λ s. Some (string_bytes s)
+        ≡ option_map (described (is_some (entry_item entry.now))) (entry_key entry.now)) }
+{
+    match entry {
+        Entry::Occupied(slot) => format!(in alloc; "replaces {}", slot.key()),
+        Entry::Vacant(place) => format!(in alloc; "adds {}", place.key()),
+    }
+}
+
+/// Returns what an insertion into an inline table will do, as `describe` does.
+pub fn describe_inline(alloc: Global, entry: &InlineEntry<'_>) -> Mem<String>
+    ensures { IfOk result (λ s. Some (string_bytes s)
+        ≡ option_map (described (is_some (inline_value entry.now))) (inline_key entry.now)) }
+{
+    match entry {
+        InlineEntry::Occupied(slot) => format!(in alloc; "replaces {}", slot.key()),
+        InlineEntry::Vacant(place) => format!(in alloc; "adds {}", place.key()),
+    }
 }
 
 /// Inserts the item, and returns it if memory runs out.

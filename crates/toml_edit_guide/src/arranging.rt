@@ -1,7 +1,10 @@
 //! The order and the names of keys, and the order of values.
-ghost use Rattle.std.specs.Prelude.{◌≡◌, IfOk, IsPermutation};
+ghost use Rattle.std.specs.Prelude.{◌≡◌, IfOk, IsPermutation, OnErr, OnOk};
+ghost use Rattle.toml_edit_guide.specs.Sorts.{string_lt};
 ghost use Rattle.toml_edit.specs.model.Keys.{new_key};
+ghost use Rattle.toml_edit.specs.model.Sorting.{IsArraySort};
 ghost use Rattle.toml_edit.specs.tree.Elements.{items_of};
+ghost use Rattle.toml_edit.specs.tree.View.{array_view};
 
 use crate::adding::no_memory;
 use std::alloc::Global;
@@ -57,7 +60,9 @@ pub fn rename(alloc: Global, table: &mut Table, old: &str, new: &str) -> Mem<boo
 
 /// Sorts the strings of an array.
 pub fn sort_strings(array: &mut Array) -> Mem<()>
-    ensures { IsPermutation (items_of array.old) (items_of array.new) }
+    ensures same { IsPermutation (items_of array.old) (items_of array.new) }
+    ensures sorted { OnOk result (IsArraySort string_lt (items_of array.old) (items_of array.new)) }
+    ensures err { OnErr result (array_view array.new ≡ array_view array.old) }
 {
     array.sort_by(|a, b| a.as_str().cmp(&b.as_str()))
 }

@@ -1,21 +1,27 @@
 //! Parsing, checking and printing whole documents.
-ghost use Rattle.std.specs.Prelude.{◌≡◌, ◌⊎◌, ◌↔◌, IfOk, IfSome, IsErrOf, IsOk, IsSome, string_bytes};
+ghost use Rattle.std.specs.Prelude.{◌≡◌, ◌⊎◌, ◌↔◌, [], IfOk, IfSome, IsErrOf, IsOk, IsSome, OnOk, string_bytes};
+ghost use Rattle.std.specs.Io.KnownBytes.{Appends};
+ghost use Rattle.toml_edit_guide.specs.Reports.{Reports};
 ghost use Rattle.toml_edit.specs.DocumentView.{mode_owned, open_owned, print_of, tree_owned};
 ghost use Rattle.toml_edit.specs.Documents.{IsOwnedReadingIn};
-ghost use Rattle.toml_edit.specs.model.Accepted.{AcceptedIn};
+ghost use Rattle.toml_edit.specs.model.Accepted.{AcceptedAs, AcceptedIn};
 ghost use Rattle.toml_edit.specs.model.Fits.{FitsIn};
 ghost use Rattle.toml_edit.specs.model.Mode.{exact, plain};
 ghost use Rattle.toml_edit.specs.model.Syntax.{Document as Cut};
 ghost use Rattle.toml_edit.specs.model.Version.{v1_0};
 
-use std::alloc::Global;
-use toml_edit::{DocumentMut, Mem, ParseFault, ParseOptions, Version};
+use std::alloc::{AllocError, Global};
+use toml_edit::{DocumentMut, Mem, Output, ParseFault, ParseOptions, PrintFault, Version};
 
 /// Returns why the text is refused, with an excerpt of it, or an empty text.
-pub fn report(alloc: Global, text: &str) -> Mem<String> {
+pub fn report(alloc: Global, text: &str) -> Mem<String>
+    ensures reports { IfOk result (λ s. Reports text.now (string_bytes s)) }
+    ensures accepted { (d : Cut) → AcceptedAs text.now d → IfOk result (λ s. string_bytes s ≡ []) }
+{
     match DocumentMut::from_str(alloc, text) {
         Ok(_document) => Ok(String::new(alloc)),
-        Err(fault) => fault.to_string(alloc),
+        Err(ParseFault::Toml(error)) => error.to_string(alloc),
+        Err(ParseFault::Memory) => Err(AllocError),
     }
 }
 
@@ -30,6 +36,21 @@ pub fn print_if_fits(alloc: Global, document: &DocumentMut) -> Mem<Option<String
     } else {
         Ok(None)
     }
+}
+
+/// Writes the document to an output that has not failed.
+pub fn write_to<W: Output>(
+    alloc: Global,
+    document: &DocumentMut,
+    output: &mut W,
+) -> Result<(), PrintFault>
+    ensures { OnOk result
+        (Appends (W.contents output.old) (W.contents output.new) (print_of document.now)) }
+{
+    if output.failed() {
+        return Err(PrintFault::Device);
+    }
+    document.print_to(alloc, output)
 }
 
 /// Reads a document and keeps its line endings, and whether it ends in a newline.

@@ -4,5 +4,9 @@
 pub mod adding;
 pub mod arranging;
 pub mod changing;
+pub mod dates;
 pub mod documents;
+pub mod either_table;
+pub mod lists;
 pub mod reading;
+pub mod spelling;

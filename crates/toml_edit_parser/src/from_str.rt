@@ -25,6 +25,15 @@ use toml_edit_version::{Version, late_part_of_value};
 ///
 /// It is in the place of std's trait of this name, and has to be imported: it takes an allocator,
 /// and is implemented for [`Value`] and [`Item`].
+///
+/// # Examples
+///
+/// ```rust,ignore
+/// let item = Item::from_str(alloc, text)?;
+/// drop(table.insert(key, item).map_err(no_memory)?);
+/// ```
+///
+/// From `set_spelled` of the guide, docs/GUIDE.md.
 pub trait FromStr: Sized {
     ghost use Rattle.std.specs.Prelude.{List, ℕ, Result};
     ghost use Rattle.toml_edit_error.specs.declared.toml_error.ParseFault.{ParseFault};

@@ -38,7 +38,7 @@ fn has_no_spans_without_its_source(rt: HostRuntime) {
 }
 
 /// Fails if it was not done.
-fn done(is_done: bool) -> Mem<()> {
+pub fn done(is_done: bool) -> Mem<()> {
     if is_done { Ok(()) } else { Err(AllocError) }
 }
 
@@ -64,7 +64,8 @@ fn insert_a(root: &mut Table) -> Mem<()> {
     }
 }
 
-fn array_mut<'a>(root: &'a mut Table, key: &str) -> Option<&'a mut Array> {
+/// Returns the array under the key.
+pub fn array_mut<'a>(root: &'a mut Table, key: &str) -> Option<&'a mut Array> {
     root.get_mut(key).and_then(|item| item.as_array_mut())
 }
 

@@ -12,3 +12,5 @@ mod prints;
 mod runs;
 #[cfg(test)]
 mod streams;
+#[cfg(test)]
+mod tasks;

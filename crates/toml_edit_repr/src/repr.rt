@@ -26,6 +26,14 @@ use toml_edit_token::put_string;
 /// The spelling of a scalar or a key: its representation in TOML, such as `0xFF` or `'a b'`.
 ///
 /// It is a text, or a span of the source in a `Document`. [`as_raw`](Self::as_raw) tells which.
+///
+/// # Examples
+///
+/// ```rust,ignore
+/// Value::Integer(number) => number.as_repr()?.as_raw().as_str(),
+/// ```
+///
+/// From `spelling_of` of the guide, docs/GUIDE.md.
 #[derive(Debug, Drop)]
 pub struct Repr {
     raw: RawString,
@@ -540,6 +548,16 @@ impl ValueRepr for bool {
 /// A value that was parsed prints as it was spelled; one that was made, in its default spelling.
 /// The spelling always spells the value, so a value is changed by putting a new `Formatted` in its
 /// place.
+///
+/// # Examples
+///
+/// ```rust,ignore
+/// if let Value::Integer(number) = value {
+///     number.fmt();
+/// }
+/// ```
+///
+/// From `make_decimal` of the guide, docs/GUIDE.md.
 #[derive(Debug)]
 pub struct Formatted<T: ValueRepr> {
     value: T,
@@ -700,6 +718,14 @@ impl<T: ValueRepr> Formatted<T> {
     ///
     /// What was parsed has one, even where it is spelled by default. See
     /// [`display_repr`](Self::display_repr) for what prints.
+    ///
+    /// # Examples
+    ///
+    /// ```rust,ignore
+    /// Value::Integer(number) => number.as_repr()?.as_raw().as_str(),
+    /// ```
+    ///
+    /// From `spelling_of` of the guide, docs/GUIDE.md.
     pub fn as_repr(&self) -> Option<&Repr>
         ensures { option_copied result ≡ self.now.repr }
     {

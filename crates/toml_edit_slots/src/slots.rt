@@ -18,6 +18,14 @@ mod unset;
 mod whole;
 
 /// The error of a call that ran out of memory, with the value that could not be stored.
+///
+/// # Examples
+///
+/// ```rust,ignore
+/// Err(NoMemory(item)) => Some(item),
+/// ```
+///
+/// From `try_insert` of the guide, docs/GUIDE.md.
 #[derive(Debug, Drop)]
 pub struct NoMemory<T>(pub T);
 

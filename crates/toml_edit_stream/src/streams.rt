@@ -51,6 +51,17 @@ pub trait Input {
 }
 
 /// An output of bytes that remembers a fault.
+///
+/// # Examples
+///
+/// ```rust,ignore
+/// if output.failed() {
+///     return Err(PrintFault::Device);
+/// }
+/// document.print_to(alloc, output)
+/// ```
+///
+/// From `write_to` of the guide, docs/GUIDE.md.
 pub trait Output {
     // the bytes that the output holds, where they are known
     ghost contents: { Self → Option (List ℕ) };

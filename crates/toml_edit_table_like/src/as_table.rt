@@ -14,6 +14,17 @@ use toml_edit_tree::Item;
 /// [`InlineTable`](toml_edit_tree::InlineTable).
 ///
 /// It is implemented for [`Item`], whose calls these are once the trait is imported.
+///
+/// # Examples
+///
+/// ```rust,ignore
+/// match dependency.as_table_like() {
+///     Some(table) => table.get("version")?.as_str(),
+///     None => dependency.as_str(),
+/// }
+/// ```
+///
+/// From `version_of` of the guide, docs/GUIDE.md.
 pub trait AsTableLike {
     ghost use Rattle.toml_edit_model.specs.Tree.{Node};
     ghost use Rattle.toml_edit_table_like.specs.declared.table_ref_mut.TableRefMut.{TableRefMut};

@@ -43,6 +43,15 @@ use toml_edit_tree::{InlineTable, Item, Iter, Table, Value};
 /// enters.
 ///
 /// [`TableLike`] has calls that return slots.
+///
+/// # Examples
+///
+/// ```rust,ignore
+/// table.sort_values()?;
+/// Ok(table.len())
+/// ```
+///
+/// From `sort_keys` of the guide, docs/GUIDE.md.
 pub trait AnyTable: HasSlots {
     /// Returns the number of slots, placeholders included.
     ///

@@ -26,6 +26,17 @@ use toml_edit_tree::{InlineTable, Item, Iter, Table, Value};
 /// Returned by [`AsTableLike::as_table_like`](crate::AsTableLike::as_table_like). A placeholder
 /// counts as absent, but keeps its place. To change the table, see
 /// [`TableRefMut`](crate::TableRefMut).
+///
+/// # Examples
+///
+/// ```rust,ignore
+/// match dependency.as_table_like() {
+///     Some(table) => table.get("version")?.as_str(),
+///     None => dependency.as_str(),
+/// }
+/// ```
+///
+/// From `version_of` of the guide, docs/GUIDE.md.
 #[derive(Clone, Copy)]
 pub enum TableRef<'a> {
     /// A table with a header or of a dotted key.

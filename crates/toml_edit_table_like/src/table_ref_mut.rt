@@ -13,6 +13,17 @@ mod table;
 /// Returned by [`AsTableLike::as_table_like_mut`](crate::AsTableLike::as_table_like_mut). Its calls
 /// are those of [`AnyTable`](crate::AnyTable), which has to be imported. It is no
 /// [`TableLike`](crate::TableLike): [`slot_at`](crate::AnyTable::slot_at) returns its slots.
+///
+/// # Examples
+///
+/// ```rust,ignore
+/// match item.as_table_like_mut() {
+///     Some(mut table) => table.remove(key),
+///     None => None,
+/// }
+/// ```
+///
+/// From `remove_from` of the guide, docs/GUIDE.md.
 #[derive(Drop)]
 pub struct TableRefMut<'a> {
     pub(crate) item: &'a mut Item,

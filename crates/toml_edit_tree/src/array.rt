@@ -138,6 +138,17 @@ impl Array {
     }
 
     /// Returns the number of slots, those without a value included.
+    ///
+    /// # Examples
+    ///
+    /// ```rust,ignore
+    /// if at >= array.len() {
+    ///     return array.push(value).map_err(no_memory);
+    /// }
+    /// array.insert(at, value).map_err(no_memory)
+    /// ```
+    ///
+    /// From `insert_or_push` of the guide, docs/GUIDE.md.
     pub fn len(&self) -> usize
         ensures { result ≡ length (items_of self.now) }
     {
@@ -145,6 +156,15 @@ impl Array {
     }
 
     /// Returns `true` if there are no slots.
+    ///
+    /// # Examples
+    ///
+    /// ```rust,ignore
+    /// array.retain(|value| value.as_str() != Some(text));
+    /// array.is_empty()
+    /// ```
+    ///
+    /// From `remove_string` of the guide, docs/GUIDE.md.
     pub fn is_empty(&self) -> bool
         ensures { IsTrue result ↔ (items_of self.now ≡ []) }
     {
@@ -152,6 +172,17 @@ impl Array {
     }
 
     /// Returns the value at index `at`, or `None` past the end and where the slot holds none.
+    ///
+    /// # Examples
+    ///
+    /// ```rust,ignore
+    /// if array.get(at).is_none() {
+    ///     return array.push(value).map_err(no_memory);
+    /// }
+    /// drop(array.replace(at, value).map_err(no_memory)?);
+    /// ```
+    ///
+    /// From `replace_or_push` of the guide, docs/GUIDE.md.
     pub fn get(&self, at: usize) -> Option<&Value>
         ensures { option_map (λ v. value_view v.now) result ≡ value_at at (items_of self.now) }
     {
@@ -296,6 +327,14 @@ impl Printed for Array {
 /// An iterator over the values of an array, in order.
 ///
 /// Returned by [`Array::iter`].
+///
+/// # Examples
+///
+/// ```rust,ignore
+/// let last = array.iter().last().map(|value| value.decor());
+/// ```
+///
+/// From `push_line` of the guide, docs/GUIDE.md.
 #[derive(Drop)]
 pub struct ArrayIter<'a> {
     items: slice::Iter<'a, Item>,

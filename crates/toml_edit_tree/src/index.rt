@@ -72,6 +72,14 @@ impl<T: Drop> From<NoMemory<T>> for IndexFault {
 /// array or an array of tables from 0; a text is the name of a key of a table or an inline table.
 /// An implementation proves that both calls find the item that `stands_for` says. No contract says
 /// what the outer item is after a write through `index_mut`.
+///
+/// # Examples
+///
+/// ```rust,ignore
+/// root.get(table)?.get(key)?.as_integer()
+/// ```
+///
+/// From `integer_at` of the guide, docs/GUIDE.md.
 pub trait Index: Drop {
     /// What the index means: a number or a text.
     ghost stands_for: { Self → indexing.Index };

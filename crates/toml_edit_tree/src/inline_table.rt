@@ -263,6 +263,16 @@ impl InlineTable {
     /// Sets whether the inline table is written by dotted keys.
     ///
     /// In an array it is printed in braces in any case.
+    ///
+    /// # Examples
+    ///
+    /// ```rust,ignore
+    /// let mut below = InlineTable::new(alloc);
+    /// below.set_dotted(true);
+    /// drop(below.insert(inner, value).map_err(no_memory)?);
+    /// ```
+    ///
+    /// From `add_dotted` of the guide, docs/GUIDE.md.
     pub fn set_dotted(&mut self, dotted: bool)
         ensures { inline_view self.new ≡ inline_with_dotted dotted (inline_view self.old) }
     {

@@ -238,6 +238,16 @@ impl Table {
     ///
     /// With `true` the header isn't printed where the table has no lines of its own, so an empty
     /// one disappears from the text.
+    ///
+    /// # Examples
+    ///
+    /// ```rust,ignore
+    /// let mut above = Table::new(alloc);
+    /// above.set_implicit(true);
+    /// drop(above.insert(inner, Item::Table(table)).map_err(no_memory)?);
+    /// ```
+    ///
+    /// From `add_nested` of the guide, docs/GUIDE.md.
     pub fn set_implicit(&mut self, implicit: bool)
         ensures { table_view self.new ≡ table_with_implicit implicit (table_view self.old) }
     {
@@ -280,6 +290,15 @@ impl Table {
     /// With `None` the table takes the position of the table before it in the tree, and its header
     /// is printed after that one. The root is always first, and a dotted table has no header to
     /// place.
+    ///
+    /// # Examples
+    ///
+    /// ```rust,ignore
+    /// element.set_position(old.position());
+    /// Some(tables.replace(at, element))
+    /// ```
+    ///
+    /// From `replace_element` of the guide, docs/GUIDE.md.
     pub fn set_position(&mut self, position: Option<isize>)
         ensures { table_view self.new ≡ table_with_position position (table_view self.old) }
     {
@@ -431,6 +450,17 @@ impl Table {
 /// placeholders.
 ///
 /// Returned by [`Table::iter`], and by `iter` of the trait `AnyTable`.
+///
+/// # Examples
+///
+/// ```rust,ignore
+/// for (name, _item) in table.iter() {
+///     names.push_str(name)?;
+///     names.push_str("\n")?;
+/// }
+/// ```
+///
+/// From `names` of the guide, docs/GUIDE.md.
 #[derive(Drop)]
 pub struct Iter<'a> {
     slots: slice::Iter<'a, Slot<Item>>,

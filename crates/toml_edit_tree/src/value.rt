@@ -186,6 +186,14 @@ impl Value {
     }
 
     /// Returns the date-time, date or time, or `None` for any other value.
+    ///
+    /// # Examples
+    ///
+    /// ```rust,ignore
+    /// Some(value.as_datetime()?.date()?.year())
+    /// ```
+    ///
+    /// From `year_of` of the guide, docs/GUIDE.md.
     pub fn as_datetime(&self) -> Option<&Datetime>
         ensures { option_map (λ x. datetime_view x.now) result ≡ datetime_in (value_view self.now) }
     {

@@ -20,6 +20,17 @@ use toml_edit_tree::Path;
 /// The reason why a document was not printed in full.
 ///
 /// Returned by [`DocumentMut::print_to`].
+///
+/// # Examples
+///
+/// ```rust,ignore
+/// if output.failed() {
+///     return Err(PrintFault::Device);
+/// }
+/// document.print_to(alloc, output)
+/// ```
+///
+/// From `write_to` of the guide, docs/GUIDE.md.
 #[derive(Clone, Copy, Debug, PartialEq, Eq)]
 pub enum PrintFault {
     /// Out of memory. Nothing was written.
@@ -143,6 +154,17 @@ impl DocumentMut {
     /// Returns [`PrintFault::Memory`] if out of memory, and then nothing was written. Returns
     /// [`PrintFault::Device`] if the output failed, and then it holds a beginning of the text,
     /// perhaps an empty one.
+    ///
+    /// # Examples
+    ///
+    /// ```rust,ignore
+    /// if output.failed() {
+    ///     return Err(PrintFault::Device);
+    /// }
+    /// document.print_to(alloc, output)
+    /// ```
+    ///
+    /// From `write_to` of the guide, docs/GUIDE.md.
     pub fn print_to<W: Output>(&self, alloc: Global, out: &mut W) -> Result<(), PrintFault>
         requires { W.has_failed out.old ≡ false }
         ensures prints { OnOk result (Appends (W.contents out.old) (W.contents out.new) (print_of self.now)) }

@@ -23,6 +23,15 @@ use toml_edit_stream::{Printed, Sink, show};
 ///
 /// It changes the decors of the key, and [`fmt`](Self::fmt) resets its spelling. The name stays, so
 /// that a table finds the key. `key_mut` of a table or an entry gives one, and [`Key::as_mut`].
+///
+/// # Examples
+///
+/// ```rust,ignore
+/// let mut key = slot.key_mut();
+/// key.leaf_decor_mut().set_prefix(comment);
+/// ```
+///
+/// From `set_comment` of the guide, docs/GUIDE.md.
 #[derive(Debug, Drop)]
 pub struct KeyMut<'k> {
     name: &'k str,

@@ -23,6 +23,15 @@ impl Array {
     ///
     /// Its decor comes with it, so a comment after the comma before it goes too. A contract
     /// requires that there is a value: check with [`get`](Self::get).
+    ///
+    /// # Examples
+    ///
+    /// ```rust,ignore
+    /// let value = from.remove(at);
+    /// to.push_formatted(value)?;
+    /// ```
+    ///
+    /// From `move_value` of the guide, docs/GUIDE.md.
     pub fn remove(&mut self, at: usize) -> Value
         requires { IsSome (value_at at (items_of self.old)) }
         ensures value { Some (value_view result) ≡ value_at at (items_of self.old) }
@@ -37,6 +46,17 @@ impl Array {
     /// The new value keeps its own decor. To give it that of the old one, use
     /// [`replace`](Self::replace). A contract requires that there is a value: check with
     /// [`get`](Self::get).
+    ///
+    /// # Examples
+    ///
+    /// ```rust,ignore
+    /// if array.get(at).is_none() {
+    ///     return array.insert_formatted(0, value).map_err(no_memory);
+    /// }
+    /// drop(array.replace_formatted(at, value));
+    /// ```
+    ///
+    /// From `put_formatted` of the guide, docs/GUIDE.md.
     pub fn replace_formatted(&mut self, at: usize, value: Value) -> Value
         requires { IsSome (value_at at (items_of self.old)) }
         ensures value { Some (value_view result) ≡ value_at at (items_of self.old) }
@@ -77,6 +97,15 @@ impl Array {
     /// # Errors
     ///
     /// Returns a [`NoMemory`] with `value` if out of memory.
+    ///
+    /// # Examples
+    ///
+    /// ```rust,ignore
+    /// let value = from.remove(at);
+    /// to.push_formatted(value)?;
+    /// ```
+    ///
+    /// From `move_value` of the guide, docs/GUIDE.md.
     pub fn push_formatted(&mut self, value: Value) -> Result<(), NoMemory<Value>>
         ensures items { OnOk result (items_of self.new ≡ pushed (value_view value) (items_of self.old)) }
         ensures fields { array_fields self.new ≡ array_fields self.old }
@@ -94,6 +123,17 @@ impl Array {
     /// # Errors
     ///
     /// Returns a [`NoMemory`] with `value` if out of memory.
+    ///
+    /// # Examples
+    ///
+    /// ```rust,ignore
+    /// if at >= array.len() {
+    ///     return array.push(value).map_err(no_memory);
+    /// }
+    /// array.insert(at, value).map_err(no_memory)
+    /// ```
+    ///
+    /// From `insert_or_push` of the guide, docs/GUIDE.md.
     pub fn insert(&mut self, at: usize, value: Value) -> Result<(), NoMemory<Value>>
         requires { at ≤ length (items_of self.old) }
         ensures items { OnOk result (items_of self.new ≡ inserted_at at (value_view value) (items_of self.old)) }
@@ -110,6 +150,16 @@ impl Array {
     /// # Errors
     ///
     /// Returns a [`NoMemory`] with `value` if out of memory.
+    ///
+    /// # Examples
+    ///
+    /// ```rust,ignore
+    /// if array.get(at).is_none() {
+    ///     return array.insert_formatted(0, value).map_err(no_memory);
+    /// }
+    /// ```
+    ///
+    /// From `put_formatted` of the guide, docs/GUIDE.md.
     pub fn insert_formatted(&mut self, at: usize, value: Value) -> Result<(), NoMemory<Value>>
         requires { at ≤ length (items_of self.old) }
         ensures items { OnOk result (items_of self.new ≡ inserted_at at (value_view value) (items_of self.old)) }

@@ -21,6 +21,17 @@ impl Array {
     /// # Errors
     ///
     /// Returns a [`NoMemory`] with `value` if out of memory for the copy.
+    ///
+    /// # Examples
+    ///
+    /// ```rust,ignore
+    /// if array.get(at).is_none() {
+    ///     return array.push(value).map_err(no_memory);
+    /// }
+    /// drop(array.replace(at, value).map_err(no_memory)?);
+    /// ```
+    ///
+    /// From `replace_or_push` of the guide, docs/GUIDE.md.
     pub fn replace(&mut self, at: usize, value: Value) -> Result<Value, NoMemory<Value>>
         requires { IsSome (value_at at (items_of self.old)) }
         ensures value { IfOk result (λ old. Some (value_view old) ≡ value_at at (items_of self.old)) }

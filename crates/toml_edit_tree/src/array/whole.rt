@@ -19,6 +19,15 @@ impl Array {
     ///
     /// Slots without a value are removed too. A comment after the comma before a removed value goes
     /// with it.
+    ///
+    /// # Examples
+    ///
+    /// ```rust,ignore
+    /// array.retain(|value| value.as_str() != Some(text));
+    /// array.is_empty()
+    /// ```
+    ///
+    /// From `remove_string` of the guide, docs/GUIDE.md.
     pub fn retain<F: Fn(&Value) -> bool>(&mut self, keep: F)
     where
         F: Drop,

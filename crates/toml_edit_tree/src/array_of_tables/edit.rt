@@ -43,6 +43,15 @@ impl ArrayOfTables {
     ///
     /// The new table keeps its own decor and position. A contract requires that there is a table:
     /// check with [`get`](Self::get).
+    ///
+    /// # Examples
+    ///
+    /// ```rust,ignore
+    /// element.set_position(old.position());
+    /// Some(tables.replace(at, element))
+    /// ```
+    ///
+    /// From `replace_element` of the guide, docs/GUIDE.md.
     pub fn replace(&mut self, at: usize, table: Table) -> Table
         requires { IsSome (table_at at (tables_of self.old)) }
         ensures table { Some (table_node (table_view result)) ≡ table_at at (tables_of self.old) }

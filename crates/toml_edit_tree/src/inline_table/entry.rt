@@ -13,6 +13,17 @@ mod places;
 /// The slot of a key in an inline table, or the place for a new one at the end.
 ///
 /// Returned by [`InlineTable::entry`] and [`InlineTable::entry_format`].
+///
+/// # Examples
+///
+/// ```rust,ignore
+/// match entry {
+///     InlineEntry::Occupied(slot) => format!(in alloc; "replaces {}", slot.key()),
+///     InlineEntry::Vacant(place) => format!(in alloc; "adds {}", place.key()),
+/// }
+/// ```
+///
+/// From `describe_inline` of the guide, docs/GUIDE.md.
 #[derive(Drop)]
 pub enum InlineEntry<'a> {
     /// The key has a slot, with a value.
@@ -25,6 +36,14 @@ pub enum InlineEntry<'a> {
 ///
 /// Returned by [`InlineTable::entry`] for an existing key. For slots of any kind there is
 /// [`InlineSlotMut`](crate::InlineSlotMut).
+///
+/// # Examples
+///
+/// ```rust,ignore
+/// InlineEntry::Occupied(slot) => format!(in alloc; "replaces {}", slot.key()),
+/// ```
+///
+/// From `describe_inline` of the guide, docs/GUIDE.md.
 #[derive(Drop)]
 pub struct InlineOccupiedEntry<'a> {
     table: &'a mut InlineTable,
@@ -35,6 +54,14 @@ pub struct InlineOccupiedEntry<'a> {
 /// The place for a new key at the end of an inline table.
 ///
 /// Returned by [`InlineTable::entry`] for a key that is missing.
+///
+/// # Examples
+///
+/// ```rust,ignore
+/// InlineEntry::Vacant(place) => format!(in alloc; "adds {}", place.key()),
+/// ```
+///
+/// From `describe_inline` of the guide, docs/GUIDE.md.
 #[derive(Drop)]
 pub struct InlineVacantEntry<'a> {
     table: &'a mut InlineTable,

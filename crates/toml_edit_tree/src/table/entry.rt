@@ -33,6 +33,15 @@ pub enum Entry<'a> {
 ///
 /// Returned by [`Table::entry`] for an existing key, and by [`Table::slot_mut`],
 /// [`Table::get_key_value_mut`] and [`Table::key_value_at_mut`].
+///
+/// # Examples
+///
+/// ```rust,ignore
+/// let mut key = slot.key_mut();
+/// key.leaf_decor_mut().set_prefix(comment);
+/// ```
+///
+/// From `set_comment` of the guide, docs/GUIDE.md.
 #[derive(Drop)]
 pub struct OccupiedEntry<'a> {
     table: &'a mut Table,
@@ -43,6 +52,14 @@ pub struct OccupiedEntry<'a> {
 /// The place for a new key at the end of a table.
 ///
 /// Returned by [`Table::entry`] for a key that is missing.
+///
+/// # Examples
+///
+/// ```rust,ignore
+/// Entry::Vacant(place) => format!(in alloc; "adds {}", place.key()),
+/// ```
+///
+/// From `describe` of the guide, docs/GUIDE.md.
 #[derive(Drop)]
 pub struct VacantEntry<'a> {
     table: &'a mut Table,

@@ -22,6 +22,14 @@ use toml_edit_slots::{NoMemory, Slot};
 
 impl<'a> InlineOccupiedEntry<'a> {
     /// Returns the name of the key.
+    ///
+    /// # Examples
+    ///
+    /// ```rust,ignore
+    /// InlineEntry::Occupied(slot) => format!(in alloc; "replaces {}", slot.key()),
+    /// ```
+    ///
+    /// From `describe_inline` of the guide, docs/GUIDE.md.
     pub fn key(&self) -> &str
         ensures { Some result.now ≡ option_map (λ key. key.name) (inline_key (Occupied self.now)) }
     {
@@ -147,6 +155,14 @@ impl<'a> InlineOccupiedEntry<'a> {
 
 impl<'a> InlineVacantEntry<'a> {
     /// Returns the name that a new key will have.
+    ///
+    /// # Examples
+    ///
+    /// ```rust,ignore
+    /// InlineEntry::Vacant(place) => format!(in alloc; "adds {}", place.key()),
+    /// ```
+    ///
+    /// From `describe_inline` of the guide, docs/GUIDE.md.
     pub fn key(&self) -> &str
         ensures { Some result.now ≡ option_map (λ key. key.name) (inline_key (Vacant self.now)) }
     {

@@ -20,6 +20,14 @@ use toml_edit_slots::{NoMemory, Slot};
 
 impl<'a> OccupiedEntry<'a> {
     /// Returns the name of the key.
+    ///
+    /// # Examples
+    ///
+    /// ```rust,ignore
+    /// Entry::Occupied(slot) => format!(in alloc; "replaces {}", slot.key()),
+    /// ```
+    ///
+    /// From `describe` of the guide, docs/GUIDE.md.
     pub fn key(&self) -> &str
         ensures { Some result.now ≡ option_map (λ key. key.name) (entry_key (Occupied self.now)) }
     {
@@ -145,6 +153,14 @@ impl<'a> OccupiedEntry<'a> {
 
 impl<'a> VacantEntry<'a> {
     /// Returns the name that a new key will have.
+    ///
+    /// # Examples
+    ///
+    /// ```rust,ignore
+    /// Entry::Vacant(place) => format!(in alloc; "adds {}", place.key()),
+    /// ```
+    ///
+    /// From `describe` of the guide, docs/GUIDE.md.
     pub fn key(&self) -> &str
         ensures { Some result.now ≡ option_map (λ key. key.name) (entry_key (Vacant self.now)) }
     {

@@ -1,0 +1,62 @@
+//! The spelling of values, and the comments of keys.
+ghost use Rattle.std.specs.Prelude.{◌≡◌, IfOk, OnErr, OnOk, is_some, option_and_then, option_map};
+ghost use Rattle.toml_edit_guide.specs.Adds.{OnlySets};
+ghost use Rattle.toml_edit_guide.specs.Spellings.{in_decimal, integer_spelling};
+ghost use Rattle.toml_edit.specs.model.Slots.{place};
+ghost use Rattle.toml_edit.specs.repr.Views.{text_of};
+ghost use Rattle.toml_edit.specs.tree.SlotsOf.{slots_of};
+ghost use Rattle.toml_edit.specs.tree.View.{value_view};
+
+use crate::adding::no_memory;
+use std::alloc::Global;
+use toml_edit::{FromStr, Item, Mem, ParseFault, RawString, Table, Value};
+
+/// Returns an integer's own spelling, such as `0xFF`, if it has one.
+pub fn spelling_of(value: &Value) -> Option<&str>
+    ensures { option_map (λ t. t.now) result
+        ≡ option_and_then text_of (integer_spelling (value_view value.now)) }
+{
+    match value {
+        Value::Integer(number) => number.as_repr()?.as_raw().as_str(),
+        _ => None,
+    }
+}
+
+/// Resets an integer to decimal digits, and keeps its comment.
+pub fn make_decimal(value: &mut Value)
+    ensures { value_view value.new ≡ in_decimal (value_view value.old) }
+{
+    if let Value::Integer(number) = value {
+        number.fmt();
+    }
+}
+
+/// Inserts the value that the text spells, such as `0xFF`, in that spelling.
+pub fn set_spelled(
+    alloc: Global,
+    table: &mut Table,
+    key: &str,
+    text: &str,
+) -> Result<(), ParseFault>
+    ensures ok { OnOk result (OnlySets key.now (slots_of table.old) (slots_of table.new)) }
+    ensures err { OnErr result (table.new ≡ table.old) }
+{
+    let item = Item::from_str(alloc, text)?;
+    drop(table.insert(key, item).map_err(no_memory)?);
+    Ok(())
+}
+
+/// Sets the comment above a key, or returns `false` if the key is missing.
+pub fn set_comment(alloc: Global, table: &mut Table, key: &str, comment: &str) -> Mem<bool>
+    ensures { IfOk result (λ found. found ≡ is_some (place key.now (slots_of table.old))) }
+{
+    let comment = RawString::from(format!(in alloc; "# {comment}\n")?);
+    match table.slot_mut(key) {
+        Some(mut slot) => {
+            let mut key = slot.key_mut();
+            key.leaf_decor_mut().set_prefix(comment);
+            Ok(true)
+        }
+        None => Ok(false),
+    }
+}
