@@ -92,6 +92,15 @@ Wrote a h old new = (x : Text) × Makes a h x × Appends old new x
 abbrev pub BeganToWrite : Action → Held → Option Text → Option Text → Type 0
 BeganToWrite a h old new = (x : Text) × Makes a h x × AppendsBeginning old new x
 
+-- writing this text stops so
+abbrev pub StopsWriting : Text → Outcome → Stop → Type 0
+StopsWriting x s (Mistaken m) = ⊥
+StopsWriting x s NotUtf8 = ⊥
+StopsWriting x s (Refused e) = ⊥
+StopsWriting x s Memory = IsUnwritten s
+StopsWriting x s ReadFailed = ⊥
+StopsWriting x s WriteFailed = AppendsBeginning s.old s.new x × (s.failed ≡ true)
+
 -- the action on what is held stops so
 abbrev pub StopsActing : Action → Held → Outcome → Stop → Type 0
 StopsActing a h s (Mistaken m) = InTree h.mode a h.tree m × IsUnwritten s

@@ -110,3 +110,13 @@ pub fn end_without_memory<E: Output>(errors: &mut E) -> u8
 {
     end(&Stop::Memory, errors)
 }
+
+/// Tells `errors` that the output has failed, as where what was kept of it until now can't be
+/// written, and answers the exit status for that, which is 4. A fault in writing to `errors` is
+/// passed over.
+pub fn end_unwritten<E: Output>(errors: &mut E) -> u8
+    ensures status { result ≡ 4 }
+    ensures told { Tells (E.contents errors.old) (E.contents errors.new) (E.has_failed errors.new) write_line }
+{
+    end(&Stop::WriteFailed, errors)
+}

@@ -1,26 +1,26 @@
 //! The command `get`.
-ghost use Rattle.std.specs.Prelude.{◌≡◌, ◌++◌, false, IfErr, IfOk, OnOk, option_and_then, option_map, string_bytes};
+ghost use Rattle.std.specs.Prelude.{◌≡◌, ◌++◌, false, IfErr, OnOk, option_and_then, option_map};
+ghost use Rattle.std.specs.Io.KnownBytes.{Appends};
 ghost use Rattle.toml_edit_model.specs.Indexing as indexing;
 ghost use Rattle.toml_edit_model.specs.Indexing.{indexed, number};
 ghost use Rattle.toml_edit_model.specs.Lists.{is_item, only};
-ghost use Rattle.toml_edit_model.specs.Mode.{plain};
-ghost use Rattle.toml_edit_model.specs.Print.{value_of};
-ghost use Rattle.toml_edit_model.specs.Syntax.{value_text};
 ghost use Rattle.toml_edit_model.specs.Text.{newline};
 ghost use Rattle.toml_edit_model.specs.Tree.{is_value_node};
 ghost use Rattle.toml_edit_laws.specs.Commands as commands;
 ghost use Rattle.toml_edit_laws.specs.Locality.{is_table};
-ghost use Rattle.toml_edit_tree.specs.View.{item_view, value_view};
+ghost use Rattle.toml_edit_tree.specs.Containers.{tables_node};
+ghost use Rattle.toml_edit_tree.specs.View.{item_view, tables_view};
 ghost use Rattle.toml_edit_change.specs.Changes.{names};
-ghost use Rattle.toml_edit_command.specs.Steps.{StopsActing, Wrote, among};
+ghost use Rattle.toml_edit_command.specs.Steps.{StopsActing, StopsWriting, Wrote, among};
 ghost use Rattle.toml_edit_command.specs.Words.{getting};
 ghost use Rattle.toml_edit_command.specs.Written.{held};
 
 use super::stop::{Mistake, Stop};
 use std::alloc::Global;
-use toml_edit::{DocumentMut, Item, Key, Mem, Value};
+use toml_edit::{ArrayOfTables, DocumentMut, Item, Key};
 use toml_edit_change::number_of;
-use toml_edit_stream::{Output, write_all};
+use toml_edit_stream::{Output, Printed, Sink, print_to};
+use toml_edit_tree::Bare;
 
 /// Writes the text of the item at the path.
 pub fn get<O: Output>(
@@ -41,13 +41,7 @@ pub fn get<O: Output>(
     let Some(item) = item_below(document.as_item(), path) else {
         return Err(Stop::Mistaken(Mistake::NoSuchPath));
     };
-    let Ok(text) = shown_item(alloc, item) else {
-        return Err(Stop::Memory);
-    };
-    match write_all(output, text.as_bytes()) {
-        Ok(()) => Ok(()),
-        Err(_) => Err(Stop::WriteFailed),
-    }
+    write_item(alloc, item, output)
 }
 
 /// Returns the item at the path below this one.
@@ -107,38 +101,77 @@ fn table_at(item: &Item, at: usize) -> Option<&Item>
     if found.is_table() { Some(found) } else { None }
 }
 
-/// Returns the text of an item: a value without the decor around it, or an array of tables, and a
+/// Writes the text of an item: a value without the decor around it, or an array of tables, and a
 /// newline; or the lines of a table.
-fn shown_item(alloc: Global, item: &Item) -> Mem<String>
-    ensures { IfOk result (λ s. string_bytes s ≡ commands.shown_item (item_view item.now)) }
+fn write_item<O: Output>(alloc: Global, item: &Item, output: &mut O) -> Result<(), Stop>
+    requires { O.has_failed output.old ≡ false }
+    ensures wrote { OnOk result (Appends (O.contents output.old) (O.contents output.new) (commands.shown_item (item_view item.now))) }
+    ensures ok { OnOk result (O.has_failed output.new ≡ false) }
+    ensures err { IfErr result (StopsWriting (commands.shown_item (item_view item.now)) (record {
+      old = O.contents output.old;
+      new = O.contents output.new;
+      failed = O.has_failed output.new;
+    })) }
 {
-    if let Some(value) = item.as_value() {
-        return with_newline(shown_value(alloc, value)?);
-    }
-    let text = item.to_string(alloc)?;
-    if item.is_array_of_tables() {
-        with_newline(text)
-    } else {
-        Ok(text)
+    match item {
+        Item::None => Ok(()),
+        Item::Value(value) => write_printed(&Line(&Bare(value)), output),
+        Item::Table(table) => write_printed(table, output),
+        Item::ArrayOfTables(tables) => write_tables(alloc, tables, output),
     }
 }
 
-/// Returns the text of a value without the decor around it.
-fn shown_value(alloc: Global, value: &Value) -> Mem<String>
-    ensures { IfOk result (λ s. string_bytes s ≡ value_text (value_of plain (value_view value.now))) }
+/// Writes an array of tables as the array of inline tables that a copy of it becomes, and a newline.
+fn write_tables<O: Output>(
+    alloc: Global,
+    tables: &ArrayOfTables,
+    output: &mut O,
+) -> Result<(), Stop>
+    requires { O.has_failed output.old ≡ false }
+    ensures wrote { OnOk result (Appends (O.contents output.old) (O.contents output.new) (commands.shown_item (tables_node (tables_view tables.now)))) }
+    ensures ok { OnOk result (O.has_failed output.new ≡ false) }
+    ensures err { IfErr result (StopsWriting (commands.shown_item (tables_node (tables_view tables.now))) (record {
+      old = O.contents output.old;
+      new = O.contents output.new;
+      failed = O.has_failed output.new;
+    })) }
 {
-    let mut bare = value.clone(alloc)?;
-    bare.undecorate();
-    let text = bare.to_string(alloc);
-    drop(bare);
-    text
+    let Ok(copy) = tables.clone(alloc) else {
+        return Err(Stop::Memory);
+    };
+    let array = copy.into_array();
+    let done = write_printed(&Line(&array), output);
+    drop(array);
+    done
 }
 
-/// Returns the text with a newline after it.
-fn with_newline(text: String) -> Mem<String>
-    ensures { IfOk result (λ s. string_bytes s ≡ string_bytes text ++ newline) }
+/// Writes the text of what is printed.
+fn write_printed<T: Printed, O: Output>(printed: &T, output: &mut O) -> Result<(), Stop>
+    requires { O.has_failed output.old ≡ false }
+    ensures wrote { OnOk result (Appends (O.contents output.old) (O.contents output.new) (T.text printed.now)) }
+    ensures ok { OnOk result (O.has_failed output.new ≡ false) }
+    ensures err { IfErr result (StopsWriting (T.text printed.now) (record {
+      old = O.contents output.old;
+      new = O.contents output.new;
+      failed = O.has_failed output.new;
+    })) }
 {
-    let mut line = text;
-    line.push('\n')?;
-    Ok(line)
+    match print_to(output, printed) {
+        Ok(()) => Ok(()),
+        Err(_) => Err(Stop::WriteFailed),
+    }
+}
+
+/// What is printed, with a newline after it.
+#[derive(Drop)]
+struct Line<'a, T>(&'a T);
+
+impl<T: Printed> Printed for Line<'_, T> {
+    ghost text = { λ line. T.text line.0.now ++ newline };
+
+    #[tactic(auto, using(toml_edit_stream::proofs::Puts::put_steps))]
+    fn put_into<S: Sink>(&self, out: &mut S) {
+        self.0.put_into(out);
+        out.put("\n")
+    }
 }

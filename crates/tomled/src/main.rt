@@ -7,10 +7,10 @@
 #![tactic(auto)]
 
 use std::env::{Env, FillError};
-use std::io::ErrorKind;
+use std::io::{BufWriter, ErrorKind, Write};
 use std::process::ExitCode;
 use std::{env, io};
-use toml_edit_command::{end_without_memory, run};
+use toml_edit_command::{end_unwritten, end_without_memory, run};
 use toml_edit_stream::Watched;
 
 fn main(rt: HostRuntime) -> ExitCode {
@@ -24,13 +24,20 @@ fn main(rt: HostRuntime) -> ExitCode {
             Vec::new(rt.alloc())
         }
     };
+    // A document is written in many small pieces.
+    let Ok(mut output) = BufWriter::new(rt.alloc(), rt.stdout()) else {
+        return ExitCode::from(end_without_memory(&mut Watched::new(rt.stderr())));
+    };
     let status = run(
         rt.alloc(),
         words.as_slice(),
         &mut Watched::new(rt.stdin()),
-        &mut Watched::new(rt.stdout()),
+        &mut Watched::new(&mut output),
         &mut Watched::new(rt.stderr()),
     );
+    if status == 0 && output.flush().is_err() {
+        return ExitCode::from(end_unwritten(&mut Watched::new(rt.stderr())));
+    }
     ExitCode::from(status)
 }
 
