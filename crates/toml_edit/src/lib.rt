@@ -85,7 +85,7 @@ pub use toml_edit_key::{Key, KeyMut};
 pub use toml_edit_parser::{FromStr, FromStrWith, ParseOptions, Version};
 pub use toml_edit_repr::{Decor, Formatted, Mem, RawString, Repr, ScalarValue, ValueRepr};
 pub use toml_edit_slots::{NoMemory, Slot, Slots};
-pub use toml_edit_stream::{Broken, Input, Output, Watched};
+pub use toml_edit_stream::{Broken, Input, Output, Printed, Sink, Watched};
 pub use toml_edit_table_like::{
     AnyTable, AsTableLike, HasSlots, TableLike, TableLikeEntry, TableLikeSlot, TableRef,
     TableRefMut,

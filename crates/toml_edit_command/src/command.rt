@@ -111,9 +111,10 @@ pub fn end_without_memory<E: Output>(errors: &mut E) -> u8
     end(&Stop::Memory, errors)
 }
 
-/// Tells `errors` that the output has failed, as where what was kept of it until now can't be
-/// written, and answers the exit status for that, which is 4. A fault in writing to `errors` is
-/// passed over.
+/// Writes to `errors` that the output has failed, and returns the exit status for that, which is 4.
+///
+/// For a caller that buffers the output of [`run`], and finds at the end that the rest can't be
+/// written. A fault in writing to `errors` is ignored.
 pub fn end_unwritten<E: Output>(errors: &mut E) -> u8
     ensures status { result ≡ 4 }
     ensures told { Tells (E.contents errors.old) (E.contents errors.new) (E.has_failed errors.new) write_line }
