@@ -1,5 +1,5 @@
 //! Dates, times and floats.
-ghost use Rattle.std.specs.Prelude.{◌≡◌, ◌↔◌, IfOk, IfSome, IsSome, IsTrue, None, OnErr, option_and_then, option_map};
+ghost use Rattle.std.specs.Prelude.{◌≡◌, ◌↔◌, IfOk, IfSome, IsSome, IsTrue, None, OnErr, option_map};
 ghost use Rattle.toml_edit_guide.specs.Dates.{in_utc, year_in, SetsSpelled};
 ghost use Rattle.toml_edit.specs.datetime.DatetimeView.{datetime_view};
 ghost use Rattle.toml_edit.specs.model.Scalars.{float};
