@@ -1,5 +1,5 @@
 -- Each sink takes no text as it stands, and one text behind another as both together.
-use Rattle.std.proofs.Common.{◌≡◌, refl, sym, ap, ◌∙◌, ℕ, ◌+◌, arith, Bool, true, false, List, [], ◌++◌, length, append_assoc, append-nil, length-append, Option, Result, Ok, Err, is_err, OnOk, OnErr}
+use Rattle.std.proofs.Common.{◌≡◌, refl, sym, subst, ap, ◌∙◌, ℕ, ◌+◌, arith, Bool, true, false, List, [], ◌++◌, length, append_assoc, append-nil, length-append, Option, Result, Ok, Err, is_err, OnOk, OnErr}
 use Rattle.std.proofs.Math.Seq.{take-append-add}
 use Rattle.std.proofs.lemmas.List.{take-append-le}
 use Rattle.std.specs.Borrow.{MutBor}
@@ -58,36 +58,98 @@ first_beginning a b s t (n, within, appends) = (n, omega (arith, length-append s
 second_beginning : (a b c : Option (List ℕ)) (s t : List ℕ) → Appends a b s → AppendsBeginning b c t → AppendsBeginning a c (s ++ t)
 second_beginning a b c s t all (n, within, appends) = (length s + n, omega (arith, length-append s t), rw (take-append-add s t n) (Appends-trans a b c _ _ all appends))
 
+-- a first text and a second one, with what was held before, between and after them
+joined : (f g h i j a b : List ℕ) → f ++ i ≡ h ++ a → g ++ j ≡ i ++ b → (f ++ g) ++ j ≡ h ++ (a ++ b)
+joined f g h i j a b one two =
+    append_assoc f g j ∙ ap (λ l. f ++ l) two ∙ sym (append_assoc f i b) ∙ ap (λ l. l ++ b) one ∙ append_assoc h a b
+
 module _ {O : Type 0} (contents : O → Option (List ℕ)) (has_failed : O → Bool) where
-  pub writes_none : (x : Bool) (o : MutBor O) → Writes contents has_failed x o [] x o
-  writes_none x o = record {
+  -- a text that is held
+  pub writes_held : (x : Bool) (o : MutBor O) (h a i : List ℕ) → i ≡ h ++ a → Writes contents has_failed x o h a x o i
+  writes_held x o h a i is = record {
     same_reference = refl;
-    clean = λ h. h;
-    whole = λ h. Appends-nil _;
-    works = λ h. refl;
-    beginning = λ h k. cc;
-    fails = λ h k. cc;
-    stays = λ h. (h, refl);
+    clean = λ is. is;
+    whole = λ _. ([], Appends-nil _, is);
+    works = λ _. refl;
+    beginning = λ is not. absurd (apart _ is not);
+    fails = λ is not. absurd (apart _ is not);
+    stays = λ is. (is, refl);
   }
 
-  pub writes_both : (x y z : Bool) (o p q : MutBor O) (a b : List ℕ) → Writes contents has_failed x o a y p → Writes contents has_failed y p b z q → Writes contents has_failed x o (a ++ b) z q
-  writes_both x true z o p q a b one two =
+  -- the same text held before, in another form
+  pub writes_from : (x z : Bool) (o p : MutBor O) (h i a j : List ℕ) → h ≡ i → Writes contents has_failed x o h a z p j → Writes contents has_failed x o i a z p j
+  writes_from x z o p h i a j same one = subst (λ l. Writes contents has_failed x o l a z p j) same one
+
+  -- a text that is written whole, or up to a fault
+  pub writes_out : {X E : Type 0} (r : Result X E) (x z : Bool) (o p : MutBor O) (h a w i : List ℕ) → x ≡ false → z ≡ is_err r → p.ghost_name ≡ o.ghost_name → w ≡ h ++ a → i ≡ []
+      → OnOk r (Appends (contents o.now) (contents p.now) w) → OnOk r (has_failed p.now ≡ has_failed o.now)
+      → OnErr r (AppendsBeginning (contents o.now) (contents p.now) w) → OnErr r (has_failed p.now ≡ true)
+      → Writes contents has_failed x o h a z p i
+  writes_out r x z o p h a w i works is same all none text ok beginning err = record {
+    same_reference = same;
+    clean = λ _. works;
+    whole = λ k. (w, if_ok r _ (sym is ∙ k) text, ap (λ l. w ++ l) none ∙ append-nil w ∙ all);
+    works = λ k. if_ok r _ (sym is ∙ k) ok;
+    beginning = λ _ k. subst (AppendsBeginning _ _) all (if_err r _ (sym is ∙ k) beginning);
+    fails = λ _ k. if_err r _ (sym is ∙ k) err;
+    stays = λ k. absurd (apart _ works k);
+  }
+
+  -- nothing more, after a fault
+  pub writes_never : (x : Bool) (o : MutBor O) (h a i : List ℕ) → x ≡ true → Writes contents has_failed x o h a x o i
+  writes_never x o h a i broken = record {
+    same_reference = refl;
+    clean = λ k. k;
+    whole = λ k. absurd (apart _ k broken);
+    works = λ _. refl;
+    beginning = λ k _. absurd (apart _ k broken);
+    fails = λ k _. absurd (apart _ k broken);
+    stays = λ k. (k, refl);
+  }
+
+  pub writes_none : (x : Bool) (o : MutBor O) (h : List ℕ) → Writes contents has_failed x o h [] x o h
+  writes_none x o h = writes_held x o h [] h (sym (append-nil h))
+
+  pub writes_both : (x y z : Bool) (o p q : MutBor O) (h i j a b : List ℕ) → Writes contents has_failed x o h a y p i → Writes contents has_failed y p i b z q j → Writes contents has_failed x o h (a ++ b) z q j
+  writes_both x true z o p q h i j a b one two =
       let stays = two.stays refl in
       record {
         same_reference = two.same_reference ∙ one.same_reference;
-        clean = λ h. cc;
-        whole = λ h. absurd (apart _ h stays.0);
-        works = λ h. absurd (apart _ h stays.0);
-        beginning = λ h k. rw stays.1 (first_beginning _ _ a b (one.beginning h refl));
-        fails = λ h k. rw stays.1 (one.fails h refl);
-        stays = λ h. (stays.0, stays.1 ∙ (one.stays h).1);
+        clean = λ is. cc;
+        whole = λ is. absurd (apart _ is stays.0);
+        works = λ is. absurd (apart _ is stays.0);
+        beginning = λ is k. rw stays.1 (subst (AppendsBeginning _ _) (append_assoc h a b) (first_beginning _ _ (h ++ a) b (one.beginning is refl)));
+        fails = λ is k. rw stays.1 (one.fails is refl);
+        stays = λ is. (stays.0, stays.1 ∙ (one.stays is).1);
       }
-  writes_both x false z o p q a b one two = record {
-    same_reference = two.same_reference ∙ one.same_reference;
-    clean = λ h. one.clean refl;
-    whole = λ h. Appends-trans _ _ _ a b (one.whole refl) (two.whole h);
-    works = λ h. two.works h ∙ one.works refl;
-    beginning = λ h k. second_beginning _ _ _ a b (one.whole refl) (two.beginning refl k);
-    fails = λ h k. two.fails refl k;
-    stays = λ h. absurd (apart _ (one.clean refl) h);
-  }
+  writes_both x false z o p q h i j a b one two =
+      let (f, wrote, is_one) = one.whole refl in
+      record {
+        same_reference = two.same_reference ∙ one.same_reference;
+        clean = λ is. one.clean refl;
+        whole = λ is. let (g, more, is_two) = two.whole is in (f ++ g, Appends-trans _ _ _ f g wrote more, joined f g h i j a b is_one is_two);
+        works = λ is. two.works is ∙ one.works refl;
+        beginning = λ is k. subst (AppendsBeginning _ _) (sym (append_assoc f i b) ∙ ap (λ l. l ++ b) is_one ∙ append_assoc h a b) (second_beginning _ _ _ f (i ++ b) wrote (two.beginning refl k));
+        fails = λ is k. two.fails refl k;
+        stays = λ is. absurd (apart _ (one.clean refl) is);
+      }
+
+  -- a text and what is held at its end, over an output for which nothing was held
+  pub record Prints (before : Bool) (o : MutBor O) (text : List ℕ) (after : Bool) (p : MutBor O) : Type 0 where
+    pub same_reference : p.ghost_name ≡ o.ghost_name
+    pub whole : after ≡ false → Appends (contents o.now) (contents p.now) text
+    pub works : after ≡ false → has_failed p.now ≡ has_failed o.now
+    pub beginning : before ≡ false → after ≡ true → AppendsBeginning (contents o.now) (contents p.now) text
+    pub fails : before ≡ false → after ≡ true → has_failed p.now ≡ true
+
+  pub all_written : (x y z : Bool) (o p q : MutBor O) (h i j a : List ℕ) → h ≡ [] → j ≡ [] → Writes contents has_failed x o h a y p i → Writes contents has_failed y p i [] z q j → Prints x o a z q
+  all_written x y z o p q h i j a nothing none one two =
+      let both = writes_both _ _ _ _ _ _ _ _ _ _ _ one two in
+      let text = ap (λ l. l ++ (a ++ [])) nothing ∙ append-nil a in
+      record {
+        same_reference = both.same_reference;
+        whole = λ k. let (front, wrote, is) = both.whole k in subst (Appends _ _) (sym (append-nil front) ∙ ap (λ l. front ++ l) (sym none) ∙ is ∙ text) wrote;
+        works = λ k. both.works k;
+        beginning = λ k l. subst (AppendsBeginning _ _) text (both.beginning k l);
+        fails = λ k l. both.fails k l;
+      }

@@ -17,12 +17,12 @@ pub record Grows (before : Bool) (old text : List ℕ) (after : Bool) (new : Lis
   pub clean : after ≡ false → before ≡ false
   pub grew : after ≡ false → new ≡ old ++ text
 
--- an output: the text was written to it, or a beginning up to a fault, and nothing after a fault
-pub record Writes {O : Type 0} (contents : O → Option (List ℕ)) (has_failed : O → Bool) (before : Bool) (o : MutBor O) (text : List ℕ) (after : Bool) (p : MutBor O) : Type 0 where
+-- an output, and what is held for it: of what was held with the text behind it, a beginning was written and the rest is held, or is lost by a fault; nothing is written after a fault
+pub record Writes {O : Type 0} (contents : O → Option (List ℕ)) (has_failed : O → Bool) (before : Bool) (o : MutBor O) (held text : List ℕ) (after : Bool) (p : MutBor O) (rest : List ℕ) : Type 0 where
   pub same_reference : p.ghost_name ≡ o.ghost_name
   pub clean : after ≡ false → before ≡ false
-  pub whole : after ≡ false → Appends (contents o.now) (contents p.now) text
+  pub whole : after ≡ false → (front : List ℕ) × Appends (contents o.now) (contents p.now) front × (front ++ rest ≡ held ++ text)
   pub works : after ≡ false → has_failed p.now ≡ has_failed o.now
-  pub beginning : before ≡ false → after ≡ true → AppendsBeginning (contents o.now) (contents p.now) text
+  pub beginning : before ≡ false → after ≡ true → AppendsBeginning (contents o.now) (contents p.now) (held ++ text)
   pub fails : before ≡ false → after ≡ true → has_failed p.now ≡ true
   pub stays : before ≡ true → (after ≡ true) × (p.now ≡ o.now)

@@ -8,6 +8,7 @@ ghost use Rattle.toml_edit_stream.specs.Whole.{AppendsBeginning};
 use super::sink::{Printed, Sink};
 use super::streams::{Broken, Output};
 use super::whole::write_all;
+use arrayvec::ArrayString;
 use std::alloc::{AllocError, Global};
 use std::fmt;
 use std::fmt::{Formatter, Write};
@@ -85,21 +86,57 @@ pub fn print<T: Printed>(alloc: Global, printed: &T) -> Result<String, AllocErro
     Ok(text)
 }
 
+/// The number of bytes that a sink over an output holds.
+const HELD: usize = 256;
+
 /// A sink that writes to an output, up to the first fault of that.
+///
+/// Most texts are of a few bytes, so it holds them until it has no room for the next one.
 #[derive(Drop)]
 struct Written<'a, O> {
     output: &'a mut O,
+    held: ArrayString<HELD>,
     broken: bool,
+}
+
+impl<O: Output> Written<'_, O> {
+    ghost use Rattle.std.specs.Prelude.{[]};
+    ghost use Rattle.toml_edit_stream.specs.Sinks.{Writes};
+
+    /// Writes what is held.
+    fn write_held(&mut self)
+        ensures wrote { Writes O.contents O.has_failed self.old.broken self.old.output self.old.held.bytes [] self.new.broken self.new.output self.new.held.bytes }
+        ensures empty { self.new.held.bytes ≡ [] }
+    {
+        if !self.broken {
+            self.broken = write_all(self.output, self.held.as_bytes()).is_err();
+        }
+        self.held.clear();
+    }
+
+    /// Puts a text for which there is no room: writes what is held, and then holds the text, or
+    /// writes it if it is longer than what can be held.
+    #[cold]
+    #[inline(never)]
+    fn put_without_room(&mut self, text: &str)
+        ensures { Writes O.contents O.has_failed self.old.broken self.old.output self.old.held.bytes text.now self.new.broken self.new.output self.new.held.bytes }
+    {
+        self.write_held();
+        if self.held.try_push_str(text).is_err() && !self.broken {
+            self.broken = write_all(self.output, text.as_bytes()).is_err();
+        }
+    }
 }
 
 impl<O: Output> Sink for Written<'_, O> {
     ghost use Rattle.toml_edit_stream.specs.Sinks.{Writes};
 
-    ghost puts = { λ s text t. Writes O.contents O.has_failed s.broken s.output text t.broken t.output };
+    ghost puts = { λ s text t. Writes O.contents O.has_failed s.broken s.output s.held.bytes text t.broken t.output t.held.bytes };
 
+    #[inline]
     fn put(&mut self, text: &str) {
-        if !self.broken {
-            self.broken = write_all(self.output, text.as_bytes()).is_err();
+        if self.held.try_push_str(text).is_err() {
+            self.put_without_room(text)
         }
     }
 }
@@ -118,8 +155,10 @@ pub fn print_to<T: Printed, O: Output>(output: &mut O, printed: &T) -> Result<()
 {
     let mut out = Written {
         output,
+        held: ArrayString::new(),
         broken: false,
     };
     printed.put_into(&mut out);
+    out.write_held();
     if out.broken { Err(Broken) } else { Ok(()) }
 }

@@ -1,27 +1,13 @@
--- One text more, or a beginning of it, or none after a fault.
-use Rattle.std.proofs.Common.{refl, sym, ◌∙◌, rules}
+-- One text more is held, or there was no room for it.
+use Rattle.std.proofs.Common.{sym, ap, ◌∙◌}
 use Rattle.toml_edit_stream.proofs.Puts.{put_once}
-use Rattle.toml_edit_stream.proofs.SinkLaws.{apart, if_ok, if_err}
+use Rattle.toml_edit_stream.proofs.SinkLaws.{writes_held, writes_from, if_ok, if_err}
 use Rattle.toml_edit_stream.proofs.sinks.WrittenSink.put.Goals as goal
 
-pub returns-then-not-self : goal.returns-then-not-self
-returns-then-not-self g c = put_once _ _ _ (record {
-  same_reference = refl;
-  clean = λ h. search rules;
-  whole = λ h. rw c.as_bytes.ensures.value at (if_ok _ _ (sym c.is_err-self.ensures.value ∙ h) c.write_all.ensures.text);
-  works = λ h. if_ok _ _ (sym c.is_err-self.ensures.value ∙ h) c.write_all.ensures.ok;
-  beginning = λ h k. rw c.as_bytes.ensures.value at (if_err _ _ (sym c.is_err-self.ensures.value ∙ k) c.write_all.ensures.beginning);
-  fails = λ h k. if_err _ _ (sym c.is_err-self.ensures.value ∙ k) c.write_all.ensures.err;
-  stays = λ h. absurd (apart _ c.if-not-self.true h);
-})
+pub returns-then-is_err : goal.returns-then-is_err
+returns-then-is_err g c =
+    let stays = if_err _ _ (sym c.is_err.ensures.value ∙ c.if-is_err.true) c.try_push_str.ensures.err in
+    put_once _ _ _ (writes_from g.O.Output.contents g.O.Output.has_failed _ _ _ _ _ _ _ _ (ap (λ s. s.bytes) stays) c.put_without_room.ensures)
 
-pub returns-else-not-self : goal.returns-else-not-self
-returns-else-not-self g c = put_once _ _ _ (record {
-  same_reference = refl;
-  clean = λ h. h;
-  whole = λ h. absurd (apart _ h c.if-not-self.false);
-  works = λ h. refl;
-  beginning = λ h k. absurd (apart _ h c.if-not-self.false);
-  fails = λ h k. absurd (apart _ h c.if-not-self.false);
-  stays = λ h. (h, refl);
-})
+pub returns-else-is_err : goal.returns-else-is_err
+returns-else-is_err g c = put_once _ _ _ (writes_held g.O.Output.contents g.O.Output.has_failed _ _ _ _ _ (if_ok _ _ (sym c.is_err.ensures.value ∙ c.if-is_err.false) c.try_push_str.ensures.ok))
