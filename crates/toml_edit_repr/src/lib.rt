@@ -1,13 +1,14 @@
 //! The leaves of a document's tree: raw texts, decors, spellings and scalars, and how they are
 //! written.
 //!
-//! What containers, keys and documents build on, and nothing of them.
+//! The crates of keys, containers and documents build on this one.
 #![tactic(auto)]
 
 pub mod float_datetime;
 pub mod mode;
 pub mod raw_string;
 pub mod repr;
+pub mod string_integer_boolean;
 pub mod write;
 
 pub use mode::Mode;

@@ -86,7 +86,7 @@ fn put_text<S: Sink>(out: &mut S, mode: Mode, text: &str)
 
 /// Puts the text without its carriage returns (CR).
 #[inline(always)]
-pub fn put_without_returns<S: Sink>(out: &mut S, text: &str)
+fn put_without_returns<S: Sink>(out: &mut S, text: &str)
     ensures { WritesInCalls S.puts out.old (without_returns text.now) out.new }
 {
     // Most sides are empty, or one space.
