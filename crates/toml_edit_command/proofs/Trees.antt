@@ -4,7 +4,7 @@ use Rattle.toml_edit_model.specs.Text.{Text}
 use Rattle.toml_edit_model.specs.Tree.{Raw, Node, nothing, leaf, list, inline, table, tables, TableFields, Slots, Tree}
 use Rattle.toml_edit_model.specs.SlotLists.{Slot, slot_list, slot_of}
 use Rattle.toml_edit_laws.specs.Locality.{slots_from}
-use Rattle.toml_edit_laws.specs.Commands.{Answer, Refusal, done, refused, no_such_path, wrong_kind, mapped, slots_in, root_item, with_slots, change_slot, drop_slot, present, set_below, set_at, remove_below, remove_at}
+use Rattle.toml_edit_laws.specs.Commands.{Answer, Refusal, done, refused, no_such_path, wrong_kind, mapped, root_slots, root_item, with_slots, change_slot, drop_slot, present, set_below, set_at, remove_below, remove_at}
 use Rattle.toml_edit_laws.proofs.commands.Setting.{was-mapped}
 use Rattle.toml_edit_tree.specs.View.{fields_view, item_view, table_slots, tree_view}
 use Rattle.toml_edit_tree.specs.declared.item.Item.{the_lemmas}
@@ -75,7 +75,7 @@ module _ (d : DocumentMut) (t w : Table) (fields : fields_view t ≡ (tree_owned
 
   stays : node_of w ≡ node_of t → tree_under (items.Table w) d.trailing ≡ tree_owned d
   stays h =
-      sym is ∙ ap (λ n. tree (fields-of (fields_view w) n) (slots_in n) d.trailing) (h ∙ was)
+      sym is ∙ ap (λ n. tree (fields-of (fields_view w) n) (root_slots n) d.trailing) (h ∙ was)
       ∙ ap (tree (tree_owned d).root (tree_owned d).slots) (sym (trailing-at (item_view d.root) d.trailing))
 
   -- what is done to the root's node is done to the tree
