@@ -11,6 +11,7 @@ use Rattle.toml_edit_model.specs.Tree.{Tree, SlotsAreWellMade}
 use Rattle.toml_edit_model.specs.TreeOf.{spanned_in, owned_in, IsTreeOf}
 use Rattle.toml_edit_model.specs.Version.{Version}
 use Rattle.toml_edit_laws.proofs.read_trees.ReadLaws.{owned_trees}
+use Rattle.toml_edit_laws.proofs.read_trees.TreeMade.{tree-made}
 use Rattle.toml_edit_laws.proofs.print_of_read.PrintOfRead.{print_normal}
 use Rattle.toml_edit_laws.proofs.normal_texts.TextLaws.{normal_texts}
 use Rattle.toml_edit_laws.proofs.normal_texts.TreesFit.{texts_fit}
@@ -72,6 +73,7 @@ stays-tree mode t x y e d accepted is =
     let fine = texts_fit mode t d accepted y own in
     record {
       tree = own;
+      made = tree-made mode d y accepted.0.0 accepted.1 own;
       fits = fits-in-each mode d accepted.0.0 y own fine.0;
       steady = fine.1;
       prints = opens-so mode d y (print_normal mode d accepted.0.0 accepted.1 y own);

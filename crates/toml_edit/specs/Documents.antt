@@ -10,7 +10,7 @@ use Rattle.toml_edit_model.specs.Mode.{Mode, plain, is_exact}
 use Rattle.toml_edit_model.specs.Normal.{has_open_end, normal_text_in}
 use Rattle.toml_edit_model.specs.Print.{print_in, document_in}
 use Rattle.toml_edit_model.specs.Shown.{shown_meaning}
-use Rattle.toml_edit_model.specs.Tree.{owned, no_slots, Tree}
+use Rattle.toml_edit_model.specs.Tree.{owned, no_slots, Tree, SlotsAreWellMade}
 use Rattle.toml_edit_model.specs.TreeOf.{spanned_in, owned_in, IsTreeOf}
 use Rattle.toml_edit_model.specs.OwnedForm.{owned_tree}
 use Rattle.toml_edit_error.specs.Report.{Report}
@@ -62,10 +62,11 @@ module _ (mode : Mode) where
   abbrev pub HasNormalText : Text → Document → Type 0
   HasNormalText t d = AcceptedAs t d × IsNormalForm mode t d
 
-  -- The tree owns its texts and is of this accepted text: it fits in each mode, is steady, and prints the normal text, its end open where
-  -- that of the text is. A version that accepts the text accepts this print too.
+  -- The tree owns its texts and is of this accepted text: it is well made, fits in each mode, is steady, and prints the normal text, its end
+  -- open where that of the text is. A version that accepts the text accepts this print too.
   pub record IsOwnedTreeWith (t : Text) (d : Document) (x : Tree) : Type 0 where
     pub tree : IsTreeOf (owned_in mode) d x
+    pub made : SlotsAreWellMade x.slots
     pub fits : (printed : Mode) → FitsIn printed x
     pub steady : is_steady_in mode x ≡ true
     pub prints : print_in mode (opens mode d) x ≡ normal_text_in mode d

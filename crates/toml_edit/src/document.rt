@@ -388,6 +388,7 @@ impl Drop for DocumentMut {
 impl DocumentMut {
     ghost use Rattle.std.specs.Prelude.{◌≡◌, ◌↔◌, ◌⊎◌, if◌then◌else◌, IfOk, IfErr, IsOk, IsErrOf, IsTrue, string_bytes};
     ghost use Rattle.toml_edit_model.specs.Fits.{FitsIn};
+    ghost use Rattle.toml_edit_model.specs.Tree.{SlotsAreWellMade};
     ghost use Rattle.toml_edit_model.specs.Mode as model;
     ghost use Rattle.toml_edit_model.specs.Syntax.{Document as Cut};
     ghost use Rattle.toml_edit_model.specs.Accepted.{AcceptedAs, AcceptedIn};
@@ -652,6 +653,8 @@ impl DocumentMut {
         // The print is accepted then, and means what the tree shows.
         ensures reparse { IfOk result (λ fits. IsTrue fits
             → ∥ MeansWhatIsShown (mode_owned self.now) (open_owned self.now) (tree_owned self.now) ∥₁) }
+        // The tree is well made, as its types ensure.
+        ensures made { ∥ SlotsAreWellMade (tree_owned self.now).slots ∥₁ }
         ensures free { IsOk result }
     {
         Ok(tree_fits(self.mode, self.as_table(), &self.trailing))

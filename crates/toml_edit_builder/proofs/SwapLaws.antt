@@ -4,7 +4,7 @@ use Rattle.std.specs.Prelude.{option_and_then}
 use Rattle.toml_edit_model.specs.Text.{Text}
 use Rattle.toml_edit_model.specs.Tree.{Extent, Node, tables, Items, no_items, item, Slots}
 use Rattle.toml_edit_laws.specs.InlineTree.{node_at, with_node}
-use Rattle.toml_edit_laws.specs.Building.{slots_in, last_slots, slots_along}
+use Rattle.toml_edit_laws.specs.Building.{block_slots, last_slots, slots_along}
 use Rattle.toml_edit_laws.specs.AddPath.{put_last, put_in, put_along, last_item, with_last}
 use Rattle.toml_edit_laws.proofs.common.OptionSteps.{some-is}
 use Rattle.toml_edit_builder.proofs.SlotLaws.{node-same}
@@ -36,7 +36,7 @@ swap-none block k rest others ss out new p e same stays = rw (p, e) (λ inner h.
 
 pub swap-there : (block : List Text) (k : Text) (rest : List Text) (others ss out new : Slots) (old changed : Node) → block ≡ k ∷ rest → node_at k ss ≡ Some old
     → new ≡ with_node k changed ss
-    → Swaps (option_and_then (slots_along rest) (slots_in old)) others old (put_in (put_along rest others) old) out changed
+    → Swaps (option_and_then (slots_along rest) (block_slots old)) others old (put_in (put_along rest others) old) out changed
     → Swaps (slots_along block ss) others ss (put_along block others ss) out new
 swap-there block k rest others ss out new old changed p e s f =
     rw (p, e) (

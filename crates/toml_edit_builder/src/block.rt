@@ -2,7 +2,7 @@
 ghost use Rattle.std.specs.Prelude.{◌≡◌, List, None, Some, map, option_and_then, option_map, string_bytes};
 ghost use Rattle.toml_edit_model.specs.Tree.{no_items, item as item_of, table as table_of, tables as tables_of};
 ghost use Rattle.toml_edit_laws.specs.AddPath.{put_along, put_in, put_last};
-ghost use Rattle.toml_edit_laws.specs.Building.{last_slots, slots_along, slots_in};
+ghost use Rattle.toml_edit_laws.specs.Building.{last_slots, slots_along, block_slots};
 ghost use Rattle.toml_edit_builder.specs.BlockRead.{Swaps, names, split_name};
 ghost use Rattle.toml_edit_tree.specs.Containers.{table_node, tables_node};
 ghost use Rattle.toml_edit_tree.specs.View.{item_view, slots_view, table_view, tables_view};
@@ -39,7 +39,7 @@ pub fn swap_block(block: &[String], others: &mut Slots<Item>, slots: &mut Slots<
 /// Swaps `others` with the slots of the table at these names in the item.
 #[cycle(swap)]
 fn swap_item(block: &[String], others: &mut Slots<Item>, holder: &mut Item)
-    ensures { Swaps (option_and_then (slots_along (names block.now)) (slots_in (item_view holder.old))) (slots_view others.old) (item_view holder.old)
+    ensures { Swaps (option_and_then (slots_along (names block.now)) (block_slots (item_view holder.old))) (slots_view others.old) (item_view holder.old)
         (put_in (put_along (names block.now) (slots_view others.old)) (item_view holder.old)) (slots_view others.new) (item_view holder.new) }
 {
     match holder {

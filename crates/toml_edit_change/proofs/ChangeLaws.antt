@@ -3,10 +3,10 @@ use Rattle.std.proofs.Common.{◌≡◌, ◌∙◌, refl, sym, ap, subst, Bool, 
 use Rattle.std.specs.Prelude.{Result, Ok, Err}
 use Rattle.toml_edit_model.specs.Text.{Text}
 use Rattle.toml_edit_model.specs.Tree.{Key, Node, TableFields, InlineFields, ArrayFields, Extent, list, inline, table, tables, Items, Slots, is_value_node}
-use Rattle.toml_edit_model.specs.SlotLists.{Slot, slot_list, slot_of}
-use Rattle.toml_edit_model.specs.Lists.{item_list}
+use Rattle.toml_edit_model.specs.Slots.{Slot, lookup_slot}
+use Rattle.toml_edit_model.specs.Lists.{slot_list, slots_from, item_list, items_from}
+use Rattle.toml_edit_model.specs.Shown.{is_table_node}
 use Rattle.toml_edit_laws.specs.Commands.{Answer, mapped, present, element_of, change_slot, change_element, drop_slot, drop_element, remove_below}
-use Rattle.toml_edit_laws.specs.Locality.{slots_from, items_from, is_table}
 use Rattle.toml_edit_laws.proofs.locality.Slots.{slots_from-list, items_from-list}
 use Rattle.toml_edit_tree.specs.Containers.{ArrayView, InlineView, TableView, TablesView, array_node, inline_node, table_node, tables_node}
 use Rattle.toml_edit_change.specs.Changes.{Changes, names, removed_slot, removed_element}
@@ -25,7 +25,7 @@ renamed m n a b c d r e f g h =
     subst (λ x. Changes n c x r) g (subst (λ x. Changes n x b r) f (subst (λ x. Changes x a b r) e h))
 
 -- slots of a table or an inline table
-pub in-slots : (F : Slots → Node) (m : List Slot → Answer (List Slot)) (held es new : Slots) (r : Result (Unit {0}) ChangeFault) → es ≡ held
+pub in-slots : (F : Slots → Node) (m : List (Slot Node) → Answer (List (Slot Node))) (held es new : Slots) (r : Result (Unit {0}) ChangeFault) → es ≡ held
     → Changes (m (slot_list es)) (slot_list es) (slot_list new) r → Changes (mapped (λ xs. F (slots_from xs)) (m (slot_list held))) (F held) (F new) r
 in-slots F m held es new r e h =
     renamed (mapped (λ xs. F (slots_from xs)) (m (slot_list es))) _ (F (slots_from (slot_list es))) (F (slots_from (slot_list new))) _ _ r
@@ -41,13 +41,13 @@ in-items F m held es new r e h =
     (carried (λ xs. F (items_from xs)) (m (item_list es)) (item_list es) (item_list new) r h)
 
 -- the same of what holds them
-pub in-table : (m : List Slot → Answer (List Slot)) (held made : TableView) (es new : Slots) (r : Result (Unit {0}) ChangeFault) → es ≡ held.slots
+pub in-table : (m : List (Slot Node) → Answer (List (Slot Node))) (held made : TableView) (es new : Slots) (r : Result (Unit {0}) ChangeFault) → es ≡ held.slots
     → made ≡ record { fields = held.fields; slots = new } → Changes (m (slot_list es)) (slot_list es) (slot_list new) r
     → Changes (mapped (λ xs. table held.fields (slots_from xs)) (m (slot_list held.slots))) (table_node held) (table_node made) r
 in-table m held made es new r e is h =
     renamed _ _ (table_node held) _ _ _ r refl refl (ap table_node (sym is)) (in-slots (table held.fields) m held.slots es new r e h)
 
-pub in-inline : (m : List Slot → Answer (List Slot)) (held made : InlineView) (es new : Slots) (r : Result (Unit {0}) ChangeFault) → es ≡ held.slots
+pub in-inline : (m : List (Slot Node) → Answer (List (Slot Node))) (held made : InlineView) (es new : Slots) (r : Result (Unit {0}) ChangeFault) → es ≡ held.slots
     → made ≡ record { fields = held.fields; slots = new } → Changes (m (slot_list es)) (slot_list es) (slot_list new) r
     → Changes (mapped (λ xs. inline held.fields (slots_from xs)) (m (slot_list held.slots))) (inline_node held) (inline_node made) r
 in-inline m held made es new r e is h =
@@ -67,11 +67,11 @@ in-tables m held made es new r e is h =
 
 -- ---- `remove` below a key
 
-pub last-slot : (k : Text) (path : List Key) (ss : List Slot) → length path ≡ 0 → removed_slot k (names path) ss ≡ drop_slot k ss (present (slot_of k ss))
+pub last-slot : (k : Text) (path : List Key) (ss : List (Slot Node)) → length path ≡ 0 → removed_slot k (names path) ss ≡ drop_slot k ss (present (lookup_slot k ss))
 last-slot k [] ss h = refl
 last-slot k (l ∷ path) ss h = absurd (omega arith)
 
-pub inner-slot : (k : Text) (path : List Key) (ss : List Slot) → (length path ≡ 0 → ⊥) → removed_slot k (names path) ss ≡ change_slot false k (remove_below (names path)) ss (slot_of k ss)
+pub inner-slot : (k : Text) (path : List Key) (ss : List (Slot Node)) → (length path ≡ 0 → ⊥) → removed_slot k (names path) ss ≡ change_slot false k (remove_below (names path)) ss (lookup_slot k ss)
 inner-slot k [] ss h = absurd (h refl)
 inner-slot k (l ∷ path) ss h = refl
 
@@ -100,6 +100,6 @@ removed-in-list k [] f xs = refl
 removed-in-list k (l ∷ path) f xs = refl
 
 pub removed-in-tables : (k : Text) (path : List Text) (e : Extent) (xs : Items)
-    → mapped (λ ns. tables e (items_from ns)) (removed_element is_table k path (item_list xs)) ≡ remove_below (k ∷ path) (tables e xs)
+    → mapped (λ ns. tables e (items_from ns)) (removed_element is_table_node k path (item_list xs)) ≡ remove_below (k ∷ path) (tables e xs)
 removed-in-tables k [] e xs = refl
 removed-in-tables k (l ∷ path) e xs = refl

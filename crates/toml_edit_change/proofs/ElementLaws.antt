@@ -1,10 +1,11 @@
 -- Elements by the places that texts name, and what is left where one is changed or taken out.
 use Rattle.std.proofs.Common.{◌≡◌, refl, sym, ◌∙◌, ap, subst, ℕ, zero, suc, ◌^◌, ◌<◌, ◌≤◌, Bool, true, false, List, [], ◌∷◌, length, get_or, set, Option, Some, None, arith}
-use Rattle.std.specs.Prelude.{if◌then◌else◌, is_some, option_map, remove, Result}
+use Rattle.std.specs.Prelude.{if◌then◌else◌, slice_get, is_some, option_map, remove, Result}
 use Rattle.toml_edit_model.specs.Text.{Text}
 use Rattle.toml_edit_model.specs.Tree.{Node, nothing, leaf, list, inline, table, tables}
-use Rattle.toml_edit_laws.specs.Commands.{Answer, done, refused, no_such_path, number_of, item_in, kept_item, at_number, element_of, change_element, drop_element}
-use Rattle.toml_edit_laws.specs.Locality.{is_table, changed_item, without_item}
+use Rattle.toml_edit_laws.specs.Commands.{Answer, done, refused, no_such_path, number_of, kept_item, at_number, element_of, change_element, drop_element}
+use Rattle.toml_edit_model.specs.Shown.{is_table_node}
+use Rattle.toml_edit_model.specs.ArrayCalls.{written_at, removed_at}
 use Rattle.toml_edit_laws.proofs.commands.Apart.{named}
 use Rattle.toml_edit_laws.proofs.common.OptionSteps.{map_some, some-is}
 use Rattle.toml_edit_tree.specs.Containers.{table_in}
@@ -17,12 +18,12 @@ use Rattle.toml_edit_change.proofs.ChangeLaws.{carried}
 
 -- ---- places
 
-pub node-at : (xs : List Item) (i : ℕ) (d : Item) → i < length xs → item_in i (nodes xs) ≡ Some (item_view (get_or xs i d))
+pub node-at : (xs : List Item) (i : ℕ) (d : Item) → i < length xs → slice_get (nodes xs) i ≡ Some (item_view (get_or xs i d))
 node-at [] i d h = absurd (omega arith)
 node-at (x ∷ xs) zero d h = refl
 node-at (x ∷ xs) (suc i) d h = node-at xs i d (omega arith)
 
-pub node-behind : (xs : List Item) (i : ℕ) → length xs ≤ i → item_in i (nodes xs) ≡ None
+pub node-behind : (xs : List Item) (i : ℕ) → length xs ≤ i → slice_get (nodes xs) i ≡ None
 node-behind [] i h = refl
 node-behind (x ∷ xs) zero h = absurd (omega arith)
 node-behind (x ∷ xs) (suc i) h = node-behind xs i (omega arith)
@@ -52,7 +53,7 @@ named-at is k xs i d b e h kind =
     by_kind true g = ap (λ t. option_map (λ (x : ℕ × Node). x.0) (if t then Some (i, item_view (get_or xs i d)) else None)) g
     by_kind false g = ap (λ t. option_map (λ (x : ℕ × Node). x.0) (if t then Some (i, item_view (get_or xs i d)) else None)) g
 
-pub table-kind : (n : Node) → is_some (table_in n) ≡ is_table n
+pub table-kind : (n : Node) → is_some (table_in n) ≡ is_table_node n
 table-kind (table f ss) = refl
 table-kind (tables e xs) = refl
 table-kind (leaf s r d) = refl
@@ -62,17 +63,17 @@ table-kind nothing = refl
 
 -- ---- one element
 
-nodes-set : (xs : List Item) (i : ℕ) (y : Item) → nodes (set xs i y) ≡ changed_item i (λ old. item_view y) (nodes xs)
+nodes-set : (xs : List Item) (i : ℕ) (y : Item) → nodes (set xs i y) ≡ written_at i (item_view y) (nodes xs)
 nodes-set [] i y = refl
 nodes-set (x ∷ xs) zero y = refl
 nodes-set (x ∷ xs) (suc i) y = ap (λ ns. item_view x ∷ ns) (nodes-set xs i y)
 
-nodes-same : (xs : List Item) (i : ℕ) (d : Item) → i < length xs → changed_item i (λ old. item_view (get_or xs i d)) (nodes xs) ≡ nodes xs
+nodes-same : (xs : List Item) (i : ℕ) (d : Item) → i < length xs → written_at i (item_view (get_or xs i d)) (nodes xs) ≡ nodes xs
 nodes-same [] i d h = absurd (omega arith)
 nodes-same (x ∷ xs) zero d h = refl
 nodes-same (x ∷ xs) (suc i) d h = ap (λ ns. item_view x ∷ ns) (nodes-same xs i d (omega arith))
 
-nodes-removed : (xs : List Item) (i : ℕ) → nodes (remove xs i) ≡ without_item i (nodes xs)
+nodes-removed : (xs : List Item) (i : ℕ) → nodes (remove xs i) ≡ removed_at i (nodes xs)
 nodes-removed [] zero = refl
 nodes-removed [] (suc i) = refl
 nodes-removed (x ∷ xs) zero = refl
@@ -84,7 +85,7 @@ element-is : (is : Node → Bool) (k : Text) (xs : List Item) (i : ℕ) (d : Ite
 element-is is k xs i d h inside =
     let m = map_some (element_of is k (nodes xs)) (λ (x : ℕ × Node). x.0) i (sym h) in
     let r = named is k (nodes xs) m.0 m.1 in
-    let there : item_in i (nodes xs) ≡ Some m.0.1 = subst (λ j. item_in j (nodes xs) ≡ Some m.0.1) m.2 r.item in
+    let there : slice_get (nodes xs) i ≡ Some m.0.1 = subst (λ j. slice_get (nodes xs) j ≡ Some m.0.1) m.2 r.item in
     let same : m.0.1 ≡ item_view (get_or xs i d) = some-is m.0.1 _ (sym there ∙ node-at xs i d inside) in
     m.1 ∙ ap Some (ap (λ (j : ℕ). (j, m.0.1)) m.2 ∙ ap (λ (n : Node). (i, n)) same)
 
@@ -109,7 +110,7 @@ pub element-changes : (is : Node → Bool) (k : Text) (go : Node → Answer Node
     → Some i ≡ place_named is k (nodes xs) → i < length xs → Changes (go (item_view (get_or xs i d))) (item_view (get_or xs i d)) (item_view y) r
     → Changes (change_element go (nodes xs) (element_of is k (nodes xs))) (nodes xs) (nodes (set xs i y)) r
 element-changes is k go xs i d y r h inside change =
-    let F = λ (m : Node). changed_item i (λ old. m) (nodes xs) in
+    let F = λ (m : Node). written_at i m (nodes xs) in
     let told = carried F (go (item_view (get_or xs i d))) (item_view (get_or xs i d)) (item_view y) r change in
     subst (λ o. Changes (change_element go (nodes xs) o) (nodes xs) (nodes (set xs i y)) r) (sym (element-is is k xs i d h inside))
     (subst (λ ns. Changes (change_element go (nodes xs) (Some (i, item_view (get_or xs i d)))) (nodes xs) ns r) (sym (nodes-set xs i y))

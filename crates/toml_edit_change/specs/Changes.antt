@@ -2,21 +2,14 @@
 use Rattle.std.specs.Prelude.{◌≡◌, Bool, false, List, [], ◌∷◌, map, Result, Ok, Err}
 use Rattle.toml_edit_model.specs.Text.{Text}
 use Rattle.toml_edit_model.specs.Tree.{Key, Node}
-use Rattle.toml_edit_model.specs.SlotLists.{Slot, slot_list, slot_of}
+use Rattle.toml_edit_model.specs.Slots.{Slot, lookup_slot}
 use Rattle.toml_edit_laws.specs.Commands.{Answer, done, refused, no_such_path, wrong_kind, present, element_of, change_slot, change_element, drop_slot, drop_element, remove_below}
-use Rattle.toml_edit_slots.specs.declared.slots.Slot as repr
-use Rattle.toml_edit_tree.specs.View.{slots_view}
-use Rattle.toml_edit_tree.specs.declared.item.Item.{Item}
 use Rattle.toml_edit_change.specs.declared.fault.ChangeFault.{ChangeFault}
 use Rattle.toml_edit_change.specs.declared.fault.ChangeFault.TheVariants.{NoSuchPath, WrongKind, Memory}
 
 -- the texts of a path's keys
 abbrev pub names : List Key → List Text
 names path = map (λ k. k.name) path
-
--- the slots of a table, or of an inline table, as the commands see them
-abbrev pub pairs : List (repr.Slot Item) → List Slot
-pairs es = slot_list (slots_view es)
 
 -- What is done leaves what is meant. A refusal is the one that is meant, and leaves all as it was, as running out of memory does.
 abbrev pub Changes : {A : Type 0} → Answer A → A → A → Result (Unit {0}) ChangeFault → Type 0
@@ -26,9 +19,9 @@ Changes meant old new (Err WrongKind) = (meant ≡ refused wrong_kind) × (new �
 Changes meant old new (Err Memory) = new ≡ old
 
 -- the slots of a table without what a path leads to: the slot of its only key, or what is below that of its first
-abbrev pub removed_slot : Text → List Text → List Slot → Answer (List Slot)
-removed_slot k [] ss = drop_slot k ss (present (slot_of k ss))
-removed_slot k (l ∷ path) ss = change_slot false k (remove_below (l ∷ path)) ss (slot_of k ss)
+abbrev pub removed_slot : Text → List Text → List (Slot Node) → Answer (List (Slot Node))
+removed_slot k [] ss = drop_slot k ss (present (lookup_slot k ss))
+removed_slot k (l ∷ path) ss = change_slot false k (remove_below (l ∷ path)) ss (lookup_slot k ss)
 
 -- the elements of this kind, likewise
 abbrev pub removed_element : (Node → Bool) → Text → List Text → List Node → Answer (List Node)

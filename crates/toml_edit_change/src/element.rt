@@ -1,7 +1,7 @@
 //! Finding the element of an array, or of an array of tables, that a segment of a path names.
 ghost use Rattle.std.specs.Prelude.{◌≡◌, ◌<◌, IfSome, length};
+ghost use Rattle.toml_edit_model.specs.Shown.{is_table_node};
 ghost use Rattle.toml_edit_model.specs.Tree.{is_value_node};
-ghost use Rattle.toml_edit_laws.specs.Locality.{is_table};
 ghost use Rattle.toml_edit_change.specs.Elements.{IsNumberOf, nodes, place_named};
 
 use toml_edit_key::Key;
@@ -37,7 +37,7 @@ pub(crate) fn value_named(items: &[Item], key: &Key) -> Option<usize>
 
 /// Returns the place of the table that the key names, if there is one.
 pub(crate) fn table_named(items: &[Item], key: &Key) -> Option<usize>
-    ensures place { result ≡ place_named is_table key.now.name (nodes items.now) }
+    ensures place { result ≡ place_named is_table_node key.now.name (nodes items.now) }
     ensures within { IfSome result (λ at. at < length items.now) }
 {
     let at = number_of(key.get())?;

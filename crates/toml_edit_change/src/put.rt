@@ -2,15 +2,16 @@
 ghost use Rattle.std.specs.Prelude.{◌≡◌, ◌<◌, ◌∷◌, ◌++◌, [], Bool, true, None, IfSome, OnErr, OnOk, length};
 ghost use Rattle.toml_edit_model.specs.Conversions.{with_decor};
 ghost use Rattle.toml_edit_model.specs.Keys.{new_key};
-ghost use Rattle.toml_edit_model.specs.SlotLists.{slot_of};
-ghost use Rattle.toml_edit_model.specs.Text.{Text};
+ghost use Rattle.toml_edit_model.specs.Slots.{keyed, lookup_slot};
+ghost use Rattle.toml_edit_model.specs.Text.{Text, one};
 ghost use Rattle.toml_edit_model.specs.Tree.{Node, node_decor, nothing};
 ghost use Rattle.toml_edit_laws.specs.CommandLaws.{made_below};
 ghost use Rattle.toml_edit_laws.specs.Commands.{change_element, change_slot, element_of, set_below, set_here};
 ghost use Rattle.toml_edit_slots.specs.Slots.{place};
 ghost use Rattle.toml_edit_tree.specs.Containers.{array_node, inline_node, table_node, tables_node};
+ghost use Rattle.toml_edit_tree.specs.Indexed.{shown_slots};
 ghost use Rattle.toml_edit_tree.specs.View.{array_view, inline_view, item_view, table_view, tables_view, value_view};
-ghost use Rattle.toml_edit_change.specs.Changes.{Changes, names, pairs};
+ghost use Rattle.toml_edit_change.specs.Changes.{Changes, names};
 ghost use Rattle.toml_edit_change.specs.Elements.{nodes, place_named};
 
 use crate::element::{table_named, value_named};
@@ -193,9 +194,11 @@ fn set_in_slots(
     rest: &[Key],
     value: &mut Item,
 ) -> Result<(), ChangeFault>
-    ensures { Changes (change_slot true key.now.name (set_below (item_view value.old) (names rest.now)) (pairs slots.old) (slot_of key.now.name (pairs slots.old)))
-        (pairs slots.old) (pairs slots.new) result }
+    ensures { Changes (change_slot true key.now.name (set_below (item_view value.old) (names rest.now)) (shown_slots slots.old) (lookup_slot key.now.name (shown_slots slots.old)))
+        (shown_slots slots.old) (shown_slots slots.new) result }
 {
+    // No two keys have one name, says its contract.
+    let _ = slots.as_slice();
     match slots.find(key.get()) {
         Some(at) => set_in_item(alloc, slots.item_mut(at), rest, value),
         None => {
@@ -287,7 +290,7 @@ fn wrap(alloc: Global, key: &str, value: &mut Item) -> Mem<()>
 /// memory runs out, the slots are unchanged.
 fn push_new(slots: &mut Slots<Item>, key: &str, item: &mut Item) -> Mem<()>
     requires { place key.now slots.old ≡ None }
-    ensures made { OnOk result (pairs slots.new ≡ pairs slots.old ++ ((new_key key.now, item_view item.old) ∷ [])) }
+    ensures made { OnOk result (shown_slots slots.new ≡ shown_slots slots.old ++ one (keyed (new_key key.now) (item_view item.old))) }
     ensures err { OnErr result (slots.new ≡ slots.old) }
 {
     let key = Key::from_text(slots.allocator(), key)?;

@@ -1,12 +1,13 @@
 //! Removing an item at a path.
 ghost use Rattle.std.specs.Prelude.{◌≡◌, ◌<◌, ◌∷◌, Bool, IfErr, IfSome, length};
-ghost use Rattle.toml_edit_model.specs.SlotLists.{slot_of};
+ghost use Rattle.toml_edit_model.specs.Slots.{lookup_slot};
 ghost use Rattle.toml_edit_model.specs.Text.{Text};
 ghost use Rattle.toml_edit_model.specs.Tree.{Node};
 ghost use Rattle.toml_edit_laws.specs.Commands.{drop_slot, present, remove_below};
 ghost use Rattle.toml_edit_tree.specs.Containers.{array_node, inline_node, table_node, tables_node};
+ghost use Rattle.toml_edit_tree.specs.Indexed.{shown_slots};
 ghost use Rattle.toml_edit_tree.specs.View.{array_view, inline_view, item_view, table_view, tables_view, value_view};
-ghost use Rattle.toml_edit_change.specs.Changes.{Changes, names, pairs, removed_element, removed_slot};
+ghost use Rattle.toml_edit_change.specs.Changes.{Changes, names, removed_element, removed_slot};
 ghost use Rattle.toml_edit_change.specs.Elements.{nodes, place_named};
 ghost use Rattle.toml_edit_change.specs.declared.fault.ChangeFault.TheVariants.{NoSuchPath};
 
@@ -133,12 +134,14 @@ fn remove_in_element(
 /// Removes the slot of the key, or the item at the rest of the path below it.
 #[cycle(remove)]
 fn remove_in_slots(slots: &mut Slots<Item>, key: &Key, rest: &[Key]) -> Result<(), ChangeFault>
-    ensures changes { Changes (removed_slot key.now.name (names rest.now) (pairs slots.old)) (pairs slots.old) (pairs slots.new) result }
+    ensures changes { Changes (removed_slot key.now.name (names rest.now) (shown_slots slots.old)) (shown_slots slots.old) (shown_slots slots.new) result }
     ensures fault { IfErr result (λ fault. fault ≡ NoSuchPath) }
 {
     if rest.is_empty() {
         return take_slot(slots, key.get());
     }
+    // No two keys have one name, says its contract.
+    let _ = slots.as_slice();
     match slots.find(key.get()) {
         Some(at) => remove_in_item(slots.item_mut(at), rest),
         None => Err(ChangeFault::NoSuchPath),
@@ -147,7 +150,7 @@ fn remove_in_slots(slots: &mut Slots<Item>, key: &Key, rest: &[Key]) -> Result<(
 
 /// Removes the slot of the key, unless it is a placeholder.
 fn take_slot(slots: &mut Slots<Item>, key: &str) -> Result<(), ChangeFault>
-    ensures changes { Changes (drop_slot key.now (pairs slots.old) (present (slot_of key.now (pairs slots.old)))) (pairs slots.old) (pairs slots.new) result }
+    ensures changes { Changes (drop_slot key.now (shown_slots slots.old) (present (lookup_slot key.now (shown_slots slots.old)))) (shown_slots slots.old) (shown_slots slots.new) result }
     ensures fault { IfErr result (λ fault. fault ≡ NoSuchPath) }
 {
     match slots.get(key) {

@@ -11,9 +11,8 @@ use Rattle.toml_edit_model.specs.Indexing.{indexed, item_under, number}
 use Rattle.toml_edit_model.specs.Lists as lists
 use Rattle.toml_edit_model.specs.Lists.{slots_in}
 use Rattle.toml_edit_model.specs.Slots as model
-use Rattle.toml_edit_model.specs.SlotLists.{slot_list, slot_of}
+use Rattle.toml_edit_model.specs.Shown.{is_table_node}
 use Rattle.toml_edit_model.specs.Tree.{Key, Node, nothing, leaf, list, inline, table, tables, Slots, no_slots, slot, unset, is_value_node}
-use Rattle.toml_edit_laws.specs.Locality.{is_table}
 use Rattle.toml_edit_laws.specs.Commands as commands
 use Rattle.toml_edit_laws.proofs.common.OptionSteps.{some-is}
 use Rattle.toml_edit_laws.proofs.common.Tests.{append-nil}
@@ -38,13 +37,8 @@ module _ (is : Node → Bool) where
       by_test true = refl
       by_test false = refl
 
-  at-place : (i : ℕ) (ns : List Node) → commands.item_in i ns ≡ slice_get ns i
-  at-place i [] = refl
-  at-place zero (n ∷ ns) = refl
-  at-place (suc i) (n ∷ ns) = at-place i ns
-
   -- no element stands past the last
-  past-last : (i : ℕ) (ns : List Node) → length ns ≤ i → commands.item_in i ns ≡ None
+  past-last : (i : ℕ) (ns : List Node) → length ns ≤ i → slice_get ns i ≡ None
   past-last i [] h = refl
   past-last zero (n ∷ ns) h = absurd (omega (arith, h))
   past-last (suc i) (n ∷ ns) h = past-last i ns (omega (arith, h))
@@ -55,8 +49,8 @@ module _ (is : Node → Bool) where
   element-found ns (Some i) at h = by_test (nat_lt i (length ns)) h
     where
       by_test : (b : Bool) → (if b then Some i else None) ≡ Some at
-          → commands.second (commands.kept_item is i (commands.item_in i ns)) ≡ option_and_then (lists.only is) (slice_get ns at)
-      by_test true e = kept-item i (commands.item_in i ns) ∙ ap (option_and_then (lists.only is)) (at-place i ns ∙ ap (slice_get ns) (some-is i at e))
+          → commands.second (commands.kept_item is i (slice_get ns i)) ≡ option_and_then (lists.only is) (slice_get ns at)
+      by_test true e = kept-item i (slice_get ns i) ∙ ap (λ j. option_and_then (lists.only is) (slice_get ns j)) (some-is i at e)
       by_test false e = cc
 
   no-element : (ns : List Node) (o : Option ℕ) → among (length ns) o ≡ None → commands.second (commands.at_number is ns o) ≡ None
@@ -64,7 +58,7 @@ module _ (is : Node → Bool) where
   no-element ns (Some i) h = by_test (nat_lt i (length ns)) refl h
     where
       by_test : (b : Bool) → nat_lt i (length ns) ≡ b → (if b then Some i else None) ≡ None
-          → commands.second (commands.kept_item is i (commands.item_in i ns)) ≡ None
+          → commands.second (commands.kept_item is i (slice_get ns i)) ≡ None
       by_test true same e = cc
       by_test false same e = ap (λ o. commands.second (commands.kept_item is i o)) (past-last i ns (ltb-false i (length ns) same))
 
@@ -101,18 +95,18 @@ module _ (n : Node) (k : Text) (count : ℕ) where
       ∙ no-element is_value_node (lists.item_list a.items) (commands.number_of k) (ap (λ i. among i (commands.number_of k)) (sym c) ∙ sym e)
 
   pub table-child : (a : TablesView) (at : ℕ) → Some a ≡ tables_in n → count ≡ length (lists.item_list a.items) → Some at ≡ among count (commands.number_of k)
-      → commands.child k n ≡ option_and_then (lists.only is_table) (indexed (number at) n)
+      → commands.child k n ≡ option_and_then (lists.only is_table_node) (indexed (number at) n)
   table-child a at h c e =
       let same = tables-items n a (sym h) in
       ap (commands.child k) same
-      ∙ element-found is_table (lists.item_list a.items) (commands.number_of k) at (ap (λ i. among i (commands.number_of k)) (sym c) ∙ sym e)
-      ∙ ap (λ m. option_and_then (lists.only is_table) (indexed (number at) m)) (sym same)
+      ∙ element-found is_table_node (lists.item_list a.items) (commands.number_of k) at (ap (λ i. among i (commands.number_of k)) (sym c) ∙ sym e)
+      ∙ ap (λ m. option_and_then (lists.only is_table_node) (indexed (number at) m)) (sym same)
 
   pub no-table-child : (a : TablesView) → Some a ≡ tables_in n → count ≡ length (lists.item_list a.items) → None ≡ among count (commands.number_of k)
       → commands.child k n ≡ None
   no-table-child a h c e =
       ap (commands.child k) (tables-items n a (sym h))
-      ∙ no-element is_table (lists.item_list a.items) (commands.number_of k) (ap (λ i. among i (commands.number_of k)) (sym c) ∙ sym e)
+      ∙ no-element is_table_node (lists.item_list a.items) (commands.number_of k) (ap (λ i. among i (commands.number_of k)) (sym c) ∙ sym e)
 
 -- ---- slots
 
@@ -127,25 +121,13 @@ shown-lookup k (s ∷ es) = by_test (same_text k s.key.name) (shown-lookup k es)
     by_test true h = refl
     by_test false h = h
 
-present-slot : (l : Key) (n : Node) → commands.present (Some (l, n)) ≡ option_and_then (lists.only lists.is_item) (Some n)
-present-slot l nothing = refl
-present-slot l (leaf s r d) = refl
-present-slot l (list f xs) = refl
-present-slot l (inline f ss) = refl
-present-slot l (table f ss) = refl
-present-slot l (tables e xs) = refl
-
 under-key : (k : Text) (ss : Slots)
-    → commands.present (slot_of k (slot_list ss)) ≡ option_and_then (lists.only lists.is_item) (model.lookup k (lists.slot_list ss))
-under-key k no_slots = refl
-under-key k (slot l n ss) = by_test (same_text k l.name) (under-key k ss)
+    → commands.present (model.lookup_slot k (lists.slot_list ss)) ≡ option_and_then (lists.only lists.is_item) (model.lookup k (lists.slot_list ss))
+under-key k ss = by_slot (model.lookup_slot k (lists.slot_list ss))
   where
-    by_test : (b : Bool) → commands.present (slot_of k (slot_list ss)) ≡ option_and_then (lists.only lists.is_item) (model.lookup k (lists.slot_list ss))
-        → commands.present (if b then Some (l, n) else slot_of k (slot_list ss))
-        ≡ option_and_then (lists.only lists.is_item)
-        (option_map (λ x. x.item) (cond b (Some (record { key = l; item = n })) (find (model.is_at k) (lists.slot_list ss))))
-    by_test true h = present-slot l n
-    by_test false h = h
+    by_slot : (o : Option (model.Slot Node)) → commands.present o ≡ option_and_then (lists.only lists.is_item) (option_map (λ s. s.item) o)
+    by_slot None = refl
+    by_slot (Some s) = refl
 
 pub slot-child : (n : Node) (k : Text) → None ≡ array_in n → None ≡ tables_in n
     → commands.child k n ≡ option_and_then (lists.only lists.is_item) (item_under k n)

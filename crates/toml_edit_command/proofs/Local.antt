@@ -54,7 +54,7 @@ module _ (mode : Mode) (d : Document) (t u : Tree) (names : List Text) (read : I
         done = is;
         slot = λ path v k s same way found.
             let law = remove_drops mode d t path v k s read way found (read_has_no_placeholders mode d t path v k s read.tree way found) in
-            subst (λ w. DropsStatements mode d t w (to_key v.path s.0.name))
+            subst (λ w. DropsStatements mode d t w (to_key v.path s.key.name))
             (one-answer (λ p. remove_at p t) names (path ++ (k ∷ [])) u law.0 same is law.1) law.3;
         element = λ path v w k x i same way number leads.
             let law = remove_element_drops mode d t path v w k x i read way number leads in

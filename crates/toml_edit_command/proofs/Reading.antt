@@ -1,15 +1,12 @@
 -- The tree of what was read, and what the words stop.
 use Rattle.std.proofs.Common.{◌≡◌, sym, ap, subst, ◌∙◌, Bool, List, inl, inr}
-use Rattle.std.specs.Str.{IsUtf8}
 use Rattle.toml_edit_model.specs.Mode.{Mode}
 use Rattle.toml_edit_model.specs.Text.{Text}
 use Rattle.toml_edit_model.specs.Version.{Version}
 use Rattle.toml_edit_model.specs.Syntax.{Document}
 use Rattle.toml_edit_model.specs.Accepted.{AcceptedAs, AcceptedIn}
-use Rattle.toml_edit_model.specs.Tree.{Tree, SlotsAreWellMade}
+use Rattle.toml_edit_model.specs.Tree.{Tree}
 use Rattle.toml_edit_model.specs.TreeOf.{spanned_in, IsTreeOf}
-use Rattle.toml_edit_model.specs.OwnedForm.{owned_tree}
-use Rattle.toml_edit_laws.proofs.read_trees.ReadLaws.{trees_over}
 use Rattle.toml_edit_laws.proofs.versions.EarlyPrints.{normal_texts_stay}
 use Rattle.toml_edit.specs.Documents.{IsOwnedTreeWith, IsReadingIn}
 use Rattle.toml_edit_command.specs.Forms.{MayStopPath, MayStopValue}
@@ -20,10 +17,10 @@ use Rattle.toml_edit_command.specs.declared.stop.Stop.{Stop}
 
 -- what is made of a reading of a text, so that it owns its texts
 module _ (mode : Mode) (version : Version) (t u : Text) (x : Tree) (kept : Mode) (is_open : Bool) (h : Held) where
-  pub read-as : u ≡ t → IsUtf8 t → IsReadingIn mode version t x is_open → kept ≡ mode → h.tree ≡ owned_tree u x
+  pub read-as : u ≡ t → IsReadingIn mode version t x is_open → kept ≡ mode
       → (h.mode ≡ kept) × (h.is_open ≡ is_open)
       → ((d : Document) → AcceptedAs u d → IsTreeOf (spanned_in kept) d x → IsOwnedTreeWith kept u d h.tree) → IsHeldOf mode version t h
-  read-as same utf8 within in_mode is printed owned =
+  read-as same within in_mode printed owned =
       let r = within.reading in
       let accepted : AcceptedIn version t r.document = within.accepted r.document r.accepted.0 in
       let own =
@@ -41,8 +38,7 @@ module _ (mode : Mode) (version : Version) (t u : Text) (x : Tree) (kept : Mode)
               is_document = r.accepted.0.0;
               accepted = r.accepted.1;
               tree = own.tree;
-              made = subst (λ (z : Tree). SlotsAreWellMade z.slots) (sym (is ∙ ap (λ v. owned_tree v x) same))
-                  (trees_over mode t r.document utf8 r.accepted x r.tree).well_made;
+              made = own.made;
             };
           };
           same_mode = printed.0 ∙ in_mode;

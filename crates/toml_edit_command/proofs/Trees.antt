@@ -2,9 +2,9 @@
 use Rattle.std.proofs.Common.{◌≡◌, refl, sym, ap, ◌∙◌, rules, true, false, List, [], ◌∷◌, Result, Ok, Err}
 use Rattle.toml_edit_model.specs.Text.{Text}
 use Rattle.toml_edit_model.specs.Tree.{Raw, Node, nothing, leaf, list, inline, table, tables, TableFields, Slots, Tree}
-use Rattle.toml_edit_model.specs.SlotLists.{Slot, slot_list, slot_of}
-use Rattle.toml_edit_laws.specs.Locality.{slots_from}
-use Rattle.toml_edit_laws.specs.Commands.{Answer, Refusal, done, refused, no_such_path, wrong_kind, mapped, slots_in, root_item, with_slots, change_slot, drop_slot, present, set_below, set_at, remove_below, remove_at}
+use Rattle.toml_edit_model.specs.Slots.{Slot, lookup_slot}
+use Rattle.toml_edit_model.specs.Lists.{slot_list, slots_from}
+use Rattle.toml_edit_laws.specs.Commands.{Answer, Refusal, done, refused, no_such_path, wrong_kind, mapped, root_slots, root_item, with_slots, change_slot, drop_slot, present, set_below, set_at, remove_below, remove_at}
 use Rattle.toml_edit_laws.proofs.commands.Setting.{was-mapped}
 use Rattle.toml_edit_tree.specs.View.{fields_view, item_view, table_slots, tree_view}
 use Rattle.toml_edit_tree.specs.declared.item.Item.{the_lemmas}
@@ -30,7 +30,7 @@ tree f ss r = record { root = f; slots = ss; trailing = r }
 
 -- a root of which only the slots change
 module _ (t u : Tree) (trailing : u.trailing ≡ t.trailing) where
-  slots-change : (a : Answer (List Slot)) → mapped (λ xs. table t.root (slots_from xs)) a ≡ done (root_item u) → with_slots t (root_item u) ≡ u
+  slots-change : (a : Answer (List (Slot Node))) → mapped (λ xs. table t.root (slots_from xs)) a ≡ done (root_item u) → with_slots t (root_item u) ≡ u
   slots-change a h =
       ap (λ f. tree f u.slots t.trailing) (sym (ap (fields-of u.root) (was-mapped (λ xs. table t.root (slots_from xs)) a (root_item u) h).gives))
       ∙ ap (tree u.root u.slots) (sym trailing)
@@ -39,15 +39,15 @@ module _ (t u : Tree) (trailing : u.trailing ≡ t.trailing) where
   set-done [] v h = cc
   set-done (k ∷ path) v h =
       ap (mapped (with_slots t)) h
-      ∙ ap done (slots-change (change_slot true k (set_below v path) (slot_list t.slots) (slot_of k (slot_list t.slots))) h)
+      ∙ ap done (slots-change (change_slot true k (set_below v path) (slot_list t.slots) (lookup_slot k (slot_list t.slots))) h)
 
   pub remove-done : (path : List Text) → remove_below path (root_item t) ≡ done (root_item u) → remove_at path t ≡ done u
   remove-done [] h = cc
   remove-done (k ∷ []) h =
-      ap (mapped (with_slots t)) h ∙ ap done (slots-change (drop_slot k (slot_list t.slots) (present (slot_of k (slot_list t.slots)))) h)
+      ap (mapped (with_slots t)) h ∙ ap done (slots-change (drop_slot k (slot_list t.slots) (present (lookup_slot k (slot_list t.slots)))) h)
   remove-done (k ∷ l ∷ path) h =
       ap (mapped (with_slots t)) h
-      ∙ ap done (slots-change (change_slot false k (remove_below (l ∷ path)) (slot_list t.slots) (slot_of k (slot_list t.slots))) h)
+      ∙ ap done (slots-change (change_slot false k (remove_below (l ∷ path)) (slot_list t.slots) (lookup_slot k (slot_list t.slots))) h)
 
 -- ---- the root that a document lends
 
@@ -75,7 +75,7 @@ module _ (d : DocumentMut) (t w : Table) (fields : fields_view t ≡ (tree_owned
 
   stays : node_of w ≡ node_of t → tree_under (items.Table w) d.trailing ≡ tree_owned d
   stays h =
-      sym is ∙ ap (λ n. tree (fields-of (fields_view w) n) (slots_in n) d.trailing) (h ∙ was)
+      sym is ∙ ap (λ n. tree (fields-of (fields_view w) n) (root_slots n) d.trailing) (h ∙ was)
       ∙ ap (tree (tree_owned d).root (tree_owned d).slots) (sym (trailing-at (item_view d.root) d.trailing))
 
   -- what is done to the root's node is done to the tree

@@ -7,7 +7,8 @@ use Rattle.toml_edit_model.specs.Paths.{to_key}
 use Rattle.toml_edit_model.specs.Tree.{Key, Node, Tree, is_value_node}
 use Rattle.toml_edit_model.specs.HeaderOrder.{Visit}
 use Rattle.toml_edit_model.specs.Keys.{new_key}
-use Rattle.toml_edit_model.specs.SlotLists.{Slot, slot_list, slot_of}
+use Rattle.toml_edit_model.specs.Slots.{Slot, keyed, lookup_slot}
+use Rattle.toml_edit_model.specs.Lists.{slot_list}
 use Rattle.toml_edit_laws.specs.Locality.{into_element, Leads, has_block}
 use Rattle.toml_edit_laws.specs.Commands.{done, number_of, set_below, set_at, remove_below, remove_at}
 use Rattle.toml_edit_laws.specs.CommandLaws.{NamesTable, ChangesStatement, AddsStatement, DropsStatements, made_below}
@@ -23,14 +24,14 @@ module _ (mode : Mode) where
   abbrev pub ChangesOne : Document → Tree → Tree → List Text → Node → Type 0
   ChangesOne d t u names value =
       AtKey t names
-      (λ path v k inner. (l : Key) (old n : Node) → slot_of k (slot_list v.slots) ≡ Some (l, old) → is_value_node old ≡ true
+      (λ path v k inner. (l : Key) (old n : Node) → lookup_slot k (slot_list v.slots) ≡ Some (keyed l old) → is_value_node old ≡ true
       → set_below value inner old ≡ done n → ChangesStatement mode d t u (to_key v.path l.name) old n)
 
   -- At a new key of the root or of a table that has a header, or below one: one statement more, after the others of the table.
   abbrev pub AddsOne : Document → Tree → Tree → List Text → Node → Type 0
   AddsOne d t u names value =
       AtKey t names
-      (λ path v k more. slot_of k (slot_list v.slots) ≡ None → has_block mode v ≡ true
+      (λ path v k more. lookup_slot k (slot_list v.slots) ≡ None → has_block mode v ≡ true
       → AddsStatement mode d t u v (new_key k) (made_below more value))
 
   -- The second tree is the first with the value at the path, all else as it was.
@@ -44,8 +45,8 @@ module _ (mode : Mode) where
   -- At a slot: its statements go, with those of all below it.
   abbrev pub DropsSlot : Document → Tree → Tree → List Text → Type 0
   DropsSlot d t u names =
-      (path : List Text) (v : Visit) (k : Text) (s : Slot) → names ≡ path ++ (k ∷ []) → NamesTable t path v → slot_of k (slot_list v.slots) ≡ Some s
-      → DropsStatements mode d t u (to_key v.path s.0.name)
+      (path : List Text) (v : Visit) (k : Text) (s : Slot Node) → names ≡ path ++ (k ∷ []) → NamesTable t path v → lookup_slot k (slot_list v.slots) ≡ Some s
+      → DropsStatements mode d t u (to_key v.path s.key.name)
 
   -- At an element of an array of tables: its own go, with those of all below it.
   abbrev pub DropsElement : Document → Tree → Tree → List Text → Type 0
@@ -57,7 +58,7 @@ module _ (mode : Mode) where
   abbrev pub DropsInside : Document → Tree → Tree → List Text → Type 0
   DropsInside d t u names =
       AtKey t names
-      (λ path v k inner. (l : Key) (old n : Node) → slot_of k (slot_list v.slots) ≡ Some (l, old) → is_value_node old ≡ true
+      (λ path v k inner. (l : Key) (old n : Node) → lookup_slot k (slot_list v.slots) ≡ Some (keyed l old) → is_value_node old ≡ true
       → remove_below inner old ≡ done n → ChangesStatement mode d t u (to_key v.path l.name) old n)
 
   -- The second tree is the first without the slot or the element at the path, all else as it was.

@@ -7,7 +7,7 @@ ghost use Rattle.toml_edit_model.specs.Lists.{is_item, only};
 ghost use Rattle.toml_edit_model.specs.Text.{newline};
 ghost use Rattle.toml_edit_model.specs.Tree.{is_value_node};
 ghost use Rattle.toml_edit_laws.specs.Commands as commands;
-ghost use Rattle.toml_edit_laws.specs.Locality.{is_table};
+ghost use Rattle.toml_edit_model.specs.Shown.{is_table_node};
 ghost use Rattle.toml_edit_tree.specs.Containers.{tables_node};
 ghost use Rattle.toml_edit_tree.specs.View.{item_view, tables_view};
 ghost use Rattle.toml_edit_change.specs.Changes.{names};
@@ -95,7 +95,7 @@ fn value_at(item: &Item, at: usize) -> Option<&Item>
 
 /// Returns the item at a place of an array of tables, if it is a table.
 fn table_at(item: &Item, at: usize) -> Option<&Item>
-    ensures { option_map (λ x. item_view x.now) result ≡ option_and_then (only is_table) (indexed (number at) (item_view item.now)) }
+    ensures { option_map (λ x. item_view x.now) result ≡ option_and_then (only is_table_node) (indexed (number at) (item_view item.now)) }
 {
     let found = item.get(at)?;
     if found.is_table() { Some(found) } else { None }

@@ -18,3 +18,5 @@ pub mod RemovingElements
 pub mod Calls
 pub mod Ways
 pub mod Made
+pub mod Twice
+pub mod EditLists

@@ -30,15 +30,15 @@ last_slots (item n no_items) = None
 last_slots (item n (item m xs)) = last_slots (item m xs)
 
 -- the slots of a table, or of the last element of an array of tables
-abbrev pub slots_in : Node → Option Slots
-slots_in (table f inner) = Some inner
-slots_in (tables e xs) = last_slots xs
-slots_in n = None
+abbrev pub block_slots : Node → Option Slots
+block_slots (table f inner) = Some inner
+block_slots (tables e xs) = last_slots xs
+block_slots n = None
 
 -- the slots of the table at these keys
 abbrev pub slots_along : List Text → Slots → Option Slots
 slots_along [] ss = Some ss
-slots_along (k ∷ ks) ss = option_and_then (slots_along ks) (option_and_then slots_in (node_at k ss))
+slots_along (k ∷ ks) ss = option_and_then (slots_along ks) (option_and_then block_slots (node_at k ss))
 
 -- a change of them
 abbrev pub change_in : (Slots → Option Slots) → Node → Option Node

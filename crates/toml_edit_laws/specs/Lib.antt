@@ -19,6 +19,7 @@ pub mod Reparse
 pub mod PrintOfRead
 pub mod OpenEnds
 pub mod Locality
+pub mod EditLists
 pub mod NormalTexts
 pub mod Versions
 pub mod TextsFit

@@ -5,13 +5,14 @@
 ghost use Rattle.toml_edit_model.specs.Mode.{Mode};
 ghost use Rattle.toml_edit_laws.specs.AcceptedPrints.{PrintAgrees, PrintIsCut};
 ghost use Rattle.toml_edit_laws.specs.Building.{Building, HasTree, Runs};
-ghost use Rattle.toml_edit_laws.specs.CommandLaws.{DecimalsName, GetAfterSet, OneTextNames, PathsHaveWays, ReadHasNoPlaceholders, RemoveChanges, RemoveDrops, RemoveElementDrops, RemoveFinds, RemoveKeepsItems, RemoveKeepsTheRest, RemoveReadsBack, RemoveRefuses, RemovedWasThere, SetAdds, SetChanges, SetKeepsItems, SetKeepsTheRest, SetReadsBack, SetRefuses, WaysHavePaths};
+ghost use Rattle.toml_edit_laws.specs.CommandLaws.{DecimalsName, GetAfterSet, OneTextNames, PathsHaveWays, ReadHasNoPlaceholders, RemoveChanges, RemoveDrops, RemoveElementDrops, RemoveFinds, RemoveKeepsItems, RemoveKeepsTheRest, RemoveReadsBack, RemoveRefuses, RemovedWasThere, SetAdds, SetChanges, SetKeepsItems, SetKeepsTheRest, SetReadsBack, SetRefuses, SetSteps, WaysHavePaths};
 ghost use Rattle.toml_edit_laws.specs.DefaultSpellings.{DefaultSpellings};
+ghost use Rattle.toml_edit_laws.specs.EditLists.{EditsStayLocal};
 ghost use Rattle.toml_edit_laws.specs.Extents.{ExtentsLie};
 ghost use Rattle.toml_edit_laws.specs.FaultMessages.{FaultMessages};
 ghost use Rattle.toml_edit_laws.specs.InOrder.{HeadersInOrder, LinesAreKept, PairsAreKept};
 ghost use Rattle.toml_edit_laws.specs.KeptKeys.{KeptKeys};
-ghost use Rattle.toml_edit_laws.specs.Locality.{Added, AddedStaysMade, CallsOnAbsent, CallsOnPresent, Entered, KeepsFrame, Reached, Removed, RemovedElement, RemovedElementStaysMade, RemovedStaysMade, Replaced, ReplacedStaysMade, TextsAreSteady};
+ghost use Rattle.toml_edit_laws.specs.Locality.{Added, AddedStaysMade, CallsOnAbsent, CallsOnPresent, Entered, IndexWrites, KeepsFrame, Reached, Removed, RemovedElement, RemovedElementStaysMade, RemovedStaysMade, Replaced, ReplacedStaysMade, TextsAreSteady};
 ghost use Rattle.toml_edit_laws.specs.NormalTexts.{NormalTexts};
 ghost use Rattle.toml_edit_laws.specs.OneByOne.{FaultsOfFirst, FirstFaulty, OneByOne};
 ghost use Rattle.toml_edit_laws.specs.OneCut.{OneCut};
@@ -98,6 +99,7 @@ pub fn replaced()
     ensures change { (mode : Mode) → Replaced mode }
     ensures frame { (mode : Mode) → KeepsFrame mode }
     ensures calls { CallsOnPresent }
+    ensures index { IndexWrites }
     ensures made { ReplacedStaysMade }
 {}
 
@@ -116,6 +118,13 @@ pub fn removed()
     ensures element { (mode : Mode) → RemovedElement mode }
     ensures slot_made { RemovedStaysMade }
     ensures element_made { RemovedElementStaysMade }
+{}
+
+/// A list of such edits of a steady tree, each of the tree that those before it leave: each changes,
+/// adds or takes away what its law says. The statements that none of them names stay as they were,
+/// in their order, and so does what is printed around all of them, with a closed end or an open one.
+pub fn edits()
+    ensures { (mode : Mode) → EditsStayLocal mode }
 {}
 
 /// The normal text of an accepted text is accepted, means the same and is settled; that of a
@@ -212,6 +221,7 @@ pub fn command_sets()
     ensures rest { SetKeepsTheRest }
     ensures items { SetKeepsItems }
     ensures back { (mode : Mode) → SetReadsBack mode }
+    ensures steps { SetSteps }
     ensures found { GetAfterSet }
     ensures refuses { SetRefuses }
 {}

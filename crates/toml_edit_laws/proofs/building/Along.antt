@@ -5,7 +5,7 @@ use Rattle.std.proofs.lemmas.Bool.{cases_Bool}
 use Rattle.toml_edit_model.specs.Text.{Text, same_text}
 use Rattle.toml_edit_model.specs.Tree.{Node, nothing, leaf, list, inline, table, tables, Items, no_items, item, Slots, no_slots, slot}
 use Rattle.toml_edit_laws.specs.InlineTree.{node_at, with_node}
-use Rattle.toml_edit_laws.specs.Building.{last_slots, slots_in, slots_along, change_along}
+use Rattle.toml_edit_laws.specs.Building.{last_slots, block_slots, slots_along, change_along}
 use Rattle.toml_edit_laws.specs.AddPath.{put_last, put_in, put_under, put_along}
 use Rattle.toml_edit_laws.proofs.common.OptionSteps.{bind_some, some-is}
 use Rattle.toml_edit_laws.proofs.building.Descent.{along_lens}
@@ -108,7 +108,7 @@ in-put-put one other both h (inline f us) = refl
 in-put-put one other both h (tables e xs) = ap (tables e) (last-put-put one other both h xs)
 in-put-put one other both h (table f inner) = ap (table f) (h inner)
 
-in-put : (put : Slots → Slots) (n : Node) (us : Slots) → slots_in n ≡ Some us → slots_in (put_in put n) ≡ Some (put us)
+in-put : (put : Slots → Slots) (n : Node) (us : Slots) → block_slots n ≡ Some us → block_slots (put_in put n) ≡ Some (put us)
 in-put put nothing us h = absurd cc
 in-put put (leaf s x d) us h = absurd cc
 in-put put (list f xs) us h = absurd cc
@@ -116,7 +116,7 @@ in-put put (inline f xs) us h = absurd cc
 in-put put (tables e xs) us h = last-put put xs us h
 in-put put (table f inner) us h = ap (λ (x : Slots). Some (put x)) (some-is inner us h)
 
-in-put-same : (put : Slots → Slots) (n : Node) (us : Slots) → slots_in n ≡ Some us → put us ≡ us → put_in put n ≡ n
+in-put-same : (put : Slots → Slots) (n : Node) (us : Slots) → block_slots n ≡ Some us → put us ≡ us → put_in put n ≡ n
 in-put-same put nothing us h e = refl
 in-put-same put (leaf s x d) us h e = refl
 in-put-same put (list f xs) us h e = refl
@@ -146,11 +146,11 @@ put_put (k ∷ ks) x y ss = by_node (node_at k ss) refl (λ (n : Node). in-put-p
 pub along_put : (ks : List Text) (x ss old : Slots) → slots_along ks ss ≡ Some old → slots_along ks (put_along ks x ss) ≡ Some x
 along_put [] x ss old h = refl
 along_put (k ∷ ks) x ss old h =
-    let (us, there, further) = bind_some (option_and_then slots_in (node_at k ss)) (slots_along ks) old h in
-    let (n, at, within) = bind_some (node_at k ss) slots_in us there in
+    let (us, there, further) = bind_some (option_and_then block_slots (node_at k ss)) (slots_along ks) old h in
+    let (n, at, within) = bind_some (node_at k ss) block_slots us there in
     let new = put_in (put_along ks x) n in
     ap (λ (o : Option Node). slots_along (k ∷ ks) (put_under k (put_along ks x) ss o)) at
-    ∙ ap (λ (o : Option Node). option_and_then (slots_along ks) (option_and_then slots_in o)) (node-put k new ss n at)
+    ∙ ap (λ (o : Option Node). option_and_then (slots_along ks) (option_and_then block_slots o)) (node-put k new ss n at)
     ∙ ap (option_and_then (slots_along ks)) (in-put (put_along ks x) n us within)
     ∙ along_put ks x us old further
 
@@ -158,8 +158,8 @@ along_put (k ∷ ks) x ss old h =
 pub put_same : (ks : List Text) (ss old : Slots) → slots_along ks ss ≡ Some old → put_along ks old ss ≡ ss
 put_same [] ss old h = sym (some-is ss old h)
 put_same (k ∷ ks) ss old h =
-    let (us, there, further) = bind_some (option_and_then slots_in (node_at k ss)) (slots_along ks) old h in
-    let (n, at, within) = bind_some (node_at k ss) slots_in us there in
+    let (us, there, further) = bind_some (option_and_then block_slots (node_at k ss)) (slots_along ks) old h in
+    let (n, at, within) = bind_some (node_at k ss) block_slots us there in
     ap (put_under k (put_along ks old) ss) at
     ∙ ap (λ (m : Node). with_node k m ss) (in-put-same (put_along ks old) n us within (put_same ks us old further))
     ∙ node-put-same k n ss at

@@ -5,7 +5,7 @@ use Rattle.toml_edit_model.specs.Text.{Text}
 use Rattle.toml_edit_model.specs.Tree.{Node, nothing, leaf, list, inline, table, tables, Items, no_items, item, Slots}
 use Rattle.toml_edit_laws.specs.InlineTree.{node_at, with_node}
 use Rattle.toml_edit_laws.specs.TableTree.{change_last}
-use Rattle.toml_edit_laws.specs.Building.{last_slots, slots_in, slots_along, change_in, change_along}
+use Rattle.toml_edit_laws.specs.Building.{last_slots, block_slots, slots_along, change_in, change_along}
 use Rattle.toml_edit_laws.specs.AddPath.{put_last, put_in, put_under, put_along}
 use Rattle.toml_edit_laws.proofs.common.OptionSteps.{bind_some, some-is, is_some-map}
 
@@ -38,7 +38,7 @@ last-none change (item n (item m xs)) us e h = ap (option_map (item n)) (last-no
 
 -- ---- an item
 
-in-change : (change : Slots → Option Slots) (put : Slots → Slots) (n : Node) (us : Slots) → slots_in n ≡ Some us → change us ≡ Some (put us)
+in-change : (change : Slots → Option Slots) (put : Slots → Slots) (n : Node) (us : Slots) → block_slots n ≡ Some us → change us ≡ Some (put us)
     → change_in change n ≡ Some (put_in put n)
 in-change change put (table f inner) us e h =
     let same : inner ≡ us = some-is inner us e in
@@ -49,7 +49,7 @@ in-change change put (leaf s x d) us e h = absurd cc
 in-change change put (list f xs) us e h = absurd cc
 in-change change put (inline f ss) us e h = absurd cc
 
-in-none : (change : Slots → Option Slots) (n : Node) (us : Slots) → slots_in n ≡ Some us → change us ≡ None → change_in change n ≡ None
+in-none : (change : Slots → Option Slots) (n : Node) (us : Slots) → block_slots n ≡ Some us → change us ≡ None → change_in change n ≡ None
 in-none change (table f inner) us e h =
     let same : inner ≡ us = some-is inner us e in
     ap (option_map (table f)) (ap change same ∙ h)
@@ -67,8 +67,8 @@ along-some [] change new ss inner e h =
     let same : ss ≡ inner = some-is ss inner e in
     ap change same ∙ h
 along-some (k ∷ ks) change new ss inner e h =
-    let (us, there, further) = bind_some (option_and_then slots_in (node_at k ss)) (slots_along ks) inner e in
-    let (n, at, within) = bind_some (node_at k ss) slots_in us there in
+    let (us, there, further) = bind_some (option_and_then block_slots (node_at k ss)) (slots_along ks) inner e in
+    let (n, at, within) = bind_some (node_at k ss) block_slots us there in
     ap (option_and_then (λ (x : Node). option_map (λ (changed : Node). with_node k changed ss) (change_in (change_along ks change) x))) at
     ∙ ap (option_map (λ (changed : Node). with_node k changed ss)) (in-change (change_along ks change) (put_along ks new) n us within (along-some ks change new us inner further h))
     ∙ sym (ap (λ (o : Option Node). Some (put_under k (put_along ks new) ss o)) at)
@@ -79,8 +79,8 @@ along-none [] change ss inner e h =
     let same : ss ≡ inner = some-is ss inner e in
     ap change same ∙ h
 along-none (k ∷ ks) change ss inner e h =
-    let (us, there, further) = bind_some (option_and_then slots_in (node_at k ss)) (slots_along ks) inner e in
-    let (n, at, within) = bind_some (node_at k ss) slots_in us there in
+    let (us, there, further) = bind_some (option_and_then block_slots (node_at k ss)) (slots_along ks) inner e in
+    let (n, at, within) = bind_some (node_at k ss) block_slots us there in
     ap (option_and_then (λ (x : Node). option_map (λ (changed : Node). with_node k changed ss) (change_in (change_along ks change) x))) at
     ∙ ap (option_map (λ (changed : Node). with_node k changed ss)) (in-none (change_along ks change) n us within (along-none ks change us inner further h))
 

@@ -7,7 +7,7 @@ use Rattle.toml_edit_model.specs.Faults.{Fault}
 use Rattle.toml_edit_model.specs.Tree.{Node, nothing, leaf, list, inline, table, tables, Items, no_items, item, Slots}
 use Rattle.toml_edit_laws.specs.InlineTree.{node_at, with_node}
 use Rattle.toml_edit_laws.specs.TableClash.{extend_clash, pass_clash, clash_in_last, line_clash, header_clash, table_way_fault}
-use Rattle.toml_edit_laws.specs.Building.{last_slots, slots_in, slots_along}
+use Rattle.toml_edit_laws.specs.Building.{last_slots, block_slots, slots_along}
 use Rattle.toml_edit_laws.specs.AddPath.{Addition, a_value, a_table, an_element, path_clash, clash_inside, last_key_clash, put_last, put_in, put_under, put_along}
 use Rattle.toml_edit_laws.specs.PlaceOrder.{node_by_place, items_by_place, slots_by_place, NodeIsPlaced, ItemsArePlaced, ArePlaced}
 use Rattle.toml_edit_laws.proofs.common.OptionSteps.{bind_some, some-is}
@@ -28,7 +28,7 @@ last-found (item (tables e ys) no_items) = refl
 last-found (item (table f us) no_items) = refl
 last-found (item n (item m xs)) = last-found (item m xs)
 
-in-found : (n : Node) → slots_in (node_by_place n) ≡ option_map slots_by_place (slots_in n)
+in-found : (n : Node) → block_slots (node_by_place n) ≡ option_map slots_by_place (block_slots n)
 in-found nothing = refl
 in-found (leaf s x d) = refl
 in-found (list f xs) = refl
@@ -46,7 +46,7 @@ last-is-placed end (item (tables x ys) no_items) us e p = absurd cc
 last-is-placed end (item (table f vs) no_items) us e p = subst (ArePlaced end) (some-is vs us e) p.0
 last-is-placed end (item n (item m xs)) us e p = last-is-placed end (item m xs) us e p.1
 
-in-is-placed : (end : ℕ) (n : Node) (us : Slots) → slots_in n ≡ Some us → NodeIsPlaced end n → ArePlaced end us
+in-is-placed : (end : ℕ) (n : Node) (us : Slots) → block_slots n ≡ Some us → NodeIsPlaced end n → ArePlaced end us
 in-is-placed end nothing us e p = absurd cc
 in-is-placed end (leaf s x d) us e p = absurd cc
 in-is-placed end (list f xs) us e p = absurd cc
@@ -60,7 +60,7 @@ in-is-placed end (tables x xs) us e p = last-is-placed end xs us e p
 pub along_in_order : (ks : List Text) (end : ℕ) (ss : Slots) → ArePlaced end ss → slots_along ks (slots_by_place ss) ≡ option_map slots_by_place (slots_along ks ss)
 along_in_order [] end ss p = refl
 along_in_order (k ∷ ks) end ss p =
-    ap (λ (o : Option Node). option_and_then (slots_along ks) (option_and_then slots_in o)) (node-order end k ss p)
+    ap (λ (o : Option Node). option_and_then (slots_along ks) (option_and_then block_slots o)) (node-order end k ss p)
     ∙ by_node (node_at k ss) (λ n at us e. along_in_order ks end us (in-is-placed end n us e (found-placed end k ss n at p)))
   where
     by_slots : (o : Option Slots) → ((us : Slots) → o ≡ Some us → slots_along ks (slots_by_place us) ≡ option_map slots_by_place (slots_along ks us))
@@ -69,18 +69,18 @@ along_in_order (k ∷ ks) end ss p =
     by_slots (Some us) h = h us refl
 
     by_node : (o : Option Node)
-        → ((n : Node) → o ≡ Some n → (us : Slots) → slots_in n ≡ Some us → slots_along ks (slots_by_place us) ≡ option_map slots_by_place (slots_along ks us))
-        → option_and_then (slots_along ks) (option_and_then slots_in (option_map node_by_place o))
-        ≡ option_map slots_by_place (option_and_then (slots_along ks) (option_and_then slots_in o))
+        → ((n : Node) → o ≡ Some n → (us : Slots) → block_slots n ≡ Some us → slots_along ks (slots_by_place us) ≡ option_map slots_by_place (slots_along ks us))
+        → option_and_then (slots_along ks) (option_and_then block_slots (option_map node_by_place o))
+        ≡ option_map slots_by_place (option_and_then (slots_along ks) (option_and_then block_slots o))
     by_node None h = refl
-    by_node (Some n) h = ap (option_and_then (slots_along ks)) (in-found n) ∙ by_slots (slots_in n) (λ us e. h n refl us e)
+    by_node (Some n) h = ap (option_and_then (slots_along ks)) (in-found n) ∙ by_slots (block_slots n) (λ us e. h n refl us e)
 
 -- They are placed, where all are.
 pub along_placed : (ks : List Text) (end : ℕ) (ss us : Slots) → slots_along ks ss ≡ Some us → ArePlaced end ss → ArePlaced end us
 along_placed [] end ss us e p = subst (ArePlaced end) (some-is ss us e) p
 along_placed (k ∷ ks) end ss us e p =
-    let (vs, there, further) = bind_some (option_and_then slots_in (node_at k ss)) (slots_along ks) us e in
-    let (n, at, within) = bind_some (node_at k ss) slots_in vs there in
+    let (vs, there, further) = bind_some (option_and_then block_slots (node_at k ss)) (slots_along ks) us e in
+    let (n, at, within) = bind_some (node_at k ss) block_slots vs there in
     along_placed ks end vs us further (in-is-placed end n vs within (found-placed end k ss n at p))
 
 -- ---- others put there

@@ -10,7 +10,7 @@ use Rattle.toml_edit_model.specs.Tree.{TableFields, Node, nothing, leaf, list, i
 use Rattle.toml_edit_model.specs.TreeOf.{spanned_in, AreElementsOf, AreSlotsOf}
 use Rattle.toml_edit_laws.specs.InlineTree.{node_at, with_node}
 use Rattle.toml_edit_laws.specs.TableTree.{change_last, change_item, change_under, change_below_node, change_at, add_line, own_mentions, add_statement}
-use Rattle.toml_edit_laws.specs.Building.{keys_in, last_slots, slots_in, slots_along, change_in, change_along}
+use Rattle.toml_edit_laws.specs.Building.{keys_in, last_slots, block_slots, slots_along, change_in, change_along}
 use Rattle.toml_edit_laws.proofs.common.Tests.{true-false}
 use Rattle.toml_edit_laws.proofs.mentions.GatherLaws.{first_of_key, first_of_key-is}
 use Rattle.toml_edit_laws.proofs.clashes.ClashMentions.{is_table_role, AreOfStatements, statements-under, statements-under_path}
@@ -70,10 +70,10 @@ under-change : (k : Text) (one other : Node → Option Node) (ss : Slots) (n : N
 under-change k one other ss n e h =
     ap (change_found k one ss) e ∙ ap (option_map (λ (changed : Node). with_node k changed ss)) h ∙ sym (ap (change_found k other ss) e)
 
-found-down : (k : Text) (ks : List Text) (ss inner last : Slots) (n : Node) → node_at k ss ≡ Some n → slots_in n ≡ Some inner → slots_along ks inner ≡ Some last
+found-down : (k : Text) (ks : List Text) (ss inner last : Slots) (n : Node) → node_at k ss ≡ Some n → block_slots n ≡ Some inner → slots_along ks inner ≡ Some last
     → slots_along (k ∷ ks) ss ≡ Some last
 found-down k ks ss inner last n e g h =
-    ap (λ (o : Option Node). option_and_then (slots_along ks) (option_and_then slots_in o)) e ∙ ap (option_and_then (slots_along ks)) g ∙ h
+    ap (λ (o : Option Node). option_and_then (slots_along ks) (option_and_then block_slots o)) e ∙ ap (option_and_then (slots_along ks)) g ∙ h
 
 module _ (mode : Mode) where
   -- the last element that is there is a table

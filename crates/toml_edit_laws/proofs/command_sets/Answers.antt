@@ -5,6 +5,7 @@ use Rattle.toml_edit_laws.proofs.commands.Apart.{set_keeps_items}
 use Rattle.toml_edit_laws.proofs.commands.ReadingBack.{set_reads_back}
 use Rattle.toml_edit_laws.proofs.commands.Finding.{get_after_set}
 use Rattle.toml_edit_laws.proofs.commands.Refusing.{set_refuses}
+use Rattle.toml_edit_laws.proofs.commands.Stepping.{set_steps}
 use Rattle.toml_edit_laws.proofs.command_sets.Goals as goal
 
 pub returns : goal.returns
@@ -15,6 +16,7 @@ returns c =
       rest = set_keeps_the_rest;
       items = set_keeps_items;
       back = set_reads_back;
+      steps = set_steps;
       found = get_after_set;
       refuses = set_refuses;
     }

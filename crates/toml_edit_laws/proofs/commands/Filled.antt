@@ -8,9 +8,7 @@ use Rattle.toml_edit_model.specs.Paths.{at_key, at_element, Mention, Source, all
 use Rattle.toml_edit_model.specs.Tree.{Key, Extent, TableFields, Node, nothing, leaf, list, inline, table, tables, Items, no_items, item, Slots, no_slots, slot, is_value_node}
 use Rattle.toml_edit_model.specs.TreeOf.{owned_in, Entry, value_start, entries, IsValueNode, AreElementNodes, AreEntrySlots, IsLineNode, IsNodeOf, AreElementsOf, AreSlotsOf}
 use Rattle.toml_edit_model.specs.HeaderOrder.{Visit, visit_of}
-use Rattle.toml_edit_model.specs.SlotLists.{Slot, slot_list, slot_of}
-use Rattle.toml_edit_model.specs.Lists.{item_list, is_item}
-use Rattle.toml_edit_laws.specs.Locality.{Turn, into_table, into_element, is_table, Leads, root_visit, tables_in}
+use Rattle.toml_edit_laws.specs.Locality.{Turn, into_table, into_element, Leads, root_visit, element_count}
 use Rattle.toml_edit_laws.specs.Commands.{element_of, present, second, child, item_below}
 use Rattle.toml_edit_laws.specs.CommandLaws.{Goes, ReadHasNoPlaceholders, PathsHaveWays}
 use Rattle.toml_edit_laws.proofs.commands.Keeping.{present-is, item-parts}
@@ -20,6 +18,9 @@ use Rattle.toml_edit_laws.proofs.common.OptionSteps.{some-is}
 use Rattle.toml_edit_laws.proofs.common.Tests.{either}
 use Rattle.toml_edit_model.specs.TableMentions.{under, kept, array_headers}
 use Rattle.toml_edit_model.specs.Roles.{ends_path}
+use Rattle.toml_edit_model.specs.Slots.{Slot, keyed, lookup_slot}
+use Rattle.toml_edit_model.specs.Lists.{slot_list, item_list, is_item}
+use Rattle.toml_edit_model.specs.Shown.{is_table_node}
 
 -- values inside a value, and no tables
 abbrev mutual
@@ -58,12 +59,12 @@ abbrev mutual
 
 -- what holds of each node of such slots, or of such items, holds of one that is found there
 slot-holds : (P : Node → Type 0) (All : Slots → Type 0) → ((k : Key) (n : Node) (ss : Slots) → All (slot k n ss) → P n × All ss)
-    → (k : Text) (ss : Slots) (s : Slot) → All ss → slot_of k (slot_list ss) ≡ Some s → P s.1
+    → (k : Text) (ss : Slots) (s : Slot Node) → All ss → lookup_slot k (slot_list ss) ≡ Some s → P s.item
 slot-holds P All parts k no_slots s w h = absurd cc
 slot-holds P All parts k (slot l n ss) s w h = by_test (same_text k l.name) h (slot-holds P All parts k ss s (parts l n ss w).1)
   where
-    by_test : (b : Bool) → (if b then Some (l, n) else slot_of k (slot_list ss)) ≡ Some s → (slot_of k (slot_list ss) ≡ Some s → P s.1) → P s.1
-    by_test true h ih = subst (λ (x : Slot). P x.1) (some-is (l, n) s h) (parts l n ss w).0
+    by_test : (b : Bool) → (if b then Some (keyed l n) else lookup_slot k (slot_list ss)) ≡ Some s → (lookup_slot k (slot_list ss) ≡ Some s → P s.item) → P s.item
+    by_test true h ih = subst (λ (x : Slot Node). P x.item) (some-is (keyed l n) s h) (parts l n ss w).0
     by_test false h ih = ih h
 
 item-holds : (P : Node → Type 0) (All : Items → Type 0) → ((n : Node) (xs : Items) → All (item n xs) → P n × All xs)
@@ -74,7 +75,7 @@ item-holds P All parts (item m xs) [] n after w h = subst P (let e : m ≡ n = c
 item-holds P All parts (item m xs) (x ∷ before) n after w h =
     item-holds P All parts xs before n after (parts m xs w).1 (let e : item_list xs ≡ before ++ (n ∷ after) = cc in e)
 
-filled-slot : (k : Text) (ss : Slots) (s : Slot) → SlotsAreFilled ss → slot_of k (slot_list ss) ≡ Some s → IsFilled s.1
+filled-slot : (k : Text) (ss : Slots) (s : Slot Node) → SlotsAreFilled ss → lookup_slot k (slot_list ss) ≡ Some s → IsFilled s.item
 filled-slot = slot-holds IsFilled SlotsAreFilled (λ k n ss w. w)
 
 filled-item : (xs : Items) (before : List Node) (n : Node) (after : List Node) → ItemsAreFilled xs → item_list xs ≡ before ++ (n ∷ after) → IsFilled n
@@ -83,10 +84,10 @@ filled-item = item-holds IsFilled ItemsAreFilled (λ n xs w. w)
 leads-filled : (way : List Turn) (s v : Visit) → SlotsAreFilled s.slots → Leads way s v → SlotsAreFilled v.slots
 leads-filled [] s v w e = subst (λ (x : Visit). SlotsAreFilled x.slots) e w
 leads-filled (into_table k ∷ way) s v w (l, f, ss, eq, rest) =
-    leads-filled way (visit_of (to_key s.path l.name) (s.keys ++ (l ∷ [])) false f ss) v (filled-slot k s.slots (l, table f ss) w eq) rest
+    leads-filled way (visit_of (to_key s.path l.name) (s.keys ++ (l ∷ [])) false f ss) v (filled-slot k s.slots (keyed l (table f ss)) w eq) rest
 leads-filled (into_element k i ∷ way) s v w (l, e, xs, before, f, ss, after, eq, items, place, rest) =
-    leads-filled way (visit_of (to_element (to_key s.path l.name) (tables_in before)) (s.keys ++ (l ∷ [])) true f ss) v
-    (filled-item xs before (table f ss) after (filled-slot k s.slots (l, tables e xs) w eq) items) rest
+    leads-filled way (visit_of (to_element (to_key s.path l.name) (element_count before)) (s.keys ++ (l ∷ [])) true f ss) v
+    (filled-item xs before (table f ss) after (filled-slot k s.slots (keyed l (tables e xs)) w eq) items) rest
 
 filled-is : (n : Node) → IsFilled n → is_item n ≡ true
 filled-is nothing h = absurd h
@@ -96,14 +97,14 @@ filled-is (inline f ss) h = refl
 filled-is (table f ss) h = refl
 filled-is (tables e xs) h = refl
 
-inside-slot : (k : Text) (ss : Slots) (s : Slot) → SlotsAreInside ss → slot_of k (slot_list ss) ≡ Some s → IsInside s.1
+inside-slot : (k : Text) (ss : Slots) (s : Slot Node) → SlotsAreInside ss → lookup_slot k (slot_list ss) ≡ Some s → IsInside s.item
 inside-slot = slot-holds IsInside SlotsAreInside (λ k n ss w. w)
 
 inside-item : (xs : Items) (before : List Node) (n : Node) (after : List Node) → ItemsAreInside xs → item_list xs ≡ before ++ (n ∷ after) → IsInside n
 inside-item = item-holds IsInside ItemsAreInside (λ n xs w. w)
 
 inside-child : (k : Text) (n a : Node) → IsInside n → child k n ≡ Some a → IsInside a
-inside-child k (inline f ss) a w h = let p = present-is (slot_of k (slot_list ss)) a h in inside-slot k ss (p.key, a) w p.is
+inside-child k (inline f ss) a w h = let p = present-is (lookup_slot k (slot_list ss)) a h in inside-slot k ss (keyed p.key a) w p.is
 inside-child k (list f xs) a w h =
     let y = some-second (element_of is_value_node k (item_list xs)) a h in
     let r = named is_value_node k (item_list xs) (y.0, a) y.1 in
@@ -140,11 +141,11 @@ Later f ss [] = Unit {0}
 Later f ss (x ∷ path) = Below f ss path
 
 module _ (f : TableFields) (ss : Slots) (k : Text) (s : Visit) where
-  by_element : (l : Key) (e : Extent) (xs : Items) (x : Text) (path : List Text) (i : ℕ) (b : Node) → slot_of k (slot_list s.slots) ≡ Some (l, tables e xs)
-      → ItemsAreFilled xs → (r : Named is_table x (item_list xs) (i, b)) → item_below path b ≡ Some (table f ss) → Below f ss path → HasWay s (k ∷ x ∷ path) f ss
+  by_element : (l : Key) (e : Extent) (xs : Items) (x : Text) (path : List Text) (i : ℕ) (b : Node) → lookup_slot k (slot_list s.slots) ≡ Some (keyed l (tables e xs))
+      → ItemsAreFilled xs → (r : Named is_table_node x (item_list xs) (i, b)) → item_below path b ≡ Some (table f ss) → Below f ss path → HasWay s (k ∷ x ∷ path) f ss
   by_element l e xs x path i (table g ys) is w r h go =
       let p = item-parts i (item_list xs) (table g ys) r.item in
-      let v : Visit = visit_of (to_element (to_key s.path l.name) (tables_in p.before)) (s.keys ++ (l ∷ [])) true g ys in
+      let v : Visit = visit_of (to_element (to_key s.path l.name) (element_count p.before)) (s.keys ++ (l ∷ [])) true g ys in
       let z = go v (filled-item xs p.before (table g ys) p.after w p.is) h in
       record {
         way = into_element k i ∷ z.way;
@@ -160,16 +161,16 @@ module _ (f : TableFields) (ss : Slots) (k : Text) (s : Visit) where
   by_element l e xs x path i (inline g ys) is w r h go = absurd (let c : false ≡ true = r.kind in cc)
   by_element l e xs x path i nothing is w r h go = absurd (let c : false ≡ true = r.kind in cc)
 
-  by_kind : (l : Key) (a : Node) (path : List Text) → slot_of k (slot_list s.slots) ≡ Some (l, a) → IsFilled a → item_below path a ≡ Some (table f ss) → Below f ss path → Later f ss path
+  by_kind : (l : Key) (a : Node) (path : List Text) → lookup_slot k (slot_list s.slots) ≡ Some (keyed l a) → IsFilled a → item_below path a ≡ Some (table f ss) → Below f ss path → Later f ss path
       → HasWay s (k ∷ path) f ss
   by_kind l (table g ys) path is w h go later =
       let z = go (visit_of (to_key s.path l.name) (s.keys ++ (l ∷ [])) false g ys) w h in
       record { way = into_table k ∷ z.way; visit = z.visit; goes = (refl, z.goes); leads = (l, g, ys, is, z.leads); fields = z.fields; slots = z.slots }
   by_kind l (tables e xs) [] is w h go later = absurd cc
   by_kind l (tables e xs) (x ∷ path) is w h go later =
-      let b = some-and (item_below path) (second (element_of is_table x (item_list xs))) (table f ss) h in
-      let y = some-second (element_of is_table x (item_list xs)) b.0 b.1 in
-      by_element l e xs x path y.0 b.0 is w (named is_table x (item_list xs) (y.0, b.0) y.1) b.2 later
+      let b = some-and (item_below path) (second (element_of is_table_node x (item_list xs))) (table f ss) h in
+      let y = some-second (element_of is_table_node x (item_list xs)) b.0 b.1 in
+      by_element l e xs x path y.0 b.0 is w (named is_table_node x (item_list xs) (y.0, b.0) y.1) b.2 later
   by_kind l (leaf g ys d) path is w h go later = absurd (no-table-inside path (leaf g ys d) f ss w h)
   by_kind l (list g ys) path is w h go later = absurd (no-table-inside path (list g ys) f ss w h)
   by_kind l (inline g ys) path is w h go later = absurd (no-table-inside path (inline g ys) f ss w h)
@@ -180,13 +181,13 @@ has-way [] s f ss w h =
     let e = table-parts s.fields f s.slots ss (some-is (table s.fields s.slots) (table f ss) h) in
     record { way = []; visit = s; goes = tt; leads = refl; fields = e.0; slots = e.1 }
 has-way (k ∷ []) s f ss w h =
-    let a = some-and (item_below []) (present (slot_of k (slot_list s.slots))) (table f ss) h in
-    let p = present-is (slot_of k (slot_list s.slots)) a.0 a.1 in
-    by_kind f ss k s p.key a.0 [] p.is (filled-slot k s.slots (p.key, a.0) w p.is) a.2 (λ v wv g. has-way [] v f ss wv g) tt
+    let a = some-and (item_below []) (present (lookup_slot k (slot_list s.slots))) (table f ss) h in
+    let p = present-is (lookup_slot k (slot_list s.slots)) a.0 a.1 in
+    by_kind f ss k s p.key a.0 [] p.is (filled-slot k s.slots (keyed p.key a.0) w p.is) a.2 (λ v wv g. has-way [] v f ss wv g) tt
 has-way (k ∷ x ∷ path) s f ss w h =
-    let a = some-and (item_below (x ∷ path)) (present (slot_of k (slot_list s.slots))) (table f ss) h in
-    let p = present-is (slot_of k (slot_list s.slots)) a.0 a.1 in
-    by_kind f ss k s p.key a.0 (x ∷ path) p.is (filled-slot k s.slots (p.key, a.0) w p.is) a.2 (λ v wv g. has-way (x ∷ path) v f ss wv g)
+    let a = some-and (item_below (x ∷ path)) (present (lookup_slot k (slot_list s.slots))) (table f ss) h in
+    let p = present-is (lookup_slot k (slot_list s.slots)) a.0 a.1 in
+    by_kind f ss k s p.key a.0 (x ∷ path) p.is (filled-slot k s.slots (keyed p.key a.0) w p.is) a.2 (λ v wv g. has-way (x ∷ path) v f ss wv g)
     (λ v wv g. has-way path v f ss wv g)
 
 module _ (mode : Mode) where
@@ -281,7 +282,7 @@ module _ (mode : Mode) where
 
   pub read_has_no_placeholders : ReadHasNoPlaceholders mode
   read_has_no_placeholders d t path v k s of names is_there =
-      filled-is s.1
+      filled-is s.item
       (filled-slot k v.slots s (leads-filled names.way (root_visit t) v (slots-filled t.slots (all_mentions d) (kept (all_mentions d)) of.slots) names.leads) is_there)
 
   -- ---- the way of a path

@@ -5,9 +5,9 @@ use Rattle.toml_edit_model.specs.Mode.{Mode}
 use Rattle.toml_edit_model.specs.Text.{Text, joined}
 use Rattle.toml_edit_model.specs.Syntax.{Statement, Document, document_text, statement_text}
 use Rattle.toml_edit_model.specs.Normal.{normal_in, has_open_end, normal_last}
-use Rattle.toml_edit_model.specs.Tree.{TableFields, Tree, shown_prefix, shown_suffix, shown_raw}
+use Rattle.toml_edit_model.specs.Tree.{Node, TableFields, Tree, shown_prefix, shown_suffix, shown_raw}
 use Rattle.toml_edit_model.specs.Print.{printed, add_before, final_of, written_statements}
-use Rattle.toml_edit_model.specs.SlotLists.{Slot}
+use Rattle.toml_edit_model.specs.Slots.{Slot}
 use Rattle.toml_edit_laws.specs.Locality.{Turn, edited, statements, framed}
 use Rattle.toml_edit_laws.specs.CommandLaws.{IsRead, text_with, print_as}
 use Rattle.toml_edit_laws.proofs.print_of_read.PrintOfRead.{printed_normal, written-last}
@@ -44,7 +44,7 @@ module _ (mode : Mode) where
       ∙ ap (λ (f : TableFields). shown_prefix mode [] f.decor ++ (joined (map statement_text last) ++ (shown_suffix mode [] f.decor ++ shown_raw mode t.trailing))) (sym read.tree.root)
 
   -- the print of an edited tree, its end open where that of the document is
-  pub edited-text : (d : Document) (t : Tree) → IsRead mode d t → (way : List Turn) (g : List Slot → List Slot)
+  pub edited-text : (d : Document) (t : Tree) → IsRead mode d t → (way : List Turn) (g : List (Slot Node) → List (Slot Node))
       → print_as mode d (edited way g t) ≡ text_with mode d (statements (printed mode (edited way g t)))
   edited-text d t read way g =
       ap (λ ss. framed mode t (joined (map statement_text ss))) (written-last mode d read.is_document (edited way g t) read.tree.root read.tree.trailing)

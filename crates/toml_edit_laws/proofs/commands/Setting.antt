@@ -8,14 +8,14 @@ use Rattle.toml_edit_model.specs.Syntax.{Statement, key_line, Document, Frame}
 use Rattle.toml_edit_model.specs.Paths.{Path, to_key}
 use Rattle.toml_edit_model.specs.Tree.{Decor, Key, Node, nothing, leaf, list, inline, table, tables, Tree, node_decor, is_value_node, SlotsAreWellMade}
 use Rattle.toml_edit_model.specs.HeaderOrder.{Visit}
-use Rattle.toml_edit_model.specs.Fits.{is_dotted_inline, is_steady_in}
+use Rattle.toml_edit_model.specs.Fits.{is_steady_in}
 use Rattle.toml_edit_model.specs.Print.{Printed, printed, printed_line, printed_table, value_of, line_statement}
 use Rattle.toml_edit_model.specs.Conversions.{with_decor}
 use Rattle.toml_edit_model.specs.Keys.{new_key}
-use Rattle.toml_edit_model.specs.SlotLists.{Slot, slot_list, slot_of, changed}
-use Rattle.toml_edit_model.specs.Lists.{item_list}
-use Rattle.toml_edit_laws.specs.Locality.{Turn, root_visit, edited, slots_from, items_from, is_plain_value, value_line, statements, OneChanges, OneMore, StaysSteady}
-use Rattle.toml_edit_laws.specs.Commands.{Answer, done, refused, mapped, element_of, change_slot, change_element, below, root_item, set_below, with_slots}
+use Rattle.toml_edit_model.specs.Slots.{Slot, keyed, with_item, lookup_slot, changed}
+use Rattle.toml_edit_model.specs.Lists.{slot_list, slots_from, item_list, items_from, is_dotted_inline}
+use Rattle.toml_edit_laws.specs.Locality.{Turn, root_visit, edited, is_plain_value, value_line, statements, OneChanges, OneMore, StaysSteady}
+use Rattle.toml_edit_laws.specs.Commands.{Answer, done, refused, mapped, element_of, change_slot, change_element, child_changed, root_item, set_below, with_slots}
 use Rattle.toml_edit_laws.specs.CommandLaws.{IsRead, NamesTable, text_with, ChangesStatement, SetChanges, made_below, AddsStatement, SetAdds}
 use Rattle.toml_edit_laws.proofs.locality.Slots.{Found, found}
 use Rattle.toml_edit_laws.proofs.locality.Sound.{Steady, steady-parts, leads-made, leads-sound, sound-slot}
@@ -56,13 +56,13 @@ with-decor-stands d nothing old h is = absurd cc
 
 -- the value after a change inside it
 pub below-stands : (makes : Bool) (k : Text) (go : Node → Answer Node) (old n : Node) → is_value_node old ≡ true → is_dotted_inline old ≡ false
-    → below makes k go old ≡ done n → Stands old n
+    → child_changed makes k go old ≡ done n → Stands old n
 below-stands makes k go (leaf s r d) n is undotted h = absurd cc
 below-stands makes k go (list f xs) n is undotted h =
     let w = was-mapped (λ ns. list f (items_from ns)) (change_element go (item_list xs) (element_of is_value_node k (item_list xs))) n h in
     subst (Stands (list f xs)) (sym w.gives) (refl, refl)
 below-stands makes k go (inline f ss) n is undotted h =
-    let w = was-mapped (λ xs. inline f (slots_from xs)) (change_slot makes k go (slot_list ss) (slot_of k (slot_list ss))) n h in
+    let w = was-mapped (λ xs. inline f (slots_from xs)) (change_slot makes k go (slot_list ss) (lookup_slot k (slot_list ss))) n h in
     subst (Stands (inline f ss)) (sym w.gives) (ap not undotted, refl)
 below-stands makes k go (table f ss) n is undotted h = absurd cc
 below-stands makes k go (tables e xs) n is undotted h = absurd cc
@@ -90,7 +90,7 @@ made-below-plain value (k ∷ more) h = refl
 module _ (mode : Mode) where
   -- ---- the statement that changes
 
-  module _ (d : Document) (t : Tree) (read : IsRead mode d t) (way : List Turn) (g : List Slot → List Slot) (p : Path) (l : Key) (old n : Node)
+  module _ (d : Document) (t : Tree) (read : IsRead mode d t) (way : List Turn) (g : List (Slot Node) → List (Slot Node)) (p : Path) (l : Key) (old n : Node)
       (same : node_decor n ≡ node_decor old) (one : OneChanges mode t (edited way g t) p l l old n) where
     abbrev at_end : List Key
     at_end = one.keys ++ (l ∷ [])
@@ -140,24 +140,24 @@ module _ (mode : Mode) where
 
   -- a command that changes a value of a table that the walk enters, on its way inside
   module _ (makes : Bool) (run : List Text → Node → Answer Node) (rest : List Text)
-      (goes_down : (k : Text) (path : List Text) (n : Node) → run (k ∷ (path ++ rest)) n ≡ below makes k (run (path ++ rest)) n) where
+      (goes_down : (k : Text) (path : List Text) (n : Node) → run (k ∷ (path ++ rest)) n ≡ child_changed makes k (run (path ++ rest)) n) where
     pub value-changes : (d : Document) (t : Tree) (path : List Text) (v : Visit) (k : Text) (l : Key) (old n : Node)
-        → IsRead mode d t → (names : NamesTable t path v) → slot_of k (slot_list v.slots) ≡ Some (l, old) → is_value_node old ≡ true
+        → IsRead mode d t → (names : NamesTable t path v) → lookup_slot k (slot_list v.slots) ≡ Some (keyed l old) → is_value_node old ≡ true
         → (is_dotted_inline old ≡ false → Stands old n)
-        → run rest (table v.fields v.slots) ≡ done (table v.fields (slots_from (changed k (λ (s : Slot). (s.0, n)) (slot_list v.slots))))
+        → run rest (table v.fields v.slots) ≡ done (table v.fields (slots_from (changed k (with_item n) (slot_list v.slots))))
         → (u : Tree) × (mapped (with_slots t) (run (path ++ rest) (root_item t)) ≡ done u) × ChangesStatement mode d t u (to_key v.path l.name) old n × StaysSteady mode t u
     value-changes d t path v k l old n read names is_there is_value stands here =
         let way = names.way in
-        let g : List Slot → List Slot = changed k (λ s. (s.0, n)) in
+        let g : List (Slot Node) → List (Slot Node) = changed k (with_item n) in
         let u : Tree = edited way g t in
         let steady : is_steady_in mode t ≡ true = steady-tree mode d t read.tree in
         let st : Steady mode t = steady-parts mode t steady in
         let well : SlotsAreWellMade v.slots = leads-made way (root_visit t) v read.made names.leads in
-        let fd : Found k (l, old) (slot_list v.slots) = found k v.slots (l, old) well is_there in
-        let parts = sound-slot k (l, old) v.slots fd (leads-sound way (root_visit t) v read.made st.sound names.leads) in
+        let fd : Found k (keyed l old) (slot_list v.slots) = found k v.slots (keyed l old) well is_there in
+        let parts = sound-slot k (keyed l old) v.slots fd (leads-sound way (root_visit t) v read.made st.sound names.leads) in
         let new : Stands old n = stands parts.1 in
         let law = replaced mode t way v k (λ x. x) l old n read.made steady names.leads is_there is_value new.0 refl in
-        let along = goes-along makes run rest goes_down g way path (root_visit t) v names.goes names.leads here in
+        let along = goes-along makes run rest goes_down g way path (root_visit t) v read.made names.goes names.leads here in
         (u, ap (mapped (with_slots t)) along, changes-statement d t read way g (to_key v.path l.name) l old n new.1 law.0, law.1)
 
   pub set_changes : SetChanges mode
@@ -165,11 +165,11 @@ module _ (mode : Mode) where
       value-changes true (set_below value) (k ∷ inner) (λ j more n. refl) d t path v k l old n read names is_there is_value
       (λ undotted. set-stands value inner old n is_value undotted plain set)
       (ap (λ o. mapped (λ xs. table v.fields (slots_from xs)) (change_slot true k (set_below value inner) (slot_list v.slots) o)) is_there
-      ∙ ap (λ a. mapped (λ xs. table v.fields (slots_from xs)) (mapped (λ m. changed k (λ (old : Slot). (old.0, m)) (slot_list v.slots)) a)) set)
+      ∙ ap (λ a. mapped (λ xs. table v.fields (slots_from xs)) (mapped (λ m. changed k (with_item m) (slot_list v.slots)) a)) set)
 
   -- ---- a new key
 
-  module _ (d : Document) (t : Tree) (read : IsRead mode d t) (way : List Turn) (g : List Slot → List Slot) (v : Visit) (k : Key) (n : Node)
+  module _ (d : Document) (t : Tree) (read : IsRead mode d t) (way : List Turn) (g : List (Slot Node) → List (Slot Node)) (v : Visit) (k : Key) (n : Node)
       (one : OneMore mode t (edited way g t) v k n) where
     pub adds-statement : AddsStatement mode d t (edited way g t) v k n
     adds-statement =
@@ -195,10 +195,10 @@ module _ (mode : Mode) where
   set_adds d t path v k more value read names is_new plain has =
       let way = names.way in
       let n : Node = made_below more value in
-      let g : List Slot → List Slot = λ ss. ss ++ ((new_key k, n) ∷ []) in
+      let g : List (Slot Node) → List (Slot Node) = λ ss. ss ++ (keyed (new_key k) n ∷ []) in
       let law = added mode t way v (new_key k) n read.made (steady-tree mode d t read.tree) names.leads is_new (made-below-plain value more plain) has in
       let here : set_below value (k ∷ more) (table v.fields v.slots) ≡ done (table v.fields (slots_from (g (slot_list v.slots)))) =
       ap (λ o. mapped (λ xs. table v.fields (slots_from xs)) (change_slot true k (set_below value more) (slot_list v.slots) o)) is_new
-      ∙ ap (λ a. mapped (λ xs. table v.fields (slots_from xs)) (mapped (λ m. slot_list v.slots ++ ((new_key k, m) ∷ [])) a)) (made-below-is value more) in
-      let along = goes-along true (set_below value) (k ∷ more) (λ j rest n. refl) g way path (root_visit t) v names.goes names.leads here in
+      ∙ ap (λ a. mapped (λ xs. table v.fields (slots_from xs)) (mapped (λ m. slot_list v.slots ++ (keyed (new_key k) m ∷ [])) a)) (made-below-is value more) in
+      let along = goes-along true (set_below value) (k ∷ more) (λ j rest n. refl) g way path (root_visit t) v read.made names.goes names.leads here in
       (edited way g t, ap (mapped (with_slots t)) along, adds-statement d t read way g v (new_key k) n law.0, law.1)

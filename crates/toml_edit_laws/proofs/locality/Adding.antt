@@ -10,8 +10,10 @@ use Rattle.toml_edit_model.specs.Paths.{at_key, Path, to_key, to_element}
 use Rattle.toml_edit_model.specs.Tree.{Key, Node, SlotsAreWellMade, Tree}
 use Rattle.toml_edit_model.specs.HeaderOrder.{Visit, visit_of, node_walk, slots_walk, is_root}
 use Rattle.toml_edit_model.specs.Print.{Line, table_lines, below, is_line_node, has_header, Printed, printed, printed_line, printed_table}
-use Rattle.toml_edit_model.specs.SlotLists.{Slot, slot_list, slot_of}
-use Rattle.toml_edit_laws.specs.Locality.{Turn, into_table, into_element, Leads, root_visit, edited, on_slots, value_line, is_plain_value, has_block, OneMore, Added, tables_in, texts, framed}
+use Rattle.toml_edit_model.specs.Slots.{Slot, keyed, lookup_slot}
+use Rattle.toml_edit_model.specs.Lists.{slot_list}
+use Rattle.toml_edit_laws.proofs.locality.Slots.{slots_under}
+use Rattle.toml_edit_laws.specs.Locality.{Turn, into_table, into_element, Leads, root_visit, edited, value_line, is_plain_value, has_block, OneMore, Added, element_count, texts, framed}
 use Rattle.toml_edit_laws.proofs.common.Tests.{and_left, and_right, not-true, true-false}
 use Rattle.toml_edit_laws.proofs.common.PathLaws.{front-refl}
 use Rattle.toml_edit_laws.proofs.locality.Blocks.{Block, block_of, blocks, blocks-append, is_headed, block_header, block_printed}
@@ -35,14 +37,14 @@ leads-keys [] s v h e = subst (λ (x : Visit). is_empty x.keys ≡ false) e h
 leads-keys (into_table k ∷ way) s v h (l, f, ss, eq, rest) =
     leads-keys way (visit_of (to_key s.path l.name) (s.keys ++ (l ∷ [])) false f ss) v (not_empty-last s.keys l) rest
 leads-keys (into_element k i ∷ way) s v h (l, e, xs, before, f, ss, after, eq, items, place, rest) =
-    leads-keys way (visit_of (to_element (to_key s.path l.name) (tables_in before)) (s.keys ++ (l ∷ [])) true f ss) v (not_empty-last s.keys l) rest
+    leads-keys way (visit_of (to_element (to_key s.path l.name) (element_count before)) (s.keys ++ (l ∷ [])) true f ss) v (not_empty-last s.keys l) rest
 
 leads-root : (way : List Turn) (t : Tree) (v : Visit) → Leads way (root_visit t) v → is_root v ≡ true → root_visit t ≡ v
 leads-root [] t v e h = e
 leads-root (into_table k ∷ way) t v (l, f, ss, eq, rest) h =
     true-false (is_root v) h (leads-keys way (visit_of (to_key [] l.name) (l ∷ []) false f ss) v refl rest)
 leads-root (into_element k i ∷ way) t v (l, e, xs, before, f, ss, after, eq, items, place, rest) h =
-    true-false (is_root v) h (leads-keys way (visit_of (to_element (to_key [] l.name) (tables_in before)) (l ∷ []) true f ss) v refl rest)
+    true-false (is_root v) h (leads-keys way (visit_of (to_element (to_key [] l.name) (element_count before)) (l ∷ []) true f ss) v refl rest)
 
 module _ (mode : Mode) where
   -- a table with a block isn't dotted
@@ -72,9 +74,9 @@ module _ (mode : Mode) where
 
   module _ (t : Tree) (way : List Turn) (v : Visit) (k : Key) (n : Node)
       (made : SlotsAreWellMade t.slots) (st : Steady mode t) (leads : Leads way (root_visit t) v)
-      (is_new : slot_of k.name (slot_list v.slots) ≡ None) (plain : is_plain_value n ≡ true) (has : has_block mode v ≡ true) where
-    abbrev g : List Slot → List Slot
-    g = λ ss. ss ++ ((k, n) ∷ [])
+      (is_new : lookup_slot k.name (slot_list v.slots) ≡ None) (plain : is_plain_value n ≡ true) (has : has_block mode v ≡ true) where
+    abbrev g : List (Slot Node) → List (Slot Node)
+    g = λ ss. ss ++ (keyed k n ∷ [])
 
     abbrev u : Tree
     u = edited way g t
@@ -94,9 +96,9 @@ module _ (mode : Mode) where
     new-line : is_line_node n ≡ true
     new-line = line-value n (plain-value n plain) (plain-undotted n plain)
 
-    more-lines : (lk : List Key) → table_lines mode (on_slots g v.slots) lk ≡ table_lines mode v.slots lk ++ (value_line mode (lk ++ (k ∷ [])) n ∷ [])
+    more-lines : (lk : List Key) → table_lines mode (slots_under g v.slots) lk ≡ table_lines mode v.slots lk ++ (value_line mode (lk ++ (k ∷ [])) n ∷ [])
     more-lines lk =
-        lines-append mode (slot_list v.slots) ((k, n) ∷ []) lk
+        lines-append mode (slot_list v.slots) (keyed k n ∷ []) lk
         ∙ ap (λ z. table_lines mode z lk ++ (slot_lines mode k n lk ++ [])) (slots_from-list v.slots)
         ∙ ap (λ z. table_lines mode v.slots lk ++ z) (append-nil (slot_lines mode k n lk) ∙ slot-line mode k n lk new-line)
 
@@ -106,7 +108,7 @@ module _ (mode : Mode) where
         (other-lines-out mode q v.path k.name (front-refl q) bp lk (slot_list v.slots) at others)
 
     edit-lines : (bp : Path) (lk : List Key) → below bp lk ≡ v.path
-        → LineSplice mode q bp (M lk) (N lk) (table_lines mode v.slots lk) (table_lines mode (on_slots g v.slots) lk)
+        → LineSplice mode q bp (M lk) (N lk) (table_lines mode v.slots lk) (table_lines mode (slots_under g v.slots) lk)
     edit-lines bp lk at =
         record {
           front = table_lines mode v.slots lk;
@@ -117,7 +119,7 @@ module _ (mode : Mode) where
           out_back = tt;
         }
 
-    edit-blocks : BlockSplice mode q itself [] [] (blocks mode (slots_walk v.slots v.path v.keys)) (blocks mode (slots_walk (on_slots g v.slots) v.path v.keys))
+    edit-blocks : BlockSplice mode q itself [] [] (blocks mode (slots_walk v.slots v.path v.keys)) (blocks mode (slots_walk (slots_under g v.slots) v.path v.keys))
     edit-blocks =
         let own = node_walk n q (v.keys ++ (k ∷ [])) false in
         record {
@@ -125,7 +127,7 @@ module _ (mode : Mode) where
           back = [];
           first = sym (append-nil (blocks mode (slots_walk v.slots v.path v.keys)));
           second = ap (λ z. map itself (blocks mode z))
-              (walk-append (slot_list v.slots) ((k, n) ∷ []) v.path v.keys
+              (walk-append (slot_list v.slots) (keyed k n ∷ []) v.path v.keys
               ∙ ap (λ z. slots_walk z v.path v.keys ++ (own ++ [])) (slots_from-list v.slots)
               ∙ ap (λ z. slots_walk v.slots v.path v.keys ++ (z ++ [])) (no-value-walk n q (v.keys ++ (k ∷ [])) false (plain-value n plain)))
               ∙ ap (map itself) (blocks-append mode (slots_walk v.slots v.path v.keys) []);
@@ -137,7 +139,7 @@ module _ (mode : Mode) where
     whole : Whole mode q itself v g M N [] [] (tree_blocks mode t) (tree_blocks mode u)
     whole = whole-tree mode q itself v g M N [] [] (at_key k.name) (front-refl q) edit-lines edit-blocks way t made (firm-visits mode t st) leads
 
-    own : (whole.block ≡ block_of mode v) × (whole.lines ≡ table_lines mode (on_slots g v.slots) []) × (whole.keys ≡ [])
+    own : (whole.block ≡ block_of mode v) × (whole.lines ≡ table_lines mode (slots_under g v.slots) []) × (whole.keys ≡ [])
     own = elim whole.own [ inl e ↦ e | inr e ↦ true-false v.fields.is_dotted e (block-undotted way t v st.root leads has) ]
 
     abbrev changed_block : Block
@@ -174,7 +176,7 @@ module _ (mode : Mode) where
     new-sound : SlotsAreSound u.slots
     new-sound =
         along-sound way g (root_visit t) v made st.sound leads
-        (λ w s. sound-append (slot_list v.slots) ((k, n) ∷ []) (subst SlotsAreSound (sym (slots_from-list v.slots)) s)
+        (λ w s. sound-append (slot_list v.slots) (keyed k n ∷ []) (subst SlotsAreSound (sym (slots_from-list v.slots)) s)
         (plain-undotted n plain, value-sound n (plain-value n plain), tt))
 
     new-steady : Steady mode u
@@ -226,5 +228,5 @@ module _ (mode : Mode) where
   added t way v k n made steady leads is_new plain has =
       let st : Steady mode t = steady-parts mode t steady in (
         one-statement t way v k n made st leads is_new plain has,
-        stays-steady mode way (λ ss. ss ++ ((k, n) ∷ [])) t (new-steady t way v k n made st leads is_new plain has),
+        stays-steady mode way (λ ss. ss ++ (keyed k n ∷ [])) t (new-steady t way v k n made st leads is_new plain has),
       )

@@ -4,11 +4,11 @@ use Rattle.std.specs.Prelude.{◌||◌, not, map}
 use Rattle.std.specs.List.{AllByRecursion}
 use Rattle.toml_edit_model.specs.Mode.{Mode}
 use Rattle.toml_edit_model.specs.Paths.{Path}
-use Rattle.toml_edit_model.specs.Tree.{Key, Tree}
+use Rattle.toml_edit_model.specs.Tree.{Node, Key, Tree}
 use Rattle.toml_edit_model.specs.HeaderOrder.{Visit, slots_walk}
 use Rattle.toml_edit_model.specs.Print.{Line}
 use Rattle.toml_edit_model.specs.Fits.{has_steady_header}
-use Rattle.toml_edit_model.specs.SlotLists.{Slot}
+use Rattle.toml_edit_model.specs.Slots.{Slot, changed}
 use Rattle.toml_edit_laws.specs.Locality.{Turn, root_visit, edited, StaysSteady}
 use Rattle.toml_edit_laws.proofs.common.Tests.{or-true}
 use Rattle.toml_edit_laws.proofs.locality.Blocks.{Block, is_headed, bare, IsSteadyBlock}
@@ -36,7 +36,7 @@ module _ (mode : Mode) where
   pub steady-tree : (t : Tree) → Steady mode t → AllByRecursion IsSteadyBlock (tree_blocks mode t)
   steady-tree t s = (refl, steady-blocks mode (slots_walk t.slots [] []) s.tables.1)
 
-  module _ (q : Path) (h : Block → Block) (v : Visit) (g : List Slot → List Slot) (M N : List Key → List Line) (m n : List Block)
+  module _ (q : Path) (h : Block → Block) (v : Visit) (g : List (Slot Node) → List (Slot Node)) (M N : List Key → List Line) (m n : List Block)
       (there : (b : Block) → IsSteadyBlock b → IsSteadyBlock (h b)) (back : (b : Block) → IsSteadyBlock (h b) → IsSteadyBlock b) where
     pub whole-steady : (way : List Turn) (t : Tree) → Steady mode t → SlotsAreSound (edited way g t).slots
         → (w : Whole mode q h v g M N m n (tree_blocks mode t) (tree_blocks mode (edited way g t)))
@@ -62,5 +62,5 @@ module _ (mode : Mode) where
           tables = (ap (λ b. b || has_steady_header (root_visit u)) (or-true u.root.is_dotted), steady-tables mode (slots_walk u.slots [] []) all.1);
         }
 
-  pub stays-steady : (way : List Turn) (g : List Slot → List Slot) (t : Tree) → Steady mode (edited way g t) → StaysSteady mode t (edited way g t)
+  pub stays-steady : (way : List Turn) (g : List (Slot Node) → List (Slot Node)) (t : Tree) → Steady mode (edited way g t) → StaysSteady mode t (edited way g t)
   stays-steady way g t s = (refl, refl, steady-whole mode (edited way g t) s)

@@ -7,7 +7,8 @@ use Rattle.toml_edit_model.specs.Mode.{Mode}
 use Rattle.toml_edit_model.specs.Paths.{Path, to_element}
 use Rattle.toml_edit_model.specs.Tree.{Key, TableFields, Node, nothing, leaf, list, inline, table, tables, Items, no_items, item, Slots, IsWellMade, ItemsAreWellMade}
 use Rattle.toml_edit_model.specs.HeaderOrder.{Visit, visit_of, items_walk, slots_walk}
-use Rattle.toml_edit_laws.specs.Locality.{items_from, tables_in}
+use Rattle.toml_edit_model.specs.Lists.{items_from}
+use Rattle.toml_edit_laws.specs.Locality.{element_count}
 use Rattle.toml_edit_laws.proofs.common.Tests.{false-by}
 use Rattle.toml_edit_laws.proofs.common.PathLaws.{is_front, front-refl}
 use Rattle.toml_edit_laws.proofs.locality.Blocks.{blocks}
@@ -19,10 +20,10 @@ counted n [] = n
 counted n (table f ss ∷ xs) = counted (suc n) xs
 counted n (_ ∷ xs) = counted n xs
 
-pub counted-more : (n : ℕ) (xs : List Node) → counted n xs ≡ n + tables_in xs
+pub counted-more : (n : ℕ) (xs : List Node) → counted n xs ≡ n + element_count xs
 counted-more n [] = omega arith
 counted-more n (table f ss ∷ xs) =
-    let ih : counted (suc n) xs ≡ suc n + tables_in xs = counted-more (suc n) xs in
+    let ih : counted (suc n) xs ≡ suc n + element_count xs = counted-more (suc n) xs in
     omega arith
 counted-more n (tables e ys ∷ xs) = counted-more n xs
 counted-more n (leaf s r d ∷ xs) = counted-more n xs
@@ -71,7 +72,7 @@ module _ (mode : Mode) where
     later-out (item nothing xs) ks n h = later-out xs ks n h
 
     least : (n : ℕ) (xs : List Node) → n ≤ counted n xs
-    least n xs = let e : counted n xs ≡ n + tables_in xs = counted-more n xs in omega arith
+    least n xs = let e : counted n xs ≡ n + element_count xs = counted-more n xs in omega arith
 
     pub earlier-out : (xs : List Node) (ks : List Key) (n : ℕ) → counted n xs ≤ m → AllByRecursion (IsBlockOut q) (blocks mode (items_walk (items_from xs) p ks n))
     earlier-out [] ks n h = tt

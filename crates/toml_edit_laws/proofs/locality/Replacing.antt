@@ -8,8 +8,10 @@ use Rattle.toml_edit_model.specs.Paths.{at_key, Path, to_key}
 use Rattle.toml_edit_model.specs.Tree.{Key, Node, SlotsAreWellMade, Tree, is_value_node}
 use Rattle.toml_edit_model.specs.HeaderOrder.{Visit, slots_walk}
 use Rattle.toml_edit_model.specs.Print.{Line, table_lines, below, is_line_node, Printed, printed, printed_line}
-use Rattle.toml_edit_model.specs.SlotLists.{Slot, slot_list, slot_of, changed}
-use Rattle.toml_edit_laws.specs.Locality.{Turn, Leads, root_visit, edited, on_slots, slots_from, value_line, is_plain_value, OneChanges, Replaced, texts, framed}
+use Rattle.toml_edit_model.specs.Slots.{Slot, keyed, lookup_slot, changed}
+use Rattle.toml_edit_model.specs.Lists.{slot_list, slots_from}
+use Rattle.toml_edit_laws.proofs.locality.Slots.{slots_under}
+use Rattle.toml_edit_laws.specs.Locality.{Turn, Leads, root_visit, edited, value_line, is_plain_value, OneChanges, Replaced, texts, framed}
 use Rattle.toml_edit_laws.proofs.common.PathLaws.{front-refl, below-last}
 use Rattle.toml_edit_laws.proofs.locality.Blocks.{Block, blocks, is_headed, block_header, block_printed}
 use Rattle.toml_edit_laws.proofs.locality.Slots.{Found, found}
@@ -33,10 +35,10 @@ map-itself (b ∷ bs) = ap (λ z. b ∷ z) (map-itself bs)
 module _ (mode : Mode) where
   module _ (t : Tree) (way : List Turn) (v : Visit) (k : Text) (f : Key → Key) (l : Key) (old n : Node)
       (made : SlotsAreWellMade t.slots) (st : Steady mode t) (leads : Leads way (root_visit t) v)
-      (is_there : slot_of k (slot_list v.slots) ≡ Some (l, old)) (value : is_value_node old ≡ true) (plain : is_plain_value n ≡ true)
+      (is_there : lookup_slot k (slot_list v.slots) ≡ Some (keyed l old)) (value : is_value_node old ≡ true) (plain : is_plain_value n ≡ true)
       (name : (f l).name ≡ l.name) where
-    abbrev g : List Slot → List Slot
-    g = changed k (λ s. (f s.0, n))
+    abbrev g : List (Slot Node) → List (Slot Node)
+    g = changed k (λ s. (keyed (f s.key) n))
 
     abbrev u : Tree
     u = edited way g t
@@ -56,23 +58,23 @@ module _ (mode : Mode) where
     sound : SlotsAreSound v.slots
     sound = leads-sound way (root_visit t) v made st.sound leads
 
-    fd : Found k (l, old) (slot_list v.slots)
-    fd = found k v.slots (l, old) well is_there
+    fd : Found k (keyed l old) (slot_list v.slots)
+    fd = found k v.slots (keyed l old) well is_there
 
-    is_new : on_slots g v.slots ≡ slots_from (fd.front ++ ((f l, n) ∷ fd.back))
-    is_new = ap slots_from (fd.change (λ s. (f s.0, n)))
+    is_new : slots_under g v.slots ≡ slots_from (fd.front ++ (keyed (f l) n ∷ fd.back))
+    is_new = ap slots_from (fd.change (λ s. (keyed (f s.key) n)))
 
-    beside : (bp : Path) (lk : List Key) → below bp lk ≡ v.path → Around mode q v bp lk (l, old) (f l, n) (on_slots g v.slots)
-    beside bp lk at = around mode q v bp lk k (l, old) (f l, n) (on_slots g v.slots) at (front-refl q) fd is_new
+    beside : (bp : Path) (lk : List Key) → below bp lk ≡ v.path → Around mode q v bp lk (keyed l old) (keyed (f l) n) (slots_under g v.slots)
+    beside bp lk at = around mode q v bp lk k (keyed l old) (keyed (f l) n) (slots_under g v.slots) at (front-refl q) fd is_new
 
     old-line : is_line_node old ≡ true
-    old-line = line-value old value (sound-slot k (l, old) v.slots fd sound).1
+    old-line = line-value old value (sound-slot k (keyed l old) v.slots fd sound).1
 
     new-line : is_line_node n ≡ true
     new-line = line-value n (plain-value n plain) (plain-undotted n plain)
 
     edit-lines : (bp : Path) (lk : List Key) → below bp lk ≡ v.path
-        → LineSplice mode q bp (M lk) (N lk) (table_lines mode v.slots lk) (table_lines mode (on_slots g v.slots) lk)
+        → LineSplice mode q bp (M lk) (N lk) (table_lines mode v.slots lk) (table_lines mode (slots_under g v.slots) lk)
     edit-lines bp lk at =
         let a = beside bp lk at in
         record {
@@ -84,7 +86,7 @@ module _ (mode : Mode) where
           out_back = a.out_lines_back;
         }
 
-    edit-blocks : BlockSplice mode q itself [] [] (blocks mode (slots_walk v.slots v.path v.keys)) (blocks mode (slots_walk (on_slots g v.slots) v.path v.keys))
+    edit-blocks : BlockSplice mode q itself [] [] (blocks mode (slots_walk v.slots v.path v.keys)) (blocks mode (slots_walk (slots_under g v.slots) v.path v.keys))
     edit-blocks =
         let a = beside v.path [] refl in
         record {
@@ -120,9 +122,9 @@ module _ (mode : Mode) where
     new-sound =
         along-sound way g (root_visit t) v made st.sound leads
         (λ w s.
-        let parts = sound-slot k (l, old) v.slots fd s in
+        let parts = sound-slot k (keyed l old) v.slots fd s in
         subst SlotsAreSound (sym is_new)
-        (sound-append fd.front ((f l, n) ∷ fd.back) parts.0 (plain-undotted n plain, value-sound n (plain-value n plain), parts.3)))
+        (sound-append fd.front (keyed (f l) n ∷ fd.back) parts.0 (plain-undotted n plain, value-sound n (plain-value n plain), parts.3)))
 
     new-steady : Steady mode u
     new-steady = whole-steady mode q itself v g M N [] [] (λ b s. s) (λ b s. s) way t st new-sound whole (steady-same whole.block whole.lines as-before) tt
@@ -200,5 +202,5 @@ module _ (mode : Mode) where
   replaced t way v k f l old n made steady leads is_there value plain name =
       let st : Steady mode t = steady-parts mode t steady in (
         one-changes t way v k f l old n made st leads is_there value plain name,
-        stays-steady mode way (changed k (λ s. (f s.0, n))) t (new-steady t way v k f l old n made st leads is_there value plain name),
+        stays-steady mode way (changed k (λ s. (keyed (f s.key) n))) t (new-steady t way v k f l old n made st leads is_there value plain name),
       )

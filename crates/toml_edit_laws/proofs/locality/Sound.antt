@@ -8,9 +8,11 @@ use Rattle.toml_edit_model.specs.Paths.{Path, to_key, to_element}
 use Rattle.toml_edit_model.specs.Tree.{Key, Node, nothing, leaf, list, inline, table, tables, Items, no_items, item, Slots, no_slots, slot, SlotsAreWellMade, ItemsAreWellMade, Tree}
 use Rattle.toml_edit_model.specs.HeaderOrder.{Visit, visit_of, node_walk, items_walk, slots_walk, walk}
 use Rattle.toml_edit_model.specs.Print.{has_header}
-use Rattle.toml_edit_model.specs.SlotLists.{Slot, slot_list}
-use Rattle.toml_edit_model.specs.Fits.{is_dotted_inline, has_no_dotted_inline, has_steady_header, is_steady_visit, is_undotted, is_steady_in}
-use Rattle.toml_edit_laws.specs.Locality.{Turn, into_table, into_element, Leads, slots_from, items_from, on_slots, on_items, in_table, in_tables, changed_item, along, tables_in}
+use Rattle.toml_edit_model.specs.Fits.{has_no_dotted_inline, has_steady_header, is_steady_visit, is_undotted, is_steady_in}
+use Rattle.toml_edit_model.specs.Slots.{Slot, keyed, on_item, changed_at}
+use Rattle.toml_edit_model.specs.Lists.{slot_list, slots_from, items_from, on_slots, on_items, is_dotted_inline}
+use Rattle.toml_edit_laws.proofs.locality.Slots.{slots_under, items_under}
+use Rattle.toml_edit_laws.specs.Locality.{Turn, into_table, into_element, Leads, along, element_count}
 use Rattle.toml_edit_laws.proofs.common.Tests.{and_left, and_right, and_both, not-true}
 use Rattle.toml_edit_laws.proofs.locality.Blocks.{block_of, blocks, IsSteadyTable, IsSteadyBlock}
 use Rattle.toml_edit_laws.proofs.locality.Slots.{slots_from-list, items_from-list, Found, found, change-item}
@@ -182,15 +184,15 @@ module _ (mode : Mode) where
 
 -- ---- along a way
 
-pub sound-append : (xs ys : List Slot) → SlotsAreSound (slots_from xs) → SlotsAreSound (slots_from ys) → SlotsAreSound (slots_from (xs ++ ys))
+pub sound-append : (xs ys : List (Slot Node)) → SlotsAreSound (slots_from xs) → SlotsAreSound (slots_from ys) → SlotsAreSound (slots_from (xs ++ ys))
 sound-append [] ys h g = g
 sound-append (x ∷ xs) ys h g = (h.0, h.1, sound-append xs ys h.2 g)
 
-pub sound-front : (xs ys : List Slot) → SlotsAreSound (slots_from (xs ++ ys)) → SlotsAreSound (slots_from xs)
+pub sound-front : (xs ys : List (Slot Node)) → SlotsAreSound (slots_from (xs ++ ys)) → SlotsAreSound (slots_from xs)
 sound-front [] ys h = tt
 sound-front (x ∷ xs) ys h = (h.0, h.1, sound-front xs ys h.2)
 
-pub sound-back : (xs ys : List Slot) → SlotsAreSound (slots_from (xs ++ ys)) → SlotsAreSound (slots_from ys)
+pub sound-back : (xs ys : List (Slot Node)) → SlotsAreSound (slots_from (xs ++ ys)) → SlotsAreSound (slots_from ys)
 sound-back [] ys h = h
 sound-back (x ∷ xs) ys h = sound-back xs ys h.2
 
@@ -207,44 +209,44 @@ sound-items-back [] ys h = h
 sound-items-back (x ∷ xs) ys h = sound-items-back xs ys h.1
 
 -- the slot of a key, and the slots with another in its place
-pub sound-slot : (k : Text) (s : Slot) (ss : Slots) → (fd : Found k s (slot_list ss)) → SlotsAreSound ss
-    → SlotsAreSound (slots_from fd.front) × (is_dotted_inline s.1 ≡ false) × NodeIsSound s.1 × SlotsAreSound (slots_from fd.back)
+pub sound-slot : (k : Text) (s : Slot Node) (ss : Slots) → (fd : Found k s (slot_list ss)) → SlotsAreSound ss
+    → SlotsAreSound (slots_from fd.front) × (is_dotted_inline s.item ≡ false) × NodeIsSound s.item × SlotsAreSound (slots_from fd.back)
 sound-slot k s ss fd h =
     let all : SlotsAreSound (slots_from (fd.front ++ (s ∷ fd.back))) = subst SlotsAreSound (sym (slots_from-list ss) ∙ ap slots_from fd.is) h in
     let back = sound-back fd.front (s ∷ fd.back) all in
     (sound-front fd.front (s ∷ fd.back) all, back.0, back.1, back.2)
 
-pub along-sound : (way : List Turn) (g : List Slot → List Slot) (s v : Visit) → SlotsAreWellMade s.slots → SlotsAreSound s.slots → Leads way s v
-    → (SlotsAreWellMade v.slots → SlotsAreSound v.slots → SlotsAreSound (on_slots g v.slots)) → SlotsAreSound (on_slots (along way g) s.slots)
+pub along-sound : (way : List Turn) (g : List (Slot Node) → List (Slot Node)) (s v : Visit) → SlotsAreWellMade s.slots → SlotsAreSound s.slots → Leads way s v
+    → (SlotsAreWellMade v.slots → SlotsAreSound v.slots → SlotsAreSound (slots_under g v.slots)) → SlotsAreSound (slots_under (along way g) s.slots)
 along-sound [] g s v w h e go =
-    subst (λ (x : Visit). SlotsAreWellMade x.slots → SlotsAreSound x.slots → SlotsAreSound (on_slots g x.slots)) (sym e) go w h
+    subst (λ (x : Visit). SlotsAreWellMade x.slots → SlotsAreSound x.slots → SlotsAreSound (slots_under g x.slots)) (sym e) go w h
 along-sound (into_table k ∷ way) g s v w h (l, f, ss, eq, rest) go =
     let t : Visit = visit_of (to_key s.path l.name) (s.keys ++ (l ∷ [])) false f ss in
-    let us : Slots = on_slots (along way g) ss in
-    let fd : Found k (l, table f ss) (slot_list s.slots) = found k s.slots (l, table f ss) w eq in
-    let parts = sound-slot k (l, table f ss) s.slots fd h in
-    let is_new : on_slots (along (into_table k ∷ way) g) s.slots ≡ slots_from (fd.front ++ ((l, table f us) ∷ fd.back)) =
-    ap slots_from (fd.change (λ s. (s.0, in_table (along way g) s.1))) in
+    let us : Slots = slots_under (along way g) ss in
+    let fd : Found k (keyed l (table f ss)) (slot_list s.slots) = found k s.slots (keyed l (table f ss)) w eq in
+    let parts = sound-slot k (keyed l (table f ss)) s.slots fd h in
+    let is_new : slots_under (along (into_table k ∷ way) g) s.slots ≡ slots_from (fd.front ++ (keyed l (table f us) ∷ fd.back)) =
+    ap slots_from (fd.change (on_item (on_slots (along way g)))) in
     subst SlotsAreSound (sym is_new)
-    (sound-append fd.front ((l, table f us) ∷ fd.back) parts.0 (refl, along-sound way g t v fd.made parts.2 rest go, parts.3))
+    (sound-append fd.front (keyed l (table f us) ∷ fd.back) parts.0 (refl, along-sound way g t v fd.made parts.2 rest go, parts.3))
 along-sound (into_element k i ∷ way) g s v w h (l, e, xs, before, f, ss, after, eq, items, place, rest) go =
-    let us : Slots = on_slots (along way g) ss in
-    let fd : Found k (l, tables e xs) (slot_list s.slots) = found k s.slots (l, tables e xs) w eq in
-    let parts = sound-slot k (l, tables e xs) s.slots fd h in
+    let us : Slots = slots_under (along way g) ss in
+    let fd : Found k (keyed l (tables e xs)) (slot_list s.slots) = found k s.slots (keyed l (tables e xs)) w eq in
+    let parts = sound-slot k (keyed l (tables e xs)) s.slots fd h in
     let ex : xs ≡ items_from (before ++ (table f ss ∷ after)) = sym (items_from-list xs) ∙ ap items_from items in
-    let other : on_items (changed_item i (in_table (along way g))) xs ≡ items_from (before ++ (table f us ∷ after)) =
-    ap (λ z. items_from (changed_item i (in_table (along way g)) z)) items ∙ ap items_from (change-item before (table f ss) after i (in_table (along way g)) place) in
-    let is_new : on_slots (along (into_element k i ∷ way) g) s.slots ≡ slots_from (fd.front ++ ((l, tables e (items_from (before ++ (table f us ∷ after)))) ∷ fd.back)) =
-    ap slots_from (fd.change (λ s. (s.0, in_tables (changed_item i (in_table (along way g))) s.1)))
-    ∙ ap (λ z. slots_from (fd.front ++ ((l, tables e z) ∷ fd.back))) other in
+    let other : items_under (changed_at i (on_slots (along way g))) xs ≡ items_from (before ++ (table f us ∷ after)) =
+    ap (λ z. items_from (changed_at i (on_slots (along way g)) z)) items ∙ ap items_from (change-item before (table f ss) after i (on_slots (along way g)) place) in
+    let is_new : slots_under (along (into_element k i ∷ way) g) s.slots ≡ slots_from (fd.front ++ ((keyed l (tables e (items_from (before ++ (table f us ∷ after))))) ∷ fd.back)) =
+    ap slots_from (fd.change (on_item (on_items (changed_at i (on_slots (along way g))))))
+    ∙ ap (λ z. slots_from (fd.front ++ (keyed l (tables e z) ∷ fd.back))) other in
     let made : SlotsAreWellMade ss = item-made before (table f ss) after (subst ItemsAreWellMade ex fd.made) in
     let inside : ItemsAreSound (items_from (before ++ (table f ss ∷ after))) = subst ItemsAreSound ex parts.2 in
     let mine = sound-items-back before (table f ss ∷ after) inside in
     subst SlotsAreSound (sym is_new)
-    (sound-append fd.front ((l, tables e (items_from (before ++ (table f us ∷ after)))) ∷ fd.back) parts.0 (
+    (sound-append fd.front ((keyed l (tables e (items_from (before ++ (table f us ∷ after))))) ∷ fd.back) parts.0 (
       refl,
       sound-items before (table f us ∷ after) (sound-items-front before (table f ss ∷ after) inside)
-          ((mine.0.0, along-sound way g (visit_of (to_element (to_key s.path l.name) (tables_in before)) (s.keys ++ (l ∷ [])) true f ss) v made mine.0.1 rest go), mine.1),
+          ((mine.0.0, along-sound way g (visit_of (to_element (to_key s.path l.name) (element_count before)) (s.keys ++ (l ∷ [])) true f ss) v made mine.0.1 rest go), mine.1),
       parts.3,
     ))
 
@@ -252,20 +254,20 @@ along-sound (into_element k i ∷ way) g s v w h (l, e, xs, before, f, ss, after
 pub leads-made : (way : List Turn) (s v : Visit) → SlotsAreWellMade s.slots → Leads way s v → SlotsAreWellMade v.slots
 leads-made [] s v w e = subst (λ (x : Visit). SlotsAreWellMade x.slots) e w
 leads-made (into_table k ∷ way) s v w (l, f, ss, eq, rest) =
-    leads-made way (visit_of (to_key s.path l.name) (s.keys ++ (l ∷ [])) false f ss) v ((found k s.slots (l, table f ss) w eq).made) rest
+    leads-made way (visit_of (to_key s.path l.name) (s.keys ++ (l ∷ [])) false f ss) v ((found k s.slots (keyed l (table f ss)) w eq).made) rest
 leads-made (into_element k i ∷ way) s v w (l, e, xs, before, f, ss, after, eq, items, place, rest) =
     let ex : xs ≡ items_from (before ++ (table f ss ∷ after)) = sym (items_from-list xs) ∙ ap items_from items in
-    leads-made way (visit_of (to_element (to_key s.path l.name) (tables_in before)) (s.keys ++ (l ∷ [])) true f ss) v
-    (item-made before (table f ss) after (subst ItemsAreWellMade ex (found k s.slots (l, tables e xs) w eq).made)) rest
+    leads-made way (visit_of (to_element (to_key s.path l.name) (element_count before)) (s.keys ++ (l ∷ [])) true f ss) v
+    (item-made before (table f ss) after (subst ItemsAreWellMade ex (found k s.slots (keyed l (tables e xs)) w eq).made)) rest
 
 pub leads-sound : (way : List Turn) (s v : Visit) → SlotsAreWellMade s.slots → SlotsAreSound s.slots → Leads way s v → SlotsAreSound v.slots
 leads-sound [] s v w h e = subst (λ (x : Visit). SlotsAreSound x.slots) e h
 leads-sound (into_table k ∷ way) s v w h (l, f, ss, eq, rest) =
-    let fd : Found k (l, table f ss) (slot_list s.slots) = found k s.slots (l, table f ss) w eq in
-    leads-sound way (visit_of (to_key s.path l.name) (s.keys ++ (l ∷ [])) false f ss) v fd.made (sound-slot k (l, table f ss) s.slots fd h).2 rest
+    let fd : Found k (keyed l (table f ss)) (slot_list s.slots) = found k s.slots (keyed l (table f ss)) w eq in
+    leads-sound way (visit_of (to_key s.path l.name) (s.keys ++ (l ∷ [])) false f ss) v fd.made (sound-slot k (keyed l (table f ss)) s.slots fd h).2 rest
 leads-sound (into_element k i ∷ way) s v w h (l, e, xs, before, f, ss, after, eq, items, place, rest) =
-    let fd : Found k (l, tables e xs) (slot_list s.slots) = found k s.slots (l, tables e xs) w eq in
+    let fd : Found k (keyed l (tables e xs)) (slot_list s.slots) = found k s.slots (keyed l (tables e xs)) w eq in
     let ex : xs ≡ items_from (before ++ (table f ss ∷ after)) = sym (items_from-list xs) ∙ ap items_from items in
-    let inside : ItemsAreSound (items_from (before ++ (table f ss ∷ after))) = subst ItemsAreSound ex (sound-slot k (l, tables e xs) s.slots fd h).2 in
-    leads-sound way (visit_of (to_element (to_key s.path l.name) (tables_in before)) (s.keys ++ (l ∷ [])) true f ss) v
+    let inside : ItemsAreSound (items_from (before ++ (table f ss ∷ after))) = subst ItemsAreSound ex (sound-slot k (keyed l (tables e xs)) s.slots fd h).2 in
+    leads-sound way (visit_of (to_element (to_key s.path l.name) (element_count before)) (s.keys ++ (l ∷ [])) true f ss) v
     (item-made before (table f ss) after (subst ItemsAreWellMade ex fd.made)) (sound-items-back before (table f ss ∷ after) inside).0.1 rest

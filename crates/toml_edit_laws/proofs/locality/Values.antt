@@ -8,7 +8,7 @@ use Rattle.toml_edit_model.specs.Paths.{Path}
 use Rattle.toml_edit_model.specs.Tree.{Decor, shown_prefix, shown_suffix, Key, Node, nothing, leaf, list, inline, table, tables, node_decor, is_value_node}
 use Rattle.toml_edit_model.specs.HeaderOrder.{node_walk}
 use Rattle.toml_edit_model.specs.Print.{one_space, last_leaf, segments, line_of, value_of, is_line_node, dotted_lines}
-use Rattle.toml_edit_model.specs.Fits.{is_dotted_inline}
+use Rattle.toml_edit_model.specs.Lists.{is_dotted_inline}
 use Rattle.toml_edit_laws.specs.Locality.{KeepsFrame, value_line, is_plain_value}
 use Rattle.toml_edit_laws.proofs.common.Tests.{and_left, and_right, not-true}
 use Rattle.toml_edit_laws.proofs.locality.Under.{slot_lines}

@@ -5,9 +5,10 @@ use Rattle.toml_edit_model.specs.Text.{Text, same_text}
 use Rattle.toml_edit_model.specs.Paths.{Path, to_key, to_element}
 use Rattle.toml_edit_model.specs.Tree.{Key, Extent, TableFields, Node, nothing, leaf, list, inline, table, tables, Items, no_items, item, Slots, no_slots, slot, IsWellMade, ItemsAreWellMade, SlotsAreWellMade}
 use Rattle.toml_edit_model.specs.HeaderOrder.{Visit, visit_of, node_walk, items_walk, slots_walk}
-use Rattle.toml_edit_model.specs.SlotLists.{Slot, slot_list, slot_of}
-use Rattle.toml_edit_model.specs.Lists.{item_list}
-use Rattle.toml_edit_laws.specs.Locality.{Turn, into_table, into_element, Leads, root_visit, slots_from, items_from, is_table, tables_in, Reached, Entered}
+use Rattle.toml_edit_model.specs.Slots.{Slot, keyed, lookup_slot}
+use Rattle.toml_edit_model.specs.Lists.{slot_list, slots_from, item_list, items_from}
+use Rattle.toml_edit_model.specs.Shown.{is_table_node}
+use Rattle.toml_edit_laws.specs.Locality.{Turn, into_table, into_element, Leads, root_visit, element_count, Reached, Entered}
 use Rattle.toml_edit_laws.proofs.common.Tests.{if-true, if-false, same_text-refl, same_text-swap}
 use Rattle.toml_edit_laws.proofs.locality.Slots.{HaveOtherKeys, other-keys, Found, found, slots_from-list, items_from-list, walk-append}
 use Rattle.toml_edit_laws.proofs.locality.Elements.{counted, counted-more, items-append, item-made}
@@ -15,30 +16,30 @@ use Rattle.toml_edit_laws.proofs.common.Each.{all-append, all-map}
 
 -- ---- each table is reached
 
-abbrev IsFound : Slots → Slot → Type 0
-IsFound ss x = slot_of x.0.name (slot_list ss) ≡ Some x
+abbrev IsFound : Slots → Slot Node → Type 0
+IsFound ss x = lookup_slot x.key.name (slot_list ss) ≡ Some x
 
 finds-all : (ss : Slots) → SlotsAreWellMade ss → AllByRecursion (IsFound ss) (slot_list ss)
 finds-all no_slots w = tt
 finds-all (slot k n ss) w = (
-  if-true (same_text k.name k.name) (Some (k, n)) (slot_of k.name (slot_list ss)) (same_text-refl k.name),
+  if-true (same_text k.name k.name) (Some (keyed k n)) (lookup_slot k.name (slot_list ss)) (same_text-refl k.name),
   behind (slot_list ss) (other-keys k.name ss w.0) (finds-all ss w.3),
 )
   where
-    behind : (xs : List Slot) → HaveOtherKeys k.name xs → AllByRecursion (IsFound ss) xs → AllByRecursion (IsFound (slot k n ss)) xs
+    behind : (xs : List (Slot Node)) → HaveOtherKeys k.name xs → AllByRecursion (IsFound ss) xs → AllByRecursion (IsFound (slot k n ss)) xs
     behind [] o h = tt
     behind (x ∷ xs) o h = (
-      if-false (same_text x.0.name k.name) (Some (k, n)) (slot_of x.0.name (slot_list ss)) (same_text-swap x.0.name k.name ∙ o.0) ∙ h.0,
+      if-false (same_text x.key.name k.name) (Some (keyed k n)) (lookup_slot x.key.name (slot_list ss)) (same_text-swap x.key.name k.name ∙ o.0) ∙ h.0,
       behind xs o.1 h.1,
     )
 
 abbrev IsReached : Visit → Visit → Type 0
 IsReached s v = (way : List Turn) × Leads way s v
 
-count-next : (before : List Node) (f : TableFields) (ss : Slots) (n : ℕ) → n ≡ tables_in before → suc n ≡ tables_in (before ++ (table f ss ∷ []))
+count-next : (before : List Node) (f : TableFields) (ss : Slots) (n : ℕ) → n ≡ element_count before → suc n ≡ element_count (before ++ (table f ss ∷ []))
 count-next [] f ss n e = ap suc e
 count-next (table g us ∷ before) f ss n e =
-    let ih : suc (tables_in before) ≡ tables_in (before ++ (table f ss ∷ [])) = count-next before f ss (tables_in before) refl in
+    let ih : suc (element_count before) ≡ element_count (before ++ (table f ss ∷ [])) = count-next before f ss (element_count before) refl in
     ap suc e ∙ ap suc ih
 count-next (tables x ys ∷ before) f ss n e = count-next before f ss n e
 count-next (leaf s r d ∷ before) f ss n e = count-next before f ss n e
@@ -46,11 +47,11 @@ count-next (list g ys ∷ before) f ss n e = count-next before f ss n e
 count-next (inline g us ∷ before) f ss n e = count-next before f ss n e
 count-next (nothing ∷ before) f ss n e = count-next before f ss n e
 
-count-other : (before : List Node) (m : Node) (n : ℕ) → is_table m ≡ false → n ≡ tables_in before → n ≡ tables_in (before ++ (m ∷ []))
+count-other : (before : List Node) (m : Node) (n : ℕ) → is_table_node m ≡ false → n ≡ element_count before → n ≡ element_count (before ++ (m ∷ []))
 count-other before m n d e = e ∙ same before
   where
-    same : (before : List Node) → tables_in before ≡ tables_in (before ++ (m ∷ []))
-    same [] = sym (ap length (if-false (is_table m) (m ∷ []) [] d))
+    same : (before : List Node) → element_count before ≡ element_count (before ++ (m ∷ []))
+    same [] = sym (ap length (if-false (is_table_node m) (m ∷ []) [] d))
     same (table g us ∷ before) = ap suc (same before)
     same (tables x ys ∷ before) = same before
     same (leaf s r d ∷ before) = same before
@@ -59,7 +60,7 @@ count-other before m n d e = e ∙ same before
     same (nothing ∷ before) = same before
 
 mutual
-  reach-node : (n : Node) (s : Visit) (k : Key) → IsWellMade n → slot_of k.name (slot_list s.slots) ≡ Some (k, n)
+  reach-node : (n : Node) (s : Visit) (k : Key) → IsWellMade n → lookup_slot k.name (slot_list s.slots) ≡ Some (keyed k n)
       → AllByRecursion (IsReached s) (node_walk n (to_key s.path k.name) (s.keys ++ (k ∷ [])) false)
   reach-node (table f ss) s k w e =
       let t : Visit = visit_of (to_key s.path k.name) (s.keys ++ (k ∷ [])) false f ss in (
@@ -73,14 +74,14 @@ mutual
   reach-node nothing s k w e = tt
 
   reach-items : (rest : Items) (s : Visit) (k : Key) (x : Extent) (xs : Items) (before : List Node) (n : ℕ) → ItemsAreWellMade rest
-      → slot_of k.name (slot_list s.slots) ≡ Some (k, tables x xs) → item_list xs ≡ before ++ item_list rest → n ≡ tables_in before
+      → lookup_slot k.name (slot_list s.slots) ≡ Some (keyed k (tables x xs)) → item_list xs ≡ before ++ item_list rest → n ≡ element_count before
       → AllByRecursion (IsReached s) (items_walk rest (to_key s.path k.name) (s.keys ++ (k ∷ [])) n)
   reach-items no_items s k x xs before n w e i c = tt
   reach-items (item (table f ss) rest) s k x xs before n w e i c =
       let r : Path = to_key s.path k.name in
       let ks : List Key = s.keys ++ (k ∷ []) in
       let t : Visit = visit_of (to_element r n) ks true f ss in
-      let same : visit_of (to_element r (tables_in before)) ks true f ss ≡ t = ap (λ z. visit_of (to_element r z) ks true f ss) (sym c) in
+      let same : visit_of (to_element r (element_count before)) ks true f ss ≡ t = ap (λ z. visit_of (to_element r z) ks true f ss) (sym c) in
       let onward : (v : Visit) → IsReached t v → IsReached s v =
       λ v d. (into_element k.name (length before) ∷ d.0, (k, x, xs, before, f, ss, item_list rest, e, i, refl, subst (λ (z : Visit). Leads d.0 z v) (sym same) d.1)) in
       all-append (IsReached s) (t ∷ slots_walk ss t.path t.keys) (items_walk rest r ks (suc n))
@@ -121,36 +122,36 @@ stands-next : (x : Visit) (ys : List Visit) (v : Visit) → Stands ys v → Stan
 stands-next x ys v (b, a, e) = (x ∷ b, a, ap (λ z. x ∷ z) e)
 
 -- what stands below a slot stands below its table
-stands-slot : (k : Text) (x : Slot) (s v : Visit) → Found k x (slot_list s.slots)
-    → Stands (node_walk x.1 (to_key s.path x.0.name) (s.keys ++ (x.0 ∷ [])) false) v → Stands (slots_walk s.slots s.path s.keys) v
+stands-slot : (k : Text) (x : Slot Node) (s v : Visit) → Found k x (slot_list s.slots)
+    → Stands (node_walk x.item (to_key s.path x.key.name) (s.keys ++ (x.key ∷ [])) false) v → Stands (slots_walk s.slots s.path s.keys) v
 stands-slot k x s v fd h =
     let old : s.slots ≡ slots_from (fd.front ++ (x ∷ fd.back)) = sym (slots_from-list s.slots) ∙ ap slots_from fd.is in
     subst (λ z. Stands z v) (sym (ap (λ z. slots_walk z s.path s.keys) old ∙ walk-append fd.front (x ∷ fd.back) s.path s.keys))
-    (stands-within (slots_walk (slots_from fd.front) s.path s.keys) (node_walk x.1 (to_key s.path x.0.name) (s.keys ++ (x.0 ∷ [])) false)
+    (stands-within (slots_walk (slots_from fd.front) s.path s.keys) (node_walk x.item (to_key s.path x.key.name) (s.keys ++ (x.key ∷ [])) false)
     (slots_walk (slots_from fd.back) s.path s.keys) v h)
 
 enters : (way : List Turn) (s v : Visit) → SlotsAreWellMade s.slots → Leads way s v → Stands (s ∷ slots_walk s.slots s.path s.keys) v
 enters [] s v w e = ([], slots_walk s.slots s.path s.keys, ap (λ (z : Visit). z ∷ slots_walk s.slots s.path s.keys) e)
 enters (into_table k ∷ way) s v w (l, f, ss, eq, rest) =
     let t : Visit = visit_of (to_key s.path l.name) (s.keys ++ (l ∷ [])) false f ss in
-    let fd : Found k (l, table f ss) (slot_list s.slots) = found k s.slots (l, table f ss) w eq in
-    stands-next s (slots_walk s.slots s.path s.keys) v (stands-slot k (l, table f ss) s v fd (enters way t v fd.made rest))
+    let fd : Found k (keyed l (table f ss)) (slot_list s.slots) = found k s.slots (keyed l (table f ss)) w eq in
+    stands-next s (slots_walk s.slots s.path s.keys) v (stands-slot k (keyed l (table f ss)) s v fd (enters way t v fd.made rest))
 enters (into_element k i ∷ way) s v w (l, e, xs, before, f, ss, after, eq, items, place, rest) =
     let r : Path = to_key s.path l.name in
     let ks : List Key = s.keys ++ (l ∷ []) in
-    let t : Visit = visit_of (to_element r (tables_in before)) ks true f ss in
-    let fd : Found k (l, tables e xs) (slot_list s.slots) = found k s.slots (l, tables e xs) w eq in
+    let t : Visit = visit_of (to_element r (element_count before)) ks true f ss in
+    let fd : Found k (keyed l (tables e xs)) (slot_list s.slots) = found k s.slots (keyed l (tables e xs)) w eq in
     let ex : xs ≡ items_from (before ++ (table f ss ∷ after)) = sym (items_from-list xs) ∙ ap items_from items in
     let made : SlotsAreWellMade ss = item-made before (table f ss) after (subst ItemsAreWellMade ex fd.made) in
-    let count : counted 0 before ≡ tables_in before = (let n : counted 0 before ≡ 0 + tables_in before = counted-more 0 before in omega arith) in
-    let split : items_walk xs r ks 0 ≡ items_walk (items_from before) r ks 0 ++ ((t ∷ slots_walk ss t.path ks) ++ items_walk (items_from after) r ks (suc (tables_in before))) =
+    let count : counted 0 before ≡ element_count before = (let n : counted 0 before ≡ 0 + element_count before = counted-more 0 before in omega arith) in
+    let split : items_walk xs r ks 0 ≡ items_walk (items_from before) r ks 0 ++ ((t ∷ slots_walk ss t.path ks) ++ items_walk (items_from after) r ks (suc (element_count before))) =
     ap (λ z. items_walk z r ks 0) ex
     ∙ items-append before (table f ss ∷ after) r ks 0
     ∙ ap (λ z. items_walk (items_from before) r ks 0 ++ ((visit_of (to_element r z) ks true f ss ∷ slots_walk ss (to_element r z) ks) ++ items_walk (items_from after) r ks (suc z))) count in
     stands-next s (slots_walk s.slots s.path s.keys) v
-    (stands-slot k (l, tables e xs) s v fd
+    (stands-slot k (keyed l (tables e xs)) s v fd
     (subst (λ z. Stands z v) (sym split)
-    (stands-within (items_walk (items_from before) r ks 0) (t ∷ slots_walk ss t.path ks) (items_walk (items_from after) r ks (suc (tables_in before))) v (enters way t v made rest))))
+    (stands-within (items_walk (items_from before) r ks 0) (t ∷ slots_walk ss t.path ks) (items_walk (items_from after) r ks (suc (element_count before))) v (enters way t v made rest))))
 
 pub entered : Entered
 entered t way v w e = enters way (root_visit t) v w e

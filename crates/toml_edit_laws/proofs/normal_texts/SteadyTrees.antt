@@ -12,7 +12,8 @@ use Rattle.toml_edit_model.specs.Tree.{Key, TableFields, InlineFields, Node, not
 use Rattle.toml_edit_model.specs.TreeOf.{owned_in, made_by_path, headed_by, header_fields, fields_of, key_extent, IsLineNode, IsNodeOf, AreElementsOf, AreSlotsOf, IsTreeOf}
 use Rattle.toml_edit_model.specs.HeaderOrder.{Visit, visit_of, node_walk, items_walk, slots_walk, walk}
 use Rattle.toml_edit_model.specs.Print.{Line, table_lines, has_header}
-use Rattle.toml_edit_model.specs.Fits.{is_undotted, is_dotted_inline, has_no_dotted_inline, has_steady_header, is_steady_visit, is_steady_in}
+use Rattle.toml_edit_model.specs.Lists.{is_dotted_inline}
+use Rattle.toml_edit_model.specs.Fits.{is_undotted, has_no_dotted_inline, has_steady_header, is_steady_visit, is_steady_in}
 use Rattle.toml_edit_laws.proofs.common.Tests.{and_left, and_right, and_both, or-true, or-left, or-right, true-false}
 use Rattle.toml_edit_laws.proofs.adding.HeaderReady.{some_at-own}
 use Rattle.toml_edit_laws.proofs.normal_texts.SteadyMentions.{is_direct, is_opening, IsBracketed, IsOfTable, step-key, step-element, IsSlotOf, kept-slots, of-document}

@@ -8,11 +8,10 @@ use Rattle.toml_edit_model.specs.Meaning.{fact, a_table, an_array, a_scalar}
 use Rattle.toml_edit_model.specs.Tree.{owned, span, unset, Node, nothing, leaf, list, inline, table, tables, no_items, item, Slots, no_slots, slot, Tree}
 use Rattle.toml_edit_model.specs.Shown.{shown_meaning}
 use Rattle.toml_edit_model.specs.Print.{print}
-use Rattle.toml_edit_model.specs.Syntax.{document_text}
-use Rattle.toml_edit_model.specs.SlotLists.{Slot, inserted}
+use Rattle.toml_edit_model.specs.Slots.{Slot, keyed, inserted}
 use Rattle.toml_edit_model.specs.Lists.{slots_from, items_from}
 use Rattle.toml_edit_model.specs.Conversions.{formatted_items, formatted, made_value, item_display}
-use Rattle.toml_edit_model.specs.examples.Parts.{one_value, plain_key, plain_int, owned_decor, plain_list, table_at, table_placed, root_of, all_true}
+use Rattle.toml_edit_model.specs.examples.Parts.{plain_key, plain_int, owned_decor, plain_list, table_at, table_placed, root_of, all_true}
 use Rattle.toml_edit_model.specs.examples.Cuts.{empty_trivia, empty_end}
 use Rattle.toml_edit_model.specs.examples.Fits.{FitsAs, fits, plain_line, dotted_root}
 
@@ -249,13 +248,13 @@ unfolding print
 readme_with_value = refl
 
 -- an insert at a present key keeps its place and resets the key; a new key goes last
-abbrev two_slots : List Slot
+abbrev two_slots : List (Slot Node)
 two_slots =
-    (record { name = codes "a"; spelling = Some (owned (codes "'a'")); leaf = owned_decor (codes "# c\n") (codes " "); dotted = owned_decor [] [] }, plain_int 1)
-    ∷ (plain_key (codes "b"), plain_int 2) ∷ []
+    keyed (record { name = codes "a"; spelling = Some (owned (codes "'a'")); leaf = owned_decor (codes "# c\n") (codes " "); dotted = owned_decor [] [] }) (plain_int 1)
+    ∷ keyed (plain_key (codes "b")) (plain_int 2) ∷ []
 
-inserted_present : inserted (codes "a") (plain_int 3) two_slots ≡ (plain_key (codes "a"), plain_int 3) ∷ (plain_key (codes "b"), plain_int 2) ∷ []
+inserted_present : inserted (codes "a") (plain_int 3) two_slots ≡ keyed (plain_key (codes "a")) (plain_int 3) ∷ keyed (plain_key (codes "b")) (plain_int 2) ∷ []
 inserted_present = refl
 
-inserted_absent : inserted (codes "c") (plain_int 3) two_slots ≡ two_slots ++ ((plain_key (codes "c"), plain_int 3) ∷ [])
+inserted_absent : inserted (codes "c") (plain_int 3) two_slots ≡ two_slots ++ (keyed (plain_key (codes "c")) (plain_int 3) ∷ [])
 inserted_absent = refl

@@ -7,12 +7,13 @@ use Rattle.toml_edit_model.specs.Syntax.{Segment, Value, array, no_elements, ele
 use Rattle.toml_edit_model.specs.Accepted.{is_accepted}
 use Rattle.toml_edit_model.specs.Meaning.{meaning}
 use Rattle.toml_edit_model.specs.Normal.{has_open_end, normal_in, normal_text_in}
-use Rattle.toml_edit_model.specs.Tree.{Tree}
+use Rattle.toml_edit_model.specs.Tree.{Node, Tree}
 use Rattle.toml_edit_model.specs.Shown.{shown_meaning}
 use Rattle.toml_edit_model.specs.Print.{print_in, document_in}
-use Rattle.toml_edit_model.specs.SlotLists.{Slot, slot_list, inserted, without_key}
+use Rattle.toml_edit_model.specs.Slots.{Slot, inserted, without}
+use Rattle.toml_edit_model.specs.Lists.{slot_list, slots_from}
 use Rattle.toml_edit_model.specs.TreeOf.{owned_in}
-use Rattle.toml_edit_model.specs.examples.ComputedTree.{tree_of, slots_of}
+use Rattle.toml_edit_model.specs.examples.ComputedTree.{tree_of}
 use Rattle.toml_edit_model.specs.examples.Parts.{same_facts, document, a, b, c, d, plain_int, one_value, two_value, three_value}
 use Rattle.toml_edit_model.specs.examples.Texts.{marked_returns}
 use Rattle.toml_edit_model.specs.Settled.{is_settled_in}
@@ -132,16 +133,16 @@ abbrev pub two_lines : Document
 two_lines = document (line_to [] (a ∷ []) one_value returned ∷ line_to [] (b ∷ []) two_value [] ∷ [])
 
 -- its tree with other slots of the root
-abbrev edited : (List Slot → List Slot) → Tree
-edited change = record (read_exactly two_lines) { slots = slots_of (change (slot_list (read_exactly two_lines).slots)) }
+abbrev edited : (List (Slot Node) → List (Slot Node)) → Tree
+edited change = record (read_exactly two_lines) { slots = slots_from (change (slot_list (read_exactly two_lines).slots)) }
 
 c_inserted : print_in exact true (edited (inserted (codes "c") (plain_int 3))) ≡ codes "a = 1\r\nb = 2\nc = 3"
 unfolding digits
 c_inserted = refl
 
-b_removed : print_in exact true (edited (without_key (codes "b"))) ≡ codes "a = 1"
+b_removed : print_in exact true (edited (without (codes "b"))) ≡ codes "a = 1"
 b_removed = refl
 
 -- `open_end` stays, and says nothing in the plain mode
-b_removed_plain : print_in plain true (edited (without_key (codes "b"))) ≡ codes "a = 1\n"
+b_removed_plain : print_in plain true (edited (without (codes "b"))) ≡ codes "a = 1\n"
 b_removed_plain = refl

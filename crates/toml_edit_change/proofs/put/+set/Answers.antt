@@ -4,15 +4,16 @@ use Rattle.std.specs.Option.{IfSome}
 use Rattle.toml_edit_model.specs.Keys.{new_key}
 use Rattle.std.specs.Vec.{with_items}
 use Rattle.std.proofs.lemmas.List.{with_items_is}
-use Rattle.toml_edit_model.specs.SlotLists.{slot_of}
+use Rattle.toml_edit_model.specs.Slots.{keyed, lookup_slot}
 use Rattle.toml_edit_model.specs.Text.{Text}
 use Rattle.toml_edit_model.specs.Tree.{is_value_node}
 use Rattle.toml_edit_laws.specs.Commands.{change_element, change_slot, element_of, set_below}
-use Rattle.toml_edit_laws.specs.Locality.{is_table}
+use Rattle.toml_edit_model.specs.Shown.{is_table_node}
 use Rattle.toml_edit_slots.specs.Slots.{place}
 use Rattle.toml_edit_tree.specs.declared.item.Item.{Item}
+use Rattle.toml_edit_tree.specs.Indexed.{shown_slots}
 use Rattle.toml_edit_tree.specs.View.{array_view, inline_view, item_view, items_view, slots_view, table_view, tables_view}
-use Rattle.toml_edit_change.specs.Changes.{names, pairs}
+use Rattle.toml_edit_change.specs.Changes.{names}
 use Rattle.toml_edit_change.specs.Elements.{nodes, place_named}
 use Rattle.toml_edit_change.proofs.ChangeLaws.{in-array, in-inline, in-table, in-tables}
 use Rattle.toml_edit_change.proofs.ElementLaws.{element-changes}
@@ -38,11 +39,11 @@ set_in_tables-returns t c =
     let ys = c.set_in_element.new.items in
     let k = c.args.key.now.name in
     let go = set_below (item_view c.args.value.now) (names c.args.rest.now) in
-    in-tables (λ ns. change_element go ns (element_of is_table k ns)) (tables_view a) _ (items_view c.deref_mut.result.now) (items_view ys) _
+    in-tables (λ ns. change_element go ns (element_of is_table_node k ns)) (tables_view a) _ (items_view c.deref_mut.result.now) (items_view ys) _
     (ap items_view c.deref_mut.ensures.value ∙ sym (tables-items a)) (tables-made a (with_items a.values ys)
     ∙ ap (λ (xs : List Item). record { extent = (tables_view a).extent; items = items_view xs }) (with_items_is a.values ys (omega (arith, a.values.ok.0, c.deref_mut.ensures.len))))
-    (c.set_in_element.ensures is_table k
-    (c.table_named-at.ensures.place ∙ ap (λ (xs : List Item). place_named is_table k (nodes xs)) (c.deref.ensures.value ∙ sym c.deref_mut.ensures.value)))
+    (c.set_in_element.ensures is_table_node k
+    (c.table_named-at.ensures.place ∙ ap (λ (xs : List Item). place_named is_table_node k (nodes xs)) (c.deref.ensures.value ∙ sym c.deref_mut.ensures.value)))
 
 pub set_in_element-returns-in-Some : goal.set_in_element-returns-in-Some
 set_in_element-returns-in-Some t c =
@@ -55,27 +56,27 @@ pub set_in_inline-returns : goal.set_in_inline-returns
 set_in_inline-returns t c =
     let k = c.args.key.now.name in
     let go = set_below (item_view c.args.value.now) (names c.args.rest.now) in
-    in-inline (λ ss. change_slot true k go ss (slot_of k ss)) (inline_view c.args.table.now) _ (slots_view c.slots_mut.result.now) (slots_view c.set_in_slots.new.slots) _
+    in-inline (λ ss. change_slot true k go ss (lookup_slot k ss)) (inline_view c.args.table.now) _ (slots_view c.slots_mut.result.now) (slots_view c.set_in_slots.new.slots) _
     c.slots_mut.ensures.slots (c.slots_mut.ensures.others c.set_in_slots.new.slots) c.set_in_slots.ensures
 
 pub set_in_table-returns : goal.set_in_table-returns
 set_in_table-returns t c =
     let k = c.args.key.now.name in
     let go = set_below (item_view c.args.value.now) (names c.args.rest.now) in
-    in-table (λ ss. change_slot true k go ss (slot_of k ss)) (table_view c.args.table.now) _ (slots_view c.slots_mut.result.now) (slots_view c.set_in_slots.new.slots) _
+    in-table (λ ss. change_slot true k go ss (lookup_slot k ss)) (table_view c.args.table.now) _ (slots_view c.slots_mut.result.now) (slots_view c.set_in_slots.new.slots) _
     c.slots_mut.ensures.slots (c.slots_mut.ensures.others c.set_in_slots.new.slots) c.set_in_slots.ensures
 
 pub set_in_slots-returns-in-Some : goal.set_in_slots-returns-in-Some
 set_in_slots-returns-in-Some t c =
     let es = c.args.slots.now in
     slot-changes true c.args.key.now.name (set_below (item_view c.args.value.now) (names c.args.rest.now)) es c.in-Some.at c.item_mut.result.now c.set_in_item.new.item
-    c.set_in_item.result (sym (c.in-Some.ensures.place ∙ ap (λ (x : Text). place x es) c.get.ensures.name)) c.item_mut.ensures.item c.set_in_item.ensures
+    c.set_in_item.result c.as_slice.ensures.apart (sym (c.in-Some.ensures.place ∙ ap (λ (x : Text). place x es) c.get.ensures.name)) c.item_mut.ensures.item c.set_in_item.ensures
 
 pub set_in_slots-returns-in_ok-push_new-in-None : goal.set_in_slots-returns-in_ok-push_new-in-None
 set_in_slots-returns-in_ok-push_new-in-None t c =
     let es = c.args.slots.now in
     let k = c.args.key.now.name in
     let none : place k es ≡ None = sym (c.in-None.ensures.place ∙ ap (λ (x : Text). place x es) c.get.ensures.name) in
-    new-slot k (item_view c.args.value.now) (names c.args.rest.now) (pairs es) (pairs c.push_new.new.slots) (item_view c.make_below.new.value) (slot-none k es none)
+    new-slot k (item_view c.args.value.now) (names c.args.rest.now) (shown_slots es) (shown_slots c.push_new.new.slots) (item_view c.make_below.new.value) (slot-none k es none)
     c.in_ok-make_below-in-None.ensures
-    (c.in_ok-push_new-in-None.ensures.made ∙ ap (λ (x : Text). pairs es ++ ((new_key x, item_view c.make_below.new.value) ∷ [])) c.get-in-None.ensures.name)
+    (c.in_ok-push_new-in-None.ensures.made ∙ ap (λ (x : Text). shown_slots es ++ (keyed (new_key x) (item_view c.make_below.new.value) ∷ [])) c.get-in-None.ensures.name)

@@ -4,13 +4,14 @@ use Rattle.std.specs.Option.{IfSome}
 use Rattle.std.proofs.lemmas.Bool.{eqb-false, eqb-true}
 use Rattle.toml_edit_model.specs.Text.{Text}
 use Rattle.toml_edit_model.specs.Tree.{is_value_node}
-use Rattle.toml_edit_laws.specs.Locality.{is_table}
+use Rattle.toml_edit_model.specs.Shown.{is_table_node}
 use Rattle.toml_edit_laws.specs.Commands.{change_slot, done, drop_slot, present, remove_below}
-use Rattle.toml_edit_model.specs.SlotLists.{slot_of}
+use Rattle.toml_edit_model.specs.Slots.{lookup_slot}
 use Rattle.toml_edit_slots.specs.Slots.{place}
 use Rattle.toml_edit_tree.specs.declared.item.Item.{Item}
+use Rattle.toml_edit_tree.specs.Indexed.{shown_slots}
 use Rattle.toml_edit_tree.specs.View.{array_view, inline_view, item_view, items_view, slots_view, table_view, tables_view}
-use Rattle.toml_edit_change.specs.Changes.{Changes, names, pairs, removed_element, removed_slot}
+use Rattle.toml_edit_change.specs.Changes.{Changes, names, removed_element, removed_slot}
 use Rattle.toml_edit_change.specs.Elements.{nodes, place_named}
 use Rattle.toml_edit_change.proofs.ChangeLaws.{in-array, in-inline, in-table, in-tables, inner-element, inner-slot, last-element, last-slot, removed-in-inline, removed-in-list, removed-in-table, removed-in-tables, renamed}
 use Rattle.toml_edit_change.proofs.ElementLaws.{element-changes, element-dropped}
@@ -37,10 +38,10 @@ remove_in_tables-returns-clause-changes t c =
     let k = c.args.key.now.name in
     let path = names c.args.rest.now in
     renamed _ _ _ _ _ _ _ (removed-in-tables k path held.extent held.items) refl refl
-    (in-tables (removed_element is_table k path) held _ (items_view a.values.items) (items_view c.remove_in_element.new.items.items) _
+    (in-tables (removed_element is_table_node k path) held _ (items_view a.values.items) (items_view c.remove_in_element.new.items.items) _
     (sym (tables-items a)) (tables-made a c.remove_in_element.new.items)
-    (c.remove_in_element.ensures.changes is_table k
-    (c.table_named-at.ensures.place ∙ ap (λ (xs : List Item). place_named is_table k (nodes xs)) c.deref.ensures.value)))
+    (c.remove_in_element.ensures.changes is_table_node k
+    (c.table_named-at.ensures.place ∙ ap (λ (xs : List Item). place_named is_table_node k (nodes xs)) c.deref.ensures.value)))
 
 pub remove_in_element-returns-in-Some-clause-changes : goal.remove_in_element-returns-in-Some-clause-changes
 remove_in_element-returns-in-Some-clause-changes t c =
@@ -85,23 +86,23 @@ pub remove_in_slots-returns-in-Some-clause-changes : goal.remove_in_slots-return
 remove_in_slots-returns-in-Some-clause-changes t c =
     let es = c.args.slots.now in
     let k = c.args.key.now.name in
-    renamed _ _ _ _ _ _ _ (sym (inner-slot k c.args.rest.now (pairs es) (eqb-false (length c.args.rest.now) 0 (sym c.is_empty.ensures ∙ c.if-is_empty.false)))) refl refl
+    renamed _ _ _ _ _ _ _ (sym (inner-slot k c.args.rest.now (shown_slots es) (eqb-false (length c.args.rest.now) 0 (sym c.is_empty.ensures ∙ c.if-is_empty.false)))) refl refl
     (slot-changes false k (remove_below (names c.args.rest.now)) es c.in-Some.at c.item_mut.result.now c.remove_in_item.new.item c.remove_in_item.result
-    (sym (c.in-Some.ensures.place ∙ ap (λ (x : Text). place x es) c.get-2.ensures.name)) c.item_mut.ensures.item c.remove_in_item.ensures.changes)
+    c.as_slice.ensures.apart (sym (c.in-Some.ensures.place ∙ ap (λ (x : Text). place x es) c.get-2.ensures.name)) c.item_mut.ensures.item c.remove_in_item.ensures.changes)
 
 pub remove_in_slots-returns-in-None-clause-changes : goal.remove_in_slots-returns-in-None-clause-changes
 remove_in_slots-returns-in-None-clause-changes t c =
     let es = c.args.slots.now in
     let k = c.args.key.now.name in
     let none : place k es ≡ None = sym (c.in-None.ensures.place ∙ ap (λ (x : Text). place x es) c.get-2.ensures.name) in (
-      inner-slot k c.args.rest.now (pairs es) (eqb-false (length c.args.rest.now) 0 (sym c.is_empty.ensures ∙ c.if-is_empty.false))
-          ∙ ap (change_slot false k (remove_below (names c.args.rest.now)) (pairs es)) (slot-none k es none),
+      inner-slot k c.args.rest.now (shown_slots es) (eqb-false (length c.args.rest.now) 0 (sym c.is_empty.ensures ∙ c.if-is_empty.false))
+          ∙ ap (change_slot false k (remove_below (names c.args.rest.now)) (shown_slots es)) (slot-none k es none),
       refl,
     )
 
 pub remove_in_slots-returns-then-is_empty-clause-changes : goal.remove_in_slots-returns-then-is_empty-clause-changes
 remove_in_slots-returns-then-is_empty-clause-changes t c =
-    let ss = pairs c.args.slots.now in
+    let ss = shown_slots c.args.slots.now in
     let told =
-    subst (λ (x : Text). Changes (drop_slot x ss (present (slot_of x ss))) ss (pairs c.take_slot.new.slots) c.take_slot.result) c.get.ensures.name c.take_slot.ensures.changes in
+    subst (λ (x : Text). Changes (drop_slot x ss (present (lookup_slot x ss))) ss (shown_slots c.take_slot.new.slots) c.take_slot.result) c.get.ensures.name c.take_slot.ensures.changes in
     renamed _ _ _ _ _ _ _ (sym (last-slot c.args.key.now.name c.args.rest.now ss (eqb-true (length c.args.rest.now) 0 (sym c.is_empty.ensures ∙ c.if-is_empty.true)))) refl refl told

@@ -2,21 +2,21 @@
 use Rattle.std.proofs.Common.{refl, ap, sym, ◌∙◌, Option}
 use Rattle.std.specs.Borrow.{Bor}
 use Rattle.std.specs.Option.{option_copied}
+use Rattle.toml_edit_tree.specs.Indexed.{shown_slots}
 use Rattle.toml_edit_tree.specs.View.{item_view}
 use Rattle.toml_edit_tree.specs.declared.item.Item.{Item}
-use Rattle.toml_edit_change.specs.Changes.{pairs}
 use Rattle.toml_edit_change.proofs.SlotLaws.{absent, filled, none-taken, slot-taken, unfilled}
 use Rattle.toml_edit_change.proofs.take.take_slot.Goals as goal
 
 pub returns-in_default-clause-changes : goal.returns-in_default-clause-changes
 returns-in_default-clause-changes c =
     let es = c.args.slots.now in
-    (none-taken c.args.key.now (pairs es) (unfilled c.args.key.now es c.in-Some.item.now c.in-Some.ensures (c.is_none.ensures.0 c.if-not-is_none.false)), refl)
+    (none-taken c.args.key.now (shown_slots es) (unfilled c.args.key.now es c.in-Some.item.now c.in-Some.ensures (c.is_none.ensures.0 c.if-not-is_none.false)), refl)
 
 pub returns-in_default-2-clause-changes : goal.returns-in_default-2-clause-changes
 returns-in_default-2-clause-changes c =
     let es = c.args.slots.now in
-    (none-taken c.args.key.now (pairs es) (absent c.args.key.now es (ap (λ (o : Option (Bor Item)). option_copied o) (sym c.in_default.is) ∙ c.get.ensures)), refl)
+    (none-taken c.args.key.now (shown_slots es) (absent c.args.key.now es (ap (λ (o : Option (Bor Item)). option_copied o) (sym c.in_default.is) ∙ c.get.ensures)), refl)
 
 pub returns-clause-changes : goal.returns-clause-changes
 returns-clause-changes c =

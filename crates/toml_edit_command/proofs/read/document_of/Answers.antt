@@ -9,5 +9,5 @@ pub returns-clause-ok : goal.returns-clause-ok
 returns-clause-ok c =
     read-as (mode_of c.args.options) (version_of c.args.options) c.args.text.now (source c.in_ok-document.document)
     (tree_read c.in_ok-document.document) (mode_read c.in_ok-document.document) (open_read c.in_ok-document.document) (held c.in_ok-into_mut.field-0)
-    c.in_ok-document.ensures.source c.utf8.text c.in_ok-document.ensures.accepted c.in_ok-document.ensures.mode c.in_ok-into_mut.ensures.owned
+    c.in_ok-document.ensures.source c.in_ok-document.ensures.accepted c.in_ok-document.ensures.mode
     c.in_ok-into_mut.ensures.kept c.in_ok-into_mut.ensures.normal

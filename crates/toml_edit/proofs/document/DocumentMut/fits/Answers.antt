@@ -6,6 +6,9 @@ use Rattle.toml_edit.specs.DocumentView.{mode_owned, open_owned, tree_owned}
 use Rattle.toml_edit.proofs.PrintMeaning.{print-means}
 use Rattle.toml_edit.proofs.document.DocumentMut.fits.Goals as goal
 
+pub returns-clause-made : goal.returns-clause-made
+returns-clause-made c = subst (λ (ss : Slots). ∥ SlotsAreWellMade ss ∥₁) c.as_table.ensures.slots c.tree_fits.ensures.made
+
 pub returns-clause-reparse : goal.returns-clause-reparse
 returns-clause-reparse c =
     let mode = mode_owned c.args.self.now in
