@@ -1,7 +1,8 @@
 //! The tables of a document that have headers, in the order in which the headers are printed.
-ghost use Rattle.std.specs.Prelude.{◌≡◌, ◌++◌, ◌∷◌, [], OnOk, IfOk, false, map};
+ghost use Rattle.std.specs.Prelude.{◌≡◌, ◌++◌, ◌∷◌, [], List, OnOk, IfOk, false, map};
+ghost use Rattle.toml_edit_model.specs.Tree.{Key as KeyView};
 ghost use Rattle.toml_edit_model.specs.Order.{sorted_by};
-ghost use Rattle.toml_edit_laws.specs.PrintByVisits.{by_place, enter, headed_tables, walked, walked_items, walked_node};
+ghost use Rattle.toml_edit_laws.specs.PrintByVisits.{Walked, by_place, enter, headed_tables, walked, walked_items, walked_node};
 ghost use Rattle.toml_edit_tree.specs.Printing.{keys_on};
 ghost use Rattle.toml_edit_tree.specs.View.{fields_view, item_view, items_view, slots_view, table_slots};
 ghost use Rattle.toml_edit.specs.HeadersView.{header_view, walk_view};
@@ -24,11 +25,11 @@ pub(crate) struct Header<'p, 'a> {
     pub(crate) table: &'a Table,
 }
 
-/// A walk over the tables of a document: those with headers so far, and the place of the last
+/// A walk over the tables of a document: those with headers until now, and the place of the last
 /// table.
 ///
-/// The arena holds a path for each table. It is its key and a reference to the path of its parent,
-/// so no path is copied.
+/// The arena holds a path for each table that has tables below it. It is its key and a reference to
+/// the path of its parent, so no path is copied.
 #[derive(Drop)]
 struct Walk<'p, 'a> {
     arena: &'p Bump,
@@ -102,8 +103,34 @@ fn enter_table<'p, 'a>(
         (enter (walk_view walk.old) (keys_on path.now ++ (key.now ∷ [])) is_element (fields_view table.now) (table_slots table.now))) }
 {
     add_table(walk, table, is_element, key, path)?;
+    if !have_tables(&table.slots) {
+        return Ok(());
+    }
     let under = add_key(walk.arena, key, path)?;
     enter_slots(walk, &table.slots, under)
+}
+
+/// Returns `false` only if none of the slots holds a table or an array of tables.
+fn have_tables(slots: &Slots<Item>) -> bool
+    ensures { (keys : List KeyView) → (before : Walked) → result ≡ false → walked (slots_view slots.now) keys before ≡ before }
+{
+    let entries = slots.as_slice();
+    'slots: for slot in entries {
+        if holds_tables(&slot.item) {
+            return true;
+        }
+    }
+    false
+}
+
+/// Returns `true` if the item is a table or an array of tables.
+fn holds_tables(item: &Item) -> bool
+    ensures { (keys : List KeyView) → (before : Walked) → result ≡ false → walked_node (item_view item.now) keys before ≡ before }
+{
+    match item {
+        Item::Table(_) | Item::ArrayOfTables(_) => true,
+        Item::None | Item::Value(_) => false,
+    }
 }
 
 /// Returns the path with `key` at its end.
@@ -145,6 +172,50 @@ fn add_table<'p, 'a>(
     Ok(())
 }
 
+/// Returns the number of tables below the slots that are elements or not implicit, which all have
+/// headers. An implicit table with lines has one too, but is rare.
+#[cycle(count)]
+fn count_explicit(slots: &Slots<Item>) -> usize {
+    let mut count: usize = 0;
+    for slot in slots.as_slice() {
+        count = count.saturating_add(count_in_item(&slot.item));
+    }
+    count
+}
+
+/// Returns the number of such tables in the item.
+#[cycle(count)]
+fn count_in_item(item: &Item) -> usize {
+    match item {
+        Item::Table(table) => count_in_table(table, false),
+        Item::ArrayOfTables(tables) => count_in_elements(&tables.values),
+        Item::None | Item::Value(_) => 0,
+    }
+}
+
+/// Returns the number of such tables in the elements.
+#[cycle(count)]
+fn count_in_elements(items: &Vec<Item>) -> usize {
+    let mut count: usize = 0;
+    for item in items {
+        if let Item::Table(table) = item {
+            count = count.saturating_add(count_in_table(table, true));
+        }
+    }
+    count
+}
+
+/// Returns the number of such tables: this one, if it is one, and those below it.
+#[cycle(count)]
+fn count_in_table(table: &Table, is_element: bool) -> usize {
+    let below = count_explicit(&table.slots);
+    if !table.is_dotted() && (is_element || !table.is_implicit()) {
+        below.saturating_add(1)
+    } else {
+        below
+    }
+}
+
 /// Sorts the headers by their places. Those of one place stay in the order of the walk.
 fn sort_headers(headers: &mut Vec<Header<'_, '_>>) -> Mem<()>
     ensures { OnOk result (map header_view headers.new.items ≡ sorted_by by_place (map header_view headers.old.items)) }
@@ -173,7 +244,7 @@ pub(crate) fn headers_in_order<'p, 'a>(
     };
     let mut walk = Walk {
         arena,
-        headers: Vec::new(root.slots.allocator()),
+        headers: Vec::with_capacity(root.slots.allocator(), count_explicit(&root.slots))?,
         seen,
     };
     enter_slots(&mut walk, &root.slots, top)?;

@@ -71,7 +71,7 @@ fn text_before(tail: Tail, count: usize) -> &'static str
     }
 }
 
-/// A sink that puts its texts into another one, and holds back the tail of all of them so far.
+/// A sink that puts its texts into another one, and holds back the tail of all of them.
 ///
 /// Only at the end is it known which newline is the last. Until then, the tail is put as soon as a
 /// text after it shows that it is not.
