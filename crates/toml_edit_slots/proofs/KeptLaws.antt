@@ -1,125 +1,37 @@
--- An index that is made that of slots of which it has the names; slots that are kept, and slots in another order.
-use Rattle.std.proofs.Common.{◌≡◌, ℕ, zero, suc, ◌≤◌, Bool, true, false, cond, List, [], ◌∷◌, filter, Option, Some, None, option_map, is_some, length, refl, sym, ap, ◌∙◌, inl, inr, arith, string_bytes, slice_get, IsPermutation, String, is_eq, ap₂}
+-- Slots that are kept, and slots in another order.
+use Rattle.std.proofs.Common.{◌≡◌, ℕ, suc, ◌≤◌, Bool, true, false, cond, List, [], ◌∷◌, Option, Some, None, option_map, is_some, length, refl, sym, ◌∙◌, inl, inr, arith, IsPermutation}
 use Rattle.std.proofs.lemmas.Bool.{cases_Bool, false≢true}
 use Rattle.std.proofs.lemmas.Cmp.{nat_list_eq_equiv}
 use Rattle.std.proofs.lemmas.List.Sorted.{IsPermutation-map, length_permutation, list_any-IsPermutation}
 use Rattle.std.proofs.lemmas.Map.Keys.{IsDistinct-IsPermutation}
-use Rattle.std.proofs.lemmas.Map.Text.{is_eq-slice_cmp, text_cmp}
-use Rattle.std.proofs.lemmas.Option.{none-some, same_Some, slice_get_within, slice_get-map}
 use Rattle.std.specs.Global.{Box}
 use Rattle.std.specs.List.{IsDistinct, AllByRecursion, list_any}
-use Rattle.std.specs.Map.{lookup}
-use Rattle.std.specs.Option.{option_map_or}
 use Rattle.toml_edit_model.specs.Text.{Text, same_text}
 use Rattle.toml_edit_model.specs.Retaining.{RetainsBy}
 use Rattle.toml_edit_slots.specs.declared.slots.Slot.{Slot}
 use Rattle.toml_edit_slots.specs.Slots.{AreApart, is_at, names, place, place_in}
-use Rattle.toml_edit_slots.specs.SlotIndex.{HasRoom, HasTexts, IsIndex, IsIndexed, IsIndexOf, IsPutAt, IsRightBefore, MayIndex, stands_at}
+use Rattle.toml_edit_slots.specs.SlotIndex.{HasRoom, IsIndex, IsIndexed, MayIndex}
 use Rattle.toml_edit_slots.specs.declared.index.Index.{Index}
 use Rattle.toml_edit_slots.specs.declared.index.Index.TheVariants.{Chained, Sorted}
-use Rattle.toml_edit_slots.specs.declared.places.Places.{Places}
-use Rattle.toml_edit_slots.proofs.IndexLaws.{cases_option, place_in-is}
-
--- ---- an index put right
-
--- the texts that were there are, once a place is put
-pub texts-put : (us : List Text) (m n : Places) (at : ℕ) (u : Text) → IsPutAt at u m n → HasTexts m us → HasTexts n us
-texts-put us m n at u put has t there =
-    elim (cases_Bool (same_text u t)) [
-      | inl same ↦ rw (put t, same) refl
-      | inr other ↦ rw (put t, other) (has t there)
-    ]
-
-some_after : (o : Option ℕ) → is_some o ≡ true → is_some (option_map suc o) ≡ true
-some_after None h = h
-some_after (Some j) h = refl
+use Rattle.toml_edit_slots.proofs.IndexLaws.{place_in-is, some_after, some_place}
+use Rattle.toml_edit_slots.proofs.PlacesLaws.{texts-among}
 
 some_before : (o : Option ℕ) → is_some (option_map suc o) ≡ true → is_some o ≡ true
 some_before None h = h
 some_before (Some j) h = refl
 
--- a text that stands somewhere has a place
-some_place : (us : List Text) (k : ℕ) (t u : Text) → slice_get us k ≡ Some u → same_text t u ≡ true → is_some (place_in t us) ≡ true
-some_place [] k t u is same = absurd (omega (arith, slice_get_within [] k u is))
-some_place (w ∷ us) zero t u is same = rw (same_Some w u is, same) refl
-some_place (w ∷ us) (suc k) t u is same =
-    elim (cases_Bool (same_text t w)) [
-      | inl here ↦ rw here refl
-      | inr other ↦ rw other (some_after (place_in t us) (some_place us k t u is same))
-    ]
-
-stands-some : (us : List Text) (k : ℕ) (t v : Text) → same_text t v ≡ true → stands_at us k v ≡ true → is_some (place_in t us) ≡ true
-stands-some us k t v same stands =
-    elim (cases_option (slice_get us k)) [
-      | inl none ↦ absurd (false≢true (rw none at stands))
-      | inr found ↦
-          let here : same_text found.0 v ≡ true = rw found.1 at stands in
-          some_place us k t found.0 found.1 (nat_list_eq_equiv.congr t v found.0 same ∙ nat_list_eq_equiv.symm v found.0 ∙ here)
-    ]
-
-module _ {A : Type 0} (us : List Text) where
-  -- the entry says where its text stands
-  abbrev pub fits : String A × ℕ → Bool
-  fits p = stands_at us p.1 (string_bytes p.0)
-
-  -- what is looked up, among the entries that fit
-  lookup-kept : (t : Text) (k : ℕ) → slice_get us k ≡ Some t → (es : List (String A × ℕ)) → lookup (λ x. same_text t (string_bytes x)) es ≡ Some k
-      → lookup (λ x. same_text t (string_bytes x)) (filter fits es) ≡ Some k
-  lookup-kept t k is [] e = absurd (none-some k e)
-  lookup-kept t k is (p ∷ es) e =
-      elim (cases_Bool (same_text t (string_bytes p.0))) [
-        | inl same ↦
-            let at : p.1 ≡ k = same_Some p.1 k (rw same at e) in
-            let stays : fits p ≡ true = ap (λ j. stands_at us j (string_bytes p.0)) at ∙ ap (λ o. option_map_or (λ u. same_text u (string_bytes p.0)) o false) is ∙ same in
-            rw (stays, same) (ap Some at)
-        | inr other ↦
-            let rest = lookup-kept t k is es (rw other at e) in
-            elim (cases_Bool (fits p)) [
-              | inl stays ↦ rw (stays, other) rest
-              | inr goes ↦ rw goes rest
-            ]
-      ]
-
-  lookup-gone : (t : Text) → place_in t us ≡ None → (es : List (String A × ℕ)) → lookup (λ x. same_text t (string_bytes x)) (filter fits es) ≡ None
-  lookup-gone t none [] = refl
-  lookup-gone t none (p ∷ es) =
-      elim (cases_Bool (fits p)) [
-        | inl stays ↦ elim (cases_Bool (same_text t (string_bytes p.0))) [
-          | inl same ↦ absurd (false≢true (ap is_some (sym none) ∙ stands-some us p.1 t (string_bytes p.0) same stays))
-          | inr other ↦ rw (stays, other) (lookup-gone t none es)
-        ]
-        | inr goes ↦ rw goes (lookup-gone t none es)
-      ]
-
-  -- where each text stands with its place, the entries that fit have the places
-  lookup-fitting : (t : Text) (es : List (String A × ℕ)) → ((k : ℕ) → slice_get us k ≡ Some t → lookup (λ x. same_text t (string_bytes x)) es ≡ Some k)
-      → lookup (λ x. same_text t (string_bytes x)) (filter fits es) ≡ place_in t us
-  lookup-fitting t es right =
-      elim (cases_option (place_in t us)) [
-        | inl gone ↦ rw gone (lookup-gone t gone es)
-        | inr found ↦ let there = place_in-is t us found.0 found.1 in rw found.1 (lookup-kept t found.0 there es (right found.0 there))
-      ]
-
-  lookup-alike : (p q : String A → Bool) → ((k : String A) → p k ≡ q k) → (es : List (String A × ℕ)) → lookup p es ≡ lookup q es
-  lookup-alike p q same [] = refl
-  lookup-alike p q same (e ∷ es) = ap₂ (λ b o. cond b (Some e.1) o) (same e.0) (lookup-alike p q same es)
-
--- the entries that fit are the index
-pub index-fitting : (us : List Text) (m n : Places) → IsRightBefore (length us) m us → n.names.entries ≡ filter (fits us) m.names.entries → IsIndexOf n us
-index-fitting us m n right kept t =
-    let alike = lookup-alike us (λ k. is_eq (text_cmp t k)) (λ k. same_text t (string_bytes k)) (λ k. is_eq-slice_cmp t (string_bytes k)) in
-    alike n.names.entries ∙ ap (lookup (λ k. same_text t (string_bytes k))) kept
-    ∙ lookup-fitting us t m.names.entries (λ k is. sym (alike m.names.entries) ∙ right k t (slice_get_within us k t is) is)
-
--- what stands at a place among slots
-pub stands-at : {T : Type 0} (es : List (Slot T)) (k : ℕ) (t : Text) (o : Option (Slot T)) → o ≡ slice_get es k → option_map_or (λ u. same_text u t) (option_map (λ s. s.key.name) o) false ≡ stands_at (names es) k t
-stands-at es k t o is = ap (λ p. option_map_or (λ u. same_text u t) p false) (ap (option_map (λ s. s.key.name)) is ∙ sym (slice_get-map (λ s. s.key.name) es k))
+is_some_then : (o : Option ℕ) → is_some o ≡ true → (k : ℕ) × (o ≡ Some k)
+is_some_then None h = absurd (false≢true h)
+is_some_then (Some k) h = (k, refl)
 
 -- an index of some texts has room for others among them
 has_room : (x : Index) (us vs : List Text) → IsIndex x us → length vs ≤ length us
     → ((t : Text) → is_some (place_in t vs) ≡ true → is_some (place_in t us) ≡ true) → HasRoom x vs
 has_room (Chained c) us vs is long among = (is.some, omega (arith, is.long, long))
-has_room (Sorted m) us vs is long among = λ t there. ap is_some (is t) ∙ among t there
+has_room (Sorted m) us vs is long among =
+    texts-among us vs m is (λ k t there.
+    let place = is_some_then (place_in t us) (among t (some_place vs k t t there (nat_list_eq_equiv.refl t))) in
+    (place.0, place_in-is t us place.0 place.1))
 
 pub may_index : (o : Option (Box Index)) (us vs : List Text) → IsIndexed o us → length vs ≤ length us
     → ((t : Text) → is_some (place_in t vs) ≡ true → is_some (place_in t us) ≡ true) → MayIndex o vs

@@ -1,6 +1,7 @@
 -- Lemmas of this crate.
 pub mod ChainLaws
 pub mod IndexLaws
+pub mod PlacesLaws
 pub mod NewLaws
 pub mod SlotLaws
 pub mod KeptLaws

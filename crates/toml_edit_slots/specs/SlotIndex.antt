@@ -1,8 +1,10 @@
 -- The index of a table's slots.
-use Rattle.std.specs.Prelude.{◌≡◌, ℕ, ◌<◌, ◌≤◌, Bool, true, false, List, [], ◌∷◌, ◌++◌, Option, None, Some, is_some, length, slice_get, if◌then◌else◌}
+use Rattle.std.specs.Prelude.{◌≡◌, ℕ, ◌<◌, ◌≤◌, ◌⊎◌, Bool, true, false, List, [], ◌∷◌, ◌++◌, Option, None, Some, is_some, length, nat_eq, slice_get, if◌then◌else◌}
 use Rattle.std.specs.Global.{Box}
-use Rattle.std.specs.BTreeMap.{get_by_text}
-use Rattle.std.specs.Option.{option_map_or}
+use Rattle.std.specs.BTreeMap.{get, get_by_text}
+use Rattle.std.specs.Hash.DefaultHasher.{initial, write, finish}
+use Rattle.std.specs.Option.{option_map_or, option_or}
+use Rattle.std.specs.Ordering.{nat_cmp}
 use Rattle.toml_edit_model.specs.Text.{Text, same_text}
 use Rattle.toml_edit_slots.specs.Chained.{IsChained}
 use Rattle.toml_edit_slots.specs.Slots.{place_in}
@@ -10,35 +12,58 @@ use Rattle.toml_edit_slots.specs.declared.index.Index.{Index}
 use Rattle.toml_edit_slots.specs.declared.index.Index.TheVariants.{Chained, Sorted}
 use Rattle.toml_edit_slots.specs.declared.places.Places.{Places}
 
+-- the second hash of the text; nothing is proved of it but that equal texts have one
+unfoldable pub second_hash : Text → ℕ
+second_hash t = finish (write initial t)
+
 -- the text is at the place
 abbrev pub stands_at : List Text → ℕ → Text → Bool
 stands_at us k t = option_map_or (λ u. same_text u t) (slice_get us k) false
+
+-- a text with the second hash is at the place
+abbrev pub hash_stands_at : List Text → ℕ → ℕ → Bool
+hash_stands_at us k h = option_map_or (λ u. nat_eq (second_hash u) h) (slice_get us k) false
 
 -- these texts, with one more after them if it is none of them
 abbrev pub with_text : Text → List Text → List Text
 with_text t us = if is_some (place_in t us) then us else us ++ t ∷ []
 
--- the place that is noted of the text
-abbrev pub place_of : Places → Text → Option ℕ
-place_of m t = get_by_text m.names t
+-- a place is noted under the text itself
+abbrev pub is_own : Places → Text → Bool
+is_own m t = is_some (get_by_text m.names t)
 
--- each text is noted with the place where it first is among these
-abbrev pub IsIndexOf : Places → List Text → Type 0
-IsIndexOf m us = (t : Text) → place_of m t ≡ place_in t us
+-- the place that is noted of the text: under itself, or else under its hash
+abbrev pub place_of : Places → Text → Option ℕ
+place_of m t = option_or (get_by_text m.names t) (get nat_cmp m.hashes (second_hash t))
 
 -- the texts before the place are noted with their places
 abbrev pub IsRightBefore : ℕ → Places → List Text → Type 0
 IsRightBefore n m us = (k : ℕ) (t : Text) → k < n → slice_get us k ≡ Some t → place_of m t ≡ Some k
 
--- the text is noted with the place, and the others as before
-abbrev pub IsPutAt : ℕ → Text → Places → Places → Type 0
-IsPutAt n u old new = (t : Text) → place_of new t ≡ if same_text u t then Some n else place_of old t
+-- each of these texts is noted with its place; of others anything may be noted
+abbrev pub IsIndexOf : Places → List Text → Type 0
+IsIndexOf m us = (k : ℕ) (t : Text) → slice_get us k ≡ Some t → place_of m t ≡ Some k
 
--- each of the texts is noted, with whatever place
-abbrev pub HasTexts : Places → List Text → Type 0
-HasTexts m us = (t : Text) → is_some (place_in t us) ≡ true → is_some (place_of m t) ≡ true
+-- the text is noted with the place, and what was noted of others stays
+abbrev pub IsNotedAt : ℕ → Text → Places → Places → Type 0
+IsNotedAt n u old new = (place_of new u ≡ Some n) × ((k : ℕ) (t : Text) → same_text u t ≡ false → place_of old t ≡ Some k → place_of new t ≡ Some k)
 
--- the index is that of these texts: by their hashes, or by the texts
+-- the two texts do not share a hash under which both are noted
+abbrev pub AreNotedApart : Places → Text → Text → Type 0
+AreNotedApart m t u = second_hash t ≡ second_hash u → (is_own m t ≡ true) ⊎ (is_own m u ≡ true)
+
+-- the text is noted with the place where it was noted before, and nothing changes for those noted apart from it
+pub record IsSetTo (n : ℕ) (u : Text) (old new : Places) : Type 0 where
+  pub place : place_of new u ≡ Some n
+  pub own : (t : Text) → is_own new t ≡ is_own old t
+  pub others : (t : Text) → same_text u t ≡ false → AreNotedApart old t u → place_of new t ≡ place_of old t
+
+-- a place is noted of each of the texts, whatever it is, and no two share it
+pub record HasTexts (m : Places) (us : List Text) : Type 0 where
+  pub noted : (k : ℕ) (t : Text) → slice_get us k ≡ Some t → is_some (place_of m t) ≡ true
+  pub apart : (j k : ℕ) (t u : Text) → slice_get us j ≡ Some t → slice_get us k ≡ Some u → same_text u t ≡ false → AreNotedApart m t u
+
+-- the index is that of these texts: by their hashes, in chains or in trees
 abbrev pub IsIndex : Index → List Text → Type 0
 IsIndex (Chained c) us = IsChained c us
 IsIndex (Sorted m) us = IsIndexOf m us

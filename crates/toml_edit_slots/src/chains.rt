@@ -74,7 +74,7 @@ impl Chains {
         Err(steps)
     }
 
-    /// Adds the place behind these slots, for a slot whose name has the hash.
+    /// Adds the place after these slots, for a slot whose name has the hash.
     ///
     /// Fails only if memory runs out; these then are still the chains of the slots.
     pub(crate) fn push<T>(&mut self, entries: &[Slot<T>], hash: usize) -> Mem<()>
@@ -116,9 +116,9 @@ impl Chains {
         }
     }
 
-    /// Removes a place, and moves the places behind it down by one.
+    /// Removes a place, and moves the places after it down by one.
     ///
-    /// Takes time in proportion to the number of slots behind it, and allocates nothing.
+    /// Takes time in proportion to the number of slots after it, and allocates nothing.
     pub(crate) fn close_gap<T>(&mut self, entries: &[Slot<T>], gap: usize)
         requires chained { IsChained self.old (names entries.now) }
         requires gap { gap < length entries.now }
@@ -147,7 +147,7 @@ impl Chains {
         self.next.truncate(count);
     }
 
-    /// Puts the place of a slot into the chain of its name's hash, behind the places before it.
+    /// Puts the place of a slot into the chain of its name's hash, after the places before it.
     #[inline]
     fn link(&mut self, at: usize, hash: usize)
         requires some { 0 < length self.old.heads.items }

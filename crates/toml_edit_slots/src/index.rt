@@ -1,8 +1,7 @@
 //! The index of a table's slots: from the name of each key to the place of its slot.
-ghost use Rattle.std.specs.Prelude.{◌≡◌, ◌<◌, ◌≤◌, ◌++◌, ◌∷◌, [], None, Some, true, is_some, length, position, remove, IfOk, OnOk, OnErr};
-ghost use Rattle.toml_edit_model.specs.Text.{Text};
-ghost use Rattle.toml_edit_slots.specs.Slots.{AreApart, is_at, names, place, place_in};
-ghost use Rattle.toml_edit_slots.specs.SlotIndex.{HasRoom, IsIndex, IsIndexed, IsIndexOf, IsRightBefore, IsPutAt, HasTexts, MayIndex, place_of, with_text};
+ghost use Rattle.std.specs.Prelude.{◌≡◌, ◌<◌, ◌≤◌, ◌++◌, ◌∷◌, [], None, Some, length, position, remove, IfOk, OnOk, OnErr};
+ghost use Rattle.toml_edit_slots.specs.Slots.{AreApart, is_at, names, place};
+ghost use Rattle.toml_edit_slots.specs.SlotIndex.{HasRoom, IsIndex, IsIndexed, IsIndexOf, IsRightBefore, HasTexts, MayIndex, with_text};
 
 use crate::chains::{Chains, hash_of};
 use crate::places::Places;
@@ -22,8 +21,8 @@ const LONGEST: usize = 16;
 pub(crate) enum Index {
     /// Finds a place by the hash of the name.
     Chained(Chains),
-    /// Finds a place by the name itself, in a tree. Replaces the chains once one of them would be
-    /// too long.
+    /// Finds a place by a second hash of the name, in a tree. Replaces the chains once one of them
+    /// would be too long.
     Sorted(Places),
 }
 
@@ -52,7 +51,7 @@ fn find_in<T>(index: &Index, entries: &[Slot<T>], name: &str) -> Option<usize>
 {
     match index {
         Index::Chained(chains) => chains.find(entries, name),
-        Index::Sorted(places) => places.get(name),
+        Index::Sorted(places) => places.find(entries, name),
     }
 }
 
@@ -63,7 +62,7 @@ fn walk<T>(entries: &[Slot<T>], name: &str) -> Option<usize>
     entries.iter().position(|slot| name == slot.key.get())
 }
 
-/// Adds the place behind these slots for a new name, and returns `None`.
+/// Adds the place after these slots for a new name, and returns `None`.
 ///
 /// If a slot has the name already, returns its place and changes nothing. A new index gets room for
 /// `room` slots. Fails only if memory runs out at a new name; the index then stays as it was.
@@ -95,7 +94,7 @@ pub(crate) fn add_new_place<T>(
     }
 }
 
-/// Returns the first index of a table: that of these slots, and of a new name behind them, with
+/// Returns the first index of a table: that of these slots, and of a new name after them, with
 /// room for `room` slots. Fails only if memory runs out.
 fn index_with<T>(alloc: Global, entries: &[Slot<T>], room: usize, name: &str) -> Mem<Box<Index>>
     ensures { IfOk result (λ index. IsIndex index.value (names entries.now ++ name.now ∷ [])) }
@@ -135,12 +134,12 @@ fn put_new_place<T>(
                 }
             }
         }
-        Index::Sorted(places) => put_new_name(places, alloc, name, entries.len()),
+        Index::Sorted(places) => places.add(alloc, entries, name),
     }
 }
 
-/// Returns the places of these slots, and of a new name behind them, by their names. Fails only if
-/// memory runs out.
+/// Returns the places of these slots, and of a new name after them, in a tree. Fails only if memory
+/// runs out.
 #[cold]
 #[inline(never)]
 fn places_with<T>(alloc: Global, entries: &[Slot<T>], name: &str) -> Mem<Places>
@@ -150,32 +149,13 @@ fn places_with<T>(alloc: Global, entries: &[Slot<T>], name: &str) -> Mem<Places>
 {
     let mut places = Places::new(alloc);
     for at in 0..entries.len() {
-        places.insert(alloc, entries[at].key.get(), at)?;
+        places.add(alloc, &entries[..at], entries[at].key.get())?;
     }
-    places.insert(alloc, name, entries.len())?;
+    places.add(alloc, entries, name)?;
     Ok(places)
 }
 
-/// Adds the place of a new name, and returns `None`.
-///
-/// If the name has a place already, returns it and changes nothing. Fails only if memory runs out
-/// at a new name.
-#[inline(never)]
-fn put_new_name(places: &mut Places, alloc: Global, name: &str, at: usize) -> Mem<Option<usize>>
-    ensures place { IfOk result (λ there. there ≡ place_of places.old name.now) }
-    ensures put { OnOk result (place_of places.old name.now ≡ None → IsPutAt at name.now places.old places.new) }
-    ensures new { OnErr result (place_of places.old name.now ≡ None) }
-    ensures stays { OnErr result ((t : Text) → place_of places.new t ≡ place_of places.old t) }
-    ensures present { is_some (place_of places.old name.now) ≡ true → (t : Text) → place_of places.new t ≡ place_of places.old t }
-{
-    if let Some(there) = places.get(name) {
-        return Ok(Some(there));
-    }
-    places.insert(alloc, name, at)?;
-    Ok(None)
-}
-
-/// Removes the place of a slot that is about to be removed, and moves the places behind it down by
+/// Removes the place of a slot that is about to be removed, and moves the places after it down by
 /// one. Allocates nothing.
 pub(crate) fn close_gap<T>(
     index: &mut Option<Box<Index>>,
@@ -209,11 +189,11 @@ fn close_in<T>(index: &mut Index, entries: &[Slot<T>], name: &str, gap: usize)
     }
 }
 
-/// Moves the places behind the gap down by one. The places are of all names but the one at the gap.
+/// Moves the places after the gap down by one. The places are of all names but the one at the gap.
 fn move_down<T>(places: &mut Places, entries: &[Slot<T>], gap: usize)
     requires apart { AreApart entries.now }
     requires gap { gap < length entries.now }
-    requires names { (t : Text) → is_some (place_of places.old t) ≡ is_some (place_in t (remove (names entries.now) gap)) }
+    requires names { HasTexts places.old (remove (names entries.now) gap) }
     requires before { IsRightBefore gap places.old (remove (names entries.now) gap) }
     ensures { IsIndexOf places.new (remove (names entries.now) gap) }
 {

@@ -234,7 +234,7 @@ impl<T> Slots<T> {
         }
     }
 
-    /// Adds a slot with a new name behind the others.
+    /// Adds a slot with a new name after the others.
     ///
     /// # Errors
     ///
@@ -253,7 +253,7 @@ impl<T> Slots<T> {
         }
     }
 
-    /// Adds a slot behind the others if its name is new. Looks the name up only once.
+    /// Adds a slot after the others if its name is new. Looks the name up only once.
     ///
     /// # Errors
     ///
@@ -295,7 +295,7 @@ impl<T> Slots<T> {
 
     /// Inserts an item under a name, and returns the item that was there.
     ///
-    /// A key that is there keeps its place, and loses its formatting. A new key goes behind the
+    /// A key that is there keeps its place, and loses its formatting. A new key goes after the
     /// others.
     ///
     /// # Errors

@@ -13,7 +13,7 @@ impl<T> Slots<T> {
     /// Inserts an item under a copy of the key with its formatting, and returns the item that was
     /// there.
     ///
-    /// A key that is there keeps its place, and is replaced by the copy. A new key goes behind the
+    /// A key that is there keeps its place, and is replaced by the copy. A new key goes after the
     /// others.
     ///
     /// # Errors
@@ -57,7 +57,7 @@ impl<T> Slots<T> {
     /// Inserts an item under a key.
     ///
     /// A key that is there keeps its place and its formatting, and only its item is replaced. A new
-    /// key goes behind the others.
+    /// key goes after the others.
     ///
     /// # Errors
     ///
@@ -92,7 +92,7 @@ impl<T> Slots<T> {
         mem::replace(&mut slot.item, item)
     }
 
-    /// Returns the key and the item at the place, or `None` if it is behind the last slot.
+    /// Returns the key and the item at the place, or `None` if it is after the last slot.
     pub fn key_value_at(&self, at: usize) -> Option<(&Key, &T)>
         ensures { option_map pair_read result ≡ slice_get (seen self.now) at }
     {

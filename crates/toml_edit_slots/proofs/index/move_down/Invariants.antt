@@ -1,10 +1,9 @@
 -- The places before the next are right.
-use Rattle.std.proofs.Common.{◌≡◌, ◌<◌, ◌-◌, is_some, remove}
-use Rattle.toml_edit_model.specs.Text.{Text}
-use Rattle.toml_edit_slots.specs.Slots.{names, place_in}
-use Rattle.toml_edit_slots.specs.SlotIndex.{IsRightBefore, place_of}
+use Rattle.std.proofs.Common.{◌<◌, ◌-◌, remove}
+use Rattle.toml_edit_slots.specs.Slots.{names}
+use Rattle.toml_edit_slots.specs.SlotIndex.{HasTexts, IsRightBefore}
 use Rattle.toml_edit_slots.proofs.index.move_down.Given as goal
 
 abbrev pub invariant-loop-at : goal.invariant-loop-at
 invariant-loop-at g l =
-    (l.gap < l.at) × ((t : Text) → is_some (place_of l.places t) ≡ is_some (place_in t (remove (names l.entries) l.gap))) × IsRightBefore (l.at - 1) l.places (remove (names l.entries) l.gap)
+    (l.gap < l.at) × HasTexts l.places (remove (names l.entries) l.gap) × IsRightBefore (l.at - 1) l.places (remove (names l.entries) l.gap)

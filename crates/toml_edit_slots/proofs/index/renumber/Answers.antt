@@ -1,10 +1,10 @@
 -- The places, one by one.
-use Rattle.std.proofs.Common.{◌≡◌, ◌<◌, Some, is_some, get_or, length, sym, ap, ◌∙◌, arith}
+use Rattle.std.proofs.Common.{◌≡◌, ◌<◌, Some, get_or, length, sym, ap, ◌∙◌, arith}
 use Rattle.std.proofs.lemmas.Option.{slice_get-get_or}
 use Rattle.std.specs.List.{slice_get}
 use Rattle.toml_edit_slots.specs.Slots.{names}
-use Rattle.toml_edit_slots.proofs.IndexLaws.{names-get, place_in-own, right-more}
-use Rattle.toml_edit_slots.proofs.KeptLaws.{texts-put}
+use Rattle.toml_edit_slots.proofs.IndexLaws.{names-get}
+use Rattle.toml_edit_slots.proofs.PlacesLaws.{right-more, texts-set}
 use Rattle.toml_edit_slots.proofs.index.renumber.Goals as goal
 
 pub returns : goal.returns
@@ -13,13 +13,12 @@ returns g c k t below there = c.loop-at.invariant.1 k t (omega (arith, below)) t
 pub set-requires : goal.set-requires
 set-requires g c =
     let es = c.args.entries.now in
-    let us = names es in
     let at = c.loop-at.at in
     let s = c.index-entries-at.result in
     let x = c.get.result.now in
     let within : at < length es = omega arith in
-    let here : slice_get us at ≡ Some x = names-get es at (get_or es at s) (slice_get-get_or es at s within) ∙ ap Some (sym c.get.ensures.name) in
-    c.loop-at.invariant.0 x (ap is_some (place_in-own us at x here c.requires.apart))
+    let here : slice_get (names es) at ≡ Some x = names-get es at (get_or es at s) (slice_get-get_or es at s within) ∙ ap Some (sym c.get.ensures.name) in
+    c.loop-at.invariant.0.noted at x here
 
 pub loop-at-preserved : goal.loop-at-preserved
 loop-at-preserved g c =
@@ -32,4 +31,7 @@ loop-at-preserved g c =
     let n = c.set.new.self in
     let within : at < length es = omega arith in
     let here : slice_get us at ≡ Some x = names-get es at (get_or es at s) (slice_get-get_or es at s within) ∙ ap Some (sym c.get.ensures.name) in
-    (texts-put us m n at x c.set.ensures c.loop-at.invariant.0, right-more us c.requires.apart m n at x here c.set.ensures c.loop-at.invariant.1)
+    let apart = c.requires.apart in (
+      texts-set us apart m n at x here c.set.ensures c.loop-at.invariant.0,
+      right-more us apart m n at x here c.set.ensures c.loop-at.invariant.0 c.loop-at.invariant.1,
+    )

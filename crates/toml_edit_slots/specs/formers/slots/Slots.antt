@@ -20,7 +20,7 @@ use Rattle.std.specs.Global.{Box}
 use Rattle.std.specs.Coded.{Coded-set, coded_option, coded_ℕ, ×_prop, le_prop}
 use Rattle.toml_edit_model.specs.Text.{Text, same_text}
 use Rattle.toml_edit_model.specs.Tree.{Key}
-use Rattle.toml_edit_slots.specs.Slots.{names, on_item, place_in}
+use Rattle.toml_edit_slots.specs.Slots.{names, on_item}
 use Rattle.toml_edit_slots.specs.Chained.{IsChainedTo}
 use Rattle.toml_edit_slots.specs.SlotIndex.{IsIndex, IsIndexed, place_of}
 use Rattle.toml_edit_slots.specs.SlotCode.{slot_code}
@@ -80,7 +80,7 @@ IsChainedTo-prop c us k p q = λ i. record {
 
 IsIndex-prop : (index : Index) (us : List Text) → IsProp (IsIndex index us)
 IsIndex-prop (Chained c) us = IsChainedTo-prop c us (length us)
-IsIndex-prop (Sorted m) us = λ p q i t. Coded-set (coded_option coded_ℕ) (place_of m t) (place_in t us) (p t) (q t) i
+IsIndex-prop (Sorted m) us = λ p q i k t there. Coded-set (coded_option coded_ℕ) (place_of m t) (Some k) (p k t there) (q k t there) i
 
 IsIndexed-prop : (index : IndexValue) (us : List Text) → IsProp (IsIndexed index us)
 IsIndexed-prop None us = le_prop

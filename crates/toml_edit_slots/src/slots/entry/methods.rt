@@ -59,7 +59,7 @@ impl<T> Slots<T> {
 }
 
 impl<T> Slots<T> {
-    /// Returns the entry of the slot at the place, or `None` if it is behind the last slot.
+    /// Returns the entry of the slot at the place, or `None` if it is after the last slot.
     pub fn key_value_at_mut(&mut self, at: usize) -> Option<OccupiedEntry<'_, T>>
         ensures* absent { sem 𝓛 (RestsIfAbsent T.row self.entry result) }
         ensures same_slots { IfSome result (λ e. (entry_ref (Occupied e)).ghost_name ≡ self.entry.ghost_name) }
@@ -185,7 +185,7 @@ impl<'a, T> VacantEntry<'a, T> {
         self.key.get()
     }
 
-    /// Adds a slot of the key and the item behind the others, and returns a mutable reference to
+    /// Adds a slot of the key and the item after the others, and returns a mutable reference to
     /// the item.
     ///
     /// # Errors
@@ -217,7 +217,7 @@ impl<'a, T> Entry<'a, T> {
         }
     }
 
-    /// Returns a mutable reference to the item of the key. A new key is added behind the others
+    /// Returns a mutable reference to the item of the key. A new key is added after the others
     /// with `item`.
     ///
     /// # Errors
@@ -241,7 +241,7 @@ impl<'a, T> Entry<'a, T> {
         }
     }
 
-    /// Returns a mutable reference to the item of the key. A new key is added behind the others
+    /// Returns a mutable reference to the item of the key. A new key is added after the others
     /// with the item that the closure returns. It is called only for a new key.
     ///
     /// # Errors
