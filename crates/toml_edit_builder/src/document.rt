@@ -26,13 +26,13 @@ use toml_edit_version::Version;
 fn cut_short(
     alloc: Global,
     source: &str,
-    events: &[Event],
+    events: Vec<Event>,
     version: Version,
     mode: Mode,
 ) -> ParseFault
-    requires cut { AreEventsOf source.now events.now }
-    requires spans { AreIn source.now events.now }
-    requires short { are_deep events.now ≡ true }
+    requires cut { AreEventsOf source.now events.items }
+    requires spans { AreIn source.now events.items }
+    requires short { are_deep events.items ≡ true }
     ensures every { (d : Document) → AcceptedIn (grammar version) source.now d → result ≡ ParseFault.Memory }
     ensures refused { IfToml result (IsRefusalIn (grammar version) source.now) }
 {
@@ -59,19 +59,20 @@ fn ends_open(events: &[Event]) -> bool
 fn read_all(
     alloc: Global,
     source: &str,
-    events: &[Event],
+    events: Vec<Event>,
     version: Version,
     mode: Mode,
 ) -> Result<(Slots<Item>, RawString, bool), ParseFault>
-    requires cut { AreEventsOf source.now events.now }
-    requires spans { AreIn source.now events.now }
-    requires whole { are_deep events.now ≡ false }
+    requires cut { AreEventsOf source.now events.items }
+    requires spans { AreIn source.now events.items }
+    requires whole { are_deep events.items ≡ false }
     ensures parsed { IfOk result (λ r. IsParsedWith (mode_of mode) (grammar version) source.now (slots_view r.0) r.1 r.2) }
     ensures every { (d : Document) → AcceptedIn (grammar version) source.now d → IsOk result ⊎ IsErrOf result ParseFault.Memory }
     ensures refused { IfErr result (λ e. IfToml e (IsRefusalIn (grammar version) source.now)) }
 {
+    let open_end = ends_open(events.as_slice());
     let (slots, trailing) = build(alloc, source, events, version, mode)?;
-    Ok((slots, trailing, ends_open(events)))
+    Ok((slots, trailing, open_end))
 }
 
 /// Reads a text with these events. Returns its slots, the text after the last statement, and
@@ -79,17 +80,17 @@ fn read_all(
 fn parse_events(
     alloc: Global,
     source: &str,
-    events: &[Event],
+    events: Vec<Event>,
     version: Version,
     mode: Mode,
 ) -> Result<(Slots<Item>, RawString, bool), ParseFault>
-    requires cut { AreEventsOf source.now events.now }
-    requires spans { AreIn source.now events.now }
+    requires cut { AreEventsOf source.now events.items }
+    requires spans { AreIn source.now events.items }
     ensures parsed { IfOk result (λ r. IsParsedWith (mode_of mode) (grammar version) source.now (slots_view r.0) r.1 r.2) }
     ensures every { (d : Document) → AcceptedIn (grammar version) source.now d → IsOk result ⊎ IsErrOf result ParseFault.Memory }
     ensures refused { IfErr result (λ e. IfToml e (IsRefusalIn (grammar version) source.now)) }
 {
-    if are_cut_short(events) {
+    if are_cut_short(events.as_slice()) {
         Err(cut_short(alloc, source, events, version, mode))
     } else {
         read_all(alloc, source, events, version, mode)
@@ -117,7 +118,7 @@ pub fn parse_with(
         Ok(mut events) => {
             // The tree is made after them, so they take no more room than they need.
             events.shrink_to_fit();
-            parse_events(alloc, source, events.as_slice(), version, mode)
+            parse_events(alloc, source, events, version, mode)
         }
         Err(SyntaxFault::Memory) => Err(ParseFault::Memory),
         Err(SyntaxFault::Text(mistake, span)) => {

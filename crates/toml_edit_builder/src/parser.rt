@@ -105,39 +105,66 @@ pub(crate) fn slot_count(events: &[Event]) -> usize {
     count
 }
 
+/// The most events that are held until all of them are read.
+const FEW: usize = 65_536;
+
+/// Returns how many of so many events are left when the room of those before them is freed: a
+/// quarter of them, or none if they are few.
+fn left_of(count: usize) -> usize
+    ensures { 0 < result → result < count }
+{
+    if count > FEW { count / 4 } else { 0 }
+}
+
 /// Reads the statements, each in this version of the grammar. Returns their slots and the text
 /// after the last.
+///
+/// Many events are not all held until the end, when the whole tree is there too. Whenever a quarter
+/// of them is left, it is copied, and the others are freed.
 pub(crate) fn build(
     alloc: Global,
     source: &str,
-    events: &[Event],
+    events: Vec<Event>,
     version: Version,
     mode: Mode,
 ) -> Result<(Slots<Item>, RawString), ParseFault>
-    requires { AreIn source.now events.now }
-    ensures built { (d : Document) → IsCut d source.now → events.now ≡ shortened 0 (events_of d)
+    requires { AreIn source.now events.items }
+    ensures built { (d : Document) → IsCut d source.now → events.items ≡ shortened 0 (events_of d)
         → Builds (mode_of mode) (grammar version) slots_view source.now d result }
     ensures input { IfErr result (λ e. IfToml e (λ r. r.input ≡ source.now)) }
     ensures listed { IfErr result (λ e. IfToml e (IsListedIn (grammar version))) }
 {
     let mut building = Building {
         root: Slots::new(alloc),
-        current: Slots::with_room(alloc, slot_count(events)),
+        current: Slots::with_room(alloc, slot_count(events.as_slice())),
         block: Vec::new(alloc),
         headers: 0,
         item: Item::None,
     };
-    let mut rest = events;
-    'statements: while starts_statement(rest) {
-        match read_in_version(alloc, source, version, mode, &mut building, rest) {
-            Ok(behind) => rest = behind,
-            Err(fault) => {
+    let mut held = events;
+    'rounds: loop {
+        let left = left_of(held.len());
+        let mut rest = held.as_slice();
+        'statements: while rest.len() > left && starts_statement(rest) {
+            match read_in_version(alloc, source, version, mode, &mut building, rest) {
+                Ok(after) => rest = after,
+                Err(fault) => {
+                    drop(building);
+                    return Err(fault);
+                }
+            }
+        }
+        if !starts_statement(rest) {
+            let mut slots = whole(building);
+            put_in_order(&mut slots)?;
+            return Ok((slots, trailing(rest)));
+        }
+        match Vec::from_slice(alloc, rest) {
+            Ok(events) => held = events,
+            Err(_) => {
                 drop(building);
-                return Err(fault);
+                return Err(ParseFault::Memory);
             }
         }
     }
-    let mut slots = whole(building);
-    put_in_order(&mut slots)?;
-    Ok((slots, trailing(rest)))
 }
