@@ -103,7 +103,8 @@ fn enter_table<'p, 'a>(
         (enter (walk_view walk.old) (keys_on path.now ++ (key.now ∷ [])) is_element (fields_view table.now) (table_slots table.now))) }
 {
     add_table(walk, table, is_element, key, path)?;
-    if !have_tables(&table.slots) {
+    // An implicit table is there for the tables below it.
+    if !table.is_implicit() && !have_tables(&table.slots) {
         return Ok(());
     }
     let under = add_key(walk.arena, key, path)?;
@@ -172,10 +173,9 @@ fn add_table<'p, 'a>(
     Ok(())
 }
 
-/// Returns the number of tables below the slots that are elements or not implicit, which all have
-/// headers. An implicit table with lines has one too, but is rare.
+/// Returns the number of tables below the slots that have headers.
 #[cycle(count)]
-fn count_explicit(slots: &Slots<Item>) -> usize {
+fn count_headers(slots: &Slots<Item>) -> usize {
     let mut count: usize = 0;
     for slot in slots.as_slice() {
         count = count.saturating_add(count_in_item(&slot.item));
@@ -208,8 +208,8 @@ fn count_in_elements(items: &Vec<Item>) -> usize {
 /// Returns the number of such tables: this one, if it is one, and those below it.
 #[cycle(count)]
 fn count_in_table(table: &Table, is_element: bool) -> usize {
-    let below = count_explicit(&table.slots);
-    if !table.is_dotted() && (is_element || !table.is_implicit()) {
+    let below = count_headers(&table.slots);
+    if !table.is_dotted() && (is_element || !table.is_implicit() || table_has_lines(table)) {
         below.saturating_add(1)
     } else {
         below
@@ -244,7 +244,7 @@ pub(crate) fn headers_in_order<'p, 'a>(
     };
     let mut walk = Walk {
         arena,
-        headers: Vec::with_capacity(root.slots.allocator(), count_explicit(&root.slots))?,
+        headers: Vec::with_capacity(root.slots.allocator(), count_headers(&root.slots))?,
         seen,
     };
     enter_slots(&mut walk, &root.slots, top)?;

@@ -33,6 +33,9 @@ impl Places {
     }
 
     /// Returns the place of the slot with the name, or `None` if no slot has it.
+    ///
+    /// It is never inlined, so that a look-up in chains stays short.
+    #[inline(never)]
     pub(crate) fn find<T>(&self, entries: &[Slot<T>], name: &str) -> Option<usize>
         requires apart { AreApart entries.now }
         requires indexed { IsIndexOf self.now (names entries.now) }
