@@ -103,8 +103,7 @@ fn enter_table<'p, 'a>(
         (enter (walk_view walk.old) (keys_on path.now ++ (key.now ∷ [])) is_element (fields_view table.now) (table_slots table.now))) }
 {
     add_table(walk, table, is_element, key, path)?;
-    // An implicit table is there for the tables below it.
-    if !table.is_implicit() && !have_tables(&table.slots) {
+    if !have_tables(&table.slots) {
         return Ok(());
     }
     let under = add_key(walk.arena, key, path)?;
