@@ -15,10 +15,20 @@ use toml_edit_repr::Mem;
 /// A place is noted under the hash of its name. If the place of another name is noted there, it is
 /// noted under the name itself. So nearly all comparisons are of two numbers, and a look-up takes
 /// time logarithmic in the number of names, whatever they are.
-#[derive(Debug, Drop)]
+#[derive(Debug)]
 pub(crate) struct Places {
     hashes: BTreeMap<u64, usize>,
     names: BTreeMap<String, usize>,
+}
+
+impl Drop for Places {
+    // Few tables have trees, and each table that is dropped would set aside the room for this.
+    #[inline(never)]
+    fn drop(self) {
+        let Places { hashes, names } = self;
+        drop(hashes);
+        drop(names);
+    }
 }
 
 impl Places {
@@ -33,8 +43,6 @@ impl Places {
     }
 
     /// Returns the place of the slot with the name, or `None` if no slot has it.
-    ///
-    /// It is never inlined, so that a look-up in chains stays short.
     #[inline(never)]
     pub(crate) fn find<T>(&self, entries: &[Slot<T>], name: &str) -> Option<usize>
         requires apart { AreApart entries.now }
