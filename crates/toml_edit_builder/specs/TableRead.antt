@@ -85,7 +85,7 @@ AddsInside mode t a m ms old new result = Goes t (inside a (add_in_place mode a 
 abbrev pub PutsLast : (mode : Mode) {A : Type 0} → Text → Addition → Mention Source → Slots → Slots → Result A ParseFault → Type 0
 PutsLast mode t a m old new result = Goes t (put_in_place mode a m old (node_at m.segment.key old)) (last_key_clash a m (node_at m.segment.key old)) new result
 
--- the table of a header with these fields, with the slots of the table that is there, if that was only passed through so far
+-- the table of a header with these fields, with the slots of the table that is there, if until now that was only passed through
 abbrev pub opened : TableFields → Node → Option Node
 opened g (table f inner) = if f.is_implicit && not f.is_dotted then Some (table g inner) else None
 opened g n = None

@@ -37,7 +37,7 @@ module _ (mode : Mode) where
   abbrev pub element_fits : Decor → Bool
   element_fits d = is_whole (shown_prefix mode [] d) && is_whole (shown_suffix mode [] d)
 
-  -- A value; the elements of an array; what is in an inline table; and there, a table with its keys so far.
+  -- A value; the elements of an array; what is in an inline table; and there, a table with the keys before it.
   abbrev mutual
     pub value_fits : ℕ → Node → Bool
     value_fits room (list f xs) = nat_lt 0 room && (is_whole (shown_raw mode f.trailing) && items_fit (room - 1) xs)
@@ -66,7 +66,7 @@ module _ (mode : Mode) where
     within_fits room r (tables e xs) = true
     within_fits room r nothing = true
 
-  -- the same of one item of an array, and of one slot of an inline table
+  -- one item of an array, and one slot of an inline table
   abbrev pub item_fits : ℕ → Node → Bool
   item_fits room n = elim (is_value_node n) [ true ↦ element_fits (node_decor n) && value_fits room n | false ↦ true ]
 
@@ -74,7 +74,7 @@ module _ (mode : Mode) where
   pair_slot_fits room r k n =
       elim (is_line_node n) [ true ↦ pair_fits room r k (node_decor n) && value_fits room n | false ↦ within_fits room (then_key r k) n ]
 
-  -- the lines of a table, with the keys so far
+  -- the lines of a table, with the keys before them
   abbrev mutual
     pub lines_fit : Route → Slots → Bool
     lines_fit r no_slots = true

@@ -18,7 +18,7 @@ abbrev mutual
   ItemsAreApart no_items = Unit {0}
   ItemsAreApart (item n xs) = ItemIsApart n × ItemsAreApart xs
 
-  -- the same of an element of an array of tables
+  -- an element of an array of tables
   pub ItemIsApart : Node → Type 0
   ItemIsApart (table f ss) = SlotsAreApart ss
   ItemIsApart (tables e xs) = Unit {0}

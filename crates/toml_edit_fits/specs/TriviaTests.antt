@@ -44,7 +44,7 @@ ends_line_from is_open (c ∷ t) =
     else if c == hash then ends_line_from true t
     else is_blank c && ends_line_from false t
 
--- the same of a suffix, which in the exact mode may end in the carriage return of its newline
+-- a suffix, which in the exact mode may end in the carriage return of its newline
 abbrev pub ends_line : Mode → Text → Bool
 ends_line mode t = ends_line_from false (line_end mode t)
 

@@ -52,7 +52,7 @@ lone_at t = let white = split_while is_blank t in keys_at (suc (length white.1))
 abbrev pub joined_keys : List Key → Option (List Key) → Option (List Key)
 joined_keys ks o = option_map (λ more. ks ++ more) o
 
--- The keys of the whole are those read so far, and then those of what is left, which has room for its segments.
+-- The keys of the whole are those already read, and then those of what is left, which has room for its segments.
 pub record HasRead (t before : Text) (ks : List Key) (gap rest : Text) : Type 0 where
   pub fuel : ℕ
   pub room : length rest < fuel

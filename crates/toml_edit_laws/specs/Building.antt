@@ -96,7 +96,7 @@ abbrev pub behind : Builder → Statement → Slots → Builder
 behind b s ss =
     record { slots = ss; start = b.start + length (statement_text s); headers = headers_with b.headers s; block = block_with b.block s }
 
--- ---- the statements so far
+-- ---- the statements until now
 
 -- the context after statements
 abbrev pub context_from : Context → List Statement → Context

@@ -20,7 +20,7 @@ replace_slot t k n no_slots = no_slots
 replace_slot t k n (slot l m ss) = if same_text t l.name then slot k n ss else slot l m (replace_slot t k n ss)
 
 module _ (mode : Mode) where
-  -- A header of a table that was only passed through so far heads it, where it is; no other item can be headed.
+  -- A header of a table that until now was only passed through heads it, where it is; no other item can be headed.
   abbrev pub head_table : Mention Source → Slots → Option Node → Option Slots
   head_table m ss None = Some (with_slot ss (key_at (spanned_in mode) m) (headed_table mode m no_slots))
   head_table m ss (Some (table f inner)) =

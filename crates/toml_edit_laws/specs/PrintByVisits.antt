@@ -238,7 +238,7 @@ module _ (mode : Mode) where
     written_inside_of (tables e xs) ks = []
     written_inside_of nothing ks = []
 
-  -- the lines of a table, with the keys so far
+  -- the lines of a table, with the keys before them
   abbrev mutual
     pub written_lines : Slots → List Key → Text
     written_lines no_slots ks = []

@@ -101,7 +101,7 @@ module _ (mode : Mode) where
   pass_below m change ss (Some (tables e xs)) = option_map (λ changed. with_node m.segment.key (tables e changed) ss) (change_last change xs)
   pass_below m change ss (Some n) = None
 
-  -- A header of a table that was only passed through so far heads it, and its slot goes last; no other item can be headed.
+  -- A header of a table that until now was only passed through heads it, and its slot goes last; no other item can be headed.
   abbrev pub open_table : Mention Source → Slots → Option Node → Option Slots
   open_table m ss None = Some (with_slot ss (key_at (spanned_in mode) m) (headed_table m no_slots))
   open_table m ss (Some (table f inner)) =

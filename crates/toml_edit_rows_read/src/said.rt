@@ -56,7 +56,7 @@ impl Answer {
         self.is_roomy
     }
 
-    /// Returns the answer so far.
+    /// Returns the answer as it stands.
     pub fn as_str(&self) -> &str {
         self.text.as_str()
     }

@@ -1,4 +1,4 @@
--- Where a fault of the text is, and what is said of it.
+-- Where a fault of the text is, and its message.
 use Rattle.std.specs.Prelude.{codes, Result, Ok, Err}
 use Rattle.toml_edit_model.specs.Text.{Text}
 use Rattle.toml_edit_syntax.specs.declared.lexer.SyntaxFault as fault
