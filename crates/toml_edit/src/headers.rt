@@ -172,7 +172,8 @@ fn add_table<'p, 'a>(
     Ok(())
 }
 
-/// Returns the number of tables below the slots that have headers.
+/// Returns the number of tables below the slots that have headers, or more where dotted tables
+/// below them have no lines.
 #[cycle(count)]
 fn count_headers(slots: &Slots<Item>) -> usize {
     let mut count: usize = 0;
@@ -208,11 +209,28 @@ fn count_in_elements(items: &Vec<Item>) -> usize {
 #[cycle(count)]
 fn count_in_table(table: &Table, is_element: bool) -> usize {
     let below = count_headers(&table.slots);
-    if !table.is_dotted() && (is_element || !table.is_implicit() || table_has_lines(table)) {
+    if !table.is_dotted() && (is_element || !table.is_implicit() || may_have_lines(&table.slots)) {
         below.saturating_add(1)
     } else {
         below
     }
+}
+
+/// Returns `false` only if a table of these slots has no lines: it has no values then, and no
+/// dotted tables.
+fn may_have_lines(slots: &Slots<Item>) -> bool {
+    for slot in slots.as_slice() {
+        match &slot.item {
+            Item::Value(_) => return true,
+            Item::Table(table) => {
+                if table.is_dotted() {
+                    return true;
+                }
+            }
+            Item::None | Item::ArrayOfTables(_) => {}
+        }
+    }
+    false
 }
 
 /// Sorts the headers by their places. Those of one place stay in the order of the walk.
