@@ -1,5 +1,5 @@
 //! Adding values, tables and elements.
-ghost use Rattle.std.specs.Prelude.{◌≡◌, ◌-◌, IfNone, IfOk, IfSome, IsNone, IsTrue, OnErr, OnOk, Some, is_some, length, option_map, string_bytes, true};
+ghost use Rattle.std.specs.Prelude.{◌≡◌, ◌-◌, IfErr, IfNone, IfOk, IfSome, IsNone, IsTrue, OnErr, OnOk, Some, is_some, length, option_map, string_bytes, true};
 ghost use Rattle.std.specs.Option.{option_copied};
 ghost use Rattle.toml_edit_guide.specs.Adds.{defaulted, described, OnlySets};
 ghost use Rattle.toml_edit_guide.specs.Elements.{with_element, with_last};
@@ -14,12 +14,13 @@ ghost use Rattle.toml_edit.specs.tree.InlineEntries.{inline_key, inline_value};
 ghost use Rattle.toml_edit.specs.tree.SlotsOf.{inline_slots_of, slots_of};
 ghost use Rattle.toml_edit.specs.tree.TableEntries.{entry_item, entry_key, entry_place, entry_ref};
 ghost use Rattle.toml_edit.specs.tree.View.{array_view, item_view, table_view};
+ghost use Rattle.toml_edit.specs.tree.declared.index.IndexFault.TheVariants.{Memory};
 ghost use Rattle.toml_edit.specs.tree.declared.table.entry.Entry.TheVariants.{Occupied};
 
 use std::alloc::{AllocError, Global};
 use toml_edit::{
-    Array, ArrayOfTables, Entry, InlineEntry, InlineTable, Item, Mem, NoMemory, OccupiedEntry,
-    RawString, Table, Value,
+    Array, ArrayOfTables, Entry, IndexFault, InlineEntry, InlineTable, Item, Mem, NoMemory,
+    OccupiedEntry, RawString, Table, Value,
 };
 
 /// Drops what found no memory, and returns the error.
@@ -172,6 +173,21 @@ pub fn describe_inline(alloc: Global, entry: &InlineEntry<'_>) -> Mem<String>
         InlineEntry::Occupied(slot) => format!(in alloc; "replaces {}", slot.key()),
         InlineEntry::Vacant(place) => format!(in alloc; "adds {}", place.key()),
     }
+}
+
+/// Returns the name that an insertion by the entry is for.
+pub fn name_of<'a>(entry: &'a Entry<'_>) -> &'a str
+    ensures { Some result.now ≡ option_map (λ key. key.name) (entry_key entry.now) }
+{
+    entry.key()
+}
+
+/// Makes sure that the key has a slot. A new one has a placeholder.
+pub fn make_slot(alloc: Global, table: &mut Table, key: &str) -> Result<(), IndexFault>
+    ensures { IfErr result (λ fault. fault ≡ Memory) }
+{
+    table.index_or_insert(alloc, key)?;
+    Ok(())
 }
 
 /// Inserts the item, and returns it if memory runs out.

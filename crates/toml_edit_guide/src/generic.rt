@@ -1,5 +1,5 @@
 //! Functions over any source, scalar, table or stream, by the traits of the library.
-ghost use Rattle.std.specs.Prelude.{◌≡◌, IfOk, length, not};
+ghost use Rattle.std.specs.Prelude.{◌≡◌, IfOk, length, not, option_map, slice_get};
 ghost use Rattle.std.specs.Fmt.{WritesInCalls};
 ghost use Rattle.std.specs.Io.KnownBytes.{ReadConsumes};
 ghost use Rattle.toml_edit.specs.DocumentView.{source};
@@ -11,9 +11,11 @@ ghost use Rattle.toml_edit.specs.parser.LoneValue.{IsLoneReadingIn};
 ghost use Rattle.toml_edit.specs.tree.View.{value_view};
 
 use std::alloc::Global;
+use std::io::Write;
 use toml_edit::{
-    Broken, Document, Formatted, FromStrWith, HasSlots, Input, Mem, ParseFault, ParseOptions,
-    Printed, Repr, ScalarValue, Sink, SourceText, TableLike, Value, ValueRepr, Version,
+    Broken, Document, DocumentMut, Formatted, FromStrWith, HasSlots, Input, Key, Mem, ParseFault,
+    ParseOptions, PrintFault, Printed, Repr, ScalarValue, Sink, SourceText, TableLike, Value,
+    ValueRepr, Version, Watched,
 };
 
 /// Returns the text that a document was parsed from.
@@ -70,4 +72,32 @@ pub fn read_piece<I: Input>(input: &mut I, buffer: &mut [u8]) -> Result<usize, B
     ensures { ReadConsumes (I.remaining input.old) (I.remaining input.new) result buffer.new }
 {
     input.read(buffer)
+}
+
+/// Returns the first key of a table of any kind, as it is in its slot.
+pub fn first_key<T: HasSlots>(table: &T) -> Option<&Key>
+    ensures { option_map (λ key. key.now) result
+        ≡ option_map (λ slot. slot.key) (slice_get (T.entries table.now) 0) }
+{
+    match table.as_slots().as_slice().first() {
+        Some(slot) => Some(&slot.key),
+        None => None,
+    }
+}
+
+/// Returns `true` if the slot of the key has a placeholder.
+pub fn has_placeholder<T: TableLike>(table: &mut T, key: &str) -> bool {
+    match table.slot_mut(key) {
+        Some(slot) => slot.get().is_none(),
+        None => false,
+    }
+}
+
+/// Writes a document to a writer, which is taken to be broken after its first fault.
+pub fn print_to_writer<W: Write + Drop>(
+    alloc: Global,
+    document: &DocumentMut,
+    writer: W,
+) -> Result<(), PrintFault> {
+    document.print_to(alloc, &mut Watched::new(writer))
 }
