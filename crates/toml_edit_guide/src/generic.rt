@@ -1,21 +1,24 @@
 //! Functions over any source, scalar, table or stream, by the traits of the library.
-ghost use Rattle.std.specs.Prelude.{◌≡◌, IfOk, length, not, option_map, slice_get};
+ghost use Rattle.std.specs.Prelude.{◌≡◌, IfOk, length, not, is_some, option_map, slice_get, Some};
 ghost use Rattle.std.specs.Fmt.{WritesInCalls};
-ghost use Rattle.std.specs.Io.KnownBytes.{ReadConsumes};
-ghost use Rattle.toml_edit.specs.DocumentView.{source};
+ghost use Rattle.std.specs.Io.KnownBytes.{Appends, ReadConsumes};
+ghost use Rattle.toml_edit.specs.DocumentView.{print_of, source};
 ghost use Rattle.toml_edit.specs.model.DefaultSpelling.{default_spelling};
-ghost use Rattle.toml_edit.specs.model.Slots.{has_slot};
+ghost use Rattle.toml_edit.specs.model.Slots.{has_slot, place};
 ghost use Rattle.toml_edit.specs.model.Tree.{owned};
 ghost use Rattle.toml_edit.specs.model.Version.{v1_0};
 ghost use Rattle.toml_edit.specs.parser.LoneValue.{IsLoneReadingIn};
+ghost use Rattle.toml_edit.specs.stream.Watch.{watched_inner};
+ghost use Rattle.toml_edit.specs.table_like.SlotParts.{slot_item};
+ghost use Rattle.toml_edit.specs.tree.InlineSlotParts.{slot_key};
 ghost use Rattle.toml_edit.specs.tree.View.{value_view};
 
 use std::alloc::Global;
 use std::io::Write;
 use toml_edit::{
-    Broken, Document, DocumentMut, Formatted, FromStrWith, HasSlots, Input, Key, Mem, ParseFault,
-    ParseOptions, PrintFault, Printed, Repr, ScalarValue, Sink, SourceText, TableLike, Value,
-    ValueRepr, Version, Watched,
+    Broken, Document, DocumentMut, Formatted, FromStrWith, HasSlots, InlineSlotMut, Input, Item,
+    Key, Mem, ParseFault, ParseOptions, PrintFault, Printed, Repr, ScalarValue, Sink, SourceText,
+    TableLike, TableLikeSlot, Value, ValueRepr, Version, Watched,
 };
 
 /// Returns the text that a document was parsed from.
@@ -85,19 +88,40 @@ pub fn first_key<T: HasSlots>(table: &T) -> Option<&Key>
     }
 }
 
-/// Returns `true` if the slot of the key has a placeholder.
-pub fn has_placeholder<T: TableLike>(table: &mut T, key: &str) -> bool {
+/// Returns `true` if the key has a slot, which may have a placeholder.
+pub fn has_key<T: TableLike>(table: &mut T, key: &str) -> bool
+    ensures { result ≡ is_some (place key.now (T.slots_of table.old)) }
+{
     match table.slot_mut(key) {
-        Some(slot) => slot.get().is_none(),
+        Some(_slot) => true,
         None => false,
     }
 }
 
-/// Writes a document to a writer, which is taken to be broken after its first fault.
+/// Returns the item in a slot of a table of either kind.
+pub fn item_in<'a, T: HasSlots>(slot: &'a TableLikeSlot<'_, T>) -> &'a Item
+    ensures { Some result.now ≡ slot_item slot.now }
+{
+    slot.get()
+}
+
+/// Returns the key in a slot of an inline table, with its spelling and its decor.
+pub fn key_in<'a>(slot: &'a InlineSlotMut<'_>) -> &'a Key
+    ensures { Some result.now ≡ slot_key slot.now }
+{
+    slot.key()
+}
+
+/// Writes a document to a writer, which fails from its first fault on.
 pub fn print_to_writer<W: Write + Drop>(
     alloc: Global,
     document: &DocumentMut,
     writer: W,
-) -> Result<(), PrintFault> {
-    document.print_to(alloc, &mut Watched::new(writer))
+) -> Result<Watched<W>, PrintFault>
+    ensures { IfOk result (λ output.
+        Appends (W.contents writer) (W.contents (watched_inner output)) (print_of document.now)) }
+{
+    let mut output = Watched::new(writer);
+    document.print_to(alloc, &mut output)?;
+    Ok(output)
 }
