@@ -1,7 +1,7 @@
 //! Adding values, tables and elements.
-ghost use Rattle.std.specs.Prelude.{◌≡◌, ◌-◌, IfErr, IfNone, IfOk, IfSome, IsNone, IsTrue, OnErr, OnOk, Some, is_some, length, option_map, string_bytes, true};
+ghost use Rattle.std.specs.Prelude.{◌≡◌, ◌-◌, IfErr, IfNone, IfOk, IfSome, IsNone, IsOk, IsTrue, OnErr, OnOk, Some, is_some, length, option_map, string_bytes, true};
 ghost use Rattle.std.specs.Option.{option_copied};
-ghost use Rattle.toml_edit_guide.specs.Adds.{defaulted, described, OnlySets};
+ghost use Rattle.toml_edit_guide.specs.Adds.{defaulted, described, slot_made, OnlySets};
 ghost use Rattle.toml_edit_guide.specs.Elements.{with_element, with_last};
 ghost use Rattle.toml_edit_guide.specs.Lines.{after_last, before_last, indent_of, side_text, with_line, without_suffix};
 ghost use Rattle.toml_edit.specs.model.ArrayCalls.{value_at};
@@ -133,7 +133,10 @@ pub fn add_element(alloc: Global, root: &mut Table, name: &str, element: Table) 
     if root.contains_array_of_tables(name) {
         return match root.slot_mut(name) {
             Some(mut slot) => push_slot(&mut slot, element),
-            None => Ok(drop(element)),
+            None => {
+                drop(element);
+                Ok(())
+            }
         };
     }
     let mut tables = ArrayOfTables::new(alloc);
@@ -184,7 +187,11 @@ pub fn name_of<'a>(entry: &'a Entry<'_>) -> &'a str
 
 /// Makes sure that the key has a slot. A new one has a placeholder.
 pub fn make_slot(alloc: Global, table: &mut Table, key: &str) -> Result<(), IndexFault>
-    ensures { IfErr result (λ fault. fault ≡ Memory) }
+    ensures slot { OnOk result (slot_made key.now (table_node (table_view table.old))
+        ≡ Some (table_node (table_view table.new))) }
+    ensures present { IsTrue (has_slot key.now (slots_of table.old)) → IsOk result }
+    ensures fault { IfErr result (λ fault. fault ≡ Memory) }
+    ensures err { OnErr result (table.new ≡ table.old) }
 {
     table.index_or_insert(alloc, key)?;
     Ok(())
