@@ -20,6 +20,16 @@ pub use print::PrintFault;
 /// A type that holds the text of a document, and gives the same text each time.
 ///
 /// It is implemented for `&str`, which takes no copy, and for `String`.
+///
+/// # Examples
+///
+/// A function over documents of any source:
+///
+/// ```rust,ignore
+/// pub fn source_of<S: SourceText>(document: &Document<S>) -> &str
+/// ```
+///
+/// From `source_of` of the guide, docs/GUIDE.md.
 pub trait SourceText: Drop {
     ghost use Rattle.std.specs.Prelude.{◌≡◌, List, ℕ};
 

@@ -53,6 +53,14 @@ pub trait FromStr: Sized {
 
 /// A type that can be parsed from a text that holds one value of it, in a version of TOML. It is
 /// implemented for [`Value`].
+///
+/// # Examples
+///
+/// ```rust,ignore
+/// Value::from_str_with(alloc, text, ParseOptions::new().version(Version::V1_0))
+/// ```
+///
+/// From `read_value` of the guide, docs/GUIDE.md.
 pub trait FromStrWith: Sized {
     ghost use Rattle.std.specs.Prelude.{List, ℕ, Result};
     ghost use Rattle.toml_edit_error.specs.declared.toml_error.ParseFault.{ParseFault};

@@ -10,6 +10,15 @@ use std::io::{ErrorKind, Read, Write};
 /// fails too.
 ///
 /// It is an [`Input`] over a reader and an [`Output`] over a writer.
+///
+/// # Examples
+///
+/// ```rust,ignore
+/// let mut output = Watched::new(writer);
+/// document.print_to(alloc, &mut output)?;
+/// ```
+///
+/// From `print_to_writer` of the guide, docs/GUIDE.md.
 #[derive(Debug, Drop)]
 pub struct Watched<T> {
     inner: T,

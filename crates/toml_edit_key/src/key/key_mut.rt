@@ -27,11 +27,12 @@ use toml_edit_stream::{Printed, Sink, show};
 /// # Examples
 ///
 /// ```rust,ignore
-/// let mut key = slot.key_mut();
-/// key.leaf_decor_mut().set_prefix(comment);
+/// if let Some(key) = labelled.key_mut("a") {
+///     let mut key = key;
+///     key.leaf_decor_mut().set_prefix(comment);
 /// ```
 ///
-/// From `set_comment` of the guide, docs/GUIDE.md.
+/// From `comments` of the crate `toml_edit_tests`.
 #[derive(Debug, Drop)]
 pub struct KeyMut<'k> {
     name: &'k str,
