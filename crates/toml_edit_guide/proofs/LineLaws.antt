@@ -1,5 +1,5 @@
 -- The values of an array that gets a line.
-use Rattle.std.proofs.Common.{◌≡◌, ℕ, zero, suc, ◌+◌, ◌-◌, ◌<◌, ◌==◌, ◌++◌, Bor, codes, drop, get_or, subst, MatchOption, List, [], ◌∷◌, Option, Some, None, ap, sym, refl, ◌∙◌, inl, inr, arith, length, if◌then◌else◌}
+use Rattle.std.proofs.Common.{◌≡◌, ℕ, zero, suc, ◌-◌, ◌<◌, ◌==◌, ◌++◌, Bor, codes, drop, get_or, subst, MatchOption, List, [], ◌∷◌, Option, Some, None, ap, sym, refl, ◌∙◌, inl, inr, arith, length, if◌then◌else◌}
 use Rattle.std.proofs.lemmas.Bool.{cases_Bool, eqb-true}
 use Rattle.std.proofs.lemmas.Option.{none-some, same_Some}
 use Rattle.std.proofs.lemmas.Str.{len_utf8_ascii}

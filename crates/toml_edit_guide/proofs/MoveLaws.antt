@@ -1,5 +1,5 @@
 -- Slots that go from the front to the end, one after another.
-use Rattle.std.proofs.Common.{◌≡◌, ℕ, zero, suc, ◌+◌, ◌-◌, ◌<◌, Bool, true, false, not, ◌||◌, List, [], ◌∷◌, ◌++◌, Option, Some, None, drop, take, map, filter, length, slice_get, option_map, get_or, is_some, refl, ap, sym, ◌∙◌, inl, inr, subst, arith, append_assoc}
+use Rattle.std.proofs.Common.{◌≡◌, ℕ, ◌+◌, ◌<◌, true, false, ◌||◌, List, [], ◌∷◌, ◌++◌, Option, Some, None, drop, take, map, length, slice_get, get_or, is_some, refl, ap, sym, ◌∙◌, inl, inr, subst, arith, append_assoc}
 use Rattle.std.proofs.Math.Bool.{or-false, or_comm}
 use Rattle.std.proofs.lemmas.Bool.{cases_Bool, false≢true, or_parts}
 use Rattle.std.proofs.lemmas.Cmp.{nat_list_eq_equiv}
@@ -8,13 +8,13 @@ use Rattle.std.proofs.lemmas.List.Folds.{list_any-append}
 use Rattle.std.proofs.lemmas.Option.{none-some, same_Some}
 use Rattle.std.proofs.Math.Seq.{drop-append_seam, take-append_seam}
 use Rattle.std.specs.Borrow.{Bor}
-use Rattle.std.specs.List.{IsDistinct, list_any}
+use Rattle.std.specs.List.{IsDistinct}
 use Rattle.std.specs.Option.{option_copied}
 use Rattle.toml_edit_guide.specs.Moves.{HasRoom, key_after, renamed_key}
 use Rattle.toml_edit.specs.model.Text.{Text, one, same_text}
 use Rattle.toml_edit.specs.model.Keys.{new_key}
 use Rattle.toml_edit.specs.model.Tree.{Key}
-use Rattle.toml_edit.specs.model.Slots.{Slot, AreApart, changed, has_slot, inserted, inserted_formatted, is_at, lookup_key, lookup_slot, on_key, put, without}
+use Rattle.toml_edit.specs.model.Slots.{Slot, AreApart, changed, has_slot, inserted, inserted_formatted, is_at, lookup_key, lookup_slot, on_key, without}
 use Rattle.toml_edit_laws.proofs.common.Tests.{same_text-is, same_text-refl}
 use Rattle.toml_edit_laws.proofs.slots.Places.{has_slot-none, without-none}
 

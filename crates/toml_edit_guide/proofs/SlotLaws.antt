@@ -1,5 +1,5 @@
 -- What a slot holds, and what a table and a value are seen as.
-use Rattle.std.proofs.Common.{◌≡◌, ℕ, zero, suc, List, [], ◌∷◌, Option, Some, None, ap, sym, refl, ◌∙◌, option_map, rules, slice_get}
+use Rattle.std.proofs.Common.{◌≡◌, ℕ, zero, suc, List, [], ◌∷◌, Some, None, ap, sym, refl, ◌∙◌, option_map, rules, slice_get}
 use Rattle.std.proofs.lemmas.Option.{none-some, same_Some}
 use Rattle.toml_edit_laws.proofs.slots.Lists.{items_from-list}
 use Rattle.toml_edit.specs.model.ArrayCalls.{pushed}

@@ -1,6 +1,4 @@
 -- The split is at the last newline.
-use Rattle.std.proofs.Common.{◌≡◌, ap, sym, ◌∙◌, codes}
-use Rattle.std.specs.Option.{option_map_or}
 use Rattle.toml_edit_guide.proofs.LineLaws.{indent-is}
 use Rattle.toml_edit_guide.proofs.adding.indent_of.Goals as goal
 

@@ -1,5 +1,5 @@
 -- The last value loses its suffix, and the new one comes after it.
-use Rattle.std.proofs.Common.{◌≡◌, ◌-◌, ◌++◌, [], false, true, None, ap, append_assoc, sym, ◌∙◌, arith, if◌then◌else◌, length, refl, rules, string_bytes}
+use Rattle.std.proofs.Common.{◌≡◌, ◌-◌, ◌++◌, [], false, true, None, ap, append_assoc, sym, ◌∙◌, if◌then◌else◌, length, refl, rules, string_bytes}
 use Rattle.std.specs.Str.{trim_end}
 use Rattle.toml_edit.specs.model.ArrayCalls.{pushed, value_at}
 use Rattle.toml_edit.specs.model.Conversions.{with_decor}

@@ -1,10 +1,10 @@
 -- The item at the place is changed, and stays on a failure.
-use Rattle.std.proofs.Common.{◌≡◌, ap, ◌∙◌}
+use Rattle.std.proofs.Common.{ap, ◌∙◌}
 use Rattle.std.proofs.lemmas.Result.{on_err_weaker, on_ok_weaker}
 use Rattle.toml_edit.specs.model.Slots.{changed_at, with_item}
 use Rattle.toml_edit.specs.tree.Containers.{table_node}
 use Rattle.toml_edit.specs.tree.SlotsOf.{slots_of}
-use Rattle.toml_edit.specs.tree.View.{item_view, table_view}
+use Rattle.toml_edit.specs.tree.View.{table_view}
 use Rattle.toml_edit_guide.specs.Elements.{with_last}
 use Rattle.toml_edit_guide.proofs.SlotLaws.{item-at, item-same}
 use Rattle.toml_edit_guide.proofs.adding.push_slot.Goals as goal

@@ -6,7 +6,7 @@ use Rattle.toml_edit.specs.model.Text.{one}
 use Rattle.toml_edit.specs.model.Tree.{Node}
 use Rattle.toml_edit.specs.tree.SlotsOf.{slots_of}
 use Rattle.toml_edit.specs.tree.View.{item_view}
-use Rattle.toml_edit_guide.proofs.MoveLaws.{inserted-last, moved, moved-more, moved-none, moved-others, without-lacks}
+use Rattle.toml_edit_guide.proofs.MoveLaws.{inserted-last, moved, moved-more, moved-none, without-lacks}
 use Rattle.toml_edit_guide.proofs.arranging.insert_first.Goals as goal
 
 pub loop-init : goal.loop-init

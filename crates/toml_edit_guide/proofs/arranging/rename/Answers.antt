@@ -1,4 +1,4 @@
-use Rattle.std.proofs.Common.{◌≡◌, ◌+◌, ◌<◌, ◌++◌, false, None, if◌then◌else◌, ap, sym, ◌∙◌, arith, drop, is_some, length, refl, rules, take}
+use Rattle.std.proofs.Common.{◌≡◌, ◌<◌, ◌++◌, false, None, if◌then◌else◌, ap, sym, ◌∙◌, arith, drop, is_some, length, refl, rules, take}
 use Rattle.toml_edit.specs.model.Slots.{changed, is_at, lookup_key, on_key}
 use Rattle.toml_edit.specs.tree.SlotsOf.{slots_of}
 use Rattle.toml_edit_guide.specs.Moves.{renamed_key}

@@ -1,5 +1,5 @@
 -- The decor is that of the key in the slot.
-use Rattle.std.proofs.Common.{◌≡◌, ap, ◌∙◌}
+use Rattle.std.proofs.Common.{ap, ◌∙◌}
 use Rattle.toml_edit.specs.model.Slots.{changed_at, on_key}
 use Rattle.toml_edit.specs.model.Tree.{Decor}
 use Rattle.toml_edit.specs.tree.SlotsOf.{slots_of}
