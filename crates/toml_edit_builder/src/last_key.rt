@@ -53,8 +53,8 @@ pub(crate) fn put_last(
     }
 }
 
-/// Puts the table of a header last, or in the place of a table that was only passed through so far,
-/// whose slots it takes.
+/// Puts the table of a header last, or in the place of a table that headers have only passed
+/// through, whose slots it takes.
 // Not inlined, so that its locals stay out of the caller's frame.
 #[inline(never)]
 fn put_table(
@@ -80,8 +80,8 @@ fn put_table(
     }
 }
 
-/// Puts the table of a header in the place of the table at its key, with the slots of that, if it
-/// was only passed through so far.
+/// Puts the table of a header in the place of the table at its key, with the slots of that, if
+/// headers have only passed through it.
 ///
 /// No slot moves: the slots are put in order after all statements.
 fn put_opened(
@@ -116,7 +116,7 @@ fn put_slot(key: Key, there: usize, item: Item, slots: &mut Slots<Item>)
 }
 
 /// Moves the slots of the item at the key of a header into the header's table, if it is a table
-/// that was only passed through so far.
+/// that headers have only passed through.
 fn open_item(
     alloc: Global,
     source: &str,
@@ -136,7 +136,7 @@ fn open_item(
     }
 }
 
-/// Moves the slots of a table into the header's table, if it was only passed through so far.
+/// Moves the slots of a table into the header's table, if headers have only passed through it.
 fn open_table(
     alloc: Global,
     source: &str,

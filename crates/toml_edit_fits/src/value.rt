@@ -60,7 +60,7 @@ fn item_fits(mode: Mode, room: usize, item: &Item) -> bool
     }
 }
 
-/// Returns `true` if the pairs in an inline table fit, with the keys so far.
+/// Returns `true` if the pairs in an inline table fit, with the keys of the path to it.
 #[cycle(value)]
 fn inside_fits(mode: Mode, room: usize, route: Route, slots: &Slots<Item>) -> bool
     ensures { result ≡ tests.inside_fits (mode_of mode) room route (slots_view slots.now) }
@@ -110,7 +110,7 @@ fn pair_value_fits(mode: Mode, room: usize, route: Route, key: &Key, value: &Val
     }
 }
 
-/// Returns `true` if the lines of a table fit, with the keys so far.
+/// Returns `true` if the lines of a table fit, with the keys of the path to it.
 #[cycle(lines)]
 pub(crate) fn lines_fit(mode: Mode, route: Route, slots: &Slots<Item>) -> bool
     ensures { result ≡ tests.lines_fit (mode_of mode) route (slots_view slots.now) }

@@ -5,7 +5,7 @@ use Rattle.std.specs.Prelude.{◌≡◌, ℕ, Bool, false, List, Option, None, S
 abbrev pub element_at : {T E : Type 0} → (T → Option E) → ℕ → List T → Option E
 element_at held i xs = option_and_then held (slice_get xs i)
 
--- what a `retain` says at an item: what is said of its element, and where it holds none, false
+-- what the test of a `retain` returns at an item: what it returns at the element, and false where there is none
 abbrev pub SaysOfHeld : {E : Type 0} → (E → Bool → Type 0) → Option E → Bool → Type 0
 SaysOfHeld says None b = b ≡ false
 SaysOfHeld says (Some e) b = says e b

@@ -47,7 +47,7 @@ impl Report {
         }
     }
 
-    /// Returns the report so far.
+    /// Returns the report that was written until now.
     fn as_str(&self) -> &str {
         self.told.as_str()
     }

@@ -56,7 +56,7 @@ impl Answer {
         self.is_roomy
     }
 
-    /// Returns the answer so far.
+    /// Returns the answer that was written until now.
     pub fn as_str(&self) -> &str {
         self.text.as_str()
     }

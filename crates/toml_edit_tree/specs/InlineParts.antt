@@ -1,4 +1,4 @@
--- What the iterator that owns its inline table has left, what `extend` leaves, and what is said of closures that are called at pairs.
+-- What the iterator that owns its inline table has left, what `extend` leaves, and what closures return at pairs.
 use Rattle.std.specs.Prelude.{◌≡◌, Bool, List, map, String, string_bytes}
 use Rattle.std.specs.Borrow.{Bor}
 use Rattle.std.specs.Fn.{Shared}
