@@ -32,7 +32,7 @@ pub fn replace<T: Holds<E>, E>(items: &mut Vec<T>, at: usize, element: E) -> E
     mem::replace(&mut items[at], T::hold(element)).into_held()
 }
 
-/// Pushes the element. If memory runs out, returns it and leaves the list unchanged.
+/// Pushes the element. If out of memory, returns it and leaves the list unchanged.
 pub fn push<T: Holds<E>, E>(items: &mut Vec<T>, element: E) -> Result<(), E>
     ensures items { OnOk result (items.new.items ≡ items.old.items ++ T.holding element ∷ []) }
     ensures err { OnErr result (items.new.items ≡ items.old.items) }
@@ -44,8 +44,8 @@ pub fn push<T: Holds<E>, E>(items: &mut Vec<T>, element: E) -> Result<(), E>
     }
 }
 
-/// Inserts the element at the place, before the item there. If memory runs out, returns it and
-/// leaves the list unchanged.
+/// Inserts the element at the place, before the item there. If out of memory, returns it and leaves
+/// the list unchanged.
 pub fn insert<T: Holds<E>, E>(items: &mut Vec<T>, at: usize, element: E) -> Result<(), E>
     requires { at ≤ length items.old.items }
     ensures items { OnOk result (items.new.items ≡ insert items.old.items at (T.holding element)) }

@@ -9,7 +9,7 @@ use std::alloc::AllocError;
 use std::cmp::Ordering;
 
 /// Sorts the items by comparing their elements. Items that hold none come first, and the sort is
-/// stable. If memory runs out, the list stays unchanged.
+/// stable. If out of memory, the list stays unchanged.
 pub fn sort_by<T: Holds<E>, E, F: Fn(&E, &E) -> Ordering>(
     items: &mut Vec<T>,
     compare: F,
@@ -37,7 +37,7 @@ where
 }
 
 /// Sorts the items by keys of their elements. Items that hold none come first, and the sort is
-/// stable. If memory runs out, the list stays unchanged.
+/// stable. If out of memory, the list stays unchanged.
 pub fn sort_by_key<T: Holds<E>, E, K: Ord, F: Fn(&E) -> K>(
     items: &mut Vec<T>,
     key: F,

@@ -107,7 +107,7 @@ impl Answer {
         }
     }
 
-    /// Notes what is passed to a call, which has to come back if memory runs out.
+    /// Notes what is passed to a call, which has to come back if out of memory.
     pub fn handed<T: Debug>(&mut self, item: T) -> T {
         self.handed.clear();
         if !self.is_roomy && write!(self.handed, "{item:?}").is_err() {
