@@ -20,6 +20,16 @@ pub use print::PrintFault;
 /// A type that holds the text of a document, and gives the same text each time.
 ///
 /// It is implemented for `&str`, which takes no copy, and for `String`.
+///
+/// # Examples
+///
+/// A function over documents of any source:
+///
+/// ```rust,ignore
+/// pub fn source_of<S: SourceText>(document: &Document<S>) -> &str
+/// ```
+///
+/// From `source_of` of the guide, docs/GUIDE.md.
 pub trait SourceText: Drop {
     ghost use Rattle.std.specs.Prelude.{◌≡◌, List, ℕ};
 
@@ -116,8 +126,8 @@ impl<S: SourceText> Document<S> {
     ///
     /// [`ParseFault::Toml`] if the text is refused. Its message and span are about a fault of the
     /// first faulty statement, or about the mistake if the syntax is wrong. The span is in bytes
-    /// and lies in the text; a message about a limit may have none. [`ParseFault::Memory`] if
-    /// memory runs out.
+    /// and lies in the text; a message about a limit may have none. [`ParseFault::Memory`] if out
+    /// of memory.
     pub fn parse(alloc: Global, raw: S) -> Result<Document<S>, ParseFault>
         ensures accepted { IfOk result (λ x. IsReading (S.content raw) (tree_read x)) }
         ensures source { IfOk result (λ x. source x ≡ S.content raw) }
@@ -271,7 +281,7 @@ impl<S: SourceText> Document<S> {
     ///
     /// # Errors
     ///
-    /// Fails if memory runs out, and then drops the document.
+    /// Returns an `AllocError` if out of memory, and then drops the document.
     pub fn into_mut(self, alloc: Global) -> Mem<DocumentMut>
         ensures owned { IfOk result (λ m. tree_owned m ≡ owned_tree (source self) (tree_read self)) }
         ensures kept { IfOk result (λ m. (mode_owned m ≡ mode_read self) × (open_owned m ≡ open_read self)) }
@@ -422,7 +432,7 @@ impl DocumentMut {
     /// # Errors
     ///
     /// [`ParseFault::Toml`] if the text is refused, as [`Document::parse`] says, and
-    /// [`ParseFault::Memory`] if memory runs out.
+    /// [`ParseFault::Memory`] if out of memory.
     ///
     /// # Examples
     ///
@@ -606,7 +616,7 @@ impl DocumentMut {
     ///
     /// # Errors
     ///
-    /// Fails if memory runs out.
+    /// Returns an `AllocError` if out of memory.
     pub fn clone(&self, alloc: Global) -> Mem<DocumentMut>
         ensures tree { IfOk result (λ copy. tree_owned copy ≡ tree_owned self.now) }
         ensures printed { IfOk result (λ copy. IsPrintedAs copy self.now) }

@@ -101,7 +101,7 @@ fn parse_events(
 ///
 /// Returns the slots of the root, whose keys and values are spans of the text, the text after the
 /// last statement, and whether that statement has no newline. Fails if the text is refused, or if
-/// memory runs out.
+/// out of memory.
 #[doc(hidden)]
 pub fn parse_with(
     alloc: Global,

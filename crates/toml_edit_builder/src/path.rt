@@ -51,7 +51,7 @@ fn is_line(kind: Kind) -> bool
 
 /// Adds an item at the end of a path. What is left in its place is unspecified.
 ///
-/// Fails if a key is in the way, which the error marks, or if memory runs out. The slots are
+/// Fails if a key is in the way, which the error marks, or if out of memory. The slots are
 /// unspecified then: drop the document.
 #[cycle(path)]
 pub fn add_path(

@@ -33,8 +33,8 @@ use toml_edit_tree::{Array, ArrayOfTables, InlineTable, Item, Table, Value};
 /// # Errors
 ///
 /// Fails with `NoSuchPath` if a segment names no element, with `WrongKind` for a table or an array
-/// of tables at the end of the path or a scalar before it, and with `Memory` if memory runs out.
-/// The root is unchanged then.
+/// of tables at the end of the path or a scalar before it, and with `Memory` if out of memory. The
+/// root is unchanged then.
 pub fn set(alloc: Global, root: &mut Table, path: &[Key], value: Value) -> Result<(), ChangeFault>
     ensures { Changes (set_below (value_view value) (names path.now) (table_node (table_view root.old))) (table_node (table_view root.old))
         (table_node (table_view root.new)) result }
@@ -239,7 +239,7 @@ fn swap_decors(old: &mut Value, new: &mut Value)
     mem::swap(old.decor_mut(), new.decor_mut());
 }
 
-/// Fills a placeholder with inline tables down the path to the value. Fails if memory runs out.
+/// Fills a placeholder with inline tables down the path to the value. Fails if out of memory.
 fn fill_below(
     alloc: Global,
     item: &mut Item,
@@ -254,7 +254,7 @@ fn fill_below(
     Ok(())
 }
 
-/// Wraps a value in inline tables down the path to it. If memory runs out, what is left is
+/// Wraps a value in inline tables down the path to it. If out of memory, what is left is
 /// unspecified.
 fn make_below(alloc: Global, path: &[Key], value: &mut Item) -> Mem<()>
     ensures { OnOk result (item_view value.new ≡ made_below (names path.now) (item_view value.old)) }
@@ -268,7 +268,7 @@ fn make_below(alloc: Global, path: &[Key], value: &mut Item) -> Mem<()>
     }
 }
 
-/// Wraps a value in an inline table that has it under the key. If memory runs out, what is left is
+/// Wraps a value in an inline table that has it under the key. If out of memory, what is left is
 /// unspecified.
 fn wrap(alloc: Global, key: &str, value: &mut Item) -> Mem<()>
     ensures { OnOk result (item_view value.new ≡ made_below (key.now ∷ []) (item_view value.old)) }
@@ -286,8 +286,8 @@ fn wrap(alloc: Global, key: &str, value: &mut Item) -> Mem<()>
     }
 }
 
-/// Pushes the item under a new key of this name. What is left in its place is unspecified. If
-/// memory runs out, the slots are unchanged.
+/// Pushes the item under a new key of this name. What is left in its place is unspecified. If out
+/// of memory, the slots are unchanged.
 fn push_new(slots: &mut Slots<Item>, key: &str, item: &mut Item) -> Mem<()>
     requires { place key.now slots.old ≡ None }
     ensures made { OnOk result (shown_slots slots.new ≡ shown_slots slots.old ++ one (keyed (new_key key.now) (item_view item.old))) }

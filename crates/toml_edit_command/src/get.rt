@@ -121,7 +121,8 @@ fn write_item<O: Output>(alloc: Global, item: &Item, output: &mut O) -> Result<(
     }
 }
 
-/// Writes an array of tables as the array of inline tables that a copy of it becomes, and a newline.
+/// Writes an array of tables as the array of inline tables that a copy of it becomes, and a
+/// newline.
 fn write_tables<O: Output>(
     alloc: Global,
     tables: &ArrayOfTables,

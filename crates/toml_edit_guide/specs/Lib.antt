@@ -1,7 +1,11 @@
 -- What the contracts of the guide cite.
 pub mod Adds
+pub mod Comments
 pub mod Dates
 pub mod Either
+pub mod Elements
+pub mod Lines
+pub mod Moves
 pub mod Names
 pub mod Paths
 pub mod Reports

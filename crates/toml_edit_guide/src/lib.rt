@@ -7,6 +7,8 @@ pub mod changing;
 pub mod dates;
 pub mod documents;
 pub mod either_table;
+pub mod first;
+pub mod generic;
 pub mod lists;
 pub mod reading;
 pub mod spelling;

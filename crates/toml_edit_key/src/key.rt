@@ -114,7 +114,7 @@ impl Key {
     ///
     /// # Errors
     ///
-    /// Fails if memory runs out.
+    /// Returns an `AllocError` if out of memory.
     pub fn from_text(alloc: Global, text: &str) -> Mem<Key>
         ensures { IfOk result (λ key. key ≡ new_key text.now) }
     {
@@ -236,7 +236,7 @@ impl Key {
     ///
     /// # Errors
     ///
-    /// Fails if memory runs out. Spans may be left then: drop the document.
+    /// Returns an `AllocError` if out of memory. Spans may be left then: drop the document.
     #[doc(hidden)]
     pub fn despan(&mut self, alloc: Global, source: &str) -> Mem<()>
         requires fits { KeyFits source.now self.old }

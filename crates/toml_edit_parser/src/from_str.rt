@@ -46,13 +46,21 @@ pub trait FromStr: Sized {
     /// # Errors
     ///
     /// `ParseFault::Toml` if the text is refused, with a span in bytes in most cases, and
-    /// `ParseFault::Memory` if memory runs out.
+    /// `ParseFault::Memory` if out of memory.
     fn from_str(alloc: Global, text: &str) -> Result<Self, ParseFault>
         ensures { answers text.now result };
 }
 
 /// A type that can be parsed from a text that holds one value of it, in a version of TOML. It is
 /// implemented for [`Value`].
+///
+/// # Examples
+///
+/// ```rust,ignore
+/// Value::from_str_with(alloc, text, ParseOptions::new().version(Version::V1_0))
+/// ```
+///
+/// From `read_value` of the guide, docs/GUIDE.md.
 pub trait FromStrWith: Sized {
     ghost use Rattle.std.specs.Prelude.{List, ℕ, Result};
     ghost use Rattle.toml_edit_error.specs.declared.toml_error.ParseFault.{ParseFault};
@@ -84,7 +92,7 @@ impl FromStr for Value {
     /// not hold (`integer number overflowed`), a date, a time or an offset that does not exist
     /// (`invalid date-time`), a key that an inline table has twice or cannot extend (`duplicate
     /// key`, `cannot extend ..`), more than 80 brackets open at once or keys in a path (`recursion
-    /// limit`). `ParseFault::Memory` if memory runs out.
+    /// limit`). `ParseFault::Memory` if out of memory.
     fn from_str(alloc: Global, text: &str) -> Result<Value, ParseFault>
         ensures read { IfOk result (λ v. IsLoneReading text.now (value_view v)) }
         // An accepted value is never refused.

@@ -32,8 +32,7 @@ pub struct PathKey<'a> {
 
 /// Splits off the first key of a path.
 ///
-/// Fails if memory runs out, or if the events are those of no path, which no text of the grammar
-/// has.
+/// Fails if out of memory, or if the events are those of no path, which no text of the grammar has.
 #[doc(hidden)]
 #[inline(always)]
 pub fn next_key<'a>(

@@ -434,7 +434,7 @@ fn extend_message(value: &Value) -> &'static str
 
 /// Adds a slot at the end, and leaves a placeholder in the place of its item.
 ///
-/// Fails with `duplicate key` at the span if the key exists, and if memory runs out. The slots are
+/// Fails with `duplicate key` at the span if the key exists, and if out of memory. The slots are
 /// unchanged then.
 #[doc(hidden)]
 #[inline(always)]
@@ -463,7 +463,7 @@ pub fn add_last(
     }
 }
 
-/// Pushes a slot with a new key. If memory runs out, the slots are unchanged, and key and item are
+/// Pushes a slot with a new key. If out of memory, the slots are unchanged, and key and item are
 /// dropped.
 #[doc(hidden)]
 pub fn push_item(slots: &mut Slots<Item>, key: Key, item: Item) -> Mem<()>

@@ -5,6 +5,8 @@
 #[cfg(test)]
 mod examples;
 #[cfg(test)]
+mod generic;
+#[cfg(test)]
 mod guide;
 #[cfg(test)]
 mod prints;

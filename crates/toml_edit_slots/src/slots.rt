@@ -78,6 +78,17 @@ impl<T> Refused<T> {
 }
 
 /// A key with its item.
+///
+/// # Examples
+///
+/// ```rust,ignore
+/// match table.as_slots().as_slice().first() {
+///     Some(slot) => Some(&slot.key),
+///     None => None,
+/// }
+/// ```
+///
+/// From `first_key` of the guide, docs/GUIDE.md.
 #[derive(Debug, Drop)]
 pub struct Slot<T> {
     /// The key.
@@ -98,6 +109,17 @@ impl<T> Slot<T> {
 }
 
 /// The slots of a table, in order. No two keys have the same name.
+///
+/// # Examples
+///
+/// ```rust,ignore
+/// match table.as_slots().as_slice().first() {
+///     Some(slot) => Some(&slot.key),
+///     None => None,
+/// }
+/// ```
+///
+/// From `first_key` of the guide, docs/GUIDE.md.
 #[derive(Debug)]
 pub struct Slots<T> {
     entries: Vec<Slot<T>>,

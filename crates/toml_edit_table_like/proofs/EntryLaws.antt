@@ -23,7 +23,7 @@ on-err : {A E : Type 0} {P Q : Type 0} (r : Result A E) → (P → Q) → OnErr 
 on-err (Ok a) f p = tt
 on-err (Err e) f p = f p
 
--- what is said of the item that is there is said of the one that is lent
+-- a fact on the item that is there holds for the one that is lent
 pub lent-item : (o : Option Item) (x : Item) (Q : Item → Type 0) → Some x ≡ o → IfSome o Q → Q x
 lent-item None x Q e q = absurd cc
 lent-item (Some y) x Q e q = subst Q (sym (same_Some x y e)) q

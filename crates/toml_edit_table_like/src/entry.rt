@@ -16,6 +16,14 @@ pub(crate) enum EntryKey<'a> {
 /// Returned by [`AnyTable::entry`](crate::AnyTable::entry) and
 /// [`AnyTable::entry_format`](crate::AnyTable::entry_format). It borrows the key, and copies it
 /// when a new slot is added.
+///
+/// # Examples
+///
+/// ```rust,ignore
+/// !table.entry(key).is_occupied()
+/// ```
+///
+/// From `is_new` of the guide, docs/GUIDE.md.
 #[derive(Drop)]
 pub struct TableLikeEntry<'a, T: HasSlots> {
     pub(crate) table: &'a mut T,

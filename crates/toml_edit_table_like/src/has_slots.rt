@@ -23,6 +23,16 @@ use toml_edit_tree::{InlineTable, Item, Table};
 /// It is implemented for [`Table`], [`InlineTable`] and [`TableRefMut`](crate::TableRefMut). An
 /// implementation gives its slots by reference, and proves that writing other slots changes nothing
 /// else. The other calls are made of these.
+///
+/// # Examples
+///
+/// With a `table` of any type that is `HasSlots`:
+///
+/// ```rust,ignore
+/// table.as_slots().len()
+/// ```
+///
+/// From `count_slots` of the guide, docs/GUIDE.md.
 pub trait HasSlots {
     ghost use Rattle.std.specs.Borrow.{GName};
     ghost use Rattle.std.specs.Prelude.{List, Option};

@@ -341,6 +341,19 @@ pub trait AnyTable: HasSlots {
 ///
 /// It is implemented for [`Table`] and [`InlineTable`]. A `TableRefMut` has
 /// [`slot_at`](AnyTable::slot_at) in the place of these calls.
+///
+/// # Examples
+///
+/// With a `table` of any type that is `TableLike`:
+///
+/// ```rust,ignore
+/// match table.slot_mut(key) {
+///     Some(_slot) => true,
+///     None => false,
+/// }
+/// ```
+///
+/// From `has_key` of the guide, docs/GUIDE.md.
 pub trait TableLike: AnyTable {
     /// Returns the slot of `key`, or `None` if the key is missing or has a placeholder.
     ///

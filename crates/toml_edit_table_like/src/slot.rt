@@ -10,6 +10,16 @@ mod methods;
 ///
 /// Returned by [`AnyTable::slot_at`](crate::AnyTable::slot_at) and by the calls of
 /// [`TableLike`](crate::TableLike).
+///
+/// # Examples
+///
+/// A function that returns `slot.get()`:
+///
+/// ```rust,ignore
+/// pub fn item_in<'a, T: HasSlots>(slot: &'a TableLikeSlot<'_, T>) -> &'a Item
+/// ```
+///
+/// From `item_in` of the guide, docs/GUIDE.md.
 #[derive(Drop)]
 pub struct TableLikeSlot<'a, T: HasSlots> {
     pub(crate) table: &'a mut T,

@@ -1,5 +1,5 @@
 //! What each `Display` writes, into a text and to writers that fail. No contract can say that it
-//! fails only if its writer does, and a text fails only if memory runs out.
+//! fails only if its writer does, and a text fails only if out of memory.
 use crate::holding::{holds_changed, holds_moved, shows, writes};
 use std::alloc::Global;
 use std::fmt::Display;

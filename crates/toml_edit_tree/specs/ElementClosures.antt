@@ -1,4 +1,4 @@
--- What is said of closures that are called at elements of arrays and of arrays of tables.
+-- What closures return at elements of arrays and of arrays of tables.
 use Rattle.std.specs.Prelude.{◌≡◌, Bool, false, MatchBool}
 use Rattle.std.specs.Borrow.{Bor}
 use Rattle.std.specs.Fn.{Shared, FnReturnsAt}

@@ -197,10 +197,10 @@ impl Array {
     /// # Examples
     ///
     /// ```rust,ignore
-    /// let last = array.iter().last().map(|value| value.decor());
+    /// array.iter().next()
     /// ```
     ///
-    /// From `push_line` of the guide, docs/GUIDE.md.
+    /// From `first_value` of the guide, docs/GUIDE.md.
     pub fn iter(&self) -> ArrayIter<'_>
         ensures { values_left result ≡ values_seen (items_of self.now) }
     {
@@ -331,10 +331,10 @@ impl Printed for Array {
 /// # Examples
 ///
 /// ```rust,ignore
-/// let last = array.iter().last().map(|value| value.decor());
+/// array.iter().next()
 /// ```
 ///
-/// From `push_line` of the guide, docs/GUIDE.md.
+/// From `first_value` of the guide, docs/GUIDE.md.
 #[derive(Drop)]
 pub struct ArrayIter<'a> {
     items: slice::Iter<'a, Item>,

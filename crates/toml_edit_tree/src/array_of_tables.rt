@@ -178,6 +178,14 @@ fn push_element(items: &mut Vec<Item>, element: Item) -> Mem<()>
 /// An iterator over the tables of an array of tables, in order.
 ///
 /// Returned by [`ArrayOfTables::iter`].
+///
+/// # Examples
+///
+/// ```rust,ignore
+/// tables.iter().next()
+/// ```
+///
+/// From `first_table` of the guide, docs/GUIDE.md.
 #[derive(Drop)]
 pub struct ArrayOfTablesIter<'a> {
     items: slice::Iter<'a, Item>,

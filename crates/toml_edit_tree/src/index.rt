@@ -20,6 +20,16 @@ mod lent;
 pub(crate) mod slots;
 
 /// The error of [`Item::index_or_insert`] and [`Table::index_or_insert`].
+///
+/// # Examples
+///
+/// In a function that returns `Result<(), IndexFault>`:
+///
+/// ```rust,ignore
+/// table.index_or_insert(alloc, key)?;
+/// ```
+///
+/// From `make_slot` of the guide, docs/GUIDE.md.
 #[derive(Clone, Copy, Debug, PartialEq, Eq, Hash)]
 pub enum IndexFault {
     /// The item is neither a table, an inline table nor a placeholder.

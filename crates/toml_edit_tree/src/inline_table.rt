@@ -384,6 +384,14 @@ impl Printed for InlineTable {
 /// An iterator over the names of the keys of an inline table and their values, in order.
 ///
 /// Returned by [`InlineTable::iter`].
+///
+/// # Examples
+///
+/// ```rust,ignore
+/// table.iter().next()
+/// ```
+///
+/// From `first_pair` of the guide, docs/GUIDE.md.
 #[derive(Drop)]
 pub struct InlineTableIter<'a> {
     slots: slice::Iter<'a, Slot<Item>>,

@@ -394,10 +394,9 @@ impl Table {
     /// # Examples
     ///
     /// ```rust,ignore
-    /// let renamed = match table.key(old) {
-    ///     Some(key) if table.key(new).is_none() => renamed(alloc, key, new)?,
-    ///     _ => return Ok(false),
-    /// };
+    /// if table.key(old).is_none() || table.key(new).is_some() {
+    ///     return Ok(false);
+    /// }
     /// ```
     ///
     /// From `rename` of the guide, docs/GUIDE.md.

@@ -292,10 +292,10 @@ impl Value {
     /// # Examples
     ///
     /// ```rust,ignore
-    /// let last = array.iter().last().map(|value| value.decor());
+    /// array.get(array.len().saturating_sub(1))?.decor().prefix()
     /// ```
     ///
-    /// From `push_line` of the guide, docs/GUIDE.md.
+    /// From `before_last` of the guide, docs/GUIDE.md.
     pub fn decor(&self) -> &Decor
         ensures { result.now ≡ node_decor (value_view self.now) }
     {

@@ -27,7 +27,7 @@ impl DocumentMut {
     ///
     /// # Errors
     ///
-    /// [`IndexFault::Memory`] if memory runs out at a new key. A present key never fails.
+    /// [`IndexFault::Memory`] if out of memory at a new key. A present key never fails.
     pub fn index_or_insert(&mut self, alloc: Global, key: &str) -> Result<&mut Item, IndexFault>
         ensures* writes_back { sem 𝓛 (LendsUnder self.entry key.now result) }
         ensures item { IfOk result (λ lent. lent_under key.now (root_node (tree_owned self.old)) ≡ Some (item_view lent.now)) }

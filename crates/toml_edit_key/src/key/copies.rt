@@ -10,7 +10,7 @@ impl Key {
     ///
     /// # Errors
     ///
-    /// Fails if memory runs out.
+    /// Returns an `AllocError` if out of memory.
     pub fn clone(&self, alloc: Global) -> Mem<Key>
         ensures { IfOk result (λ copy. copy ≡ self.now) }
     {

@@ -27,11 +27,12 @@ use toml_edit_stream::{Printed, Sink, show};
 /// # Examples
 ///
 /// ```rust,ignore
-/// let mut key = slot.key_mut();
-/// key.leaf_decor_mut().set_prefix(comment);
+/// if let Some(key) = labelled.key_mut("a") {
+///     let mut key = key;
+///     key.leaf_decor_mut().set_prefix(comment);
 /// ```
 ///
-/// From `set_comment` of the guide, docs/GUIDE.md.
+/// From `comments` of the crate `toml_edit_tests`.
 #[derive(Debug, Drop)]
 pub struct KeyMut<'k> {
     name: &'k str,
@@ -85,7 +86,7 @@ impl<'k> KeyMut<'k> {
     ///
     /// # Errors
     ///
-    /// Fails if memory runs out.
+    /// Returns an `AllocError` if out of memory.
     pub fn default_repr(&self, alloc: Global) -> Mem<Repr>
         ensures default { IfOk result (λ repr. repr ≡ owned (key_spelling (key_of self.now).name)) }
         ensures spelled { SpellsKey (key_of self.now).name (key_spelling (key_of self.now).name) }
@@ -97,7 +98,7 @@ impl<'k> KeyMut<'k> {
     ///
     /// # Errors
     ///
-    /// Fails if memory runs out. An own spelling that is a text is lent, and takes none.
+    /// Returns an `AllocError` if out of memory. The key's own spelling is borrowed, and takes none.
     pub fn display_repr(&self, alloc: Global) -> Mem<CowStr<'_>>
         ensures free { IsSome (option_and_then text_of (key_of self.now).spelling) → IsOkAnd result IsBorrowedStr }
         ensures text { IfOk result (λ text. cow_str_bytes text ≡ key_text (key_of self.now)) }

@@ -31,7 +31,7 @@ impl Key {
     ///
     /// `ParseFault::Toml` if the text is not exactly one key: whitespace around it is refused too.
     /// The span, in bytes, marks the first character that does not belong there, or the quote of a
-    /// string that does not end. `ParseFault::Memory` if memory runs out.
+    /// string that does not end. `ParseFault::Memory` if out of memory.
     pub fn from_str(alloc: Global, text: &str) -> Result<Key, ParseFault>
         ensures key { IfOk result (λ key. SpellsKey key.name text.now × (key ≡ lone_key key.name text.now)) }
         ensures every { (k : Text) → SpellsKey k text.now → GivesValue (λ key. key) result (lone_key k text.now) }
@@ -54,8 +54,8 @@ impl Key {
     ///
     /// `ParseFault::Toml` if the text is no path, with a span in bytes that marks the first
     /// character that does not belong there, or the quote of a string that does not end. A path of
-    /// more than 80 keys is refused with `recursion limit` and no span. `ParseFault::Memory` if
-    /// memory runs out.
+    /// more than 80 keys is refused with `recursion limit` and no span. `ParseFault::Memory` if out
+    /// of memory.
     pub fn parse(alloc: Global, text: &str) -> Result<Vec<Key>, ParseFault>
         ensures keys { IfOk result (λ keys. AreLoneKeys text.now keys.items) }
         ensures every { (before : Text) (p : List Segment) (after : Text) → IsLonePath text.now before p after
@@ -156,7 +156,7 @@ fn before_rest<'t>(text: &'t str, rest: &str) -> &'t str
 ///
 /// # Errors
 ///
-/// Fails if memory runs out.
+/// Returns an `AllocError` if out of memory.
 fn read_part(alloc: Global, text: &str) -> Mem<Option<(Part<'_>, &str)>>
     ensures read { IfOk result (λ o. option_map (λ p. ((string_bytes p.0.name, p.0.spelled.now), p.1.now)) o ≡ spec.front_key text.now) }
     ensures spelled { IfOk result (λ o. IfSome o (λ p. SpellsKey (string_bytes p.0.name) p.0.spelled.now)) }
@@ -201,7 +201,7 @@ fn path_part(alloc: Global, part: Part<'_>, before: &str, after: &str, leaf: Dec
     )
 }
 
-/// Pushes the key of a segment. Fails if memory runs out.
+/// Pushes the key of a segment, or returns an `AllocError` if out of memory.
 fn push_part(
     keys: &mut Vec<Key>,
     alloc: Global,

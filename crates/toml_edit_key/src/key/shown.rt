@@ -26,7 +26,7 @@ impl Key {
     ///
     /// # Errors
     ///
-    /// Fails if memory runs out.
+    /// Returns an `AllocError` if out of memory.
     pub fn default_repr(&self, alloc: Global) -> Mem<Repr>
         ensures default { IfOk result (λ repr. repr ≡ owned (key_spelling self.now.name)) }
         ensures spelled { SpellsKey self.now.name (key_spelling self.now.name) }
@@ -38,7 +38,7 @@ impl Key {
     ///
     /// # Errors
     ///
-    /// Fails if memory runs out. An own spelling that is a text is lent, and takes none.
+    /// Returns an `AllocError` if out of memory. The key's own spelling is borrowed, and takes none.
     pub fn display_repr(&self, alloc: Global) -> Mem<CowStr<'_>>
         ensures text { IfOk result (λ text. cow_str_bytes text ≡ key_text self.now) }
         ensures free { IsSome (option_and_then text_of self.now.spelling) → IsOkAnd result IsBorrowedStr }

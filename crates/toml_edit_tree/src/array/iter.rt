@@ -63,6 +63,14 @@ impl<'a> IntoIterator for &'a Array {
 }
 
 /// An iterator that takes an array apart: over its values in order.
+///
+/// # Examples
+///
+/// ```rust,ignore
+/// array.into_iter().next()
+/// ```
+///
+/// From `into_value` of the guide, docs/GUIDE.md.
 #[derive(Drop)]
 pub struct ArrayIntoIter {
     items: vec::IntoIter<Item>,

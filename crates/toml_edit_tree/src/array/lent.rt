@@ -22,12 +22,12 @@ impl Array {
     /// # Examples
     ///
     /// ```rust,ignore
-    /// if let Some(last) = array.get_mut(count.saturating_sub(1)) {
-    ///     last.decor_mut().set_suffix(RawString::default());
+    /// if let Some(value) = array.get_mut(at) {
+    ///     value.decor_mut().set_suffix(RawString::default());
     /// }
     /// ```
     ///
-    /// From `push_line` of the guide, docs/GUIDE.md.
+    /// From `clear_suffix` of the guide, docs/GUIDE.md.
     pub fn get_mut(&mut self, at: usize) -> Option<&mut Value>
         ensures* writes_back { sem 𝓛 (LendsValueAt self.entry at result) }
         ensures value { option_map (λ value. value_view value.now) result ≡ value_at at (items_of self.old) }

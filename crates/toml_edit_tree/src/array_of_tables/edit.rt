@@ -72,13 +72,13 @@ impl ArrayOfTables {
     /// # Examples
     ///
     /// ```rust,ignore
-    /// if let Some(Item::ArrayOfTables(tables)) = root.get_mut(name) {
+    /// if let Some(tables) = item.as_array_of_tables_mut() {
     ///     tables.push(element).map_err(no_memory)?;
     ///     return Ok(());
     /// }
     /// ```
     ///
-    /// From `add_element` of the guide, docs/GUIDE.md.
+    /// From `push_element` of the guide, docs/GUIDE.md.
     pub fn push(&mut self, table: Table) -> Result<(), NoMemory<Table>>
         ensures items { OnOk result (tables_of self.new ≡ pushed (table_node (table_view table)) (tables_of self.old)) }
         ensures extent { extent_of self.new ≡ extent_of self.old }

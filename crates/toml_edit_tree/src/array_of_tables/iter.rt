@@ -62,6 +62,14 @@ impl<'a> IntoIterator for &'a ArrayOfTables {
 }
 
 /// An iterator that takes an array of tables apart: over its tables in order.
+///
+/// # Examples
+///
+/// ```rust,ignore
+/// tables.into_iter().next()
+/// ```
+///
+/// From `into_table` of the guide, docs/GUIDE.md.
 #[derive(Drop)]
 pub struct ArrayOfTablesIntoIter {
     items: vec::IntoIter<Item>,

@@ -90,6 +90,14 @@ impl<'a> IntoIterator for &'a InlineTable {
 /// order.
 ///
 /// Spellings and decors of the keys are dropped, and so are slots that hold no value.
+///
+/// # Examples
+///
+/// ```rust,ignore
+/// table.into_iter().next()
+/// ```
+///
+/// From `into_pair` of the guide, docs/GUIDE.md.
 #[derive(Drop)]
 pub struct InlineTableIntoIter {
     slots: vec::IntoIter<Slot<Item>>,

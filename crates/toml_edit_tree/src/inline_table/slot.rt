@@ -12,6 +12,16 @@ mod places;
 ///
 /// Returned by [`InlineTable::slot_mut`], [`InlineTable::get_key_value_mut`] and
 /// [`InlineTable::key_value_at_mut`].
+///
+/// # Examples
+///
+/// A function that returns `slot.key()`:
+///
+/// ```rust,ignore
+/// pub fn key_in<'a>(slot: &'a InlineSlotMut<'_>) -> &'a Key
+/// ```
+///
+/// From `key_in` of the guide, docs/GUIDE.md.
 #[derive(Drop)]
 pub struct InlineSlotMut<'a> {
     table: &'a mut InlineTable,

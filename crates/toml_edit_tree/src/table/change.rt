@@ -66,12 +66,11 @@ impl Table {
     ///
     /// ```rust,ignore
     /// if let Some((key, item)) = take_first(alloc, table)? {
-    ///     let key = if key.get() == old { &renamed } else { &key };
-    ///     drop(table.insert_formatted(key, item).map_err(no_memory)?);
+    ///     drop(table.insert_formatted(&key, item).map_err(no_memory)?);
     /// }
     /// ```
     ///
-    /// From `rename` of the guide, docs/GUIDE.md.
+    /// From `move_first` of the guide, docs/GUIDE.md.
     pub fn insert_formatted(
         &mut self,
         key: &Key,

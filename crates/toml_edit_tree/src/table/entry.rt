@@ -37,8 +37,10 @@ pub enum Entry<'a> {
 /// # Examples
 ///
 /// ```rust,ignore
-/// let mut key = slot.key_mut();
-/// key.leaf_decor_mut().set_prefix(comment);
+/// Some(mut slot) => {
+///     set_prefix(&mut slot, comment);
+///     Ok(true)
+/// }
 /// ```
 ///
 /// From `set_comment` of the guide, docs/GUIDE.md.

@@ -98,6 +98,14 @@ impl<'a> IntoIterator for &'a Table {
 ///
 /// Unlike [`Iter`] it gives placeholders too, as `Item::None`. Spellings and decors of the keys are
 /// dropped.
+///
+/// # Examples
+///
+/// ```rust,ignore
+/// table.into_iter().next()
+/// ```
+///
+/// From `into_slot` of the guide, docs/GUIDE.md.
 #[derive(Drop)]
 pub struct IntoIter {
     slots: vec::IntoIter<Slot<Item>>,

@@ -191,6 +191,14 @@ impl<'a> VacantEntry<'a> {
 
 impl<'a> Entry<'a> {
     /// Returns the name of the key, present or new.
+    ///
+    /// # Examples
+    ///
+    /// ```rust,ignore
+    /// entry.key()
+    /// ```
+    ///
+    /// From `name_of` of the guide, docs/GUIDE.md.
     pub fn key(&self) -> &str
         ensures { Some result.now ≡ option_map (λ key. key.name) (entry_key self.now) }
     {

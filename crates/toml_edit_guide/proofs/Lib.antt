@@ -1,0 +1,4 @@
+-- Laws that proofs of the guide share.
+pub mod LineLaws
+pub mod MoveLaws
+pub mod SlotLaws
