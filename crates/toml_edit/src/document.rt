@@ -201,7 +201,10 @@ impl<S: SourceText> Document<S> {
         self.as_table().iter()
     }
 
-    /// Returns the whitespace and the comments after the last statement.
+    /// Returns the whitespace and the comments after the last statement, as a span of the source.
+    ///
+    /// A comment after the last value, on its line, is not among them: it is in the decor of the
+    /// value.
     pub fn trailing(&self) -> &RawString
         ensures { result.now ≡ (tree_read self.now).trailing }
     {
@@ -554,6 +557,9 @@ impl DocumentMut {
     }
 
     /// Returns the whitespace and the comments after the last statement.
+    ///
+    /// A comment after the last value, on its line, is not among them: it is in the decor of the
+    /// value.
     pub fn trailing(&self) -> &RawString
         ensures { result.now ≡ (tree_owned self.now).trailing }
     {

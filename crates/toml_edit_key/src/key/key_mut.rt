@@ -84,6 +84,8 @@ impl<'k> KeyMut<'k> {
 
     /// Returns the default spelling of the name, whatever the key's own one is.
     ///
+    /// It is bare if it can be, and else in quotes, as [`Key::default_repr`] says.
+    ///
     /// # Errors
     ///
     /// Returns an `AllocError` if out of memory.
