@@ -201,7 +201,7 @@ impl<S: SourceText> Document<S> {
         self.as_table().iter()
     }
 
-    /// Returns the whitespace and the comments after the last statement, as a span of the source.
+    /// Returns the whitespace and the comments after the last statement.
     ///
     /// A comment after the last value, on its line, is not among them: it is in the decor of the
     /// value.
