@@ -202,6 +202,9 @@ impl<S: SourceText> Document<S> {
     }
 
     /// Returns the whitespace and the comments after the last statement.
+    ///
+    /// A comment after the last value, on its line, is not among them: it is in the decor of the
+    /// value.
     pub fn trailing(&self) -> &RawString
         ensures { result.now ≡ (tree_read self.now).trailing }
     {
@@ -555,6 +558,9 @@ impl DocumentMut {
     }
 
     /// Returns the whitespace and the comments after the last statement.
+    ///
+    /// A comment after the last value, on its line, is not among them: it is in the decor of the
+    /// value.
     pub fn trailing(&self) -> &RawString
         ensures { result.now ≡ (tree_owned self.now).trailing }
     {

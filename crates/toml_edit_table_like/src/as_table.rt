@@ -32,14 +32,25 @@ pub trait AsTableLike {
     /// The item, as contracts see it.
     ghost node: { Self → Node };
 
-    /// Returns the table to read, or `None` for any other item.
+    /// Returns the table or the inline table to read, or `None` for any other item.
     fn as_table_like(&self) -> Option<TableRef<'_>>
         ensures table { option_map ref_node result ≡ table_like_in (node self.now) }
         ensures slots { option_map ref_slots result ≡ slots_in (node self.now) };
 
-    /// Returns the table to read and change, or `None` for any other item.
+    /// Returns the table or the inline table to read and change, or `None` for any other item.
     ///
     /// Import [`AnyTable`](crate::AnyTable) for its calls.
+    ///
+    /// # Examples
+    ///
+    /// ```rust,ignore
+    /// match item.as_table_like_mut() {
+    ///     Some(mut table) => table.remove(key),
+    ///     None => None,
+    /// }
+    /// ```
+    ///
+    /// From `remove_from` of the guide, docs/GUIDE.md.
     fn as_table_like_mut(&mut self) -> Option<TableRefMut<'_>>
         ensures* other { sem 𝓛 (RestsIfOther Self.row self.entry result) }
         ensures same_item { IfSome result (λ t. (mut_item t).ghost_name ≡ self.entry.ghost_name) }

@@ -157,6 +157,9 @@ impl ArrayOfTables {
 
     /// Copies the array of tables, with all spellings, decors, spans and positions.
     ///
+    /// The copy of a table that has a position is printed beside its original: see
+    /// [`Table::clone`].
+    ///
     /// # Errors
     ///
     /// Returns an `AllocError` if out of memory.

@@ -234,6 +234,9 @@ impl Item {
 
     /// Copies the item, with all spellings, decors, spans and positions.
     ///
+    /// The copy of a table that has a position is printed beside its original: see
+    /// [`Table::clone`].
+    ///
     /// # Errors
     ///
     /// Returns an `AllocError` if out of memory.

@@ -84,6 +84,8 @@ impl<'k> KeyMut<'k> {
 
     /// Returns the default spelling of the name, whatever the key's own one is.
     ///
+    /// It is bare if it can be, and else in quotes, as [`Key::default_repr`] says.
+    ///
     /// # Errors
     ///
     /// Returns an `AllocError` if out of memory.
@@ -98,7 +100,7 @@ impl<'k> KeyMut<'k> {
     ///
     /// # Errors
     ///
-    /// Returns an `AllocError` if out of memory. The key's own spelling is borrowed, and takes none.
+    /// Returns an `AllocError` if out of memory. A spelling of the key's own takes none.
     pub fn display_repr(&self, alloc: Global) -> Mem<CowStr<'_>>
         ensures free { IsSome (option_and_then text_of (key_of self.now).spelling) → IsOkAnd result IsBorrowedStr }
         ensures text { IfOk result (λ text. cow_str_bytes text ≡ key_text (key_of self.now)) }

@@ -38,7 +38,7 @@ impl Key {
     ///
     /// # Errors
     ///
-    /// Returns an `AllocError` if out of memory. The key's own spelling is borrowed, and takes none.
+    /// Returns an `AllocError` if out of memory. A spelling of the key's own takes none.
     pub fn display_repr(&self, alloc: Global) -> Mem<CowStr<'_>>
         ensures text { IfOk result (λ text. cow_str_bytes text ≡ key_text self.now) }
         ensures free { IsSome (option_and_then text_of self.now.spelling) → IsOkAnd result IsBorrowedStr }

@@ -29,7 +29,8 @@ impl ArrayOfTables {
 
     /// Removes the table at index `at` and returns it, keeping the order of the others.
     ///
-    /// A contract requires that there is a table: check with [`get`](Self::get).
+    /// It has its header's decor, so the comment above the header goes with it. A contract requires
+    /// that there is a table: check with [`get`](Self::get).
     pub fn remove(&mut self, at: usize) -> Table
         requires { IsSome (table_at at (tables_of self.old)) }
         ensures table { Some (table_node (table_view result)) ≡ table_at at (tables_of self.old) }

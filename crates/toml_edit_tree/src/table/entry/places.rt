@@ -104,7 +104,19 @@ impl Table {
 
     /// Returns the slot of `key`, a placeholder too, or `None` if the key is missing.
     ///
-    /// It lends the item by `get_mut` and the key by `key_mut`, one after the other.
+    /// It lends the item by `get_mut` and the key by `key_mut`, one after the other. Nothing is
+    /// inserted: for that, use [`entry`](Self::entry).
+    ///
+    /// # Examples
+    ///
+    /// ```rust,ignore
+    /// Some(mut slot) => {
+    ///     set_prefix(&mut slot, comment);
+    ///     Ok(true)
+    /// }
+    /// ```
+    ///
+    /// From `set_comment` of the guide, docs/GUIDE.md.
     pub fn slot_mut(&mut self, key: &str) -> Option<OccupiedEntry<'_>>
         ensures* absent { sem 𝓛 (RestsIfAbsent self.entry result) }
         ensures same_table { IfSome result (λ e. (entry_ref (Occupied e)).ghost_name ≡ self.entry.ghost_name) }
