@@ -18,8 +18,6 @@ pub struct Watched<T> {
 
 impl<T> Watched<T> {
     /// Wraps a reader or a writer. No fault is remembered yet, whatever happened before.
-    ///
-    /// It is not given back: to see what was written, wrap a writer that borrows what it writes to.
     pub fn new(inner: T) -> Watched<T>
         ensures inner { watched_inner result ≡ inner }
         ensures fault { watched_fault result ≡ false }
