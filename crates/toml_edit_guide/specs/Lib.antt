@@ -7,3 +7,6 @@ pub mod Paths
 pub mod Reports
 pub mod Sorts
 pub mod Spellings
+pub mod Edits
+pub mod Sets
+pub mod Exchanges

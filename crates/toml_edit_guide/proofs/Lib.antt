@@ -1,0 +1,3 @@
+pub mod ViewLaws
+pub mod EditLaws
+pub mod ExchangeLaws
