@@ -1,5 +1,5 @@
 -- A value of a table under a key of the root, as an edit of the laws.
-use Rattle.std.proofs.Common.{◌≡◌, refl, sym, ◌∙◌, ap, subst, Bool, true, false, List, [], ◌∷◌, ◌++◌, Option, Some, None}
+use Rattle.std.proofs.Common.{◌≡◌, refl, sym, ◌∙◌, ap, subst, Bool, true, false, [], ◌∷◌, ◌++◌, Option, Some, None}
 use Rattle.std.specs.Prelude.{◌||◌, if◌then◌else◌, option_map}
 use Rattle.std.proofs.lemmas.Slice.Eq.{bytes_eq-Decides}
 use Rattle.toml_edit.specs.model.Mode.{Mode, plain}
@@ -8,9 +8,9 @@ use Rattle.toml_edit.specs.model.Scalars.{string}
 use Rattle.toml_edit.specs.model.Text.{Text, same_text}
 use Rattle.toml_edit.specs.model.Spelling.{SpellsKey}
 use Rattle.toml_edit.specs.model.Paths.{to_key}
-use Rattle.toml_edit.specs.model.Tree.{Key, TableFields, Node, nothing, leaf, list, inline, table, tables, Slots, no_slots, slot, Tree, unset, has_key, is_value_node, HasTrueSpelling, IsWellMade, SlotsAreWellMade}
+use Rattle.toml_edit.specs.model.Tree.{Key, TableFields, Node, leaf, table, Slots, no_slots, slot, Tree, unset, has_key, is_value_node, HasTrueSpelling, IsWellMade, SlotsAreWellMade}
 use Rattle.toml_edit.specs.model.HeaderOrder.{visit_of}
-use Rattle.toml_edit.specs.model.Slots.{Slot, keyed, with_item, on_item, lookup_slot, lookup, changed}
+use Rattle.toml_edit.specs.model.Slots.{Slot, keyed, with_item, on_item, lookup_slot, changed}
 use Rattle.toml_edit.specs.model.Lists.{slot_list, slots_from, on_slots, is_item}
 use Rattle.toml_edit.specs.model.Iterating.{filled}
 use Rattle.toml_edit.specs.model.TableCalls.{get}
@@ -152,7 +152,7 @@ same-tree t u xs root trailing slots =
 pub told : (text name key x out : Text) (t u : Tree) → ((mode : Mode) → EditsStayLocal mode) → (r : IsOwnedReading text t)
     → SetsInTree name key (leaf (string x) None unset) t u → out ≡ print_in plain false u → MeansWhatIsShown plain false u
     → HasValueSet text name key x out
-told text name key x out t u law r (root, trailing, n, m, there, (f, ss, xs, n-is, m-is, (old, inside, value, changes)), others) print back =
+told text name key x out t u law r (root, trailing, (n, m, there, (f, ss, xs, n-is, m-is, (old, inside, value, changes)), others)) print back =
     let new : Node = string_like old x in
     let found : get name (slot_list t.slots) ≡ Some (table f ss) = there ∙ ap (λ (y : Node). Some y) n-is in
     let made : SlotsAreWellMade t.slots = r.tree.made in

@@ -8,7 +8,7 @@ use Rattle.toml_edit.specs.model.Print.{print_in}
 use Rattle.toml_edit.specs.model.Scalars.{string}
 use Rattle.toml_edit.specs.model.Slots.{Slot, keyed, lookup_slot, lookup_key, without}
 use Rattle.toml_edit.specs.model.Text.{Text, one}
-use Rattle.toml_edit.specs.model.Tree.{Key, TableFields, Node, nothing, leaf, list, inline, table, tables, Slots, no_slots, slot, Tree, unset}
+use Rattle.toml_edit.specs.model.Tree.{TableFields, Node, nothing, leaf, list, inline, table, tables, Slots, no_slots, slot, Tree, unset}
 use Rattle.toml_edit.specs.tree.Containers.{table_in}
 use Rattle.toml_edit.specs.laws.EditLists.{after_all, AllApply, EditsStayLocal}
 use Rattle.toml_edit.specs.laws.Locality.{root_visit}
@@ -42,7 +42,7 @@ is-table nothing h = absurd cc
 pub told : (text name key x out : Text) (t u : Tree) → ((mode : Mode) → EditsStayLocal mode) → (r : IsOwnedReading text t)
     → ExchangesInTree name key (leaf (string x) None unset) t u → out ≡ print_in plain false u → MeansWhatIsShown plain false u
     → HasExchanged text name key x out
-told text name key x out t u law r (root, trailing, mid, (s, f, ss, there, s-is, less), (new, more)) print back =
+told text name key x out t u law r (root, trailing, (mid, (s, f, ss, there, s-is, less), (new, more))) print back =
     let n : Node = leaf (string x) None unset in
     let rest : slot_list (slots_from (without name (slot_list t.slots))) ≡ mid = slot_list-from (without name (slot_list t.slots)) ∙ sym less in
     let a : AllApply plain (exchanging name key x) t = (

@@ -1,6 +1,5 @@
 -- What items and values are seen as, and what is held in them.
-use Rattle.std.proofs.Common.{◌≡◌, refl, sym, ap, ◌∙◌, rules, true, Some, None, Option}
-use Rattle.std.specs.Prelude.{if◌then◌else◌}
+use Rattle.std.proofs.Common.{◌≡◌, refl, ap, ◌∙◌, rules, true, Some}
 use Rattle.toml_edit.specs.model.Conversions.{with_decor}
 use Rattle.toml_edit.specs.model.Tree.{Decor, Raw, Node, nothing, leaf, list, inline, table, tables, is_value_node}
 use Rattle.toml_edit.specs.tree.Casts.{decorated, decorated_open}

@@ -1,7 +1,7 @@
 -- A value under a key, and under a key of a table, replaced in its decor.
 use Rattle.std.specs.Prelude.{◌≡◌, true, List, Some}
 use Rattle.toml_edit.specs.model.Conversions.{with_decor}
-use Rattle.toml_edit.specs.model.Lists.{slot_list, slots_from}
+use Rattle.toml_edit.specs.model.Lists.{slot_list}
 use Rattle.toml_edit.specs.model.Slots.{Slot, changed, with_item}
 use Rattle.toml_edit.specs.model.TableCalls.{get}
 use Rattle.toml_edit.specs.model.Text.{Text}

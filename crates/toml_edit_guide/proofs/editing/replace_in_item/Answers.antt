@@ -1,9 +1,8 @@
 -- The value gets the old one's decor.
-use Rattle.std.proofs.Common.{◌≡◌, ap, ◌∙◌}
+use Rattle.std.proofs.Common.{ap, ◌∙◌}
 use Rattle.toml_edit.specs.model.Conversions.{with_decor}
 use Rattle.toml_edit.specs.model.Tree.{Node, node_decor}
 use Rattle.toml_edit.specs.tree.View.{item_view, value_view}
-use Rattle.toml_edit.specs.tree.declared.value.Value.{Value}
 use Rattle.toml_edit_guide.proofs.ViewLaws.{view-Value, decorated-view, value-held}
 use Rattle.toml_edit_guide.proofs.editing.replace_in_item.Goals as goal
 

@@ -1,5 +1,5 @@
 -- The table that the item is.
-use Rattle.std.proofs.Common.{◌≡◌, ap, ◌∙◌}
+use Rattle.std.proofs.Common.{ap, ◌∙◌}
 use Rattle.toml_edit.specs.model.Tree.{TableFields, table}
 use Rattle.toml_edit.specs.tree.View.{fields_view, item_view, table_slots, table_view}
 use Rattle.toml_edit_guide.proofs.ViewLaws.{view-Table, table-held}
