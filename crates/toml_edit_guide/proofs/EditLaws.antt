@@ -140,7 +140,7 @@ module _ (t : Tree) (made : SlotsAreWellMade t.slots) (name key : Text) (f : Tab
 
 -- ---- the tree that is left
 
-slots_from-list : (ss : Slots) → slots_from (slot_list ss) ≡ ss
+pub slots_from-list : (ss : Slots) → slots_from (slot_list ss) ≡ ss
 slots_from-list no_slots = refl
 slots_from-list (slot k n ss) = ap (λ r. slot k n r) (slots_from-list ss)
 

@@ -1,44 +1,24 @@
 -- A table removed from the root and a string added there, as edits of the laws.
-use Rattle.std.proofs.Common.{◌≡◌, refl, sym, ◌∙◌, ap, subst, true, false, List, [], ◌∷◌, ◌++◌, Option, Some, None}
-use Rattle.std.specs.Prelude.{is_some, option_map}
+use Rattle.std.proofs.Common.{◌≡◌, refl, sym, ◌∙◌, ap, subst, false, List, [], ◌∷◌, ◌++◌, None}
 use Rattle.toml_edit.specs.model.Keys.{new_key}
 use Rattle.toml_edit.specs.model.Lists.{slot_list, slots_from}
 use Rattle.toml_edit.specs.model.Mode.{Mode, plain}
 use Rattle.toml_edit.specs.model.Print.{print_in}
 use Rattle.toml_edit.specs.model.Scalars.{string}
-use Rattle.toml_edit.specs.model.Slots.{Slot, keyed, lookup_slot, lookup_key, without}
+use Rattle.toml_edit.specs.model.Slots.{Slot, keyed, lookup_slot, without}
 use Rattle.toml_edit.specs.model.Text.{Text, one}
-use Rattle.toml_edit.specs.model.Tree.{TableFields, Node, nothing, leaf, list, inline, table, tables, Slots, no_slots, slot, Tree, unset}
-use Rattle.toml_edit.specs.tree.Containers.{table_in}
+use Rattle.toml_edit.specs.model.Tree.{Node, leaf, Tree, unset}
 use Rattle.toml_edit.specs.laws.EditLists.{after_all, AllApply, EditsStayLocal}
 use Rattle.toml_edit.specs.laws.Locality.{root_visit}
 use Rattle.toml_edit.specs.Documents.{IsOwnedReading, MeansWhatIsShown}
 use Rattle.toml_edit_guide.specs.Exchanges.{exchanging, ExchangesInTree, HasExchanged}
-
-slots_from-list : (ss : Slots) → slots_from (slot_list ss) ≡ ss
-slots_from-list no_slots = refl
-slots_from-list (slot k n ss) = ap (λ r. slot k n r) (slots_from-list ss)
+use Rattle.toml_edit_guide.proofs.EditLaws.{slots_from-list}
 
 slot_list-from : (xs : List (Slot Node)) → slot_list (slots_from xs) ≡ xs
 slot_list-from [] = refl
 slot_list-from (x ∷ xs) = ap (λ r. x ∷ r) (slot_list-from xs)
 
--- a key that isn't there has no slot
-pub no-slot : (k : Text) (es : List (Slot Node)) → lookup_key k es ≡ None → lookup_slot k es ≡ None
-no-slot k es h = by_slot (lookup_slot k es) h
-  where
-    by_slot : (o : Option (Slot Node)) → option_map (λ s. s.key) o ≡ None → o ≡ None
-    by_slot None h = refl
-    by_slot (Some s) h = absurd cc
-
-pub is-table : (n : Node) → is_some (table_in n) ≡ true → (f : TableFields) × (ss : Slots) × (n ≡ table f ss)
-is-table (table f ss) h = (f, ss, refl)
-is-table (leaf s r d) h = absurd cc
-is-table (list f xs) h = absurd cc
-is-table (inline f ss) h = absurd cc
-is-table (tables e xs) h = absurd cc
-is-table nothing h = absurd cc
-
+-- a table that is removed from the root, and a string that is added there
 pub told : (text name key x out : Text) (t u : Tree) → ((mode : Mode) → EditsStayLocal mode) → (r : IsOwnedReading text t)
     → ExchangesInTree name key (leaf (string x) None unset) t u → out ≡ print_in plain false u → MeansWhatIsShown plain false u
     → HasExchanged text name key x out

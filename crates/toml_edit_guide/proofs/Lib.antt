@@ -1,3 +1,4 @@
-pub mod ViewLaws
+-- Laws that proofs of the guide share.
 pub mod EditLaws
 pub mod ExchangeLaws
+pub mod ViewLaws

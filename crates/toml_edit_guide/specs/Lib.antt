@@ -1,12 +1,12 @@
 -- What the contracts of the guide cite.
 pub mod Adds
 pub mod Dates
+pub mod Edits
+pub mod Exchanges
 pub mod Either
 pub mod Names
 pub mod Paths
 pub mod Reports
+pub mod Sets
 pub mod Sorts
 pub mod Spellings
-pub mod Edits
-pub mod Sets
-pub mod Exchanges
