@@ -2,6 +2,8 @@
 pub mod Adds
 pub mod Comments
 pub mod Dates
+pub mod Edits
+pub mod Exchanges
 pub mod Either
 pub mod Elements
 pub mod Lines
@@ -9,5 +11,6 @@ pub mod Moves
 pub mod Names
 pub mod Paths
 pub mod Reports
+pub mod Sets
 pub mod Sorts
 pub mod Spellings

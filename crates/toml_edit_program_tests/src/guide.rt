@@ -7,6 +7,8 @@ use toml_edit_guide::adding::{
 use toml_edit_guide::arranging::{insert_first, rename, sort_strings};
 use toml_edit_guide::changing::set_value;
 use toml_edit_guide::documents::{print_if_fits, read_exactly, read_strictly, report};
+use toml_edit_guide::editing::{set_string, set_version};
+use toml_edit_guide::exchanging::exchange;
 use toml_edit_guide::reading::{integer_at, names, span_at};
 use toml_edit_tests::holding::is_text;
 
@@ -233,4 +235,52 @@ fn prints_what_fits(rt: HostRuntime) {
         Ok(mut document) => assert!(rt; fits_until_it_is_dotted(rt.alloc(), &mut document)),
         Err(_) => assert!(rt; false),
     }
+}
+
+/// Returns `true` if this text came of an edit, or with `None` nothing was edited.
+fn is_edited(edited: Result<Option<String>, ParseFault>, wanted: Option<&str>) -> bool {
+    match edited {
+        Ok(Some(text)) => wanted == Some(text.as_str()),
+        Ok(None) => wanted.is_none(),
+        Err(_) => false,
+    }
+}
+
+#[test]
+fn sets_a_version(rt: HostRuntime) {
+    let before =
+        "# a crate\n[package]\nname = 'x'  # its name\n# by hand\nversion  = '0.1.0' # the first\n\n[lib]\na.c = 1\nb = 2\n";
+    let after =
+        "# a crate\n[package]\nname = 'x'  # its name\n# by hand\nversion  = \"0.2.0\" # the first\n\n[lib]\na.c = 1\nb = 2\n";
+    assert!(rt; is_edited(set_version(rt.alloc(), before, "0.2.0"), Some(after)));
+    assert!(rt; is_edited(set_version(rt.alloc(), SERVER, "0.2.0"), None));
+    let named = "title = 'x'\n\n# two servers\n[server]\nport = 80  # http\nhost = \"b\"\n";
+    assert!(rt;
+        is_edited(
+            set_string(rt.alloc(), SERVER, "server", "host", "b"),
+            Some(named)
+        )
+    );
+    assert!(rt; is_edited(set_string(rt.alloc(), SERVER, "server", "name", "b"), None));
+    assert!(rt; is_edited(set_string(rt.alloc(), SERVER, "title", "host", "b"), None));
+    assert!(rt; set_string(rt.alloc(), "a = 1\na = 2\n", "a", "b", "c").is_err());
+}
+
+#[test]
+fn exchanges_a_table_for_a_key(rt: HostRuntime) {
+    let before =
+        "# all\ntitle = 'x' # short\n\n# old\n[a]\nb = 1 # one\n\n# below it\n[a.c]\n\n# kept\n[d]\ne = 2 # two\n";
+    let after = "# all\ntitle = 'x' # short\na = \"moved\"\n\n# kept\n[d]\ne = 2 # two\n";
+    assert!(rt; is_edited(exchange(rt.alloc(), before, "a", "a", "moved"), Some(after)));
+    assert!(rt; is_edited(exchange(rt.alloc(), before, "a", "title", "moved"), None));
+    assert!(rt; is_edited(exchange(rt.alloc(), before, "title", "f", "moved"), None));
+    assert!(rt; is_edited(exchange(rt.alloc(), before, "g", "f", "moved"), None));
+    let moved = "# two\ntitle = 'x'\nserver = \"s\"\n";
+    assert!(rt;
+        is_edited(
+            exchange(rt.alloc(), "# two\ntitle = 'x'\n[t]\n", "t", "server", "s"),
+            Some(moved)
+        )
+    );
+    assert!(rt; exchange(rt.alloc(), "a = 1\na = 2\n", "a", "b", "c").is_err());
 }

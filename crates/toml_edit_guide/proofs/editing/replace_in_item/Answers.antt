@@ -1,0 +1,16 @@
+-- The value gets the old one's decor.
+use Rattle.std.proofs.Common.{ap, ◌∙◌}
+use Rattle.toml_edit.specs.model.Conversions.{with_decor}
+use Rattle.toml_edit.specs.model.Tree.{Node, node_decor}
+use Rattle.toml_edit.specs.tree.View.{item_view, value_view}
+use Rattle.toml_edit_guide.proofs.ViewLaws.{view-Value, decorated-view, value-held}
+use Rattle.toml_edit_guide.proofs.editing.replace_in_item.Goals as goal
+
+pub returns-in-Some : goal.returns-in-Some
+returns-in-Some c =
+    λ h.
+    let held = value-held (item_view c.args.item.now) (value_view c.in-Some.old.now) c.in-Some.ensures.value in (
+      held.0,
+      view-Value c.replace_value.new.old ∙ ap value_view c.replace_value.ensures ∙ decorated-view _ c.args.value
+          ∙ ap (λ (n : Node). with_decor (node_decor n) (value_view c.args.value)) held.1,
+    )
