@@ -162,7 +162,7 @@ impl FloatText {
     ///
     /// # Errors
     ///
-    /// Fails if memory runs out.
+    /// Returns an `AllocError` if out of memory.
     pub fn from_text(alloc: Global, text: &str) -> Result<Option<FloatText>, AllocError>
         ensures float { IfOk result (λ o. IsSome o ↔ IsFloat text.now) }
         ensures same { IfOk result (λ o. o ≡ (if spec.is_float_text text.now then Some text.now else None)) }
@@ -187,7 +187,7 @@ impl FloatText {
     ///
     /// # Errors
     ///
-    /// Fails if memory runs out.
+    /// Returns an `AllocError` if out of memory.
     pub fn clone(&self, alloc: Global) -> Result<FloatText, AllocError>
         ensures { IfOk result (λ copy. copy ≡ self.now) }
     {

@@ -6,7 +6,7 @@ use Rattle.toml_edit_error.specs.Report.{Report}
 use Rattle.toml_edit_error.specs.declared.toml_error.ParseFault.{ParseFault}
 use Rattle.toml_edit_error.specs.declared.toml_error.ParseFault.TheVariants.{Toml, Memory}
 
--- the error is of the text, and its report has this property; nothing is said of running out of memory
+-- the error is of the text, and its report has this property; out of memory has no report
 abbrev pub IfToml : ParseFault → (Report → Type 0) → Type 0
 IfToml (Toml e) P = P e
 IfToml Memory P = Unit {0}

@@ -61,7 +61,7 @@ impl TomlError {
     ///
     /// # Errors
     ///
-    /// Fails if memory runs out.
+    /// Returns an `AllocError` if out of memory.
     pub fn new(
         alloc: Global,
         message: String,
@@ -104,7 +104,7 @@ impl TomlError {
     ///
     /// # Errors
     ///
-    /// Fails if memory runs out.
+    /// Returns an `AllocError` if out of memory.
     pub fn clone(&self, alloc: Global) -> Result<TomlError, AllocError>
         ensures { IfOk result (λ copy. copy ≡ self.now) }
     {
@@ -250,7 +250,7 @@ impl<T: Drop> From<AllocFailed<T>> for ParseFault {
 /// Returns the fault of a text that is refused with a message about the bytes in the span, if there
 /// is one.
 ///
-/// The error holds copies of text and message. If memory runs out for them, it is
+/// The error holds copies of text and message. If there is no memory for them, it is
 /// `ParseFault::Memory`.
 pub fn refusal(alloc: Global, text: &str, message: &str, span: Option<(usize, usize)>) -> ParseFault
     requires { ∥ SpanIsIn text.now span ∥₁ }
@@ -262,7 +262,7 @@ pub fn refusal(alloc: Global, text: &str, message: &str, span: Option<(usize, us
     }
 }
 
-/// Makes an error of copies of text and message. Fails if memory runs out.
+/// Makes an error of copies of text and message, or returns an `AllocError` if out of memory.
 fn error(
     alloc: Global,
     text: &str,

@@ -164,6 +164,8 @@ impl Key {
     }
 
     /// Returns the whitespace and the comments around the key where it ends a path.
+    ///
+    /// The comment above a line is in the prefix, the whitespace before `=` in the suffix.
     pub fn leaf_decor(&self) -> &Decor
         ensures { result.now ≡ self.now.leaf }
     {
@@ -172,6 +174,8 @@ impl Key {
 
     /// Returns a mutable reference to the whitespace and the comments around the key where it ends
     /// a path.
+    ///
+    /// The comment above a line is in the prefix, the whitespace before `=` in the suffix.
     pub fn leaf_decor_mut(&mut self) -> &mut Decor
         ensures* writes_back { sem 𝓛 (LendsLeaf self.entry result) }
         ensures decor { result.now ≡ self.old.leaf }
@@ -214,7 +218,8 @@ impl Key {
         self.as_repr()?.span()
     }
 
-    /// Returns the key with another leaf decor.
+    /// Returns the key with another leaf decor: the comment above its line, and the whitespace
+    /// before `=`.
     pub fn with_leaf_decor(self, decor: Decor) -> Key
         ensures { result ≡ record self { leaf = decor } }
     {
@@ -223,7 +228,7 @@ impl Key {
         key
     }
 
-    /// Returns the key with another dotted decor.
+    /// Returns the key with another dotted decor: the whitespace between it and the dots beside it.
     pub fn with_dotted_decor(self, decor: Decor) -> Key
         ensures { result ≡ record self { dotted = decor } }
     {

@@ -10,7 +10,7 @@ use std::hash::{Hash, Hasher};
 use std::marker::Model;
 use std::ops::Range;
 
-/// The result of a call that fails only when memory runs out.
+/// The result of a call that fails only when out of memory.
 ///
 /// # Examples
 ///
@@ -78,8 +78,8 @@ impl RawString {
     ///
     /// # Errors
     ///
-    /// Fails if memory runs out. A text of at most 16 bytes takes none. For a `String` use
-    /// `RawString::from`, which takes none either.
+    /// Returns an `AllocError` if out of memory. A text of at most 16 bytes takes none. For a
+    /// `String` use `RawString::from`, which takes none either.
     pub fn from_text(alloc: Global, text: &str) -> Mem<RawString>
         ensures ok { IfOk result (λ raw. raw ≡ owned text.now) }
         ensures free { IsTrue (is_free text.now) → IsOk result }
@@ -140,7 +140,7 @@ impl RawString {
     ///
     /// # Errors
     ///
-    /// Fails if memory runs out. A span and a text of at most 16 bytes take none.
+    /// Returns an `AllocError` if out of memory. A span and a text of at most 16 bytes take none.
     pub fn clone(&self, alloc: Global) -> Mem<RawString>
         ensures equal { IfOk result (λ copy. copy ≡ self.now) }
         ensures free { IsTrue (is_free_raw self.now) → IsOk result }
@@ -172,7 +172,7 @@ impl RawString {
     ///
     /// # Errors
     ///
-    /// Fails if memory runs out, and then stays as it was.
+    /// Returns an `AllocError` if out of memory, and then stays as it was.
     #[doc(hidden)]
     #[inline(always)]
     pub fn despan(&mut self, alloc: Global, source: &str) -> Mem<()>

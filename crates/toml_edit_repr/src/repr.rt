@@ -59,7 +59,7 @@ impl Repr {
     ///
     /// # Errors
     ///
-    /// Fails if memory runs out.
+    /// Returns an `AllocError` if out of memory.
     pub fn clone(&self, alloc: Global) -> Mem<Repr>
         ensures { IfOk result (λ copy. copy ≡ self.now) }
     {
@@ -183,7 +183,7 @@ impl Decor {
     ///
     /// # Errors
     ///
-    /// Fails if memory runs out.
+    /// Returns an `AllocError` if out of memory.
     pub fn clone(&self, alloc: Global) -> Mem<Decor>
         ensures { IfOk result (λ copy. copy ≡ self.now) }
     {
@@ -256,7 +256,7 @@ impl Decor {
     ///
     /// # Errors
     ///
-    /// Fails if memory runs out. Either side may still be a span then: drop the document.
+    /// Returns an `AllocError` if out of memory. Either side may still be a span then: drop the document.
     #[doc(hidden)]
     pub fn despan(&mut self, alloc: Global, source: &str) -> Mem<()>
         requires { DecorFits source.now self.old }
@@ -354,7 +354,7 @@ pub fn despan_spelling(alloc: Global, repr: &mut Option<Repr>, source: &str) -> 
 ///
 /// # Errors
 ///
-/// Fails if memory runs out.
+/// Returns an `AllocError` if out of memory.
 pub fn clone_spelling(alloc: Global, repr: &Option<Repr>) -> Mem<Option<Repr>>
     ensures { IfOk result (λ copy. copy ≡ repr.now) }
 {
@@ -368,6 +368,16 @@ pub fn clone_spelling(alloc: Global, repr: &Option<Repr>) -> Mem<Option<Repr>>
 ///
 /// It is what [`ValueRepr`] needs of a value: the scalar that it is, how that is spelled by
 /// default, and how to copy it.
+///
+/// # Examples
+///
+/// A function for any scalar and any sink:
+///
+/// ```rust,ignore
+/// pub fn put_default<T: ScalarValue, S: Sink>(scalar: &T, out: &mut S)
+/// ```
+///
+/// From `put_default` of the guide, docs/GUIDE.md.
 pub trait ScalarValue: PartialEq {
     ghost use Rattle.toml_edit_model.specs.Scalars.{Scalar};
 
@@ -384,7 +394,7 @@ pub trait ScalarValue: PartialEq {
     ///
     /// # Errors
     ///
-    /// Fails if memory runs out.
+    /// Returns an `AllocError` if out of memory.
     fn copy(&self, alloc: Global) -> Mem<Self>
         ensures scalar { IfOk result (λ copy. scalar copy ≡ scalar self.now) }
         ensures equal { IfOk result (λ copy. IsTrue (Self.eq copy self.now)) };
@@ -394,6 +404,16 @@ pub trait ScalarValue: PartialEq {
 ///
 /// It is implemented for `String`, `i64`, `bool`, `FloatText` and `Datetime`. An implementation for
 /// another type proves which spellings its values have.
+///
+/// # Examples
+///
+/// A function that returns `scalar.default_repr(alloc)`:
+///
+/// ```rust,ignore
+/// pub fn default_of<T: ValueRepr>(alloc: Global, scalar: &Formatted<T>) -> Mem<Repr>
+/// ```
+///
+/// From `default_of` of the guide, docs/GUIDE.md.
 pub trait ValueRepr: ScalarValue {
     ghost use Rattle.std.specs.Prelude.{List, ℕ};
 
@@ -404,7 +424,7 @@ pub trait ValueRepr: ScalarValue {
     ///
     /// # Errors
     ///
-    /// Fails if memory runs out.
+    /// Returns an `AllocError` if out of memory.
     fn to_repr(&self, alloc: Global) -> Mem<Repr>
         ensures default { IfOk result (λ repr. repr ≡ owned (default_spelling (Self.scalar self.now))) }
         ensures spelled { ∥ spells (default_spelling (Self.scalar self.now)) self.now ∥₁ };
@@ -579,7 +599,7 @@ impl<T: ValueRepr> Formatted<T> {
     ///
     /// # Errors
     ///
-    /// Fails if memory runs out.
+    /// Returns an `AllocError` if out of memory.
     pub fn clone(&self, alloc: Global) -> Mem<Formatted<T>>
         ensures value { IfOk result (λ copy. T.scalar copy.value ≡ T.scalar self.now.value) }
         ensures repr { IfOk result (λ copy. copy.repr ≡ self.now.repr) }
@@ -634,7 +654,7 @@ impl<T: ValueRepr> Formatted<T> {
     ///
     /// # Errors
     ///
-    /// Fails if memory runs out.
+    /// Returns an `AllocError` if out of memory.
     pub fn default_repr(&self, alloc: Global) -> Mem<Repr>
         ensures default { IfOk result (λ repr. repr ≡ owned (default_spelling (T.scalar self.now.value))) }
         ensures spelled { ∥ T.spells (default_spelling (T.scalar self.now.value)) self.now.value ∥₁ }
@@ -646,7 +666,7 @@ impl<T: ValueRepr> Formatted<T> {
     ///
     /// # Errors
     ///
-    /// Fails if memory runs out. An own spelling that is a text is lent, and takes none.
+    /// Returns an `AllocError` if out of memory. A spelling of the value's own takes none.
     pub fn display_repr(&self, alloc: Global) -> Mem<CowStr<'_>>
         ensures text { IfOk result (λ text. cow_str_bytes text ≡ scalar_text (T.scalar self.now.value) self.now.repr) }
         ensures free { IsSome (option_and_then text_of self.now.repr) → IsOkAnd result IsBorrowedStr }
@@ -692,7 +712,7 @@ impl<T: ValueRepr> Formatted<T> {
     ///
     /// # Errors
     ///
-    /// Fails if memory runs out. Spans may be left then: drop the document.
+    /// Returns an `AllocError` if out of memory. Spans may be left then: drop the document.
     #[doc(hidden)]
     pub fn despan(&mut self, alloc: Global, source: &str) -> Mem<()>
         requires spelling { OptionFits source.now self.old.repr }

@@ -17,7 +17,7 @@ pub record Grows (before : Bool) (old text : List ℕ) (after : Bool) (new : Lis
   pub clean : after ≡ false → before ≡ false
   pub grew : after ≡ false → new ≡ old ++ text
 
--- an output, and what is held for it: of what was held with the text behind it, a beginning was written and the rest is held, or is lost by a fault; nothing is written after a fault
+-- an output, and what is held for it: of what was held and the text after it, a beginning was written and the rest is held, or is lost by a fault; nothing is written after a fault
 pub record Writes {O : Type 0} (contents : O → Option (List ℕ)) (has_failed : O → Bool) (before : Bool) (o : MutBor O) (held text : List ℕ) (after : Bool) (p : MutBor O) (rest : List ℕ) : Type 0 where
   pub same_reference : p.ghost_name ≡ o.ghost_name
   pub clean : after ≡ false → before ≡ false

@@ -8,6 +8,16 @@ ghost use Rattle.std.specs.Fmt.{WritesInCalls};
 /// No call of a sink has an error. A sink that can fail remembers its fault, and whoever made it
 /// looks for that at the end. So code that puts a text has no error to hand on, and can be written
 /// once for all sinks.
+///
+/// # Examples
+///
+/// A function for any text and any sink:
+///
+/// ```rust,ignore
+/// pub fn put_text<P: Printed, S: Sink>(printed: &P, out: &mut S)
+/// ```
+///
+/// From `put_text` of the guide, docs/GUIDE.md.
 pub trait Sink {
     // What a call does: the sink before it, the text, and the sink after it.
     ghost puts: { Self → List ℕ → Self → Type 0 };
@@ -28,6 +38,14 @@ pub trait Sink {
 }
 
 /// A value that has a text, which can be put into any sink.
+///
+/// # Examples
+///
+/// ```rust,ignore
+/// printed.put_into(out)
+/// ```
+///
+/// From `put_text` of the guide, docs/GUIDE.md.
 pub trait Printed {
     // The text.
     ghost text: { Self → List ℕ };

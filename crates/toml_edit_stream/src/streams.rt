@@ -1,3 +1,4 @@
+//! Inputs and outputs of bytes that remember a fault.
 ghost use Rattle.std.specs.Prelude.{◌≡◌, ℕ, ◌<◌, Bool, true, List, length, Option, IfOk, OnOk, OnErr};
 ghost use Rattle.std.specs.Io.{ReadsAtMost, WritesAtMost};
 ghost use Rattle.std.specs.Io.KnownBytes.{ReadConsumes, WriteAppends};
@@ -7,6 +8,14 @@ use std::fmt;
 
 /// The error of an input or an output whose device failed. The stream that returns it has failed
 /// from then on.
+///
+/// # Examples
+///
+/// ```rust,ignore
+/// pub fn read_piece<I: Input>(input: &mut I, buffer: &mut [u8]) -> Result<usize, Broken>
+/// ```
+///
+/// From `read_piece` of the guide, docs/GUIDE.md.
 #[derive(Clone, Copy, Debug, PartialEq, Eq)]
 pub struct Broken;
 
@@ -24,6 +33,14 @@ impl fmt::Display for Broken {
 impl Error for Broken {}
 
 /// An input of bytes that remembers a fault.
+///
+/// # Examples
+///
+/// ```rust,ignore
+/// input.read(buffer)
+/// ```
+///
+/// From `read_piece` of the guide, docs/GUIDE.md.
 pub trait Input {
     // the bytes that are left to read, where they are known
     ghost remaining: { Self → Option (List ℕ) };

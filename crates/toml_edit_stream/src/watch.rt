@@ -1,3 +1,4 @@
+//! Readers and writers of std as inputs and outputs.
 ghost use Rattle.std.specs.Prelude.{◌≡◌, ◌<◌, false, true, length, IfOk, OnOk, OnErr, IsErr};
 ghost use Rattle.std.specs.Io.{ReadsAtMost, WritesAtMost};
 ghost use Rattle.std.specs.Io.KnownBytes.{Keeps, ReadConsumes, WriteAppends};
@@ -10,6 +11,15 @@ use std::io::{ErrorKind, Read, Write};
 /// fails too.
 ///
 /// It is an [`Input`] over a reader and an [`Output`] over a writer.
+///
+/// # Examples
+///
+/// ```rust,ignore
+/// let mut output = Watched::new(writer);
+/// document.print_to(alloc, &mut output)?;
+/// ```
+///
+/// From `print_to_writer` of the guide, docs/GUIDE.md.
 #[derive(Debug, Drop)]
 pub struct Watched<T> {
     inner: T,
@@ -18,6 +28,8 @@ pub struct Watched<T> {
 
 impl<T> Watched<T> {
     /// Wraps a reader or a writer. No fault is remembered yet, whatever happened before.
+    ///
+    /// It is not given back: to see what was written, wrap a writer that borrows what it writes to.
     pub fn new(inner: T) -> Watched<T>
         ensures inner { watched_inner result ≡ inner }
         ensures fault { watched_fault result ≡ false }

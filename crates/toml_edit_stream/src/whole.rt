@@ -1,3 +1,4 @@
+//! Reading an input to its end, and writing a whole text.
 ghost use Rattle.std.specs.Prelude.{◌≡◌, true, IfSome, IfOk, IfErr, OnOk, OnErr};
 ghost use Rattle.std.specs.Io.KnownBytes.{Appends, IsAtEnd};
 ghost use Rattle.toml_edit_stream.specs.Whole.{AppendsBeginning, ReadFaultLeaves};

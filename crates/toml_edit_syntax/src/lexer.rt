@@ -122,11 +122,11 @@ pub(crate) fn place(source: &str, left: usize) -> Span
 /// # Errors
 ///
 /// `SyntaxFault::Text` if the text is not in the grammar, with a span that begins and ends between
-/// characters. `SyntaxFault::Memory` if memory runs out.
+/// characters. `SyntaxFault::Memory` if out of memory.
 pub fn events(alloc: Global, source: &str) -> Result<Vec<Event>, SyntaxFault>
     ensures cut { IfOk result (λ es. AreEventsOf source.now es.items) }
     ensures spans { IfOk result (λ es. AllByRecursion (λ e. IsSpanOf source.now e.span) es.items) }
-    // A text of the grammar is read, unless memory runs out.
+    // A text of the grammar is read, unless out of memory.
     ensures every { (d : Document) → IsCut d source.now → IsOk result ⊎ IsErrOf result SyntaxFault.Memory }
     ensures fault { HasSpanIn source.now result }
 {

@@ -29,7 +29,7 @@ pub enum Scalar {
 }
 
 /// Returns the name of the simple key that the text spells, or `None` if it spells none. Fails if
-/// memory runs out.
+/// out of memory.
 pub fn decode_key(alloc: Global, text: &str) -> Result<Option<String>, AllocError>
     ensures found { IfOk result (λ o. IfSome o (λ s. SpellsKey (string_bytes s) text.now)) }
     ensures only { IfOk result (λ o. (k : Text) → SpellsKey k text.now → IsSomeAnd o (λ s. k ≡ string_bytes s)) }
@@ -37,7 +37,7 @@ pub fn decode_key(alloc: Global, text: &str) -> Result<Option<String>, AllocErro
     read_key(alloc, text)
 }
 
-/// Returns the scalar that the text spells. Fails if memory runs out.
+/// Returns the scalar that the text spells, or an `AllocError` if out of memory.
 ///
 /// Returns `None` if the text spells no scalar, or one out of range: an integer that 64 bits do not
 /// hold, or a date, a time or an offset that does not exist.

@@ -109,6 +109,8 @@ impl<'k> KeyMut<'k> {
     }
 
     /// Returns the whitespace and the comments around the key where it ends a path.
+    ///
+    /// The comment above a line is in the prefix, the whitespace before `=` in the suffix.
     pub fn leaf_decor(&self) -> &Decor
         ensures { result.now ≡ (key_of self.now).leaf }
     {
@@ -117,6 +119,8 @@ impl<'k> KeyMut<'k> {
 
     /// Returns a mutable reference to the whitespace and the comments around the key where it ends
     /// a path.
+    ///
+    /// The comment above a line is in the prefix, the whitespace before `=` in the suffix.
     pub fn leaf_decor_mut(&mut self) -> &mut Decor
         ensures* writes_back { sem 𝓛 (LendsLeafMut self.entry result) }
         ensures decor { result.now ≡ (key_of self.old).leaf }

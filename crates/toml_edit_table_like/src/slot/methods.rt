@@ -92,7 +92,8 @@ impl<'a, T: HasSlots> TableLikeSlot<'a, T> {
 
     /// Replaces the item and returns the old one. The key keeps its spelling and its decor.
     ///
-    /// In an inline table no item is made a value.
+    /// The comment after an old value goes with it, since it is in the decor of the value. In an
+    /// inline table no item is made a value.
     pub fn insert(&mut self, item: Item) -> Item
         ensures same_table { (slot_ref self.new).ghost_name ≡ (slot_ref self.old).ghost_name }
         ensures same_place { slot_place self.new ≡ slot_place self.old }

@@ -128,6 +128,8 @@ impl<'a> InlineOccupiedEntry<'a> {
     }
 
     /// Replaces the value and returns the old one. The key keeps its spelling and its decor.
+    ///
+    /// The whitespace and the comments around the old value go with it.
     pub fn insert(&mut self, value: Value) -> Value
         ensures same_table { (inline_ref (Occupied self.new)).ghost_name ≡ (inline_ref (Occupied self.old)).ghost_name }
         ensures same_place { inline_place (Occupied self.new) ≡ inline_place (Occupied self.old) }

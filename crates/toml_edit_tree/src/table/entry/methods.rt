@@ -126,6 +126,8 @@ impl<'a> OccupiedEntry<'a> {
     }
 
     /// Replaces the item and returns the old one. The key keeps its spelling and its decor.
+    ///
+    /// The comment after an old value goes with it, since it is in the decor of the value.
     pub fn insert(&mut self, item: Item) -> Item
         ensures same_table { (entry_ref (Occupied self.new)).ghost_name ≡ (entry_ref (Occupied self.old)).ghost_name }
         ensures same_place { entry_place (Occupied self.new) ≡ entry_place (Occupied self.old) }
