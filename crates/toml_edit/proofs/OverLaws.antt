@@ -6,9 +6,10 @@ use Rattle.toml_edit_model.specs.Mode.{Mode, is_exact}
 use Rattle.toml_edit_model.specs.Text.{Text}
 use Rattle.toml_edit_model.specs.Tree.{Raw, Slots, Tree}
 use Rattle.toml_edit_model.specs.TreeOf.{spanned_in, root_fields, IsTreeOf}
-use Rattle.toml_edit_model.specs.OwnedForm.{IsOver}
+use Rattle.toml_edit_model.specs.OwnedForm.{IsOver, owned_tree}
 use Rattle.toml_edit_laws.proofs.read_trees.MeaningOfTrees.{trees_mean}
 use Rattle.toml_edit_laws.proofs.read_trees.ReadLaws.{owned_trees, trees_over, spans_cut_spellings}
+use Rattle.toml_edit_laws.proofs.read_trees.TreeMade.{tree-made}
 use Rattle.toml_edit_tree.specs.declared.item.Item.TheVariants as items
 use Rattle.toml_edit_tree.specs.declared.table.Table.{Table}
 use Rattle.toml_edit.specs.Roots.{tree_under}
@@ -66,12 +67,14 @@ module _ (mode : Mode) (t u : Text) (root : Table) (slots : Slots) (trailing : R
   abbrev pub root-reading : IsReadingWith mode t (tree_under (items.Table root) trailing)
   root-reading =
       let x = tree_under (items.Table root) trailing in
+      let own = owned_trees mode t h.document is-accepted.0 x is-tree in
       record {
         document = h.document;
         accepted = is-accepted;
         only = λ other cut. h.only other (subst (IsCut other) (sym same) cut);
         tree = is-tree;
-        owned = owned_trees mode t h.document is-accepted.0 x is-tree;
+        owned = own;
+        made = tree-made mode h.document (owned_tree t x) is-accepted.0.0 is-accepted.1 own;
         spellings = spans_cut_spellings mode t h.document is-text is-accepted x is-tree;
         meaning = trees_mean h.document is-accepted.0.0 is-accepted.1 (spanned_in mode) x is-tree;
       }

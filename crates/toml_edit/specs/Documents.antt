@@ -48,13 +48,14 @@ opens mode d = is_exact mode && has_open_end d.statements
 
 module _ (mode : Mode) where
   -- The text has one cut, by which it is accepted, and this is the tree of that cut over the text: what its spans cut from the text makes
-  -- the tree with owned texts, and the span of each key and each scalar cuts its spelling. It means what the text means.
+  -- the tree with owned texts, which is well made, and the span of each key and each scalar cuts its spelling. It means what the text means.
   pub record IsReadingWith (t : Text) (x : Tree) : Type 0 where
     pub document : Document
     pub accepted : AcceptedAs t document
     pub only : (other : Document) → IsCut other t → other ≡ document
     pub tree : IsTreeOf (spanned_in mode) document x
     pub owned : IsTreeOf (owned_in mode) document (owned_tree t x)
+    pub made : SlotsAreWellMade (owned_tree t x).slots
     pub spellings : HaveCutSpellings t x.slots
     pub meaning : SameFacts (shown_meaning x) (meaning document)
 

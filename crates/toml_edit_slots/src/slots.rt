@@ -268,10 +268,18 @@ impl<T> Slots<T> {
         ensures back { IfErr result (λ refused. refused.0 ≡ slot) }
         ensures err { OnErr result (self.new ≡ self.old) }
     {
-        match self.try_push(slot) {
-            Ok(()) => Ok(()),
-            Err(Refused::Present(_, slot)) => Err(NoMemory(slot)),
-            Err(Refused::NoMemory(slot)) => Err(NoMemory(slot)),
+        // Not by `try_push`: its error is larger, and the slot would be copied field by field.
+        let alloc = *self.entries.allocator();
+        if self.entries.reserve(1).is_err() {
+            return Err(NoMemory(slot));
+        }
+        let room = self.entries.capacity();
+        match add_new_place(&mut self.index, alloc, &self.entries, room, slot.key.get()) {
+            Ok(None) => {
+                self.entries.push_reserved(slot);
+                Ok(())
+            }
+            Ok(Some(_)) | Err(_) => Err(NoMemory(slot)),
         }
     }
 
