@@ -5,13 +5,13 @@ use Rattle.toml_edit_model.specs.Conversions.{formatted, formatted_array, format
 use Rattle.toml_edit_model.specs.Keys.{cleared_key}
 use Rattle.toml_edit_model.specs.Lists as lists
 use Rattle.toml_edit_model.specs.Slots as model
-use Rattle.toml_edit_model.specs.Lists.{is_inline_node, is_tables_node}
+use Rattle.toml_edit_model.specs.Lists.{is_inline_node, is_tables_node, items_from}
 use Rattle.toml_edit_model.specs.Text.{is_empty}
 use Rattle.toml_edit_model.specs.Tree.{ArrayFields, Key, Node, nothing, leaf, list, inline, table, tables, Items, no_items, item, Slots, no_slots, slot, is_value_node, unset}
 use Rattle.toml_edit_slots.specs.declared.slots.Slot.{Slot}
 use Rattle.toml_edit_slots.specs.Slots.{on_item, on_key, with_item}
 use Rattle.toml_edit_laws.proofs.slots.Lists.{items_from-list}
-use Rattle.toml_edit_tree.specs.Containers.{ArrayView, array_node, items_from, slots_from}
+use Rattle.toml_edit_tree.specs.Containers.{ArrayView, array_node, tree_slots}
 use Rattle.toml_edit_tree.specs.Converting.{each_made, each_slot_made, formatted_elements, formatted_slots, in_new_form, inside_made, suits_tables, tables_made}
 use Rattle.toml_edit_tree.specs.declared.array.Array.{Array}
 use Rattle.toml_edit_tree.specs.declared.item.Item.{Item}
@@ -27,7 +27,7 @@ each-made (n ∷ ns) = ap (item (made_value n)) (each-made ns)
 abbrev pub made_slot : Slot Node → Slot Node
 made_slot s = record { key = s.key; item = made_value s.item }
 
-pub each-slot-made : (es : List (Slot Node)) → slots_from (map made_slot es) ≡ each_slot_made (slots_from es)
+pub each-slot-made : (es : List (Slot Node)) → tree_slots (map made_slot es) ≡ each_slot_made (tree_slots es)
 each-slot-made [] = refl
 each-slot-made (s ∷ es) = ap (slot s.key (made_value s.item)) (each-slot-made es)
 
@@ -79,9 +79,9 @@ one-formatted k (inline f ws) ss us e = ap (slot (cleared_key k) (inline (record
 one-formatted k (table f ws) ss us e = ap (slot k (table f ws)) e
 one-formatted k (tables f xs) ss us e = ap (slot k (tables f xs)) e
 
-pub formatted-slots : (es : List (Slot Node)) → slots_from (map formatted_slot es) ≡ formatted_slots (slots_from es)
+pub formatted-slots : (es : List (Slot Node)) → tree_slots (map formatted_slot es) ≡ formatted_slots (tree_slots es)
 formatted-slots [] = refl
-formatted-slots (s ∷ es) = one-formatted s.key s.item (slots_from (map formatted_slot es)) (formatted_slots (slots_from es)) (formatted-slots es)
+formatted-slots (s ∷ es) = one-formatted s.key s.item (tree_slots (map formatted_slot es)) (formatted_slots (tree_slots es)) (formatted-slots es)
 
 -- another key and another item at a place
 pub keyed : (es : List (Slot Item)) (i : ℕ) (d : Slot Item) (h : Key → Key) (y : Item)

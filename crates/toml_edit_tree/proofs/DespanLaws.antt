@@ -10,7 +10,8 @@ use Rattle.toml_edit_model.specs.Text.{Text}
 use Rattle.toml_edit_model.specs.Tree.{Key, Node, Slots, TableFields, HasTrueSpelling, IsWellMade, ItemsAreWellMade, SlotsAreWellMade, item, slot, table}
 use Rattle.toml_edit_slots.specs.declared.slots.Slot.{Slot}
 use Rattle.toml_edit_slots.specs.Slots.{items_of, on_key, with_item}
-use Rattle.toml_edit_tree.specs.Containers.{items_from, slots_from}
+use Rattle.toml_edit_tree.specs.Containers.{tree_slots}
+use Rattle.toml_edit_model.specs.Lists.{items_from}
 use Rattle.toml_edit_tree.specs.declared.item.Item.{Item, size-Item, None as placeholder}
 use Rattle.toml_edit_tree.specs.View.{item_view, items_view, slots_view}
 use Rattle.toml_edit_model.specs.OwnedForm.{ItemsFit, KeyFits, NodeFits, SlotsFit, owned_items, owned_key, owned_node, owned_raw, owned_slots}
@@ -44,7 +45,7 @@ item-spelled t xs i d h f = ∥∥₁_map f (item-true t xs i d h)
 abbrev pub owned_slot : Text → Slot Node → Slot Node
 owned_slot t s = record { key = owned_key t s.key; item = owned_node t s.item }
 
-pub owned-slots : (t : Text) (es : List (Slot Node)) → slots_from (map (owned_slot t) es) ≡ owned_slots t (slots_from es)
+pub owned-slots : (t : Text) (es : List (Slot Node)) → tree_slots (map (owned_slot t) es) ≡ owned_slots t (tree_slots es)
 owned-slots t [] = refl
 owned-slots t (s ∷ es) = ap (slot (owned_key t s.key) (owned_node t s.item)) (owned-slots t es)
 

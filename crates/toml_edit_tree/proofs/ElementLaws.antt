@@ -5,12 +5,11 @@ use Rattle.std.proofs.lemmas.Option.{slice_get-get_or, slice_get_past}
 use Rattle.std.specs.Borrow.{Bor}
 use Rattle.toml_edit_model.specs.Text.{one}
 use Rattle.toml_edit_model.specs.Tree.{Decor, Node, nothing, leaf, list, inline, table, tables, node_decor, is_value_node}
-use Rattle.toml_edit_model.specs.Lists.{item_list, only}
+use Rattle.toml_edit_model.specs.Lists.{item_list, items_from, only}
 use Rattle.toml_edit_model.specs.Shown.{is_table_node}
 use Rattle.toml_edit_model.specs.ArrayCalls.{inserted_at, pushed, removed_at, replaced_at, value_at, written_at}
 use Rattle.toml_edit_model.specs.Conversions.{with_decor}
 use Rattle.toml_edit_laws.proofs.slots.Places.{changed_at-set}
-use Rattle.toml_edit_tree.specs.Containers as old
 use Rattle.toml_edit_tree.specs.Containers.{table_in, table_node}
 use Rattle.toml_edit_tree.specs.declared.item.Item.{Item}
 use Rattle.toml_edit_tree.specs.declared.table.Table.{Table}
@@ -20,7 +19,7 @@ use Rattle.toml_edit_tree.specs.View.{item_view, table_view, value_view}
 
 -- ---- as lists
 
-list-from : (xs : List Node) → item_list (old.items_from xs) ≡ xs
+list-from : (xs : List Node) → item_list (items_from xs) ≡ xs
 list-from [] = refl
 list-from (x ∷ xs) = ap (λ l. x ∷ l) (list-from xs)
 

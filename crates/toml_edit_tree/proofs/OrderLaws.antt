@@ -10,7 +10,8 @@ use Rattle.toml_edit_laws.proofs.building.PlacePaths.{value-order}
 use Rattle.toml_edit_slots.specs.declared.slots.Slot.{Slot}
 use Rattle.toml_edit_slots.specs.InPlace.{by_place}
 use Rattle.toml_edit_slots.specs.Slots.{items_of, on_item, with_item}
-use Rattle.toml_edit_tree.specs.Containers.{items_from, slots_from}
+use Rattle.toml_edit_tree.specs.Containers.{tree_slots}
+use Rattle.toml_edit_model.specs.Lists.{items_from}
 use Rattle.toml_edit_tree.specs.declared.item.Item.{Item}
 use Rattle.toml_edit_tree.specs.declared.item.Item.TheVariants as items
 use Rattle.toml_edit_tree.specs.declared.value.Value.{Value}
@@ -45,7 +46,7 @@ abbrev sorted_slots : Slots → Slots
 sorted_slots no_slots = no_slots
 sorted_slots (slot k n ss) = slot_by_place k n (sorted_slots ss)
 
-each-view : (es : List (Slot Node)) → slots_from (map ordered_slot es) ≡ each_ordered (slots_from es)
+each-view : (es : List (Slot Node)) → tree_slots (map ordered_slot es) ≡ each_ordered (tree_slots es)
 each-view [] = refl
 each-view (s ∷ es) = ap (slot s.key (node_by_place s.item)) (each-view es)
 
@@ -74,8 +75,8 @@ sorted-view (s ∷ es) =
 
 -- slots whose items were put in order, in order
 pub slots-in-order : (es : List (Slot Item)) (first : List (Slot Node)) → map (on_item item_view) es ≡ map ordered_slot first
-    → slots_view (sorted_by by_place es) ≡ slots_by_place (slots_from first)
-slots-in-order es first h = sorted-view es ∙ ap sorted_slots (ap slots_from h ∙ each-view first) ∙ sorted-each (slots_from first)
+    → slots_view (sorted_by by_place es) ≡ slots_by_place (tree_slots first)
+slots-in-order es first h = sorted-view es ∙ ap sorted_slots (ap tree_slots h ∙ each-view first) ∙ sorted-each (tree_slots first)
 
 -- the item at a place, and another there
 pub item-at : (es : List (Slot Item)) (i : ℕ) (d : Slot Item) (x : Item) → i < length es → Some x ≡ slice_get (items_of es) i → x ≡ (get_or es i d).item

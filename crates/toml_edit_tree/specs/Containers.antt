@@ -1,7 +1,7 @@
 -- Arrays, inline tables, tables and arrays of tables as contracts see them, and what their calls return.
 use Rattle.std.specs.Prelude.{ℕ, ℤ, Bool, false, List, [], ◌∷◌, Option, Some, None, if◌then◌else◌}
 use Rattle.std.specs.declared.ops.Range.{Range}
-use Rattle.toml_edit_model.specs.Tree.{Raw, Decor, Key, Extent, unset, ArrayFields, InlineFields, TableFields, Node, list, inline, table, tables, Items, no_items, item, Slots, no_slots, slot, is_value_node}
+use Rattle.toml_edit_model.specs.Tree.{Raw, Decor, Key, Extent, unset, ArrayFields, InlineFields, TableFields, Node, list, inline, table, tables, Items, Slots, no_slots, slot, is_value_node}
 use Rattle.toml_edit_slots.specs.declared.slots.Slot as repr
 
 -- an array, and an inline table: what they have beside their slots, and those
@@ -34,14 +34,10 @@ table_node t = table t.fields t.slots
 abbrev pub tables_node : TablesView → Node
 tables_node a = tables a.extent a.items
 
--- items and slots that are in a list
-abbrev pub items_from : List Node → Items
-items_from [] = no_items
-items_from (n ∷ ns) = item n (items_from ns)
-
-abbrev pub slots_from : List (repr.Slot Node) → Slots
-slots_from [] = no_slots
-slots_from (s ∷ es) = slot s.key s.item (slots_from es)
+-- the tree's slots, of the list of them that a container has
+abbrev pub tree_slots : List (repr.Slot Node) → Slots
+tree_slots [] = no_slots
+tree_slots (s ∷ es) = slot s.key s.item (tree_slots es)
 
 -- ---- arrays
 

@@ -6,7 +6,8 @@ use Rattle.toml_edit_datetime.specs.DatetimeView.{datetime_view}
 use Rattle.toml_edit_model.specs.Tree.{Raw, Node, nothing, leaf, Items, Slots, TableFields, Tree}
 use Rattle.toml_edit_slots.specs.declared.slots.Slot as repr
 use Rattle.toml_edit_slots.specs.Slots.{on_item}
-use Rattle.toml_edit_tree.specs.Containers.{ArrayView, InlineView, TableView, TablesView, array_node, inline_node, table_node, tables_node, items_from, slots_from}
+use Rattle.toml_edit_tree.specs.Containers.{ArrayView, InlineView, TableView, TablesView, array_node, inline_node, table_node, tables_node, tree_slots}
+use Rattle.toml_edit_model.specs.Lists.{items_from}
 use Rattle.toml_edit_tree.specs.declared.item.Item.{Item, fold-Item}
 use Rattle.toml_edit_tree.specs.declared.item.Item.TheOpen.{Item-F, Value-F, Array-F, ArrayOfTables-F, InlineTable-F, Table-F}
 use Rattle.toml_edit_tree.specs.declared.value.Value.{Value, fold-Value}
@@ -42,7 +43,7 @@ abbrev pub inline_step : InlineTable-F Node Node ArrayView TablesView InlineView
 inline_step t =
     record {
       fields = record { decor = t.decor; is_dotted = t.dotted; comma = t.trailing_comma; trailing = t.trailing; extent = then_some t.is_read t.span };
-      slots = slots_from t.items;
+      slots = tree_slots t.items;
     }
 
 abbrev pub tables_step : ArrayOfTables-F Node Node ArrayView TablesView InlineView TableView → TablesView
@@ -52,7 +53,7 @@ abbrev pub table_step : Table-F Node Node ArrayView TablesView InlineView TableV
 table_step t =
     record {
       fields = record { decor = t.decor; is_implicit = t.implicit; is_dotted = t.dotted; position = t.position; extent = t.span };
-      slots = slots_from t.slots;
+      slots = tree_slots t.slots;
     }
 
 abbrev pub item_view : Item → Node
@@ -77,7 +78,7 @@ abbrev pub items_view : List Item → Items
 items_view xs = items_from (map item_view xs)
 
 abbrev pub slots_view : List (repr.Slot Item) → Slots
-slots_view es = slots_from (map (on_item item_view) es)
+slots_view es = tree_slots (map (on_item item_view) es)
 
 -- what a table has beside its slots, and those
 abbrev pub fields_view : Table → TableFields

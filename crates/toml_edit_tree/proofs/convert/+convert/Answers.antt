@@ -3,7 +3,8 @@ use denote.Param.Weighed.{most}
 use Rattle.std.proofs.Common.{◌≡◌, ◌<◌, ◌≤◌, ◌+◌, length, map, get_or, arith, sym, ap, subst, ◌∙◌}
 use Rattle.toml_edit_model.specs.Conversions.{made_value}
 use Rattle.toml_edit_slots.specs.Slots.{on_item}
-use Rattle.toml_edit_tree.specs.Containers.{items_from, slots_from}
+use Rattle.toml_edit_tree.specs.Containers.{tree_slots}
+use Rattle.toml_edit_model.specs.Lists.{items_from}
 use Rattle.toml_edit_tree.specs.Converting.{in_new_form}
 use Rattle.toml_edit_tree.specs.declared.item.Item.{size-Item}
 use Rattle.toml_edit_tree.specs.View.{item_view}
@@ -95,4 +96,4 @@ make_slots-returns t c =
     let at = c.loop-at.at in
     let long = long_as (on_item item_view) made_slot es first at c.loop-at.invariant in
     let past : length es ≤ at = omega (arith, long, c.len-at-end.ensures, c.loop-at-test.false) in
-    ap slots_from (finish (on_item item_view) made_slot es first at c.loop-at.invariant past) ∙ each-slot-made (map (on_item item_view) first)
+    ap tree_slots (finish (on_item item_view) made_slot es first at c.loop-at.invariant past) ∙ each-slot-made (map (on_item item_view) first)

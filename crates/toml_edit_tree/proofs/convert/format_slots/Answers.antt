@@ -4,7 +4,7 @@ use Rattle.toml_edit_model.specs.Conversions.{with_decor}
 use Rattle.toml_edit_model.specs.Keys.{cleared_key}
 use Rattle.toml_edit_model.specs.Tree.{is_value_node, unset}
 use Rattle.toml_edit_slots.specs.Slots.{on_item}
-use Rattle.toml_edit_tree.specs.Containers.{slots_from}
+use Rattle.toml_edit_tree.specs.Containers.{tree_slots}
 use Rattle.toml_edit_tree.specs.View.{item_view}
 use Rattle.toml_edit_tree.proofs.ConvertLaws.{as-long, formatted_slot, formatted-slots, keyed, slot-formatted}
 use Rattle.toml_edit_tree.proofs.DespanLaws.{no_slot}
@@ -56,4 +56,4 @@ returns c =
     let at = c.loop-at.at in
     let long = long_as (on_item item_view) formatted_slot es first at c.loop-at.invariant in
     let past : length es ≤ at = omega (arith, long, c.len-at-end.ensures, c.loop-at-test.false) in
-    ap slots_from (finish (on_item item_view) formatted_slot es first at c.loop-at.invariant past) ∙ formatted-slots (map (on_item item_view) first)
+    ap tree_slots (finish (on_item item_view) formatted_slot es first at c.loop-at.invariant past) ∙ formatted-slots (map (on_item item_view) first)

@@ -1,7 +1,7 @@
 -- Each item made a table.
 use Rattle.std.proofs.Common.{◌<◌, ◌≤◌, length, map, arith, ap, ◌∙◌}
 use Rattle.toml_edit_model.specs.Conversions.{made_table}
-use Rattle.toml_edit_tree.specs.Containers.{items_from}
+use Rattle.toml_edit_model.specs.Lists.{items_from}
 use Rattle.toml_edit_tree.specs.View.{item_view}
 use Rattle.toml_edit_tree.proofs.ConvertLaws.{each-table}
 use Rattle.toml_edit_tree.proofs.InPlace.{finish, long_as, none_done, step}

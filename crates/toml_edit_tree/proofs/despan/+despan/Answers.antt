@@ -11,7 +11,8 @@ use Rattle.toml_edit_datetime.specs.DatetimeView.{datetime_view}
 use Rattle.toml_edit_datetime.specs.declared.datetime.Datetime as code
 use Rattle.toml_edit_repr.specs.Views.{FormattedView}
 use Rattle.toml_edit_slots.specs.Slots.{items_of, on_item, with_item}
-use Rattle.toml_edit_tree.specs.Containers.{items_from, slots_from}
+use Rattle.toml_edit_tree.specs.Containers.{tree_slots}
+use Rattle.toml_edit_model.specs.Lists.{items_from}
 use Rattle.toml_edit_tree.specs.declared.item.Item.{size-Item}
 use Rattle.toml_edit_tree.specs.declared.value.Value.{Value}
 use Rattle.toml_edit_tree.specs.View.{item_view, value_view}
@@ -149,7 +150,7 @@ despan_slots-returns t c =
     let at = c.loop-at.at in
     let long = long_as (on_item item_view) (owned_slot s) es first at c.loop-at.invariant in
     let past : length es ≤ at = omega (arith, long, c.len-at-end.ensures, c.loop-at-test.false) in
-    ap slots_from (finish (on_item item_view) (owned_slot s) es first at c.loop-at.invariant past) ∙ owned-slots s (map (on_item item_view) first)
+    ap tree_slots (finish (on_item item_view) (owned_slot s) es first at c.loop-at.invariant past) ∙ owned-slots s (map (on_item item_view) first)
 
 -- ---- scalars
 

@@ -3,7 +3,7 @@ use denote.Param.Weighed.{most}
 use Rattle.std.proofs.Common.{◌≡◌, ◌<◌, ◌≤◌, ◌+◌, length, map, get_or, arith, sym, ap, subst, ◌∙◌}
 use Rattle.toml_edit_laws.specs.PlaceOrder.{node_by_place}
 use Rattle.toml_edit_slots.specs.Slots.{on_item}
-use Rattle.toml_edit_tree.specs.Containers.{items_from}
+use Rattle.toml_edit_model.specs.Lists.{items_from}
 use Rattle.toml_edit_tree.specs.declared.item.Item.{size-Item}
 use Rattle.toml_edit_tree.specs.View.{item_view, slots_view}
 use Rattle.toml_edit_tree.proofs.DespanLaws.{deepest, deepest_item, item_depth, no_slot, slot_depth}
