@@ -279,7 +279,8 @@ impl<T> Slots<T> {
                 self.entries.push_reserved(slot);
                 Ok(())
             }
-            Ok(Some(_)) | Err(_) => Err(NoMemory(slot)),
+            Ok(Some(_)) => Err(NoMemory(slot)),
+            Err(_) => Err(NoMemory(slot)),
         }
     }
 
