@@ -1,9 +1,13 @@
 -- What is computed as being in order is in order.
-use Rattle.std.specs.Prelude.{List, pos}
+use Rattle.std.specs.Prelude.{◌≡◌, ◌⊎◌, ℕ, ◌<◌, true, pos, List, ◌∷◌, ◌++◌, map, AllPairs}
 use Rattle.std.specs.List.Sorted.{IsPermutation}
-use Rattle.toml_edit_model.specs.Paths.{Mention, Source, PairSource, Placed}
+use Rattle.toml_edit_model.specs.Syntax.{Pairs, Document, IsDocument, ArePairs}
+use Rattle.toml_edit_model.specs.Paths.{Path, Mention, Source, PairSource, Placed, placed, pair_mentions}
+use Rattle.toml_edit_model.specs.Roles.{may_meet_inline}
+use Rattle.toml_edit_model.specs.Accepted.{all_agree, is_accepted}
+use Rattle.toml_edit_model.specs.Kept.{rank}
 use Rattle.toml_edit_model.specs.Order.{IsInOrder, sorted_by}
-use Rattle.toml_edit_model.specs.Normal.{pair_before, ordered}
+use Rattle.toml_edit_model.specs.Normal.{pair_before, is_line, ordered}
 use Rattle.toml_edit_model.specs.Tree.{Tree}
 use Rattle.toml_edit_model.specs.HeaderOrder.{walk, places_from, comes_before, in_header_order}
 
@@ -11,10 +15,34 @@ use Rattle.toml_edit_model.specs.HeaderOrder.{walk, places_from, comes_before, i
 abbrev pub HeadersInOrder : Type 0
 HeadersInOrder = (t : Tree) → IsInOrder comes_before (places_from (pos 0) (walk t)) (in_header_order t)
 
--- The lines of a document, and the pairs of an inline table, are the same in order. That they are sorted in a normal form is what being
--- settled says of it, and no two of them come before one another.
-abbrev pub LinesAreKept : Type 0
-LinesAreKept = (mss : List (List (Mention Source))) (places : List Placed) → IsPermutation places (ordered mss places)
+-- Both mention the same paths up to where they part, and there the first mentions the path of the lesser rank.
+pub record IsRankedBefore {S : Type 0} (rank_of : Path → ℕ) (earlier later : List (Mention S)) : Type 0 where
+  pub shared : List Path
+  pub path : Path
+  pub other : Path
+  pub behind_path : List Path
+  pub behind_other : List Path
+  pub earlier_is : map (λ m. m.path) earlier ≡ shared ++ (path ∷ behind_path)
+  pub later_is : map (λ m. m.path) later ≡ shared ++ (other ∷ behind_other)
+  pub less : rank_of path < rank_of other
 
-abbrev pub PairsAreKept : Type 0
-PairsAreKept = (mss : List (List (Mention PairSource))) → IsPermutation mss (sorted_by (pair_before mss) mss)
+-- The second statement is in a later block, or it is a line of the same block, and the first is the block's header or a line that is
+-- ranked before it.
+abbrev pub GoesBefore : (Path → ℕ) → Placed → Placed → Type 0
+GoesBefore rank_of s r =
+    (s.source.headers < r.source.headers)
+    ⊎ ((s.source.headers ≡ r.source.headers) × (is_line r.source.statement ≡ true)
+    × (is_line s.source.statement ≡ true → IsRankedBefore rank_of s.mentions r.mentions))
+
+-- The statements of an accepted document, of which the lines are put in order, are the same ones, and each goes before all later ones.
+-- So blocks and headers stay where they are, and no two lines tie.
+pub record LinesInOrder : Type 0 where
+  pub permutation : (mss : List (List (Mention Source))) (places : List Placed) → IsPermutation places (ordered mss places)
+  pub sorted : (d : Document) → IsDocument d → is_accepted d ≡ true
+      → AllPairs (GoesBefore (rank (map (λ s. s.mentions) (placed d)))) (ordered (map (λ s. s.mentions) (placed d)) (placed d))
+
+-- The pairs of an inline table in order are the same ones, and each is ranked before all later ones. So no two tie.
+pub record PairsInOrder : Type 0 where
+  pub permutation : (mss : List (List (Mention PairSource))) → IsPermutation mss (sorted_by (pair_before mss) mss)
+  pub sorted : (ps : Pairs) → ArePairs ps → all_agree may_meet_inline (pair_mentions 0 ps) ≡ true
+      → AllPairs (IsRankedBefore (rank (pair_mentions 0 ps))) (sorted_by (pair_before (pair_mentions 0 ps)) (pair_mentions 0 ps))

@@ -10,7 +10,7 @@ ghost use Rattle.toml_edit_laws.specs.DefaultSpellings.{DefaultSpellings};
 ghost use Rattle.toml_edit_laws.specs.EditLists.{EditsStayLocal};
 ghost use Rattle.toml_edit_laws.specs.Extents.{ExtentsLie};
 ghost use Rattle.toml_edit_laws.specs.FaultMessages.{FaultMessages};
-ghost use Rattle.toml_edit_laws.specs.InOrder.{HeadersInOrder, LinesAreKept, PairsAreKept};
+ghost use Rattle.toml_edit_laws.specs.InOrder.{HeadersInOrder, LinesInOrder, PairsInOrder};
 ghost use Rattle.toml_edit_laws.specs.KeptKeys.{KeptKeys};
 ghost use Rattle.toml_edit_laws.specs.Locality.{Added, AddedStaysMade, CallsOnAbsent, CallsOnPresent, Entered, IndexWrites, KeepsFrame, Reached, Removed, RemovedElement, RemovedElementStaysMade, RemovedStaysMade, Replaced, ReplacedStaysMade, TextsAreSteady};
 ghost use Rattle.toml_edit_laws.specs.NormalTexts.{NormalTexts};
@@ -55,8 +55,8 @@ pub fn fault_messages()
 /// What is computed as being in order is in order.
 pub fn in_order()
     ensures headers { HeadersInOrder }
-    ensures lines { LinesAreKept }
-    ensures pairs { PairsAreKept }
+    ensures lines { LinesInOrder }
+    ensures pairs { PairsInOrder }
 {}
 
 /// The kept key of a normal text is the key of the tree's slot.
