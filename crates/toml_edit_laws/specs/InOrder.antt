@@ -34,15 +34,21 @@ GoesBefore rank_of s r =
     ⊎ ((s.source.headers ≡ r.source.headers) × (is_line r.source.statement ≡ true)
     × (is_line s.source.statement ≡ true → IsRankedBefore rank_of s.mentions r.mentions))
 
--- The statements of an accepted document, of which the lines are put in order, are the same ones, and each goes before all later ones.
--- So blocks and headers stay where they are, and no two lines tie.
+-- The second list has the elements of the first, each before all later ones, and there is no other such list.
+pub record IsOnlyOrder {A : Type 0} (Before : A → A → Type 0) (xs ys : List A) : Type 0 where
+  pub permutation : IsPermutation xs ys
+  pub sorted : AllPairs Before ys
+  pub only : (zs : List A) → IsPermutation xs zs → AllPairs Before zs → zs ≡ ys
+
+-- Lines put in order are the same ones. In an accepted document each statement then goes before all later ones: blocks and headers stay
+-- where they are, and of two lines of a block one is ranked before the other, so that none tie.
 pub record LinesInOrder : Type 0 where
   pub permutation : (mss : List (List (Mention Source))) (places : List Placed) → IsPermutation places (ordered mss places)
   pub sorted : (d : Document) → IsDocument d → is_accepted d ≡ true
-      → AllPairs (GoesBefore (rank (map (λ s. s.mentions) (placed d)))) (ordered (map (λ s. s.mentions) (placed d)) (placed d))
+      → IsOnlyOrder (GoesBefore (rank (map (λ s. s.mentions) (placed d)))) (placed d) (ordered (map (λ s. s.mentions) (placed d)) (placed d))
 
--- The pairs of an inline table in order are the same ones, and each is ranked before all later ones. So no two tie.
+-- So are the pairs of an inline table. Where these agree, each is then ranked before all later ones, so that none tie.
 pub record PairsInOrder : Type 0 where
   pub permutation : (mss : List (List (Mention PairSource))) → IsPermutation mss (sorted_by (pair_before mss) mss)
   pub sorted : (ps : Pairs) → ArePairs ps → all_agree may_meet_inline (pair_mentions 0 ps) ≡ true
-      → AllPairs (IsRankedBefore (rank (pair_mentions 0 ps))) (sorted_by (pair_before (pair_mentions 0 ps)) (pair_mentions 0 ps))
+      → IsOnlyOrder (IsRankedBefore (rank (pair_mentions 0 ps))) (pair_mentions 0 ps) (sorted_by (pair_before (pair_mentions 0 ps)) (pair_mentions 0 ps))
