@@ -1,8 +1,8 @@
 -- The law of offsets: what is computed of the end of a text is so of the hours and minutes that it spells.
-use Rattle.std.specs.Prelude.{◌≡◌, ◌≢◌, ◌⊎◌, ◌↔◌, ℕ, ◌+◌, ◌*◌, ◌<◌, true, ◌++◌, codes}
+use Rattle.std.specs.Prelude.{◌≡◌, ◌≢◌, ◌⊎◌, ◌↔◌, ℕ, ◌+◌, ◌*◌, ◌<◌, true, [], ◌++◌, codes, Option, Some, None}
 use Rattle.toml_edit_model.specs.Text.{Text}
-use Rattle.toml_edit_model.specs.Scalars.{Offset, zulu, shift}
-use Rattle.toml_edit_model.specs.Spelling.{Sign, unsigned, signed, sign_text, clock_text, SpellsOffset, offset_clock, is_real_offset}
+use Rattle.toml_edit_model.specs.Scalars.{Offset, zulu, shift, Datetime, datetime, is_absent_or, is_real_date, is_real_time}
+use Rattle.toml_edit_model.specs.Spelling.{Sign, unsigned, signed, sign_text, clock_text, SpellsOffset, SpellsDatetime, offset_clock, is_real_offset, is_in_range}
 
 -- `Z`, `z`, or a sign and `hh:mm`, the hours and minutes of a day
 abbrev pub SpellsRealOffset : Offset → Text → Type 0
@@ -19,6 +19,19 @@ ClocksAtEnds = (front : Text) (hours minutes : ℕ) → offset_clock (front ++ c
 abbrev pub RealOffsets : Type 0
 RealOffsets =
     (o : Offset) (front t : Text) → SpellsOffset o t → (is_real_offset o (front ++ t) ≡ true) ↔ SpellsRealOffset o t
+
+-- nothing, or such an offset
+abbrev pub SpellsRealPart : Option Offset → Text → Type 0
+SpellsRealPart None t = t ≡ []
+SpellsRealPart (Some o) t = SpellsRealOffset o t
+
+-- A date-time that a text spells is in range exactly if its date and time are, and the text ends in its offset, spelled so.
+abbrev pub RealDatetimes : Type 0
+RealDatetimes =
+    (d : Datetime) (t : Text) → SpellsDatetime d t
+    → (is_in_range (datetime d) t ≡ true)
+    ↔ ((is_absent_or is_real_date d.date ≡ true) × (is_absent_or is_real_time d.time ≡ true)
+    × (front last : Text) × (t ≡ front ++ last) × SpellsRealPart d.offset last)
 
 -- A text spells at most one offset.
 abbrev pub OneOffset : Type 0

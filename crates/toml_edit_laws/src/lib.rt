@@ -14,7 +14,7 @@ ghost use Rattle.toml_edit_laws.specs.InOrder.{HeadersInOrder, LinesInOrder, Pai
 ghost use Rattle.toml_edit_laws.specs.KeptKeys.{KeptKeys};
 ghost use Rattle.toml_edit_laws.specs.Locality.{Added, AddedStaysMade, CallsOnAbsent, CallsOnPresent, Entered, IndexWrites, KeepsFrame, Reached, Removed, RemovedElement, RemovedElementStaysMade, RemovedStaysMade, Replaced, ReplacedStaysMade, TextsAreSteady};
 ghost use Rattle.toml_edit_laws.specs.NormalTexts.{NormalTexts};
-ghost use Rattle.toml_edit_laws.specs.Offsets.{ClocksAtEnds, OneOffset, RealOffsets};
+ghost use Rattle.toml_edit_laws.specs.Offsets.{ClocksAtEnds, OneOffset, RealDatetimes, RealOffsets};
 ghost use Rattle.toml_edit_laws.specs.OneByOne.{FaultsOfFirst, FirstFaulty, OneByOne};
 ghost use Rattle.toml_edit_laws.specs.OneCut.{OneCut};
 ghost use Rattle.toml_edit_laws.specs.OpenEnds.{OpenEnds, OpenPrints};
@@ -66,6 +66,7 @@ pub fn in_order()
 pub fn offsets()
     ensures clock { ClocksAtEnds }
     ensures range { RealOffsets }
+    ensures date_times { RealDatetimes }
     ensures one { OneOffset }
 {}
 

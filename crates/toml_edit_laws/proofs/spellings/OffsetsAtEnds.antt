@@ -1,13 +1,13 @@
 -- The hours and minutes at the end of a text, and which offsets are in range.
-use Rattle.std.proofs.Common.{◌≡◌, ◌≢◌, refl, sym, ◌∙◌, ap, subst, ℕ, ◌+◌, ◌-◌, ◌<◌, true, [], ◌∷◌, ◌++◌, append_assoc, length, drop, take, arith}
-use Rattle.std.specs.Prelude.{◌&&◌, ◌↔◌, nat_lt, ℤ}
+use Rattle.std.proofs.Common.{◌≡◌, ◌≢◌, refl, sym, ◌∙◌, ap, subst, ℕ, ◌+◌, ◌-◌, ◌<◌, true, [], ◌∷◌, ◌++◌, append_assoc, append-nil, length, drop, take, arith}
+use Rattle.std.specs.Prelude.{◌&&◌, nat_lt, ℤ, Option, Some, None}
 use Rattle.std.specs.Str.Parse.{digits_value}
 use Rattle.std.proofs.lemmas.List.{length-append}
 use Rattle.std.proofs.lemmas.Bool.{lt-ltb, ltb-true}
 use Rattle.toml_edit_model.specs.Text.{Text}
-use Rattle.toml_edit_model.specs.Scalars.{Offset, zulu, shift}
-use Rattle.toml_edit_model.specs.Spelling.{Sign, unsigned, two_digits, sign_text, clock_text, SpellsOffset, offset_clock, is_real_offset}
-use Rattle.toml_edit_laws.specs.Offsets.{SpellsRealOffset, ClocksAtEnds, RealOffsets}
+use Rattle.toml_edit_model.specs.Scalars.{Date, Time, Offset, zulu, shift, Datetime, datetime, is_absent_or, is_real_date, is_real_time}
+use Rattle.toml_edit_model.specs.Spelling.{Sign, unsigned, two_digits, sign_text, clock_text, SpellsOffset, SpellsOffsetPart, SpellsParts, SpellsDatetime, offset_clock, is_real_offset, is_in_range}
+use Rattle.toml_edit_laws.specs.Offsets.{SpellsRealOffset, SpellsRealPart, ClocksAtEnds, RealOffsets, RealDatetimes}
 use Rattle.toml_edit_laws.proofs.common.Tests.{and_left, and_right, and_both}
 use Rattle.toml_edit_laws.proofs.spellings.OffsetLaws.{two-value}
 
@@ -55,3 +55,50 @@ from-real (shift z) front t (s, hours, minutes, signed, day, hour, value, text) 
 
 pub real-offsets : RealOffsets
 real-offsets o front t h = (to-real o front t h, from-real o front t)
+
+-- ---- date-times
+
+from-part : (offset : Option Offset) (t front last : Text) → t ≡ front ++ last → SpellsRealPart offset last → is_absent_or (λ o. is_real_offset o t) offset ≡ true
+from-part None t front last e h = refl
+from-part (Some o) t front last e h = ap (is_real_offset o) e ∙ from-real o front last h
+
+to-part : (offset : Option Offset) (t front last : Text) → t ≡ front ++ last → SpellsOffsetPart offset last → is_absent_or (λ o. is_real_offset o t) offset ≡ true
+    → SpellsRealPart offset last
+to-part None t front last e h g = h
+to-part (Some o) t front last e h g = to-real o front last h (ap (is_real_offset o) (sym e) ∙ g)
+
+-- a text that spells a date-time ends in its offset
+ends-in : (date : Option Date) (time : Option Time) (offset : Option Offset) (t : Text) → SpellsParts date time offset t
+    → (front last : Text) × (t ≡ front ++ last) × SpellsOffsetPart offset last
+ends-in (Some d) None None t h = (t, [], sym (append-nil t), refl)
+ends-in None (Some time) None t h = (t, [], sym (append-nil t), refl)
+ends-in (Some d) (Some time) offset t (first, second, third, mark, date, is, clock, behind, parts) =
+    (first ++ (mark ∷ second), third, parts, behind)
+ends-in _ _ _ t h = absurd h
+
+to-range : (d : Datetime) (t : Text) → SpellsDatetime d t → is_in_range (datetime d) t ≡ true
+    → (is_absent_or is_real_date d.date ≡ true) × (is_absent_or is_real_time d.time ≡ true) × (front last : Text) × (t ≡ front ++ last) × SpellsRealPart d.offset last
+to-range d t h g =
+    let date_is = is_absent_or is_real_date d.date in
+    let time_is = is_absent_or is_real_time d.time in
+    let offset_is = is_absent_or (λ o. is_real_offset o t) d.offset in
+    let both = and_left (date_is && time_is) offset_is g in
+    let ends = ends-in d.date d.time d.offset t h in (
+      and_left date_is time_is both,
+      and_right date_is time_is both,
+      ends.0,
+      ends.1,
+      ends.2,
+      to-part d.offset t ends.0 ends.1 ends.2 ends.3 (and_right (date_is && time_is) offset_is g),
+    )
+
+from-range : (d : Datetime) (t : Text)
+    → (is_absent_or is_real_date d.date ≡ true) × (is_absent_or is_real_time d.time ≡ true) × (front last : Text) × (t ≡ front ++ last) × SpellsRealPart d.offset last
+    → is_in_range (datetime d) t ≡ true
+from-range d t (date, time, front, last, e, offset) =
+    let date_is = is_absent_or is_real_date d.date in
+    let time_is = is_absent_or is_real_time d.time in
+    and_both (date_is && time_is) (is_absent_or (λ o. is_real_offset o t) d.offset) (and_both date_is time_is date time) (from-part d.offset t front last e offset)
+
+pub real-datetimes : RealDatetimes
+real-datetimes d t h = (to-range d t h, from-range d t)
