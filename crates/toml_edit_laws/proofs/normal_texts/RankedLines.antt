@@ -1,6 +1,6 @@
 -- The lines of an accepted document and the pairs of an inline table, put in order, are ranked one before another.
-use Rattle.std.proofs.Common.{◌≡◌, refl, sym, ◌∙◌, ap, subst, ℕ, suc, ◌<◌, true, false, arith, List, [], ◌∷◌, ◌++◌, length, inl, inr}
-use Rattle.std.specs.Prelude.{map, AllPairs, slice_index_or}
+use Rattle.std.proofs.Common.{◌≡◌, refl, sym, ◌∙◌, ap, subst, ℕ, suc, ◌<◌, true, arith, List, [], ◌∷◌, ◌++◌, length, inl, inr}
+use Rattle.std.specs.Prelude.{AllPairs, slice_index_or}
 use Rattle.std.specs.List.{AllByRecursion}
 use Rattle.std.specs.List.Sorted.{IsPermutation}
 use Rattle.std.proofs.lemmas.Bool.{cases_Bool, ltb-true}
@@ -8,8 +8,8 @@ use Rattle.std.proofs.lemmas.List.Elements.{All-from_recursion}
 use Rattle.std.proofs.lemmas.List.Kept.{AllPairs-cons}
 use Rattle.std.proofs.lemmas.List.Sorted.{IsPermutation-sym, Contains-permutation}
 use Rattle.toml_edit_model.specs.Syntax.{Document, IsDocument}
-use Rattle.toml_edit_model.specs.Paths.{Path, same_path, Mention, PairSource, Placed, placed, pair_mentions}
-use Rattle.toml_edit_model.specs.Accepted.{agree, is_accepted}
+use Rattle.toml_edit_model.specs.Paths.{Path, same_path, Mention, Placed, placed, pair_mentions}
+use Rattle.toml_edit_model.specs.Accepted.{is_accepted}
 use Rattle.toml_edit_model.specs.Kept.{rank}
 use Rattle.toml_edit_model.specs.Normal.{pair_before, line_before, ordered}
 use Rattle.toml_edit_model.specs.Order.{sorted_by}
@@ -24,7 +24,7 @@ use Rattle.toml_edit_laws.proofs.normal_texts.Agreeing.{all_agree-pairs}
 use Rattle.toml_edit_laws.proofs.normal_texts.LineOrder.{lines_ordered, ranked, Before, in-order}
 use Rattle.toml_edit_laws.proofs.normal_texts.LinePaths.{strict}
 use Rattle.toml_edit_laws.proofs.normal_texts.NormalSettled.{are-placed}
-use Rattle.toml_edit_laws.proofs.normal_texts.OrderedPairs.{IsMentionOf, mentions-of}
+use Rattle.toml_edit_laws.proofs.normal_texts.OrderedPairs.{mentions-of}
 use Rattle.toml_edit_laws.proofs.normal_texts.PlacedLines.{lined_at, block_at, told_at, base_at, keys_told, ordered-lines, line-test, paths-mentions, text-at}
 use Rattle.toml_edit_laws.proofs.normal_texts.SettledValues.{paths, place_of, rank-is, Told, a_line, one_block, no_base, keys_in, Framed, each-framed, sorted-lines, text-of, pair-test}
 
@@ -63,13 +63,13 @@ module _ {A : Type 0} (R : A → A → Type 0) (one_way : (x y : A) → R x y �
   same-order (x ∷ xs) [] h g into back = absurd (into x (inl refl))
   same-order (x ∷ xs) (y ∷ ys) h g into back =
       let first : x ≡ y =
-          elim (into x (inl refl)) [
-            | inl e ↦ e
-            | inr m ↦ elim (back y (inl refl)) [
-              | inl e ↦ sym e
-              | inr n ↦ absurd (one_way x y (all-among (R x) y xs h.0 n) (all-among (R y) x ys g.0 m))
-            ]
-          ] in
+      elim (into x (inl refl)) [
+        | inl e ↦ e
+        | inr m ↦ elim (back y (inl refl)) [
+          | inl e ↦ sym e
+          | inr n ↦ absurd (one_way x y (all-among (R x) y xs h.0 n) (all-among (R y) x ys g.0 m))
+        ]
+      ] in
       let go : (a : A) → Among a (x ∷ xs) → Among a (x ∷ ys) = λ a m. subst (λ z. Among a (z ∷ ys)) (sym first) (into a m) in
       let come : (a : A) → Among a (x ∷ ys) → Among a (x ∷ xs) = λ a m. back a (subst (λ z. Among a (z ∷ ys)) first m) in
       ap (λ z. z ∷ xs) first
@@ -182,7 +182,7 @@ lines-ranked d h g =
     let mss = mention_lists places in
     let old = are-placed d h g in
     let each = in-order lined_at block_at told_at base_at keys_told (line_before mss) places (line-test mss places refl)
-        (text-at places old.run old.right old.agree) in
+    (text-at places old.run old.right old.agree) in
     subst (PairsByRecursion (GoesBefore (rank mss))) (sym (ordered-lines mss places))
     (pairs-map (Before lined_at block_at told_at base_at keys_told (ranked lined_at block_at told_at base_at keys_told places))
     (GoesBefore (rank mss)) (lines_ordered lined_at (line_before mss) places) (goes-before places) each)

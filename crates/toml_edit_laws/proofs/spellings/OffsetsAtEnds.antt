@@ -1,12 +1,12 @@
 -- The hours and minutes at the end of a text, and which offsets are in range.
-use Rattle.std.proofs.Common.{◌≡◌, ◌≢◌, refl, sym, ◌∙◌, ap, subst, ℕ, ◌+◌, ◌-◌, ◌<◌, true, [], ◌∷◌, ◌++◌, append_assoc, append-nil, length, drop, take, arith}
+use Rattle.std.proofs.Common.{◌≡◌, refl, sym, ◌∙◌, ap, ℕ, ◌+◌, ◌-◌, ◌<◌, true, [], ◌∷◌, ◌++◌, append_assoc, append-nil, length, drop, take, arith}
 use Rattle.std.specs.Prelude.{◌&&◌, nat_lt, ℤ, Option, Some, None}
 use Rattle.std.specs.Str.Parse.{digits_value}
 use Rattle.std.proofs.lemmas.List.{length-append}
 use Rattle.std.proofs.lemmas.Bool.{lt-ltb, ltb-true}
 use Rattle.toml_edit_model.specs.Text.{Text}
 use Rattle.toml_edit_model.specs.Scalars.{Date, Time, Offset, zulu, shift, Datetime, datetime, is_absent_or, is_real_date, is_real_time}
-use Rattle.toml_edit_model.specs.Spelling.{Sign, unsigned, two_digits, sign_text, clock_text, SpellsOffset, SpellsOffsetPart, SpellsParts, SpellsDatetime, offset_clock, is_real_offset, is_in_range}
+use Rattle.toml_edit_model.specs.Spelling.{Sign, two_digits, sign_text, clock_text, SpellsOffset, SpellsOffsetPart, SpellsParts, SpellsDatetime, is_real_offset, is_in_range}
 use Rattle.toml_edit_laws.specs.Offsets.{SpellsRealOffset, SpellsRealPart, ClocksAtEnds, RealOffsets, RealDatetimes}
 use Rattle.toml_edit_laws.proofs.common.Tests.{and_left, and_right, and_both}
 use Rattle.toml_edit_laws.proofs.spellings.OffsetLaws.{two-value}
@@ -35,7 +35,7 @@ to-real : (o : Offset) (front t : Text) → SpellsOffset o t → is_real_offset 
 to-real zulu front t h g = h
 to-real (shift z) front t (s, hours, minutes, signed, small, less, value, text) g =
     let both : (nat_lt hours 24 && nat_lt minutes 60) ≡ true =
-        sym (clock-test z front s hours minutes small less) ∙ ap (λ u. is_real_offset (shift z) (front ++ u)) (sym text) ∙ g in (
+    sym (clock-test z front s hours minutes small less) ∙ ap (λ u. is_real_offset (shift z) (front ++ u)) (sym text) ∙ g in (
       s,
       hours,
       minutes,
