@@ -13,10 +13,14 @@ use Rattle.toml_edit_model.specs.HeaderOrder.{walk, places_from, comes_before, i
 
 -- The tables of a tree, in the order of headers.
 abbrev pub HeadersInOrder : Type 0
-HeadersInOrder = (t : Tree) → IsInOrder comes_before (places_from (pos 0) (walk t)) (in_header_order t)
+HeadersInOrder =
+    (t : Tree) → IsInOrder comes_before (places_from (pos 0) (walk t)) (in_header_order t)
 
--- Both mention the same paths up to where they part, and there the first mentions the path of the lesser rank.
-pub record IsRankedBefore {S : Type 0} (rank_of : Path → ℕ) (earlier later : List (Mention S)) : Type 0 where
+-- ---- which goes before which
+
+-- Both mention the same paths up to where they part, and there the first has the lesser rank.
+pub record IsRankedBefore {S : Type 0} (rank_of : Path → ℕ) (earlier later : List (Mention S))
+    : Type 0 where
   pub shared : List Path
   pub path : Path
   pub other : Path
@@ -26,29 +30,40 @@ pub record IsRankedBefore {S : Type 0} (rank_of : Path → ℕ) (earlier later :
   pub later_is : map (λ m. m.path) later ≡ shared ++ (other ∷ behind_other)
   pub less : rank_of path < rank_of other
 
--- The second statement is in a later block, or it is a line of the same block, and the first is the block's header or a line that is
--- ranked before it.
+-- The second statement is in a later block. Or it is a line of the same block, and the first is the
+-- header of that block, or a line that is ranked before it.
 abbrev pub GoesBefore : (Path → ℕ) → Placed → Placed → Type 0
 GoesBefore rank_of s r =
     (s.source.headers < r.source.headers)
     ⊎ ((s.source.headers ≡ r.source.headers) × (is_line r.source.statement ≡ true)
     × (is_line s.source.statement ≡ true → IsRankedBefore rank_of s.mentions r.mentions))
 
--- The second list has the elements of the first, each before all later ones, and there is no other such list.
+-- The second list has the elements of the first, each before all later ones, and no other list has.
 pub record IsOnlyOrder {A : Type 0} (Before : A → A → Type 0) (xs ys : List A) : Type 0 where
   pub permutation : IsPermutation xs ys
   pub sorted : AllPairs Before ys
   pub only : (zs : List A) → IsPermutation xs zs → AllPairs Before zs → zs ≡ ys
 
--- Lines put in order are the same ones. In an accepted document each statement then goes before all later ones: blocks and headers stay
--- where they are, and of two lines of a block one is ranked before the other, so that none tie.
-pub record LinesInOrder : Type 0 where
-  pub permutation : (mss : List (List (Mention Source))) (places : List Placed) → IsPermutation places (ordered mss places)
-  pub sorted : (d : Document) → IsDocument d → is_accepted d ≡ true
-      → IsOnlyOrder (GoesBefore (rank (map (λ s. s.mentions) (placed d)))) (placed d) (ordered (map (λ s. s.mentions) (placed d)) (placed d))
+-- ---- lines and pairs
 
--- So are the pairs of an inline table. Where these agree, each is then ranked before all later ones, so that none tie.
+-- the mentions of each statement
+abbrev pub mentions_in : Document → List (List (Mention Source))
+mentions_in d = map (λ s. s.mentions) (placed d)
+
+-- Lines put in order are the same ones. In an accepted document each statement then goes before all
+-- later ones: blocks and headers stay where they are, and no two lines of a block tie.
+pub record LinesInOrder : Type 0 where
+  pub permutation : (mss : List (List (Mention Source))) (places : List Placed)
+      → IsPermutation places (ordered mss places)
+  pub sorted : (d : Document) → IsDocument d → is_accepted d ≡ true
+      → IsOnlyOrder (GoesBefore (rank (mentions_in d))) (placed d)
+      (ordered (mentions_in d) (placed d))
+
+-- So are pairs. In an inline table whose pairs agree each is then ranked before all later ones, and
+-- no two tie.
 pub record PairsInOrder : Type 0 where
-  pub permutation : (mss : List (List (Mention PairSource))) → IsPermutation mss (sorted_by (pair_before mss) mss)
+  pub permutation : (mss : List (List (Mention PairSource)))
+      → IsPermutation mss (sorted_by (pair_before mss) mss)
   pub sorted : (ps : Pairs) → ArePairs ps → all_agree may_meet_inline (pair_mentions 0 ps) ≡ true
-      → IsOnlyOrder (IsRankedBefore (rank (pair_mentions 0 ps))) (pair_mentions 0 ps) (sorted_by (pair_before (pair_mentions 0 ps)) (pair_mentions 0 ps))
+      → let mss = pair_mentions 0 ps in
+      IsOnlyOrder (IsRankedBefore (rank mss)) mss (sorted_by (pair_before mss) mss)

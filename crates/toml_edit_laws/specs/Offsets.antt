@@ -1,4 +1,4 @@
--- The law of offsets: what is computed of the end of a text is so of the hours and minutes that it spells.
+-- The law of offsets: what is computed from the end of a text is true of the offset spelled there.
 use Rattle.std.specs.Prelude.{◌≡◌, ◌≢◌, ◌⊎◌, ◌↔◌, ℕ, ◌+◌, ◌*◌, ◌<◌, true, [], ◌++◌, codes, Option, Some, None}
 use Rattle.toml_edit_model.specs.Text.{Text}
 use Rattle.toml_edit_model.specs.Scalars.{Offset, zulu, shift, Datetime, datetime, is_absent_or, is_real_date, is_real_time}
@@ -11,21 +11,25 @@ SpellsRealOffset (shift z) t =
     (s : Sign) × (hours minutes : ℕ) × (s ≢ unsigned) × (hours < 24) × (minutes < 60)
     × (z ≡ signed s (60 * hours + minutes)) × (t ≡ sign_text s ++ clock_text hours minutes)
 
--- The hours and minutes of a text that ends in them, whatever stands before, such as a date, a time and a sign.
+-- The hours and minutes of a text are those that it ends in, whatever stands before them.
 abbrev pub ClocksAtEnds : Type 0
-ClocksAtEnds = (front : Text) (hours minutes : ℕ) → offset_clock (front ++ clock_text hours minutes) ≡ clock_text hours minutes
+ClocksAtEnds =
+    (front : Text) (hours minutes : ℕ)
+    → offset_clock (front ++ clock_text hours minutes) ≡ clock_text hours minutes
 
--- An offset at the end of a text is in range exactly if the hours and minutes that spell it are those of a day.
+-- An offset at the end of a text is in range exactly if it is spelled so.
 abbrev pub RealOffsets : Type 0
 RealOffsets =
-    (o : Offset) (front t : Text) → SpellsOffset o t → (is_real_offset o (front ++ t) ≡ true) ↔ SpellsRealOffset o t
+    (o : Offset) (front t : Text) → SpellsOffset o t
+    → (is_real_offset o (front ++ t) ≡ true) ↔ SpellsRealOffset o t
 
 -- nothing, or such an offset
 abbrev pub SpellsRealPart : Option Offset → Text → Type 0
 SpellsRealPart None t = t ≡ []
 SpellsRealPart (Some o) t = SpellsRealOffset o t
 
--- A date-time that a text spells is in range exactly if its date and time are, and the text ends in its offset, spelled so.
+-- A date-time that a text spells is in range exactly if its date and time are, and the text ends in
+-- its offset, spelled so.
 abbrev pub RealDatetimes : Type 0
 RealDatetimes =
     (d : Datetime) (t : Text) → SpellsDatetime d t

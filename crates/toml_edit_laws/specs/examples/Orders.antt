@@ -1,15 +1,15 @@
 -- Worked examples of the order of lines, and of offsets in range and out of it.
-use Rattle.std.specs.Prelude.{◌≡◌, refl, ℕ, ◌+◌, ◌/◌, ◌<◌, pos, false, List, [], ◌∷◌, ◌++◌, codes, map, flat_map, take, drop}
-use Rattle.std.proofs.Common.{lit<, ap, arith, inr}
+use Rattle.std.specs.Prelude.{◌≡◌, refl, ℕ, ◌+◌, ◌/◌, ◌<◌, pos, false, true, List, [], ◌∷◌, ◌++◌, codes, map, flat_map, take, drop}
+use Rattle.std.proofs.Common.{lit<, ap, arith, inl, inr}
 use Rattle.toml_edit_model.specs.Scalars.{zulu, shift}
 use Rattle.toml_edit_model.specs.Spelling.{Sign, plus, minus, unsigned, sign_text, clock_text}
-use Rattle.toml_edit_model.specs.Syntax.{Statement}
-use Rattle.toml_edit_model.specs.Paths.{at_key, Path, Mention, Source, Placed, placed}
+use Rattle.toml_edit_model.specs.Syntax.{Statement, Document}
+use Rattle.toml_edit_model.specs.Paths.{at_key, Path, Mention, Source, Placed, Context, placed, source_of, mentions_of, start_context, context_after}
 use Rattle.toml_edit_model.specs.Kept.{rank}
 use Rattle.toml_edit_model.specs.Normal.{ordered}
 use Rattle.toml_edit_model.specs.examples.Parts.{line, head, document, a, b, c, x, y, one_value, two_value, three_value}
 use Rattle.toml_edit_model.specs.examples.Tokens.{plus_is_a_sign}
-use Rattle.toml_edit_laws.specs.InOrder.{IsRankedBefore}
+use Rattle.toml_edit_laws.specs.InOrder.{IsRankedBefore, GoesBefore, mentions_in}
 use Rattle.toml_edit_laws.specs.Offsets.{SpellsRealOffset}
 
 -- ---- lines
@@ -24,52 +24,76 @@ second_line = line (b ∷ []) two_value
 abbrev third_line : Statement
 third_line = line (a ∷ y ∷ []) three_value
 
-abbrev places : List Placed
-places = placed (document (first_line ∷ second_line ∷ third_line ∷ head false (c ∷ []) ∷ second_line ∷ []))
+abbrev three_lines : Document
+three_lines =
+    document (first_line ∷ second_line ∷ third_line ∷ head false (c ∷ []) ∷ second_line ∷ [])
 
 abbrev mss : List (List (Mention Source))
-mss = map (λ s. s.mentions) places
+mss = mentions_in three_lines
 
-abbrev mentions_in : ℕ → List (Mention Source)
-mentions_in n = flat_map (λ m. m) (take 1 (drop n mss))
+-- the mentions of the line at this place
+abbrev mentions_at : ℕ → List (Mention Source)
+mentions_at n = flat_map (λ m. m) (take 1 (drop n mss))
 
 abbrev statement_of : Placed → Statement
 statement_of s = s.source.statement
 
 -- the third line goes before the second
-lines_in_order : map statement_of (ordered mss places) ≡ first_line ∷ third_line ∷ second_line ∷ head false (c ∷ []) ∷ second_line ∷ []
+lines_in_order : map statement_of (ordered mss (placed three_lines))
+    ≡ first_line ∷ third_line ∷ second_line ∷ head false (c ∷ []) ∷ second_line ∷ []
 lines_in_order = refl
 
 abbrev path_a : Path
 path_a = at_key (codes "a") ∷ []
 
+abbrev path_a_y : Path
+path_a_y = at_key (codes "a") ∷ at_key (codes "y") ∷ []
+
 abbrev path_b : Path
 path_b = at_key (codes "b") ∷ []
 
-third_before_second : IsRankedBefore (rank mss) (mentions_in 2) (mentions_in 1)
+third_before_second : IsRankedBefore (rank mss) (mentions_at 2) (mentions_at 1)
 third_before_second =
     record {
       shared = [];
       path = path_a;
       other = path_b;
-      behind_path = (at_key (codes "a") ∷ at_key (codes "y") ∷ []) ∷ [];
+      behind_path = path_a_y ∷ [];
       behind_other = [];
       earlier_is = refl;
       later_is = refl;
       less = lit< tt;
     }
 
-second_not_before_third : IsRankedBefore (rank mss) (mentions_in 1) (mentions_in 2) → ⊥
-second_not_before_third r = by_shared r.shared r.path r.other r.behind_path r.behind_other r.earlier_is r.later_is r.less
+second_not_before_third : IsRankedBefore (rank mss) (mentions_at 1) (mentions_at 2) → ⊥
+second_not_before_third r =
+    by_shared r.shared r.path r.other r.behind_path r.behind_other r.earlier_is r.later_is r.less
   where
     by_shared : (s : List Path) (p o : Path) (ps os : List Path) → path_b ∷ [] ≡ s ++ (p ∷ ps)
-        → path_a ∷ (at_key (codes "a") ∷ at_key (codes "y") ∷ []) ∷ [] ≡ s ++ (o ∷ os) → rank mss p < rank mss o → ⊥
+        → path_a ∷ path_a_y ∷ [] ≡ s ++ (o ∷ os) → rank mss p < rank mss o → ⊥
     by_shared [] p o ps os e f h =
         let one : 1 ≡ rank mss p = (let same : path_b ≡ p = cc in ap (rank mss) same) in
         let none : 0 ≡ rank mss o = (let same : path_a ≡ o = cc in ap (rank mss) same) in
         omega arith
     by_shared (q ∷ []) p o ps os e f h = absurd cc
     by_shared (q ∷ t ∷ s) p o ps os e f h = absurd cc
+
+-- a statement of `c` goes behind its header, and not before it
+abbrev placed_in : Context → Statement → Placed
+placed_in context s = record { source = source_of context s; mentions = mentions_of context s }
+
+abbrev header_of_c : Placed
+header_of_c = placed_in (start_context three_lines) (head false (c ∷ []))
+
+abbrev line_of_c : Placed
+line_of_c = placed_in (context_after (start_context three_lines) (head false (c ∷ []))) second_line
+
+header_first : GoesBefore (rank mss) header_of_c line_of_c
+header_first = inr (refl, refl, λ e. absurd cc)
+
+line_not_first : GoesBefore (rank mss) line_of_c header_of_c → ⊥
+line_not_first (inl less) = omega (arith, less)
+line_not_first (inr (same, line_is, ranked)) = absurd (let f : false ≡ true = line_is in cc)
 
 -- ---- offsets
 
