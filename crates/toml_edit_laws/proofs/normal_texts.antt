@@ -16,6 +16,7 @@ pub mod SettledValues
 pub mod PlacedLines
 pub mod KeptHeaders
 pub mod NormalSettled
+pub mod RankedLines
 pub mod TextLaws
 pub mod SteadyMentions
 pub mod SteadyTrees

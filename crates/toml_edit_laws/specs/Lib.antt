@@ -6,6 +6,7 @@ pub mod TableTree
 pub mod TableClash
 pub mod OneByOne
 pub mod InOrder
+pub mod Offsets
 pub mod FaultMessages
 pub mod Extents
 pub mod KeptKeys

@@ -10,10 +10,11 @@ ghost use Rattle.toml_edit_laws.specs.DefaultSpellings.{DefaultSpellings};
 ghost use Rattle.toml_edit_laws.specs.EditLists.{EditsStayLocal};
 ghost use Rattle.toml_edit_laws.specs.Extents.{ExtentsLie};
 ghost use Rattle.toml_edit_laws.specs.FaultMessages.{FaultMessages};
-ghost use Rattle.toml_edit_laws.specs.InOrder.{HeadersInOrder, LinesAreKept, PairsAreKept};
+ghost use Rattle.toml_edit_laws.specs.InOrder.{HeadersInOrder, LinesInOrder, PairsInOrder};
 ghost use Rattle.toml_edit_laws.specs.KeptKeys.{KeptKeys};
 ghost use Rattle.toml_edit_laws.specs.Locality.{Added, AddedStaysMade, CallsOnAbsent, CallsOnPresent, Entered, IndexWrites, KeepsFrame, Reached, Removed, RemovedElement, RemovedElementStaysMade, RemovedStaysMade, Replaced, ReplacedStaysMade, TextsAreSteady};
 ghost use Rattle.toml_edit_laws.specs.NormalTexts.{NormalTexts};
+ghost use Rattle.toml_edit_laws.specs.Offsets.{ClocksAtEnds, OneOffset, RealDatetimes, RealOffsets};
 ghost use Rattle.toml_edit_laws.specs.OneByOne.{FaultsOfFirst, FirstFaulty, OneByOne};
 ghost use Rattle.toml_edit_laws.specs.OneCut.{OneCut};
 ghost use Rattle.toml_edit_laws.specs.OpenEnds.{OpenEnds, OpenPrints};
@@ -52,11 +53,21 @@ pub fn fault_messages()
     ensures { FaultMessages }
 {}
 
-/// What is computed as being in order is in order.
+/// What is computed as being in order is in order: the tables of a tree, the lines of each block, and
+/// the pairs of an inline table.
 pub fn in_order()
     ensures headers { HeadersInOrder }
-    ensures lines { LinesAreKept }
-    ensures pairs { PairsAreKept }
+    ensures lines { LinesInOrder }
+    ensures pairs { PairsInOrder }
+{}
+
+/// The hours and minutes that are taken from the end of a text are those of the offset spelled there.
+/// It is in range exactly if they are those of a day.
+pub fn offsets()
+    ensures clock { ClocksAtEnds }
+    ensures range { RealOffsets }
+    ensures date_times { RealDatetimes }
+    ensures one { OneOffset }
 {}
 
 /// The kept key of a normal text is the key of the tree's slot.

@@ -4,9 +4,10 @@ use Rattle.std.specs.Prelude.{◌&&◌, ◌||◌, not, int_le, filter, if◌then
 use Rattle.std.specs.List.Sorted.{IsPermutation}
 use Rattle.std.proofs.lemmas.List.Sorted.{IsPermutation-refl, IsPermutation-sym, IsPermutation-cons, IsPermutation-trans, IsPermutation-middle}
 use Rattle.toml_edit_model.specs.Order.{is_level, is_sorted_by, IsInOrder, insert_by, sorted_by}
+use Rattle.toml_edit_model.specs.Paths.{Mention, Source, Placed}
 use Rattle.toml_edit_model.specs.Normal.{is_line, line_before, ordered}
 use Rattle.toml_edit_model.specs.HeaderOrder.{PlacedVisit as PlacedVisit, is_root, comes_before, walk, places_from}
-use Rattle.toml_edit_laws.specs.InOrder.{HeadersInOrder, LinesAreKept, PairsAreKept}
+use Rattle.toml_edit_laws.specs.InOrder.{HeadersInOrder}
 use Rattle.toml_edit_laws.proofs.common.OrderLaws.{int_le-total, int_le-trans}
 use Rattle.toml_edit_laws.proofs.common.Tests.{and_left, and_right, and_both, true-false}
 
@@ -29,9 +30,9 @@ module _ {A : Type 0} (before : A → A → Bool) where
       IsPermutation-trans (a ∷ xs) (a ∷ sorted_by before xs) (insert_by before a (sorted_by before xs))
       (IsPermutation-cons a xs (sorted_by before xs) (kept-sorted xs)) (kept-insert a (sorted_by before xs))
 
-pub lines-kept : LinesAreKept
-lines-kept mss [] = IsPermutation-refl []
-lines-kept mss (s ∷ rest) = by_kind (is_line s.source.statement) (IsPermutation-cons s rest (ordered mss rest) (lines-kept mss rest))
+pub kept-lines : (mss : List (List (Mention Source))) (xs : List Placed) → IsPermutation xs (ordered mss xs)
+kept-lines mss [] = IsPermutation-refl []
+kept-lines mss (s ∷ rest) = by_kind (is_line s.source.statement) (IsPermutation-cons s rest (ordered mss rest) (kept-lines mss rest))
   where
     by_kind : (b : Bool) → IsPermutation (s ∷ rest) (s ∷ ordered mss rest)
         → IsPermutation (s ∷ rest) (if b then insert_by (line_before mss) s (ordered mss rest) else s ∷ ordered mss rest)
@@ -119,6 +120,3 @@ comes-on f g h p q = by_roots (is_root f.1) (is_root g.1) (is_root h.1) p q
 
 pub headers-in-order : HeadersInOrder
 headers-in-order t = in-order comes_before comes-total comes-on (places_from (pos 0) (walk t))
-
-pub pairs-kept : PairsAreKept
-pairs-kept mss = kept-sorted _ mss

@@ -73,12 +73,12 @@ inner-ended end (key_line f v e) = refl
 inner-ended end (header h e) = refl
 
 -- what is known of the statements of an accepted cut
-record ArePlaced (xs : List Placed) : Type 0 where
+pub record ArePlaced (xs : List Placed) : Type 0 where
   pub run : Run 0 [] [] xs
   pub right : AllByRecursion IsRightPlace xs
   pub agree : AllPairs AgreesWith xs
 
-are-placed : (d : Document) → IsDocument d → is_accepted d ≡ true → ArePlaced (placed d)
+pub are-placed : (d : Document) → IsDocument d → is_accepted d ≡ true → ArePlaced (placed d)
 are-placed d h g =
     let parts = from-right [] (placed d) (accepted-right d g) in
     record {

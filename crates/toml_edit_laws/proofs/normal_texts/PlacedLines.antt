@@ -61,7 +61,7 @@ pub ordered-lines : (mss : List (List (Mention Source))) (xs : List Placed) → 
 ordered-lines mss [] = refl
 ordered-lines mss (x ∷ xs) = ap (λ ys. if is_line x.source.statement then insert_by (line_before mss) x ys else x ∷ ys) (ordered-lines mss xs)
 
-paths-mentions : (xs : List Placed) → map paths (map (λ s. s.mentions) xs) ≡ map told_at xs
+pub paths-mentions : (xs : List Placed) → map paths (map (λ s. s.mentions) xs) ≡ map told_at xs
 paths-mentions [] = refl
 paths-mentions (x ∷ xs) = ap (λ ps. paths x.mentions ∷ ps) (paths-mentions xs)
 

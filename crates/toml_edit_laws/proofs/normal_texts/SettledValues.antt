@@ -118,32 +118,32 @@ inline-ends continued_role q h = absurd cc
 
 -- ---- pairs as lines of one block
 
-abbrev Told : Type 0
+abbrev pub Told : Type 0
 Told = List (Mention PairSource)
 
-abbrev a_line : Told → Bool
+abbrev pub a_line : Told → Bool
 a_line m = true
 
-abbrev one_block : Told → ℕ
+abbrev pub one_block : Told → ℕ
 one_block m = 0
 
-abbrev no_base : Told → Path
+abbrev pub no_base : Told → Path
 no_base m = []
 
 abbrev itself : Told → Told
 itself m = m
 
-abbrev keys_in : Told → List Text
+abbrev pub keys_in : Told → List Text
 keys_in m = keys_of_segments (own_path m)
 
-abbrev Framed : Frame → Value → Type 0
+abbrev pub Framed : Frame → Value → Type 0
 Framed f v = IsFrame IsWholeTrivia f
 
-each-framed : (ps : Pairs) → ArePairs ps → EachPair Framed ps
+pub each-framed : (ps : Pairs) → ArePairs ps → EachPair Framed ps
 each-framed no_pairs h = tt
 each-framed (pair f v ps) h = (h.0, each-framed ps h.2)
 
-sorted-lines : (test : Told → Told → Bool) (xs : List Told) → sorted_by test xs ≡ lines_ordered a_line test xs
+pub sorted-lines : (test : Told → Told → Bool) (xs : List Told) → sorted_by test xs ≡ lines_ordered a_line test xs
 sorted-lines test [] = refl
 sorted-lines test (x ∷ xs) = ap (insert_by test x) (sorted-lines test xs)
 
@@ -191,7 +191,7 @@ stays m n h = (
   λ x y j k a b e. inline-ends j.role k.role (agree-at may_meet_inline m n j k h a b e),
 )
 
-text-of : (mss : List Told) → AllByRecursion (IsMentionOf Framed) mss → AllPairs (λ m n. agree may_meet_inline m n ≡ true) mss
+pub text-of : (mss : List Told) → AllByRecursion (IsMentionOf Framed) mss → AllPairs (λ m n. agree may_meet_inline m n ≡ true) mss
     → IsText a_line one_block paths no_base keys_in mss
 text-of mss h g =
     record {
@@ -216,7 +216,7 @@ text-of mss h g =
     follows (m ∷ ms) = (each m ms, follows ms)
 
 -- the test of pairs in order, by these
-pair-test : (mss xs : List Told) → mss ≡ xs → IsTest a_line one_block paths no_base keys_in (pair_before mss) (ranked a_line one_block paths no_base keys_in xs)
+pub pair-test : (mss xs : List Told) → mss ≡ xs → IsTest a_line one_block paths no_base keys_in (pair_before mss) (ranked a_line one_block paths no_base keys_in xs)
 pair-test mss xs e m n = stands-is (rank mss) (place_of (map paths xs)) (λ q. rank-is mss q ∙ ap (λ ys. place_of (map paths ys) q) e) m n
 
 spelled-paths : (all : Told) (ms ns : List Told) → AreSpelled all ms ns → map paths ns ≡ map paths ms

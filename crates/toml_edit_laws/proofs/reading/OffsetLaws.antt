@@ -6,6 +6,7 @@ use Rattle.std.proofs.lemmas.Bool.{or_cases}
 use Rattle.std.proofs.lemmas.Option.{some_pair_parts}
 use Rattle.toml_edit_model.specs.Scalars.{Offset, zulu, shift}
 use Rattle.toml_edit_model.specs.Spelling.{Sign, plus, minus, unsigned, signed, sign_text, clock_text, SpellsOffset}
+use Rattle.toml_edit_laws.specs.Offsets.{OneOffset}
 use Rattle.toml_edit_laws.specs.reading.DatetimeReading.{OffsetParts, clock_at, offset_at, shift_parts, is_zulu}
 use Rattle.toml_edit_laws.proofs.reading.Steps.{chosen, same_parts}
 use Rattle.toml_edit_laws.proofs.common.OptionSteps.{map_some, guard_read}
@@ -105,3 +106,9 @@ pub offset_ends : (o : Offset) (text : List ℕ) → SpellsOffset o text → End
 offset_ends zulu text (inl e) = rw e refl
 offset_ends zulu text (inr e) = rw e refl
 offset_ends (shift z) text (s, h, m, some, lh, lm, value, same) = rw same (sign_ends s h m some)
+
+-- A text spells at most one offset: that which is read from it.
+pub one-offset : OneOffset
+one-offset o p t h g =
+    let both : Some (offset_parts o (own_range o t), []) ≡ Some (offset_parts p (own_range p t), []) = sym (offset_again o t h) ∙ offset_again p t g in
+    ap (λ (q : OffsetParts). q.offset) (some_pair_parts (offset_parts o (own_range o t)) (offset_parts p (own_range p t)) [] [] both).0
