@@ -118,16 +118,16 @@ impl<S: SourceText> Document<S> {
     ghost use Rattle.toml_edit_model.specs.Lists.{slot_list};
     ghost use Rattle.toml_edit_tree.specs.View.{item_view, table_slots, tree_view, fields_view};
 
-    /// Parses a text as TOML 1.1. Line endings are not kept.
+    /// Parses a text as TOML 1.1, into a tree with spans of the text. Line endings are not kept.
     ///
     /// For TOML 1.0, or to keep line endings, use [`parse_with`](Self::parse_with).
     ///
     /// # Errors
     ///
-    /// [`ParseFault::Toml`] if the text is refused. Its message and span are about a fault of the
-    /// first faulty statement, or about the mistake if the syntax is wrong. The span is in bytes
-    /// and lies in the text; a message about a limit may have none. [`ParseFault::Memory`] if out
-    /// of memory.
+    /// Returns [`ParseFault::Toml`] if the text is refused. Its message and span are about the
+    /// first statement that is wrong by itself or conflicts with one before it, or about the
+    /// mistake if the syntax is wrong. The span is in bytes and lies in the text; a message about a
+    /// limit may have none. Returns [`ParseFault::Memory`] if out of memory.
     pub fn parse(alloc: Global, raw: S) -> Result<Document<S>, ParseFault>
         ensures accepted { IfOk result (λ x. IsReading (S.content raw) (tree_read x)) }
         ensures source { IfOk result (λ x. source x ≡ S.content raw) }
@@ -434,7 +434,7 @@ impl DocumentMut {
     ///
     /// # Errors
     ///
-    /// [`ParseFault::Toml`] if the text is refused, as [`Document::parse`] says, and
+    /// Returns [`ParseFault::Toml`] if the text is refused, as [`Document::parse`] says, and
     /// [`ParseFault::Memory`] if out of memory.
     ///
     /// # Examples

@@ -45,7 +45,7 @@ pub trait FromStr: Sized {
     ///
     /// # Errors
     ///
-    /// `ParseFault::Toml` if the text is refused, with a span in bytes in most cases, and
+    /// Returns `ParseFault::Toml` if the text is refused, with a span in bytes in most cases, and
     /// `ParseFault::Memory` if out of memory.
     fn from_str(alloc: Global, text: &str) -> Result<Self, ParseFault>
         ensures { answers text.now result };
@@ -74,7 +74,7 @@ pub trait FromStrWith: Sized {
     ///
     /// # Errors
     ///
-    /// As [`FromStr::from_str`]. What the version lacks is refused too.
+    /// As [`FromStr::from_str`]. What the version lacks is refused too (`needs TOML 1.1`).
     fn from_str_with(alloc: Global, text: &str, options: ParseOptions) -> Result<Self, ParseFault>
         ensures { answers_with options text.now result };
 }
@@ -88,11 +88,11 @@ impl FromStr for Value {
     ///
     /// # Errors
     ///
-    /// `ParseFault::Toml` if the text is no value, or one with a fault: an integer that 64 bits do
-    /// not hold (`integer number overflowed`), a date, a time or an offset that does not exist
-    /// (`invalid date-time`), a key that an inline table has twice or cannot extend (`duplicate
-    /// key`, `cannot extend ..`), more than 80 brackets open at once or keys in a path (`recursion
-    /// limit`). `ParseFault::Memory` if out of memory.
+    /// Returns `ParseFault::Toml` if the text is no value, or one with a fault: an integer that 64
+    /// bits do not hold (`integer number overflowed`), a date, a time or an offset that does not
+    /// exist (`invalid date-time`), a key that an inline table has twice or cannot extend
+    /// (`duplicate key`, `cannot extend ..`), more than 80 brackets open at once or keys in a path
+    /// (`recursion limit`). Returns `ParseFault::Memory` if out of memory.
     fn from_str(alloc: Global, text: &str) -> Result<Value, ParseFault>
         ensures read { IfOk result (λ v. IsLoneReading text.now (value_view v)) }
         // An accepted value is never refused.
@@ -108,7 +108,8 @@ impl FromStr for Value {
 impl FromStrWith for Value {
     ghost answers_with = { ReadsLoneWith };
 
-    /// Parses a lone value as [`FromStr`] does, in the version of the options.
+    /// Parses a lone value as [`FromStr`] does, in the version of the options. Whether they keep
+    /// line endings has no effect: that is a setting of documents.
     ///
     /// # Errors
     ///

@@ -17,17 +17,17 @@ use std::ops;
 use toml_edit_tree::{IndexFault, Item};
 
 impl DocumentMut {
-    /// Returns a mutable reference to the item under the key in the root, inserting a placeholder
-    /// if the key is missing.
+    /// Returns a mutable reference to the item under `key` in the root, after adding a placeholder
+    /// at the end if the key is missing.
     ///
-    /// A new key comes last and has the default spelling. A placeholder that is there is lent too,
-    /// so assign through the reference to fill it. The slot of a new key takes the root's own
-    /// allocator. To look up without inserting, use [`get_mut`](Table::get_mut) of
+    /// A new key has the default spelling. The placeholder isn't printed until something else is
+    /// written. The root grows by its own allocator, and `alloc` is there to match
+    /// [`Item::index_or_insert`]. To look up without inserting, use [`get_mut`](Table::get_mut) of
     /// [`as_table_mut`](Self::as_table_mut).
     ///
     /// # Errors
     ///
-    /// [`IndexFault::Memory`] if out of memory at a new key. A present key never fails.
+    /// Returns [`IndexFault::Memory`] if out of memory, at a new key alone, and no other fault.
     pub fn index_or_insert(&mut self, alloc: Global, key: &str) -> Result<&mut Item, IndexFault>
         ensures* writes_back { sem 𝓛 (LendsUnder self.entry key.now result) }
         ensures item { IfOk result (λ lent. lent_under key.now (root_node (tree_owned self.old)) ≡ Some (item_view lent.now)) }
@@ -38,7 +38,8 @@ impl DocumentMut {
     }
 }
 
-/// Returns the item under the key in the root. The key must be there, and its item no placeholder.
+/// Returns the item under the key in the root. A contract requires that there is one which is no
+/// placeholder.
 impl ops::Index<&str> for DocumentMut {
     type Output = Item;
 

@@ -133,7 +133,7 @@ impl DocumentMut {
     ///
     /// # Errors
     ///
-    /// Fails if memory runs out.
+    /// Returns an `AllocError` if out of memory.
     pub fn print(&self, alloc: Global) -> Mem<String>
         ensures { IfOk result (λ s. string_bytes s ≡ print_of self.now) }
     {
@@ -145,9 +145,9 @@ impl DocumentMut {
 
     /// Writes the text that [`print`](Self::print) returns to an output that has not failed.
     ///
-    /// The text is written some 256 bytes at a time, and is never held as a whole. Only the order of
-    /// the headers takes memory, before the first write. To check that the text can be read back, use
-    /// [`fits`](Self::fits).
+    /// The text is written some 256 bytes at a time, and is never held as a whole. Only the order
+    /// of the headers takes memory, before the first write. To check that the text can be read
+    /// back, use [`fits`](Self::fits).
     ///
     /// # Errors
     ///
