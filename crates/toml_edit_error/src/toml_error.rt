@@ -202,7 +202,7 @@ impl Error for TomlError {}
 pub enum ParseFault {
     /// The text is refused.
     Toml(TomlError),
-    /// Memory ran out.
+    /// Out of memory.
     Memory,
 }
 
@@ -223,7 +223,7 @@ impl fmt::Display for ParseFault {
 
 impl Error for ParseFault {}
 
-/// Returns `ParseFault::Memory`, so that `?` passes on that memory ran out.
+/// Converts the error into [`ParseFault::Memory`].
 impl From<AllocError> for ParseFault {
     ghost use Rattle.std.specs.Prelude.{◌≡◌};
     ghost use Rattle.toml_edit_error.specs.declared.toml_error.ParseFault.TheVariants.{Memory};
@@ -235,7 +235,7 @@ impl From<AllocError> for ParseFault {
     }
 }
 
-/// Returns `ParseFault::Memory`, and drops what found no memory.
+/// Converts the error into [`ParseFault::Memory`], and drops the value that it has.
 impl<T: Drop> From<AllocFailed<T>> for ParseFault {
     ghost use Rattle.std.specs.Prelude.{◌≡◌};
     ghost use Rattle.toml_edit_error.specs.declared.toml_error.ParseFault.TheVariants.{Memory};

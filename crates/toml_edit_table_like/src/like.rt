@@ -143,9 +143,9 @@ pub trait AnyTable: HasSlots {
     /// Returns slot `at`, to read and change its item and the decor of its key. It may be a
     /// placeholder.
     ///
-    /// A contract requires that `at` is below [`slots`](Self::slots). Of a `TableRefMut`, it takes
-    /// the place of the calls of [`TableLike`]: find the number by
-    /// [`place_of`](HasSlots::place_of).
+    /// A contract requires that `at` is below [`slots`](Self::slots); the number of a key's slot is
+    /// [`place_of`](HasSlots::place_of). A `TableRefMut` has this call in the place of those of
+    /// [`TableLike`].
     fn slot_at(&mut self, at: usize) -> TableLikeSlot<'_, Self>
         requires { at < length (Self.slots_of self.old) }
         ensures same_table { (slot_ref result).ghost_name ≡ self.entry.ghost_name }
@@ -319,10 +319,10 @@ pub trait AnyTable: HasSlots {
         ensures beside { Self.beside self.new ≡ Self.beside self.old }
         ensures origin { Self.origin self.new ≡ Self.origin self.old };
 
-    /// Sorts the slots by the bytes of the names of their keys, and those of dotted tables of this
-    /// kind inside likewise.
+    /// Sorts the slots by the bytes of the names of their keys, and so the slots of dotted tables
+    /// of this kind inside.
     ///
-    /// Each slot moves with its decors.
+    /// Each slot moves with its decors, so comments go along.
     ///
     /// # Errors
     ///

@@ -67,7 +67,8 @@ impl<'a, T: HasSlots> TableLikeSlot<'a, T> {
         self.table.leaf_decor_at_mut(at)
     }
 
-    /// Returns a mutable reference to the whitespace between the key and the dots beside it.
+    /// Returns a mutable reference to the decor of the key beside dots: the whitespace between the
+    /// key and the dots before and after it.
     pub fn dotted_decor_mut(&mut self) -> &mut Decor
         ensures* writes_back { sem 𝓛 (SlotLendsDotted T.row self.entry result) }
         ensures decor { option_map (λ key. key.dotted) (slot_key self.old) ≡ Some result.now }
@@ -80,7 +81,7 @@ impl<'a, T: HasSlots> TableLikeSlot<'a, T> {
         self.table.dotted_decor_at_mut(at)
     }
 
-    /// Resets the key to its default spelling, and unsets its decor.
+    /// Resets the key to its default spelling and unsets its decors, so a comment above it goes.
     pub fn fmt_key(&mut self)
         ensures same_table { (slot_ref self.new).ghost_name ≡ (slot_ref self.old).ghost_name }
         ensures same_place { slot_place self.new ≡ slot_place self.old }
