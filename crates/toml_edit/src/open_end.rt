@@ -17,7 +17,7 @@ ghost use Rattle.toml_edit.specs.Ordered.{ArePrintedInOrder, EndInOrder};
 
 use crate::encode::put_document;
 use crate::headers::{Header, headers_in_order};
-use crate::held::put_but_newline;
+use crate::tail::put_but_newline;
 use crate::last_line::last_decor;
 use bumpalo::Bump;
 use toml_edit_repr::{Decor, Mem, Mode, RawString};

@@ -4,7 +4,7 @@ use Rattle.std.specs.List.{AllByRecursion}
 use Rattle.toml_edit_model.specs.Spelling.{SpellsKey}
 use Rattle.toml_edit_model.specs.Tree.{HasTrueSpelling, IsWellMade}
 use Rattle.toml_edit_tree.specs.View.{item_view}
-use Rattle.toml_edit_fits.proofs.made.+made.Given as goal
+use Rattle.toml_edit_fits.proofs.invariants.+walk.Given as goal
 
 abbrev pub invariant-see_slots-slots : goal.invariant-see_slots-slots
 invariant-see_slots-slots l =

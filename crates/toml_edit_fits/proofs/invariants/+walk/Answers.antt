@@ -11,7 +11,7 @@ use Rattle.toml_edit_slots.specs.Slots.{place}
 use Rattle.toml_edit_tree.specs.declared.item.Item.{Item}
 use Rattle.toml_edit_tree.specs.View.{item_view, items_view, slots_view}
 use Rattle.toml_edit_fits.proofs.MadeLaws.{items-made, slots-made}
-use Rattle.toml_edit_fits.proofs.made.+made.Goals as goal
+use Rattle.toml_edit_fits.proofs.invariants.+walk.Goals as goal
 
 pub see_items-returns : goal.see_items-returns
 see_items-returns t c =

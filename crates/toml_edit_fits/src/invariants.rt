@@ -23,7 +23,7 @@ pub(crate) fn see_table(table: &Table)
 }
 
 /// Walks over slots.
-#[cycle(made)]
+#[cycle(walk)]
 fn see_slots(slots: &Slots<Item>)
     ensures { ∥ SlotsAreWellMade (slots_view slots.now) ∥₁ }
 {
@@ -35,7 +35,7 @@ fn see_slots(slots: &Slots<Item>)
 }
 
 /// Walks over the items of an array, or of an array of tables.
-#[cycle(made)]
+#[cycle(walk)]
 fn see_items(items: &Vec<Item>)
     ensures { ∥ ItemsAreWellMade (items_view items.now.items) ∥₁ }
 {
@@ -45,7 +45,7 @@ fn see_items(items: &Vec<Item>)
 }
 
 /// Walks over an item.
-#[cycle(made)]
+#[cycle(walk)]
 fn see_item(item: &Item)
     ensures { ∥ IsWellMade (item_view item.now) ∥₁ }
 {
@@ -58,7 +58,7 @@ fn see_item(item: &Item)
 }
 
 /// Walks over a value.
-#[cycle(made)]
+#[cycle(walk)]
 fn see_value(value: &Value)
     ensures { ∥ IsWellMade (value_view value.now) ∥₁ }
 {

@@ -3,8 +3,8 @@ use Rattle.std.proofs.Common.{◌≡◌, ◌-◌, ◌<◌, ◌≤◌, [], ◌++�
 use Rattle.toml_edit_stream.proofs.Puts.{put_none, put_once, put_two}
 use Rattle.toml_edit.specs.Tails.{tail_after, tail_text}
 use Rattle.toml_edit.proofs.TailLaws.{EndsIn, cut-at, tail-ends, tail-joined}
-use Rattle.toml_edit.proofs.held.HeldSink.put.Goals as goal
-use Rattle.toml_edit.proofs.held.HeldSink.put.Goals.{then-held-text, else-held-text}
+use Rattle.toml_edit.proofs.tail.HeldSink.put.Goals as goal
+use Rattle.toml_edit.proofs.tail.HeldSink.put.Goals.{then-held-text, else-held-text}
 
 pub range-requires-clause-end_boundary : goal.range-requires-clause-end_boundary
 range-requires-clause-end_boundary g c =

@@ -2,7 +2,7 @@
 use mathlib.Core.Logic.{∥∥₁_map}
 use Rattle.std.proofs.Common.{◌≡◌, rules, subst, true, w64, to_z, of_z, ◌∙◌}
 use Rattle.toml_edit_model.specs.Scalars.{fits_integer}
-use Rattle.toml_edit_fits.proofs.made.see_integer.Goals as goal
+use Rattle.toml_edit_fits.proofs.invariants.see_integer.Goals as goal
 
 pub returns : goal.returns
 returns c =

@@ -2,7 +2,7 @@
 use Rattle.std.proofs.Common.{◌-◌, length, get_or, ap, ◌∙◌}
 use Rattle.toml_edit.specs.Tails.{tail_step}
 use Rattle.toml_edit.proofs.TailLaws.{last-two}
-use Rattle.toml_edit.proofs.held.after.Goals as goal
+use Rattle.toml_edit.proofs.tail.after.Goals as goal
 
 pub returns-then-count-ge2 : goal.returns-then-count-ge2
 returns-then-count-ge2 c =

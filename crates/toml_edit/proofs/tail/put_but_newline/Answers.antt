@@ -2,7 +2,7 @@
 use Rattle.std.proofs.Common.{◌≡◌, ◌++◌, ◌∙◌, ap, rules}
 use Rattle.toml_edit_stream.proofs.Puts.{put_two, put_whole}
 use Rattle.toml_edit.proofs.HoldLaws.{held-cut, holds_none, holds_both}
-use Rattle.toml_edit.proofs.held.put_but_newline.Goals as goal
+use Rattle.toml_edit.proofs.tail.put_but_newline.Goals as goal
 
 pub returns : goal.returns
 returns g c d front count parts =
