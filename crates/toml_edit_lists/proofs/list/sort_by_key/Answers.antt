@@ -1,7 +1,7 @@
 -- A sort by keys is one by their order.
 use Rattle.std.proofs.lemmas.Fn.{always_returns_same}
 use Rattle.std.proofs.lemmas.Result.{on_ok_weaker}
-use Rattle.toml_edit_lists.proofs.sort.sort_by_key.Goals as goal
+use Rattle.toml_edit_lists.proofs.list.sort_by_key.Goals as goal
 
 pub returns-clause-sorted : goal.returns-clause-sorted
 returns-clause-sorted g c =

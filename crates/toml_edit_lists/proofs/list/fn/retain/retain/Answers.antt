@@ -2,7 +2,7 @@
 use Rattle.std.proofs.Common.{refl, subst}
 use Rattle.std.specs.Fn.{FnReturnsAt}
 use Rattle.toml_edit_lists.specs.Elements.{SaysOfHeld}
-use Rattle.toml_edit_lists.proofs.whole.fn.retain.retain.Goals as goal
+use Rattle.toml_edit_lists.proofs.list.fn.retain.retain.Goals as goal
 
 pub returns-in-Some : goal.returns-in-Some
 returns-in-Some g c =

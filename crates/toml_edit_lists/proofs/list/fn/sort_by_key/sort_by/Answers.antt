@@ -1,7 +1,7 @@
 -- The closure that compares keys.
 use Rattle.std.proofs.Common.{[], ◌∷◌, ◌∙◌}
 use Rattle.std.specs.Ordering.{is_lt}
-use Rattle.toml_edit_lists.proofs.sort.fn.sort_by_key.sort_by.Goals as goal
+use Rattle.toml_edit_lists.proofs.list.fn.sort_by_key.sort_by.Goals as goal
 
 pub returns : goal.returns
 returns g c of by =

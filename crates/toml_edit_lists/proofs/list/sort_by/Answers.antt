@@ -2,7 +2,7 @@
 use Rattle.std.proofs.Common.{rules}
 use Rattle.std.proofs.lemmas.Fn.{always_returns_same}
 use Rattle.std.proofs.lemmas.Result.{on_ok_weaker}
-use Rattle.toml_edit_lists.proofs.sort.sort_by.Goals as goal
+use Rattle.toml_edit_lists.proofs.list.sort_by.Goals as goal
 
 pub returns-clause-sorted : goal.returns-clause-sorted
 returns-clause-sorted g c =

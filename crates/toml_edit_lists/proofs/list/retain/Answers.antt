@@ -3,7 +3,7 @@ use Rattle.std.proofs.Common.{rules}
 use Rattle.std.specs.Fn.{FnReturnsAt}
 use Rattle.toml_edit_laws.proofs.slots.Retains.{retains_by}
 use Rattle.toml_edit_lists.specs.Elements.{SaysOfHeld}
-use Rattle.toml_edit_lists.proofs.whole.retain.Goals as goal
+use Rattle.toml_edit_lists.proofs.list.retain.Goals as goal
 
 pub returns : goal.returns
 returns g c =

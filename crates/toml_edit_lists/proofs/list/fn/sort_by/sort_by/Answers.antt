@@ -1,7 +1,7 @@
 -- The closure at two items that hold elements.
 use Rattle.std.proofs.Common.{[], ◌∷◌, ◌∙◌}
 use Rattle.toml_edit_lists.specs.Sorts.{held_lt}
-use Rattle.toml_edit_lists.proofs.sort.fn.sort_by.sort_by.Goals as goal
+use Rattle.toml_edit_lists.proofs.list.fn.sort_by.sort_by.Goals as goal
 
 pub returns-in-Some-Some : goal.returns-in-Some-Some
 returns-in-Some-Some g c lt by =
