@@ -1,7 +1,7 @@
 -- What was written so far is a beginning of the text, with no fault.
 use Rattle.std.proofs.Common.{◌≡◌, ◌-◌, ◌≤◌, length, take}
 use Rattle.std.specs.Io.KnownBytes.{Appends}
-use Rattle.toml_edit_stream.proofs.whole.write_all.Given as goal
+use Rattle.toml_edit_stream.proofs.streams.write_all.Given as goal
 
 abbrev pub invariant-loop-at : goal.invariant-loop-at
 invariant-loop-at g l =

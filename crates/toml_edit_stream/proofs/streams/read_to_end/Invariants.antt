@@ -1,7 +1,7 @@
 -- What was read so far was taken from the input, with no fault.
 use Rattle.std.proofs.Common.{◌≡◌}
 use Rattle.std.specs.Io.KnownBytes.{Consumes}
-use Rattle.toml_edit_stream.proofs.whole.read_to_end.Given as goal
+use Rattle.toml_edit_stream.proofs.streams.read_to_end.Given as goal
 
 abbrev pub invariant-loop : goal.invariant-loop
 invariant-loop g l =

@@ -1,8 +1,8 @@
 -- What reading to the end and writing a whole text leave.
 use Rattle.std.specs.Prelude.{◌≡◌, ℕ, ◌≤◌, Bool, true, List, length, take, codes, Option}
 use Rattle.std.specs.Io.KnownBytes.{Appends}
-use Rattle.toml_edit_stream.specs.declared.whole.ReadFault.{ReadFault}
-use Rattle.toml_edit_stream.specs.declared.whole.ReadFault.TheVariants.{Memory, Broken}
+use Rattle.toml_edit_stream.specs.declared.streams.ReadFault.{ReadFault}
+use Rattle.toml_edit_stream.specs.declared.streams.ReadFault.TheVariants.{Memory, Broken}
 
 -- known bytes grow by a beginning of bs
 abbrev pub AppendsBeginning : Option (List ℕ) → Option (List ℕ) → List ℕ → Type 0

@@ -1,7 +1,7 @@
 -- What one more write adds to the beginning.
 use Rattle.std.proofs.Common.{◌∙◌}
 use Rattle.toml_edit_stream.proofs.Known.{more_Appends, more_within}
-use Rattle.toml_edit_stream.proofs.whole.write_all.Goals as goal
+use Rattle.toml_edit_stream.proofs.streams.write_all.Goals as goal
 
 pub loop-at-preserved : goal.loop-at-preserved
 loop-at-preserved g c =
