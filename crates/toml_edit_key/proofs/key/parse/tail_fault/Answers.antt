@@ -7,7 +7,7 @@ use Rattle.toml_edit_laws.proofs.reading.Steps.{split_parts}
 use Rattle.toml_edit_key.specs.PathReading.{front, after_dot}
 use Rattle.toml_edit_key.proofs.PartLaws.{found, front_key-found, front_key-none}
 use Rattle.toml_edit_key.proofs.PathLoop.{reaches_itself, tail_no_key, tail_ends, tail_no_dot, tail_more}
-use Rattle.toml_edit_key.proofs.key.read.tail_fault.Goals as goal
+use Rattle.toml_edit_key.proofs.key.parse.tail_fault.Goals as goal
 
 pub segments-init : goal.segments-init
 segments-init c = (search rules, reaches_itself c.args.tail.now)

@@ -5,7 +5,7 @@ use Rattle.toml_edit_model.specs.Text.{Text}
 use Rattle.toml_edit_model.specs.Spelling.{SpellsKey}
 use Rattle.toml_edit_key.specs.PathReading.{front}
 use Rattle.toml_edit_key.proofs.PartLaws.{found, front_key-found, front_key-none}
-use Rattle.toml_edit_key.proofs.key.read.read_part.Goals as goal
+use Rattle.toml_edit_key.proofs.key.parse.read_part.Goals as goal
 
 pub returns-in_default-clause-read : goal.returns-in_default-clause-read
 returns-in_default-clause-read c = sym (front_key-none c.args.text.now c.in_default.ensures.rest)

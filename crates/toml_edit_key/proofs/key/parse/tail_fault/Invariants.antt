@@ -3,7 +3,7 @@ use Rattle.std.proofs.Common.{length}
 use denote.Text.{Utf8}
 use denote.Shadow.{shadow}
 use Rattle.toml_edit_key.proofs.PathLoop.{Reaches}
-use Rattle.toml_edit_key.proofs.key.read.tail_fault.Given as goal
+use Rattle.toml_edit_key.proofs.key.parse.tail_fault.Given as goal
 
 abbrev pub invariant-segments : goal.invariant-segments
 invariant-segments l = shadow (Utf8 l.rest) × Reaches l.fn.tail l.rest

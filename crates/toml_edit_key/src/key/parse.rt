@@ -1,7 +1,7 @@
 //! Parsing a text that is one key or one path.
 ghost use Rattle.std.specs.Prelude.{◌≡◌, ◌+◌, ◌<◌, ◌≤◌, ◌++◌, ◌∷◌, [], None, Some, List, length, OnOk, IfOk, IfErr, IfSome, IfNone, MatchResult, option_map, string_bytes};
 ghost use Rattle.toml_edit_model.specs.Text.{Text};
-ghost use Rattle.toml_edit_model.specs.Syntax.{Segment};
+ghost use Rattle.toml_edit_model.specs.Syntax.{Segment, nesting_limit};
 ghost use Rattle.toml_edit_model.specs.Spelling.{SpellsKey};
 ghost use Rattle.toml_edit_model.specs.Lone.{IsLonePath, IsLongPath, MayRefuseKey, MayRefusePath, lone_keys, path_key};
 ghost use Rattle.toml_edit_error.specs.Fault.{IfToml};
@@ -14,12 +14,10 @@ use super::{Key, KeyParts};
 use std::alloc::Global;
 use toml_edit_error::{ParseFault, refusal};
 use toml_edit_repr::{Decor, Mem, RawString, Repr};
+use toml_edit_syntax::NESTING_LIMIT;
 use toml_edit_syntax::mistake::{Mistake, at, no_key};
 use toml_edit_token::run::{Class, split_run};
 use toml_edit_token::{after_key, decode_key};
-
-/// The most segments of a path.
-const MOST_SEGMENTS: usize = 80;
 
 impl Key {
     /// Parses a key from its spelling, bare or quoted, and keeps that spelling. It gets no decor.
@@ -237,9 +235,9 @@ fn push_last(
     push_part(keys, alloc, part, before, "", leaf)
 }
 
-/// Parses a path of at most 80 segments.
+/// Parses a path of at most [`NESTING_LIMIT`] segments.
 fn read_path(alloc: Global, text: &str) -> Result<Vec<Key>, ParseFault>
-    ensures keys { IfOk result (λ keys. (spec.lone_at text.now ≡ Some keys.items) × (length keys.items ≤ 80)) }
+    ensures keys { IfOk result (λ keys. (spec.lone_at text.now ≡ Some keys.items) × (length keys.items ≤ nesting_limit)) }
     ensures refused { IfErr result (λ e. IfToml e (IsPathFault text.now)) }
 {
     let (before, start) = split_run(text, Class::Blank);
@@ -259,7 +257,7 @@ fn read_path(alloc: Global, text: &str) -> Result<Vec<Key>, ParseFault>
             return Err(unreadable(alloc, text, Misread::Stray(next)));
         };
         let count = keys.len() + 1;
-        if count == MOST_SEGMENTS {
+        if count == NESTING_LIMIT {
             return Err(longer(alloc, text, tail));
         }
         push_part(&mut keys, alloc, part, gap, white, Decor::default())?;
