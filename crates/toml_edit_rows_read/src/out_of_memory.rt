@@ -1,6 +1,6 @@
 //! Judging what a call leaves that ran out of memory.
+use crate::answer::Answer;
 use crate::row;
-use crate::said::Answer;
 use serde_json::Value as Json;
 use std::alloc::Global;
 use std::fmt::Debug;

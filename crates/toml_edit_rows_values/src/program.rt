@@ -1,7 +1,7 @@
 //! The kinds of rows on values.
 use crate::{document, item, value};
 use toml_edit::{DocumentMut, Table};
-use toml_edit_rows_read::made::{self, Reads};
+use toml_edit_rows_read::make::{self, Reads};
 use toml_edit_rows_read::{Answer, Program, Row};
 
 const KINDS: [&str; 5] = ["text", "item", "value", "array", "inline_table"];
@@ -25,7 +25,7 @@ impl Program for Values {
 
 impl Reads for Values {
     fn root(text: &str, out: &mut Answer) -> Option<Table> {
-        let document = made::read(DocumentMut::from_str(out.alloc, text), out)?;
+        let document = make::read(DocumentMut::from_str(out.alloc, text), out)?;
         Some(document.into_table())
     }
 }

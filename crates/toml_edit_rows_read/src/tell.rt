@@ -1,5 +1,5 @@
 //! Writing items, values and slots to an answer, and writing over them.
-use crate::said::Answer;
+use crate::answer::Answer;
 use std::fmt::Debug;
 use std::mem;
 use toml_edit_key::Key;

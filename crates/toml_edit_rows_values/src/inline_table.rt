@@ -1,10 +1,10 @@
 //! Steps that change inline tables.
-use crate::{inline_entry, like};
+use crate::{inline_entry, table_like};
 use serde_json::Value as Json;
 use toml_edit::{InlineTable, Mem, Value};
 use toml_edit_rows_read::steps::{behind, word};
-use toml_edit_rows_read::told::{tell_old, tell_taken, write};
-use toml_edit_rows_read::{Answer, made};
+use toml_edit_rows_read::tell::{tell_old, tell_taken, write};
+use toml_edit_rows_read::{Answer, make};
 
 /// Makes a step with an inline table, if there is one.
 pub fn change_found(table: Option<&mut InlineTable>, words: &[Json], out: &mut Answer) {
@@ -18,7 +18,7 @@ pub fn change_found(table: Option<&mut InlineTable>, words: &[Json], out: &mut A
 fn change(table: &mut InlineTable, words: &[Json], out: &mut Answer) {
     let name = word(words, 1);
     match word(words, 0) {
-        "insert" => insert(table, name, made::value(behind(words, 2), out), out),
+        "insert" => insert(table, name, make::value(behind(words, 2), out), out),
         "insert_formatted" | "extend" | "from_iter" | "from_pairs" => add_pair(table, words, out),
         "remove" => tell_taken(table.remove(name), out),
         "remove_entry" => tell_taken(table.remove_entry(name), out),
@@ -27,8 +27,8 @@ fn change(table: &mut InlineTable, words: &[Json], out: &mut Answer) {
         "fmt" => table.fmt(),
         "sort_values" => out.done(table.sort_values()),
         "sort_values_by" => out.done(sort_by_type(table)),
-        "like" => like::change_inline(table, behind(words, 1), out),
-        "get_or_insert" | "get_mut" => lend(table, words, made::value(behind(words, 2), out), out),
+        "like" => table_like::change_inline(table, behind(words, 1), out),
+        "get_or_insert" | "get_mut" => lend(table, words, make::value(behind(words, 2), out), out),
         _ => inline_entry::change(table, words, out),
     }
 }
@@ -52,8 +52,8 @@ fn insert(table: &mut InlineTable, name: &str, made: Option<Value>, out: &mut An
 /// Adds a pair, or makes an inline table of it alone: a key with its leaf decor, and a value.
 fn add_pair(table: &mut InlineTable, words: &[Json], out: &mut Answer) {
     match (
-        made::key(behind(words, 1), out),
-        made::value(behind(words, 4), out),
+        make::key(behind(words, 1), out),
+        make::value(behind(words, 4), out),
     ) {
         (Some(key), Some(value)) if word(words, 0) == "extend" => {
             out.done(table.extend(Some((key, value))));

@@ -1,5 +1,5 @@
 //! Making values, keys, tables and items from the words of a row.
-use crate::said::Answer;
+use crate::answer::Answer;
 use crate::steps::word;
 use serde_json::Value as Json;
 use toml_edit_error::ParseFault;

@@ -1,7 +1,7 @@
 //! The kinds of rows on tables.
 use crate::{document, table};
 use toml_edit::{DocumentMut, Table};
-use toml_edit_rows_read::made::{self, Reads};
+use toml_edit_rows_read::make::{self, Reads};
 use toml_edit_rows_read::{Answer, Program, Row};
 
 const KINDS: [&str; 5] = ["text", "exact_text", "document", "item", "value"];
@@ -27,7 +27,7 @@ impl Program for Tables {
 
 impl Reads for Tables {
     fn root(text: &str, out: &mut Answer) -> Option<Table> {
-        let document = made::read(DocumentMut::from_str(out.alloc, text), out)?;
+        let document = make::read(DocumentMut::from_str(out.alloc, text), out)?;
         Some(out.handed(document.into_table()))
     }
 }

@@ -1,15 +1,15 @@
 //! Questions on tables of either kind, and steps that change them, by the calls of `TableLike`.
-use crate::kinds::Values;
+use crate::program::Values;
 use serde_json::Value as Json;
 use toml_edit::{
     AnyTable, InlineTable, Item, Key, Table, TableLike, TableLikeEntry, TableLikeSlot, TableRef,
     TableRefMut, Value,
 };
 use toml_edit_rows_read::steps::{behind, index, word};
-use toml_edit_rows_read::told::{
+use toml_edit_rows_read::tell::{
     Told, tell_found, tell_given, tell_lent, tell_old, tell_taken, write,
 };
-use toml_edit_rows_read::{Answer, key, lines, made, value};
+use toml_edit_rows_read::{Answer, key, lines, make, value};
 
 /// Makes a step with a table. The answer to a call that returns nothing is empty.
 pub fn change_table(table: &mut Table, words: &[Json], out: &mut Answer) {
@@ -17,7 +17,7 @@ pub fn change_table(table: &mut Table, words: &[Json], out: &mut Answer) {
         "insert" => insert_in_table(
             table,
             word(words, 1),
-            made::item::<Values>(word(words, 2), out),
+            make::item::<Values>(word(words, 2), out),
             out,
         ),
         _ => change(table, words, out),
@@ -37,7 +37,7 @@ pub fn change_inline(table: &mut InlineTable, words: &[Json], out: &mut Answer) 
         "insert" => insert_inline(
             table,
             word(words, 1),
-            made::item::<Values>(word(words, 2), out),
+            make::item::<Values>(word(words, 2), out),
             out,
         ),
         _ => change(table, words, out),
@@ -71,7 +71,7 @@ pub fn change_ref(table: &mut TableRefMut<'_>, words: &[Json], out: &mut Answer)
         "insert" => insert_in_ref(
             table,
             word(words, 1),
-            made::item::<Values>(word(words, 2), out),
+            make::item::<Values>(word(words, 2), out),
             out,
         ),
         "as_table_ref" => ask_ref(table.as_table_ref(), behind(words, 1), out),
@@ -101,10 +101,10 @@ fn change_any<T: AnyTable>(table: &mut T, words: &[Json], out: &mut Answer) {
         "set_dotted" => table.set_dotted(name == "true"),
         "get_mut" => write(
             table.get_mut(name),
-            made::item::<Values>(word(words, 2), out),
+            make::item::<Values>(word(words, 2), out),
             out,
         ),
-        "or_insert" => put(table, name, made::item::<Values>(word(words, 2), out), out),
+        "or_insert" => put(table, name, make::item::<Values>(word(words, 2), out), out),
         "or_insert_format" => put_formatted(table, words, out),
         "entry" => go_in(&mut table.entry(name), behind(words, 2), out),
         "entry_format" => go_in_formatted(table, words, out),
@@ -118,7 +118,7 @@ fn go_in<T: AnyTable>(entry: &mut TableLikeEntry<'_, T>, words: &[Json], out: &m
         "key" => out.text(entry.key()),
         "is_occupied" => out.truth(entry.is_occupied()),
         "get" => tell_lent(entry.get(), out),
-        "or_insert" => put_in(entry, made::item::<Values>(word(words, 1), out), out),
+        "or_insert" => put_in(entry, make::item::<Values>(word(words, 1), out), out),
         "or_insert_with" => put_made(entry, out),
         call => out.no_such(call),
     }
@@ -147,10 +147,10 @@ fn put_made<T: AnyTable>(entry: &mut TableLikeEntry<'_, T>, out: &mut Answer) {
 /// Inserts the item by the entry of a key with its spelling and decor, which comes after the item,
 /// and writes what is there.
 fn go_in_formatted<T: AnyTable>(table: &mut T, words: &[Json], out: &mut Answer) {
-    match made::key(behind(words, 2), out) {
+    match make::key(behind(words, 2), out) {
         Some(key) => put_in(
             &mut table.entry_format(&key),
-            made::item::<Values>(word(words, 1), out),
+            make::item::<Values>(word(words, 1), out),
             out,
         ),
         None => out.text("no key"),
@@ -172,8 +172,8 @@ fn put<T: AnyTable>(table: &mut T, name: &str, made: Option<Item>, out: &mut Ans
 /// Inserts the item under a key with its spelling and decor, which comes after the item, if that is
 /// missing, and writes what is there.
 fn put_formatted<T: AnyTable>(table: &mut T, words: &[Json], out: &mut Answer) {
-    match made::key(behind(words, 2), out) {
-        Some(key) => put_under(table, &key, made::item::<Values>(word(words, 1), out), out),
+    match make::key(behind(words, 2), out) {
+        Some(key) => put_under(table, &key, make::item::<Values>(word(words, 1), out), out),
         None => out.text("no key"),
     }
 }
@@ -229,10 +229,10 @@ fn change_slot<T: TableLike>(slot: &mut TableLikeSlot<'_, T>, words: &[Json], ou
         "key_mut" => key::call_lent(&mut slot.key_mut(), rest, out),
         "get_mut" => write(
             Some(slot.get_mut()),
-            made::item::<Values>(word(words, 1), out),
+            make::item::<Values>(word(words, 1), out),
             out,
         ),
-        "insert" => insert_at(slot, made::item::<Values>(word(words, 1), out), out),
+        "insert" => insert_at(slot, make::item::<Values>(word(words, 1), out), out),
         call => out.no_such(call),
     }
 }
