@@ -12,8 +12,8 @@ use Rattle.toml_edit_stream.proofs.Puts.{put_none, put_two}
 use Rattle.toml_edit.specs.Holding.{Holds}
 use Rattle.toml_edit.specs.LastLines.{newline_of}
 use Rattle.toml_edit.specs.Tails.{tail_after, tail_text}
-use Rattle.toml_edit.specs.declared.held.Tail.{Tail}
-use Rattle.toml_edit.specs.declared.held.Tail.TheVariants.{Nothing}
+use Rattle.toml_edit.specs.declared.tail.Tail.{Tail}
+use Rattle.toml_edit.specs.declared.tail.Tail.TheVariants.{Nothing}
 use Rattle.toml_edit.proofs.TailLaws.{EndsWith, after-append, both-are-held, feed-is-held, none-is-held}
 
 module _ {S : Type 0} (puts : S → List ℕ → S → Type 0) where

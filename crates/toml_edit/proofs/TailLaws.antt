@@ -4,8 +4,8 @@ use Rattle.std.specs.Prelude.{◌==◌}
 use Rattle.std.proofs.lemmas.Bool.{eqb-true}
 use Rattle.std.proofs.lemmas.Str.{IsCharBoundary-at_seam}
 use Rattle.toml_edit_model.specs.Text.{Text, carriage_return, line_feed}
-use Rattle.toml_edit.specs.declared.held.Tail.{Tail}
-use Rattle.toml_edit.specs.declared.held.Tail.TheVariants.{Nothing, Return, Feed, Both}
+use Rattle.toml_edit.specs.declared.tail.Tail.{Tail}
+use Rattle.toml_edit.specs.declared.tail.Tail.TheVariants.{Nothing, Return, Feed, Both}
 use Rattle.toml_edit.specs.Tails.{after_feed, tail_step, tail_after, tail_text}
 
 pub after-append : (h : Tail) (x y : Text) → tail_after h (x ++ y) ≡ tail_after (tail_after h x) y

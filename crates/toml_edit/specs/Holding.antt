@@ -3,7 +3,7 @@ use Rattle.std.specs.Prelude.{◌≡◌, ℕ, List, ◌++◌}
 use Rattle.std.specs.Borrow.{MutBor}
 use Rattle.std.specs.Fmt.{WritesInCalls}
 use Rattle.toml_edit.specs.Tails.{tail_after, tail_text}
-use Rattle.toml_edit.specs.declared.held.Tail.{Tail}
+use Rattle.toml_edit.specs.declared.tail.Tail.{Tail}
 
 -- `s` and `t` are the sink that it puts into, which takes all but the tail
 pub record Holds {S : Type 0} (puts : S → List ℕ → S → Type 0) (before : Tail) (s : MutBor S) (text : List ℕ) (after : Tail) (t : MutBor S) : Type 0 where

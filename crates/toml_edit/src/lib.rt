@@ -70,12 +70,12 @@
 pub mod document;
 mod encode;
 mod headers;
-mod held;
 mod item;
 mod last_line;
 pub mod laws;
 mod open_end;
 mod root;
+mod tail;
 
 pub use document::{Document, DocumentMut, PrintFault, SourceText};
 pub use item::value;

@@ -17,8 +17,8 @@ ghost use Rattle.toml_edit.specs.Ordered.{ArePrintedInOrder, EndInOrder};
 
 use crate::encode::put_document;
 use crate::headers::{Header, headers_in_order};
-use crate::held::put_but_newline;
 use crate::last_line::last_decor;
+use crate::tail::put_but_newline;
 use bumpalo::Bump;
 use toml_edit_repr::{Decor, Mem, Mode, RawString};
 use toml_edit_stream::{Printed, Sink};

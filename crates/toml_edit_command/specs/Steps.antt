@@ -6,7 +6,7 @@ use Rattle.toml_edit_model.specs.Mode.{Mode}
 use Rattle.toml_edit_model.specs.Version.{Version}
 use Rattle.toml_edit_model.specs.Syntax.{Document}
 use Rattle.toml_edit_model.specs.Fits.{FitsIn}
-use Rattle.toml_edit_stream.specs.Whole.{AppendsBeginning}
+use Rattle.toml_edit_stream.specs.Streams.{AppendsBeginning}
 use Rattle.toml_edit_tree.specs.View.{value_view}
 use Rattle.toml_edit_command.specs.Words.{Action, printing, getting, setting, removing, Asked, IsCommand}
 use Rattle.toml_edit_command.specs.Written.{Held, IsHeldAs, IsPrintFor, Makes}

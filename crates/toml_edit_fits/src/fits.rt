@@ -6,7 +6,7 @@ ghost use Rattle.toml_edit_repr.specs.Modes.{mode_of};
 ghost use Rattle.toml_edit_tree.specs.View.{fields_view, table_slots, tree_view};
 ghost use Rattle.toml_edit_fits.specs.OrderTests as tests;
 
-use crate::made::see_table;
+use crate::invariants::see_table;
 use crate::order::{Marks, order_slots};
 use crate::table::parts_fit;
 use toml_edit_repr::{Mode, RawString};

@@ -2,7 +2,7 @@
 #![tactic(auto)]
 
 mod fits;
-mod made;
+mod invariants;
 mod order;
 mod route;
 mod table;

@@ -5,7 +5,7 @@ use Rattle.std.proofs.lemmas.Bool.{false≢true}
 use Rattle.std.proofs.lemmas.Bool.Decides.{nat_tests}
 use Rattle.std.proofs.lemmas.Option.{none-some, same_Some}
 use Rattle.toml_edit_model.specs.Text.{Text}
-use Rattle.toml_edit_model.specs.Syntax.{Segment, is_short}
+use Rattle.toml_edit_model.specs.Syntax.{Segment, is_short, nesting_limit}
 use Rattle.toml_edit_model.specs.Tree.{Key}
 use Rattle.toml_edit_model.specs.Messages.{syntax_messages}
 use Rattle.toml_edit_model.specs.Lone.{IsLonePath, IsLongPath, MayRefusePath, lone_keys}
@@ -31,13 +31,13 @@ same_keys t ks before p after read is = same_Some ks (lone_keys before p after) 
 
 -- ---- what was read
 
-read_lone : (t : Text) (ks : List Key) → lone_at t ≡ Some ks → length ks ≤ 80 → AreLoneKeys t ks
+read_lone : (t : Text) (ks : List Key) → lone_at t ≡ Some ks → length ks ≤ nesting_limit → AreLoneKeys t ks
 read_lone t ks read few =
     let (before, p, after, is, same) = lone_takes t ks read in
     let short : is_short p ≡ true = grind (arith, nat_tests, ap length same, lone_length before p after) in
     (before, p, after, record { parts = is.parts; path = is.path; spaced = is.spaced; white_before = is.white_before; white_after = is.white_after; short = short }, same)
 
-read_not_long : (t : Text) (ks : List Key) → lone_at t ≡ Some ks → length ks ≤ 80 → (before : Text) (p : List Segment) (after : Text) → IsLongPath t before p after → ⊥
+read_not_long : (t : Text) (ks : List Key) → lone_at t ≡ Some ks → length ks ≤ nesting_limit → (before : Text) (p : List Segment) (after : Text) → IsLongPath t before p after → ⊥
 read_not_long t ks read few before p after l =
     let same = same_keys t ks before p after read (of_long t before p after l) in
     let short : is_short p ≡ true = grind (arith, nat_tests, ap length same, lone_length before p after) in
@@ -67,7 +67,7 @@ unread t none before p after is = none-some _ (sym none ∙ lone_again t before 
 module _ {V : Type 0} (view : V → List Key) (t : Text) where
   -- keys that were read, and the error otherwise
   abbrev pub IsRead : Result V ParseFault → Type 0
-  IsRead r = IfOk r (λ v. (lone_at t ≡ Some (view v)) × (length (view v) ≤ 80)) × IfErr r (λ e. IfToml e (IsPathFault t))
+  IsRead r = IfOk r (λ v. (lone_at t ≡ Some (view v)) × (length (view v) ≤ nesting_limit)) × IfErr r (λ e. IfToml e (IsPathFault t))
 
   pub parsed_keys : (r : Result V ParseFault) → IsRead r → IfOk r (λ v. AreLoneKeys t (view v))
   parsed_keys (Ok v) h = read_lone t (view v) h.0.0 h.0.1
@@ -109,7 +109,7 @@ missed t (Toml r) none h = inl (none, h)
 missed t Memory none h = tt
 
 -- enough keys were read, a dot, and then the tail
-pub longer_fault : (t before tail : Text) (ks : List Key) (e : ParseFault) → HasReadTo t before ks tail → 80 ≤ length ks
+pub longer_fault : (t before tail : Text) (ks : List Key) (e : ParseFault) → HasReadTo t before ks tail → nesting_limit ≤ length ks
     → IfToml e (IsLongerFault t tail) → IfToml e (IsPathFault t)
 longer_fault t before tail ks (Toml r) read enough h =
     elim h [

@@ -4,10 +4,10 @@ use mir.Syntax.{named}
 use Rattle.std.specs.Borrow.{Lends, MutBor, Fml, follows}
 use Rattle.toml_edit_model.specs.Tree.{Decor, Key}
 use Rattle.toml_edit_key.specs.KeyMutView.{lent_parts, with_parts}
-use Rattle.toml_edit_key.specs.declared.key.key_mut.KeyMut.{KeyMut}
+use Rattle.toml_edit_key.specs.declared.key.KeyMut.{KeyMut}
 use Rattle.toml_edit_key.specs.contracts.key.Key as key
 use Rattle.toml_edit_key.specs.contracts.key.KeyParts as key_parts
-use Rattle.toml_edit_key.specs.contracts.key.key_mut.KeyMut as key_mut
+use Rattle.toml_edit_key.specs.contracts.key.KeyMut as key_mut
 use Rattle.toml_edit_repr.specs.contracts.repr.Decor as decor
 
 -- the key ends with the final parts of r

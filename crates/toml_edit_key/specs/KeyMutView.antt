@@ -4,7 +4,7 @@ use Rattle.std.specs.Borrow.{MutBor}
 use Rattle.toml_edit_model.specs.Tree.{Key}
 use Rattle.toml_edit_key.specs.Kept.{kept}
 use Rattle.toml_edit_key.specs.declared.key.KeyParts.{KeyParts}
-use Rattle.toml_edit_key.specs.declared.key.key_mut.KeyMut.{KeyMut}
+use Rattle.toml_edit_key.specs.declared.key.KeyMut.{KeyMut}
 
 -- the reference to what may be written
 abbrev pub lent_parts : KeyMut → MutBor KeyParts

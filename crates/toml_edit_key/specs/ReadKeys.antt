@@ -1,7 +1,7 @@
 -- What reading a lone key or a lone path gives.
 use Rattle.std.specs.Prelude.{◌≡◌, ◌⊎◌, ◌<◌, List, length, None, Some, Result, MatchResult}
 use Rattle.toml_edit_model.specs.Text.{Text}
-use Rattle.toml_edit_model.specs.Syntax.{Segment}
+use Rattle.toml_edit_model.specs.Syntax.{Segment, nesting_limit}
 use Rattle.toml_edit_model.specs.Faults.{recursion_limit}
 use Rattle.toml_edit_model.specs.Messages.{IsSyntaxFault}
 use Rattle.toml_edit_model.specs.Lone.{IsLonePath, lone_keys}
@@ -29,9 +29,9 @@ AreLoneKeys t ks = (before : Text) × (p : List Segment) × (after : Text) × Is
 abbrev pub IsMisread : Text → Report → Type 0
 IsMisread t r = IsSyntaxFault (fault_of r) × (r.input ≡ t)
 
--- the text reads as more than 80 keys
+-- the text reads as more keys than a path may have
 abbrev pub ReadsLong : Text → Type 0
-ReadsLong t = (ks : List Key) × (lone_at t ≡ Some ks) × (80 < length ks)
+ReadsLong t = (ks : List Key) × (lone_at t ≡ Some ks) × (nesting_limit < length ks)
 
 -- the error of a text that reads as no path, or as one that is too long
 abbrev pub IsPathFault : Text → Report → Type 0

@@ -2,12 +2,6 @@
 //! tables with their tables.
 #![tactic(auto)]
 
-mod edit;
-mod holds;
-mod sort;
-mod whole;
+mod list;
 
-pub use edit::{get, insert, push, remove, replace};
-pub use holds::Holds;
-pub use sort::{sort_by, sort_by_key};
-pub use whole::retain;
+pub use list::{Holds, get, insert, push, remove, replace, retain, sort_by, sort_by_key};

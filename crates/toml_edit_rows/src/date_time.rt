@@ -1,5 +1,5 @@
 //! Rows on dates and times.
-use crate::kinds::Texts;
+use crate::program::Texts;
 use serde_json::Value as Json;
 use toml_edit::{Date, Datetime, Offset, Time, Value};
 use toml_edit_rows_read::{Answer, Row, steps};

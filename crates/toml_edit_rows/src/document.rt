@@ -1,5 +1,5 @@
 //! Rows on the text of a document.
-use crate::kinds::Texts;
+use crate::program::Texts;
 use crate::{events, prints, run};
 use serde_json::Value as Json;
 use toml_edit::{Document, DocumentMut, Mem, ParseFault, ParseOptions, SourceText, Version};

@@ -1,5 +1,5 @@
 //! Rows on keys and paths.
-use crate::kinds::Texts;
+use crate::program::Texts;
 use serde_json::Value as Json;
 use toml_edit::Key;
 use toml_edit_rows_read::key::{ask, ask_found, call_lent};

@@ -9,15 +9,15 @@ mod date_time;
 mod document;
 mod events;
 mod key;
-mod kinds;
 mod prints;
+mod program;
 mod run;
 mod scalar;
 mod streams;
 mod tokens;
 mod value;
 
-use kinds::Texts;
+use program::Texts;
 use std::process::ExitCode;
 
 fn main(rt: HostRuntime) -> ExitCode {

@@ -1,5 +1,5 @@
 //! Rows on scalars that are made and not parsed.
-use crate::kinds::Texts;
+use crate::program::Texts;
 use std::alloc::Global;
 use toml_edit::{FloatText, Mem, Value};
 use toml_edit_rows_read::{Answer, Row, refusal, steps};

@@ -1,6 +1,6 @@
 //! Rows on lone values.
 use crate::events;
-use crate::kinds::Texts;
+use crate::program::Texts;
 use serde_json::Value as Json;
 use toml_edit::{FromStr, FromStrWith, ParseOptions, Value, Version};
 use toml_edit_rows_read::steps::Tries;

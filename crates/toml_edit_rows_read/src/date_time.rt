@@ -1,5 +1,5 @@
 //! Questions on dates and times.
-use crate::said::Answer;
+use crate::answer::Answer;
 use crate::steps;
 use serde_json::Value as Json;
 use toml_edit_datetime::{Date, Datetime, Offset, Time};

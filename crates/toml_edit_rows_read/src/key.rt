@@ -1,5 +1,5 @@
 //! Questions on keys, and steps with them.
-use crate::said::Answer;
+use crate::answer::Answer;
 use crate::steps::{Asks, behind, word};
 use crate::value::{self, Plain};
 use serde_json::Value as Json;

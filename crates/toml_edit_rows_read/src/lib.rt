@@ -2,23 +2,23 @@
 //! one program of rows has.
 #![tactic(auto)]
 
+mod answer;
 mod bites;
 pub mod date_time;
 pub mod key;
-mod left;
 pub mod lines;
 pub mod list;
-pub mod made;
+pub mod make;
+mod out_of_memory;
 pub mod refusal;
 mod report;
 mod row;
-mod said;
 pub mod scalar;
 pub mod steps;
-pub mod told;
+pub mod tell;
 pub mod value;
 
+pub use answer::Answer;
 pub use bites::Bites;
 pub use report::run;
 pub use row::{Program, Row, items_of, text_of};
-pub use said::Answer;

@@ -1,5 +1,5 @@
 //! Writing the names and the lines of tables and of inline tables.
-use crate::said::Answer;
+use crate::answer::Answer;
 use toml_edit_key::Key;
 use toml_edit_repr::Mem;
 use toml_edit_tree::{Iter, Value};

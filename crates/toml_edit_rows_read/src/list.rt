@@ -1,7 +1,7 @@
 //! Questions on arrays and inline tables, and steps that change their decor.
-use crate::said::Answer;
+use crate::answer::Answer;
 use crate::steps::{behind, index, word};
-use crate::told::tell_found;
+use crate::tell::tell_found;
 use crate::{key, lines, steps, value};
 use serde_json::Value as Json;
 use toml_edit_repr::{Mem, RawString};

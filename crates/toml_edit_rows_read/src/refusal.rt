@@ -1,5 +1,5 @@
 //! Questions on a refusal.
-use crate::said::Answer;
+use crate::answer::Answer;
 use toml_edit_error::{ParseFault, TomlError};
 
 /// Answers a question on a text that was refused.

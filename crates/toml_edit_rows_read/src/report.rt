@@ -1,6 +1,6 @@
 //! The report on all rows.
+use crate::answer::Answer;
 use crate::row::{self, Program};
-use crate::said::Answer;
 use std::alloc::Global;
 use std::io;
 use std::process::ExitCode;

@@ -1,5 +1,5 @@
 //! A row: its questions, and the answers that it wants.
-use crate::said::{self, Answer};
+use crate::answer::{self, Answer};
 use serde_json::{Map, Value as Json};
 
 /// A program that tries rows of some kinds. A row is of a kind if it has a member of this name,
@@ -185,7 +185,7 @@ fn is_answered<P: Program>(row: Row<'_>, wanted: &Json, came: &mut Answer) -> bo
 fn beginning_of(wanted: &Json) -> &str {
     match wanted {
         Json::String(text) => text.as_str(),
-        Json::Bool(holds) => said::truth(*holds),
+        Json::Bool(holds) => answer::truth(*holds),
         _ => "",
     }
 }
@@ -194,7 +194,7 @@ fn beginning_of(wanted: &Json) -> &str {
 fn is_wanted(came: &str, wanted: &Json) -> bool {
     match wanted {
         Json::String(text) => came == text.as_str(),
-        Json::Bool(holds) => came == said::truth(*holds),
+        Json::Bool(holds) => came == answer::truth(*holds),
         Json::Array(_) => came.is_empty(),
         _ => match (came.parse::<u64>(), wanted.as_u64()) {
             (Ok(came), Some(wanted)) => came == wanted,

@@ -1,5 +1,5 @@
 //! Questions on scalars.
-use crate::said::Answer;
+use crate::answer::Answer;
 use toml_edit_repr::{Formatted, Repr, ValueRepr};
 use toml_edit_tree::Value;
 

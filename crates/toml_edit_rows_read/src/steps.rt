@@ -2,10 +2,11 @@
 ghost use Rattle.std.specs.Prelude.{IfOk};
 ghost use Rattle.std.specs.Iterator.{IsFinite};
 
+use crate::answer::Answer;
+use crate::out_of_memory::{judge, seen};
+use crate::refusal;
 use crate::row::{self, Row};
-use crate::said::Answer;
-use crate::told::Told;
-use crate::{left, refusal};
+use crate::tell::Told;
 use serde_json::Value as Json;
 use std::fmt::Debug;
 use toml_edit_error::ParseFault;
@@ -121,11 +122,11 @@ fn call<P: Tries<S>, S: Debug>(subject: &mut S, calls: &[Json], out: &mut Answer
 
 /// Makes the calls of a step, and judges what is left if one runs out of memory.
 fn watched<P: Tries<S>, S: Debug>(subject: &mut S, calls: &[Json], out: &mut Answer) {
-    match left::seen(subject, out.alloc) {
+    match seen(subject, out.alloc) {
         Ok(before) => {
             P::call(subject, calls, out);
             if out.is_call_refused() {
-                left::judge(before.as_str(), left::seen(subject, out.alloc), calls, out);
+                judge(before.as_str(), seen(subject, out.alloc), calls, out);
             }
         }
         Err(_) => out.cut_short(),

@@ -1,5 +1,5 @@
 //! Questions on any value, and steps that change its decor.
-use crate::said::Answer;
+use crate::answer::Answer;
 use crate::steps::{Asks, behind, copied, word};
 use crate::{date_time, list, scalar};
 use serde_json::Value as Json;

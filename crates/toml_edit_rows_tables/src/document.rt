@@ -1,5 +1,5 @@
 //! Rows on documents: those that are parsed, and empty ones.
-use crate::kinds::Tables;
+use crate::program::Tables;
 use crate::{indexing, prints, table};
 use serde_json::Value as Json;
 use toml_edit::{

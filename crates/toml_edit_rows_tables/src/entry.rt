@@ -1,11 +1,11 @@
 //! Entries of a table, and slots that it lends.
-use crate::kinds::Tables;
+use crate::program::Tables;
 use crate::table;
 use serde_json::Value as Json;
 use toml_edit::{Entry, Item, Key, Mem, OccupiedEntry, Table, VacantEntry};
 use toml_edit_rows_read::steps::{behind, index, word};
-use toml_edit_rows_read::told::{Told, tell_given, write};
-use toml_edit_rows_read::{Answer, key, made, value};
+use toml_edit_rows_read::tell::{Told, tell_given, write};
+use toml_edit_rows_read::{Answer, key, make, value};
 
 /// Makes a step with an entry, or with a slot that is lent, or answers a question on the table.
 pub fn change(table: &mut Table, words: &[Json], out: &mut Answer) {
@@ -13,13 +13,13 @@ pub fn change(table: &mut Table, words: &[Json], out: &mut Answer) {
     match word(words, 0) {
         "entry" => fill(
             table.entry(name),
-            made::item::<Tables>(word(words, 2), out),
+            make::item::<Tables>(word(words, 2), out),
             out,
         ),
         "entry_with" => fill_with(table.entry(name), out),
         "entry_format" => enter_formatted(table, words, out),
         "entry_remove" => remove(table, name, out),
-        "entry_into_mut" => write_over(table, name, made::item::<Tables>(word(words, 2), out), out),
+        "entry_into_mut" => write_over(table, name, make::item::<Tables>(word(words, 2), out), out),
         "vacant" => use_vacant(table.entry(name), behind(words, 2), out),
         _ => change_lent(table, words, out),
     }
@@ -29,8 +29,8 @@ pub fn change(table: &mut Table, words: &[Json], out: &mut Answer) {
 fn enter_formatted(table: &mut Table, words: &[Json], out: &mut Answer) {
     enter_at(
         table,
-        made::key(behind(words, 1), out),
-        made::item::<Tables>(word(words, 4), out),
+        make::key(behind(words, 1), out),
+        make::item::<Tables>(word(words, 4), out),
         out,
     );
 }
@@ -117,7 +117,7 @@ fn if_vacant(entry: Entry<'_>, words: &[Json], out: &mut Answer) {
 fn fill_vacant(entry: VacantEntry<'_>, words: &[Json], out: &mut Answer) {
     match word(words, 0) {
         "key" => out.text(entry.key()),
-        _ => insert_vacant(entry, made::item::<Tables>(word(words, 1), out), out),
+        _ => insert_vacant(entry, make::item::<Tables>(word(words, 1), out), out),
     }
 }
 
@@ -169,10 +169,10 @@ fn change_slot(slot: &mut OccupiedEntry<'_>, words: &[Json], out: &mut Answer) {
         "key_mut" => key::call_lent(&mut slot.key_mut(), rest, out),
         "get_mut" => write(
             Some(slot.get_mut()),
-            made::item::<Tables>(word(words, 1), out),
+            make::item::<Tables>(word(words, 1), out),
             out,
         ),
-        "insert" => insert(slot, made::item::<Tables>(word(words, 1), out), out),
+        "insert" => insert(slot, make::item::<Tables>(word(words, 1), out), out),
         call => out.no_such(call),
     }
 }

@@ -1,10 +1,10 @@
 //! Items inside of items, by a number or a key.
-use crate::kinds::Tables;
+use crate::program::Tables;
 use serde_json::Value as Json;
 use toml_edit::{DocumentMut, IndexFault, Item, Mem, Table};
 use toml_edit_rows_read::steps::{behind, word};
-use toml_edit_rows_read::told::{Told, tell_lent, write};
-use toml_edit_rows_read::{Answer, made};
+use toml_edit_rows_read::tell::{Told, tell_lent, write};
+use toml_edit_rows_read::{Answer, make};
 
 /// Answers a question on an item inside this one: by a number if the second word is one, else by it
 /// as a key.
@@ -58,7 +58,7 @@ fn read_under(item: &Item, key: &str, out: &mut Answer) {
 pub fn change(item: &mut Item, words: &[Json], out: &mut Answer) {
     match word(words, 0) {
         "item_get_mut" => write_found(item, words, out),
-        "item_or_insert" => fill(item, made::item::<Tables>(word(words, 1), out), out),
+        "item_or_insert" => fill(item, make::item::<Tables>(word(words, 1), out), out),
         _ => go_on(item, words, out),
     }
 }
@@ -66,7 +66,7 @@ pub fn change(item: &mut Item, words: &[Json], out: &mut Answer) {
 /// Writes an item over the one that the second word finds.
 fn write_found(item: &mut Item, words: &[Json], out: &mut Answer) {
     let place = word(words, 1);
-    let made = made::item::<Tables>(word(words, 2), out);
+    let made = make::item::<Tables>(word(words, 2), out);
     match place.parse::<usize>() {
         Ok(at) => write(item.get_mut(at), made, out),
         Err(_) => write(item.get_mut(place), made, out),
@@ -144,7 +144,7 @@ fn end(item: &mut Item, words: &[Json], out: &mut Answer) {
             Some(table) => table.fmt(),
             None => out.text("no inline table"),
         },
-        "becomes" => write(Some(item), made::item::<Tables>(word(words, 1), out), out),
+        "becomes" => write(Some(item), make::item::<Tables>(word(words, 1), out), out),
         "" => item.tell(out),
         call => out.no_such(call),
     }

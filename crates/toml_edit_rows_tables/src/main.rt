@@ -10,13 +10,13 @@ mod document;
 mod entry;
 mod indexing;
 mod item;
-mod kinds;
 mod prints;
+mod program;
 mod slots;
 mod table;
 mod tables;
 
-use kinds::Tables;
+use program::Tables;
 use std::process::ExitCode;
 
 fn main(rt: HostRuntime) -> ExitCode {

@@ -1,12 +1,12 @@
 //! Questions on the slots of a table, and steps that change them.
-use crate::kinds::Tables;
+use crate::program::Tables;
 use crate::{convert, entry};
 use serde_json::Value as Json;
 use std::mem;
 use toml_edit::{Item, Key, Mem, Table};
 use toml_edit_rows_read::steps::{behind, word};
-use toml_edit_rows_read::told::{tell_found, tell_old, tell_taken};
-use toml_edit_rows_read::{Answer, lines, made, steps};
+use toml_edit_rows_read::tell::{tell_found, tell_old, tell_taken};
+use toml_edit_rows_read::{Answer, lines, make, steps};
 
 /// Writes the number of slots, the slot at a place or under a key, or the lines.
 pub fn tell(table: &Table, words: &[Json], out: &mut Answer) {
@@ -43,7 +43,7 @@ fn tell_kind(table: &Table, words: &[Json], out: &mut Answer) {
 pub fn change(table: &mut Table, words: &[Json], out: &mut Answer) {
     let name = word(words, 1);
     match word(words, 0) {
-        "insert" => insert(table, name, made::item::<Tables>(word(words, 2), out), out),
+        "insert" => insert(table, name, make::item::<Tables>(word(words, 2), out), out),
         "insert_formatted" => insert_formatted(table, behind(words, 1), out),
         "remove" => tell_taken(table.remove(name), out),
         "remove_entry" => tell_taken(table.remove_entry(name), out),
@@ -66,7 +66,7 @@ fn insert(table: &mut Table, name: &str, made: Option<Item>, out: &mut Answer) {
 
 /// Inserts an item under a key whose spelling and leaf decor the words say.
 fn insert_formatted(table: &mut Table, words: &[Json], out: &mut Answer) {
-    match made::key(words, out) {
+    match make::key(words, out) {
         Some(key) => insert_under(table, &key, word(words, 3), out),
         None => out.text("no key"),
     }
@@ -84,15 +84,15 @@ fn insert_under(table: &mut Table, key: &Key, item: &str, out: &mut Answer) {
 fn item_for(there: Option<&mut Item>, said: &str, out: &mut Answer) -> Option<Item> {
     match there {
         Some(item) if said == "its own" => Some(out.handed(mem::replace(item, Item::None))),
-        _ => made::item::<Tables>(said, out),
+        _ => make::item::<Tables>(said, out),
     }
 }
 
 /// Adds a pair, or makes a table of it alone: a key with its decor, and an item.
 fn add_pair(table: &mut Table, words: &[Json], out: &mut Answer) {
     match (
-        made::key(behind(words, 1), out),
-        made::item::<Tables>(word(words, 4), out),
+        make::key(behind(words, 1), out),
+        make::item::<Tables>(word(words, 4), out),
     ) {
         (Some(key), Some(item)) if word(words, 0) == "extend" => {
             out.done(table.extend(Some((key, item))));

@@ -1,15 +1,15 @@
 //! Questions on tables, arrays of tables and items, and steps that change them.
-use crate::kinds::Tables;
+use crate::program::Tables;
 use crate::{convert, document, indexing, item, slots, tables};
 use serde_json::Value as Json;
 use toml_edit::{ArrayOfTables, FromStr, Item, Table, Value};
 use toml_edit_rows_read::steps::{Asks, Tries, behind, copied, word};
-use toml_edit_rows_read::{Answer, Row, key, lines, made, refusal, steps, value};
+use toml_edit_rows_read::{Answer, Row, key, lines, make, refusal, steps, value};
 
 /// Answers rows on an item that is made from the row's words.
 pub fn answer(row: Row<'_>, out: &mut Answer) {
     match row.question {
-        "steps" => steps::found::<Tables, _>(made::item::<Tables>(row.text(), out), row, out),
+        "steps" => steps::found::<Tables, _>(make::item::<Tables>(row.text(), out), row, out),
         _ => out.no_such(row.question),
     }
 }

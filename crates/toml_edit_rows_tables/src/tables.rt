@@ -1,11 +1,11 @@
 //! Steps that change arrays of tables.
-use crate::kinds::Tables;
+use crate::program::Tables;
 use crate::{convert, table};
 use serde_json::Value as Json;
 use toml_edit::{ArrayOfTables, Item, Table};
-use toml_edit_rows_read::made::{Reads, item};
+use toml_edit_rows_read::make::{Reads, item};
 use toml_edit_rows_read::steps::{behind, word};
-use toml_edit_rows_read::{Answer, told};
+use toml_edit_rows_read::{Answer, tell};
 
 /// Makes a step with an array of tables, if there is one. The answer to a call that returns nothing
 /// is empty.
@@ -68,7 +68,7 @@ fn change_at(tables: &mut ArrayOfTables, words: &[Json], out: &mut Answer) {
     match word(words, 0) {
         "insert" | "replace" => put_at(tables, at, words, Tables::root(word(words, 2), out), out),
         "get_mut" => table::change_lent(tables.get_mut(at), behind(words, 2), out),
-        "slot_at_mut" => told::set_none(tables.slot_at_mut(at), out),
+        "slot_at_mut" => tell::set_none(tables.slot_at_mut(at), out),
         _ if tables.get(at).is_none() => out.text("none"),
         "remove" => out.shown(&tables.remove(at)),
         _ => change_taken(tables, at, behind(words, 2), out),

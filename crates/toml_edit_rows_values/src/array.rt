@@ -4,8 +4,8 @@ use std::alloc::Global;
 use std::cmp::Ordering;
 use toml_edit::{Array, Mem, Value};
 use toml_edit_rows_read::steps::{behind, index, word};
-use toml_edit_rows_read::told::{set_none, tell_given, write};
-use toml_edit_rows_read::{Answer, list, made};
+use toml_edit_rows_read::tell::{set_none, tell_given, write};
+use toml_edit_rows_read::{Answer, list, make};
 
 /// Makes a step with an array, if there is one.
 pub fn change_found(array: Option<&mut Array>, words: &[Json], out: &mut Answer) {
@@ -26,15 +26,15 @@ fn change(array: &mut Array, words: &[Json], out: &mut Answer) {
         "sort_by" if argument == "less" => out.done(sort_by_nothing(array)),
         "sort_by" => out.done(sort_by_type(array)),
         "sort_by_key" => out.done(sort(array)),
-        "from_iter" => from_iter(made::value(behind(words, 1), out), out),
-        "value_from_iter" => value_from_iter(made::value(behind(words, 1), out), out),
+        "from_iter" => from_iter(make::value(behind(words, 1), out), out),
+        "value_from_iter" => value_from_iter(make::value(behind(words, 1), out), out),
         "value_from_texts" => value_from_texts(strings(out.alloc, behind(words, 1)), out),
-        "extend" => extend(array, made::value(behind(words, 1), out), out),
+        "extend" => extend(array, make::value(behind(words, 1), out), out),
         "insert" | "insert_formatted" | "replace" | "replace_formatted" => {
-            put_at(array, words, made::value(behind(words, 2), out), out);
+            put_at(array, words, make::value(behind(words, 2), out), out);
         }
         "remove" => remove(array, index(words), out),
-        "get_mut" => lend(array, words, made::value(behind(words, 2), out), out),
+        "get_mut" => lend(array, words, make::value(behind(words, 2), out), out),
         "slot_at_mut" => set_none(array.slot_at_mut(index(words)), out),
         _ => list::change_array(array, words, out),
     }
@@ -46,7 +46,7 @@ fn lend(array: &mut Array, words: &[Json], made: Option<Value>, out: &mut Answer
 }
 
 fn push(array: &mut Array, words: &[Json], out: &mut Answer) {
-    match made::value(behind(words, 1), out) {
+    match make::value(behind(words, 1), out) {
         Some(value) if word(words, 0) == "push" => out.put(array.push(value)),
         Some(value) => out.put(array.push_formatted(value)),
         None => out.text("no value"),

@@ -1,5 +1,5 @@
 //! Rows on documents that hold a value, or a table of either kind.
-use crate::kinds::Values;
+use crate::program::Values;
 use crate::{item, prints};
 use serde_json::Value as Json;
 use toml_edit::{Document, DocumentMut, ParseFault};

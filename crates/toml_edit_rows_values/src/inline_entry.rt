@@ -5,19 +5,19 @@ use toml_edit::{
     InlineEntry, InlineOccupiedEntry, InlineTable, InlineVacantEntry, Key, Mem, Value,
 };
 use toml_edit_rows_read::steps::{behind, word};
-use toml_edit_rows_read::told::{Told, tell_given, write};
-use toml_edit_rows_read::{Answer, key, made, value};
+use toml_edit_rows_read::tell::{Told, tell_given, write};
+use toml_edit_rows_read::{Answer, key, make, value};
 
 /// Makes a step with an entry, or with a slot that is lent, or changes what is no slot.
 pub fn change(table: &mut InlineTable, words: &[Json], out: &mut Answer) {
     let name = word(words, 1);
     let rest = behind(words, 2);
     match word(words, 0) {
-        "entry" => fill(table.entry(name), made::value(rest, out), out),
+        "entry" => fill(table.entry(name), make::value(rest, out), out),
         "entry_with" => fill_with(table.entry(name), out),
         "entry_format" => enter_formatted(table, words, out),
         "entry_remove" => remove(table.entry(name), out),
-        "entry_into_mut" => write_over(table.entry(name), made::value(rest, out), out),
+        "entry_into_mut" => write_over(table.entry(name), make::value(rest, out), out),
         "vacant" => use_vacant(table.entry(name), rest, out),
         "occupied" => use_occupied(table.entry(name), rest, out),
         _ => inline_slot::change(table, words, out),
@@ -28,8 +28,8 @@ pub fn change(table: &mut InlineTable, words: &[Json], out: &mut Answer) {
 fn enter_formatted(table: &mut InlineTable, words: &[Json], out: &mut Answer) {
     enter_at(
         table,
-        made::key(behind(words, 1), out),
-        made::value(behind(words, 4), out),
+        make::key(behind(words, 1), out),
+        make::value(behind(words, 4), out),
         out,
     );
 }
@@ -151,7 +151,7 @@ fn if_vacant(entry: InlineEntry<'_>, words: &[Json], out: &mut Answer) {
 fn fill_vacant(entry: InlineVacantEntry<'_>, words: &[Json], out: &mut Answer) {
     match word(words, 0) {
         "key" => out.text(entry.key()),
-        _ => insert_vacant(entry, made::value(behind(words, 1), out), out),
+        _ => insert_vacant(entry, make::value(behind(words, 1), out), out),
     }
 }
 
@@ -176,8 +176,8 @@ fn change_slot(slot: &mut InlineOccupiedEntry<'_>, words: &[Json], out: &mut Ans
         "dotted_decor_mut" => value::change_decor(slot.dotted_decor_mut(), rest, out),
         "fmt_key" => slot.fmt_key(),
         "key_mut" => key::call_lent(&mut slot.key_mut(), rest, out),
-        "get_mut" => write(Some(slot.get_mut()), made::value(rest, out), out),
-        "insert" => insert(slot, made::value(rest, out), out),
+        "get_mut" => write(Some(slot.get_mut()), make::value(rest, out), out),
+        "insert" => insert(slot, make::value(rest, out), out),
         call => out.no_such(call),
     }
 }

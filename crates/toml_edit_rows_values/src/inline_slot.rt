@@ -1,10 +1,10 @@
 //! Slots of any item that an inline table lends.
-use crate::kinds::Values;
+use crate::program::Values;
 use serde_json::Value as Json;
 use toml_edit::{InlineSlotMut, InlineTable};
 use toml_edit_rows_read::steps::{behind, index, word};
-use toml_edit_rows_read::told::{Told, write};
-use toml_edit_rows_read::{Answer, key, list, made, value};
+use toml_edit_rows_read::tell::{Told, write};
+use toml_edit_rows_read::{Answer, key, list, make, value};
 
 /// Makes a step with a slot, or changes what is none.
 pub fn change(table: &mut InlineTable, words: &[Json], out: &mut Answer) {
@@ -43,7 +43,7 @@ fn change_slot(slot: &mut InlineSlotMut<'_>, words: &[Json], out: &mut Answer) {
         "key_mut" => key::call_lent(&mut slot.key_mut(), rest, out),
         "get_mut" => write(
             Some(slot.get_mut()),
-            made::item::<Values>(word(words, 1), out),
+            make::item::<Values>(word(words, 1), out),
             out,
         ),
         call => out.no_such(call),

@@ -1,15 +1,15 @@
 //! Rows on items that hold a value, or a table of either kind.
-use crate::kinds::Values;
-use crate::{array, inline, like, value};
+use crate::program::Values;
+use crate::{array, inline_table, table_like, value};
 use serde_json::Value as Json;
 use toml_edit::{AsTableLike, Item, Key, Table};
 use toml_edit_rows_read::steps::{Tries, behind, word};
-use toml_edit_rows_read::told::tell_old;
-use toml_edit_rows_read::{Answer, Row, made, refusal, steps, value as asked};
+use toml_edit_rows_read::tell::tell_old;
+use toml_edit_rows_read::{Answer, Row, make, refusal, steps, value as asked};
 
 /// Answers rows on an item that is made from the row's words.
 pub fn answer(row: Row<'_>, out: &mut Answer) {
-    steps::found::<Values, _>(made::item::<Values>(row.text(), out), row, out);
+    steps::found::<Values, _>(make::item::<Values>(row.text(), out), row, out);
 }
 
 impl Tries<Item> for Values {
@@ -39,9 +39,9 @@ pub fn change_table(table: &mut Table, words: &[Json], out: &mut Answer) {
 
 fn change_here(table: &mut Table, words: &[Json], out: &mut Answer) {
     match word(words, 0) {
-        "like" => like::change_table(table, behind(words, 1), out),
+        "like" => table_like::change_table(table, behind(words, 1), out),
         "insert_formatted" => insert_formatted(table, behind(words, 1), out),
-        "insert" => match made::item::<Values>(word(words, 2), out) {
+        "insert" => match make::item::<Values>(word(words, 2), out) {
             Some(item) => tell_old(table.insert(word(words, 1), item), out),
             None => out.text("no item"),
         },
@@ -50,14 +50,14 @@ fn change_here(table: &mut Table, words: &[Json], out: &mut Answer) {
 }
 
 fn insert_formatted(table: &mut Table, words: &[Json], out: &mut Answer) {
-    match made::key(words, out) {
+    match make::key(words, out) {
         Some(key) => insert_under(table, &key, word(words, 3), out),
         None => out.text("no key"),
     }
 }
 
 fn insert_under(table: &mut Table, key: &Key, item: &str, out: &mut Answer) {
-    match made::item::<Values>(item, out) {
+    match make::item::<Values>(item, out) {
         Some(item) => tell_old(table.insert_formatted(key, item), out),
         None => out.text("no item"),
     }
@@ -83,9 +83,13 @@ fn change(item: &mut Item, words: &[Json], out: &mut Answer) {
             None => out.text("none"),
         },
         "item_as_array_mut" => array::change_found(item.as_array_mut(), rest, out),
-        "item_as_inline_table_mut" => inline::change_found(item.as_inline_table_mut(), rest, out),
+        "item_as_inline_table_mut" => inline_table::change_found(
+            item.as_inline_table_mut(),
+            rest,
+            out,
+        ),
         "as_table_like_mut" => match item.as_table_like_mut() {
-            Some(mut table) => like::change_ref(&mut table, rest, out),
+            Some(mut table) => table_like::change_ref(&mut table, rest, out),
             None => out.text("none"),
         },
         "make_value" => item.make_value(),
@@ -112,7 +116,7 @@ fn ask(item: &Item, words: &[Json], out: &mut Answer) {
     let rest = behind(words, 1);
     match word(words, 0) {
         "is_table_like" => out.truth(item.is_table_like()),
-        "as_table_like" => like::ask_lent(item.as_table_like(), rest, out),
+        "as_table_like" => table_like::ask_lent(item.as_table_like(), rest, out),
         "type_name" => out.text(item.type_name()),
         "item_to_string" => out.shown(item),
         "as_value" => ask_value(item, rest, out),

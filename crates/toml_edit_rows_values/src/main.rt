@@ -7,16 +7,16 @@
 
 mod array;
 mod document;
-mod inline;
 mod inline_entry;
 mod inline_slot;
+mod inline_table;
 mod item;
-mod kinds;
-mod like;
 mod prints;
+mod program;
+mod table_like;
 mod value;
 
-use kinds::Values;
+use program::Values;
 use std::process::ExitCode;
 
 fn main(rt: HostRuntime) -> ExitCode {

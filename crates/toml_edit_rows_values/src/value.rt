@@ -1,6 +1,6 @@
 //! Rows on lone values, and on arrays and inline tables that are made.
-use crate::kinds::Values;
-use crate::{array, inline};
+use crate::program::Values;
+use crate::{array, inline_table};
 use serde_json::Value as Json;
 use toml_edit::{Array, FromStr, InlineTable, Value};
 use toml_edit_rows_read::steps::{Tries, behind, word};
@@ -36,7 +36,7 @@ pub fn change(value: &mut Value, words: &[Json], out: &mut Answer) {
     let rest = behind(words, 1);
     match word(words, 0) {
         "as_array_mut" => array::change_found(value.as_array_mut(), rest, out),
-        "as_inline_table_mut" => inline::change_found(value.as_inline_table_mut(), rest, out),
+        "as_inline_table_mut" => inline_table::change_found(value.as_inline_table_mut(), rest, out),
         _ => value::change(value, words, out),
     }
 }

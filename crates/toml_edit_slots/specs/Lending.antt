@@ -10,7 +10,7 @@ use Rattle.toml_edit_slots.specs.declared.slots.Slot.{Slot}
 use Rattle.toml_edit_slots.specs.contracts.slots.Slots.{the_row}
 use Rattle.toml_edit_key.specs.KeyMutView.{lent_parts, with_parts}
 use Rattle.toml_edit_key.specs.contracts.key.KeyParts as key_parts
-use Rattle.toml_edit_key.specs.declared.key.key_mut.KeyMut.{KeyMut}
+use Rattle.toml_edit_key.specs.declared.key.KeyMut.{KeyMut}
 use Rattle.toml_edit_repr.specs.contracts.repr.Decor as decor
 
 -- the slots end with the final value of r as the item at the place

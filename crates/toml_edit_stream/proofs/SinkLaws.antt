@@ -7,7 +7,7 @@ use Rattle.std.specs.declared.fmt.Formatter.{Formatter}
 use Rattle.std.proofs.Output.{has_written_append, writes_in_calls_nil}
 use Rattle.std.specs.Io.KnownBytes.{Appends}
 use Rattle.std.proofs.KnownBytes.{Appends-nil, Appends-trans}
-use Rattle.toml_edit_stream.specs.Whole.{AppendsBeginning}
+use Rattle.toml_edit_stream.specs.Streams.{AppendsBeginning}
 use Rattle.toml_edit_stream.specs.Sinks.{Shows, Grows, Writes}
 
 module _ {W : Type 0} (took : W → List ℕ → W → Type 0) where

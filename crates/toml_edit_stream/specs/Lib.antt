@@ -1,4 +1,4 @@
 -- What the contracts of streams cite.
 pub mod Watch
-pub mod Whole
+pub mod Streams
 pub mod Sinks

@@ -4,7 +4,7 @@ use Rattle.std.specs.Borrow.{MutBor}
 use Rattle.std.specs.declared.fmt.Formatter.{Formatter}
 use Rattle.std.specs.Fmt.{IsPlainFormatter, HasWritten}
 use Rattle.std.specs.Io.KnownBytes.{Appends}
-use Rattle.toml_edit_stream.specs.Whole.{AppendsBeginning}
+use Rattle.toml_edit_stream.specs.Streams.{AppendsBeginning}
 
 -- a formatter: the text was written to it, unless it has a fault
 pub record Shows {W : Type 0} (took : W → List ℕ → W → Type 0) (before : Bool) (f : MutBor (Formatter W)) (text : List ℕ) (after : Bool) (g : MutBor (Formatter W)) : Type 0 where

@@ -5,10 +5,8 @@ mod sink;
 mod sinks;
 mod streams;
 mod watch;
-mod whole;
 
 pub use sink::{Printed, Sink};
 pub use sinks::{print, print_to, show};
-pub use streams::{Broken, Input, Output};
+pub use streams::{Broken, Input, Output, ReadFault, read_to_end, write_all};
 pub use watch::Watched;
-pub use whole::{ReadFault, read_to_end, write_all};

@@ -3,11 +3,10 @@
 ghost use Rattle.std.specs.Prelude.{◌≡◌, IfOk, OnOk, OnErr, string_bytes, true};
 ghost use Rattle.std.specs.Fmt.{WritesOnOk};
 ghost use Rattle.std.specs.Io.KnownBytes.{Appends};
-ghost use Rattle.toml_edit_stream.specs.Whole.{AppendsBeginning};
+ghost use Rattle.toml_edit_stream.specs.Streams.{AppendsBeginning};
 
 use super::sink::{Printed, Sink};
-use super::streams::{Broken, Output};
-use super::whole::write_all;
+use super::streams::{Broken, Output, write_all};
 use arrayvec::ArrayString;
 use std::alloc::{AllocError, Global};
 use std::fmt;

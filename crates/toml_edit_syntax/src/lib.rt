@@ -13,3 +13,4 @@ pub use event::{Event, EventKind, Span};
 pub use lexer::{SyntaxFault, events};
 pub use lone_value::lone_events;
 pub use mistake::Mistake;
+pub use value::NESTING_LIMIT;

@@ -1,5 +1,6 @@
 //! Keys, scalars, arrays and inline tables.
 ghost use Rattle.std.specs.Prelude.{◌≡◌, ℕ, List, ◌+◌, ◌*◌, ◌-◌, ◌++◌, [], ◌∷◌, ◌<◌, ◌≤◌, false, true, length, drop, None, option_map, IfOk, IfErr, MatchResult};
+ghost use Rattle.toml_edit_model.specs.Syntax.{nesting_limit};
 ghost use Rattle.toml_edit_syntax.specs.Gives.{Adds, IsBefore, Leaves};
 ghost use Rattle.toml_edit_laws.specs.reading.Runs.{first};
 ghost use Rattle.toml_edit_syntax.specs.Scanning.{turn};
@@ -15,8 +16,8 @@ use std::alloc::AllocError;
 use toml_edit_token::run::{Class, byte_at, first, skip, split_run};
 use toml_edit_token::{after_key, after_scalar};
 
-/// The most arrays and inline tables that are open at once.
-const MOST: usize = 80;
+/// The most arrays and inline tables that may be open at once, and the most keys of a path.
+pub const NESTING_LIMIT: usize = 80;
 
 /// The brackets around elements or pairs.
 #[derive(Clone, Copy)]
@@ -258,7 +259,7 @@ pub(crate) fn value<'a>(
     s: &'a str,
 ) -> Result<&'a str, Stop>
     requires fits { length s.now ≤ whole }
-    requires level { level ≤ 80 }
+    requires level { level ≤ nesting_limit }
     ensures adds { (n : ℕ) → 2 * length s.now + 2 ≤ n → Adds events.old.items events.new.items result (read.value_read n level whole s.now) }
     ensures shorter { IfOk result (λ r. length r.now < length s.now) }
 {
@@ -266,7 +267,7 @@ pub(crate) fn value<'a>(
         return scalar(events, whole, s);
     };
     let rest = skip(s, 1);
-    if level == MOST {
+    if level == NESTING_LIMIT {
         events.push(part(EventKind::TooDeep, whole - s.len(), whole - rest.len()))?;
         return Err(Stop::TooDeep);
     }
@@ -285,7 +286,7 @@ fn items<'a>(
     s: &'a str,
 ) -> Result<&'a str, Stop>
     requires fits { length s.now ≤ whole }
-    requires level { level ≤ 80 }
+    requires level { level ≤ nesting_limit }
     ensures adds { (n : ℕ) → 2 * length s.now + 3 ≤ n → Adds events.old.items events.new.items result (read.items_read brackets n level whole false s.now) }
     ensures shorter { IfOk result (λ r. length r.now < length s.now) }
 {

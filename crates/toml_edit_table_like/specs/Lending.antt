@@ -7,7 +7,7 @@ use Rattle.toml_edit_model.specs.Text.{Text}
 use Rattle.toml_edit_model.specs.Tree.{Decor, Key}
 use Rattle.toml_edit_key.specs.KeyMutView.{lent_parts, with_parts}
 use Rattle.toml_edit_key.specs.contracts.key.KeyParts.{the_row as parts_row}
-use Rattle.toml_edit_key.specs.declared.key.key_mut.KeyMut.{KeyMut}
+use Rattle.toml_edit_key.specs.declared.key.KeyMut.{KeyMut}
 use Rattle.toml_edit_repr.specs.contracts.repr.Decor.{the_row as decor_row}
 use Rattle.toml_edit_slots.specs.Slots.{on_key, place, with_item}
 use Rattle.toml_edit_slots.specs.contracts.slots.Slots.{the_row as slots_row}

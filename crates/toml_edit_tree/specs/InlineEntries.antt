@@ -8,7 +8,7 @@ use Rattle.toml_edit_model.specs.InlineCalls.{entered}
 use Rattle.toml_edit_model.specs.Slots as model
 use Rattle.toml_edit_key.specs.KeyMutView.{lent_parts, with_parts}
 use Rattle.toml_edit_key.specs.contracts.key.KeyParts.{the_row as parts_row}
-use Rattle.toml_edit_key.specs.declared.key.key_mut.KeyMut.{KeyMut}
+use Rattle.toml_edit_key.specs.declared.key.KeyMut.{KeyMut}
 use Rattle.toml_edit_model.specs.Tree.{Decor, Key, Node}
 use Rattle.toml_edit_repr.specs.contracts.repr.Decor.{the_row as decor_row}
 use Rattle.toml_edit_slots.specs.Slots.{with_item}

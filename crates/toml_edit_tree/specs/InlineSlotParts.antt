@@ -6,7 +6,7 @@ use Rattle.std.specs.Borrow.{MutBor, Fml, Lends, follows, RestsIfNone}
 use Rattle.toml_edit_model.specs.Tree.{Decor, Key}
 use Rattle.toml_edit_key.specs.KeyMutView.{lent_parts, with_parts}
 use Rattle.toml_edit_key.specs.contracts.key.KeyParts.{the_row as parts_row}
-use Rattle.toml_edit_key.specs.declared.key.key_mut.KeyMut.{KeyMut}
+use Rattle.toml_edit_key.specs.declared.key.KeyMut.{KeyMut}
 use Rattle.toml_edit_repr.specs.contracts.repr.Decor.{the_row as decor_row}
 use Rattle.toml_edit_slots.specs.Entries.{length-on_key, length-with_item}
 use Rattle.toml_edit_slots.specs.Slots.{items_of, with_item}

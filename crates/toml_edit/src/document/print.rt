@@ -1,7 +1,7 @@
 //! Printing a document: as a text, to an output, or to a formatter.
 ghost use Rattle.std.specs.Prelude.{◌≡◌, [], false, true, OnOk, IfOk, IsErrOf, string_bytes};
 ghost use Rattle.std.specs.Io.KnownBytes.{Appends};
-ghost use Rattle.toml_edit_stream.specs.Whole.{AppendsBeginning};
+ghost use Rattle.toml_edit_stream.specs.Streams.{AppendsBeginning};
 ghost use Rattle.toml_edit_tree.specs.Printing.{keys_on};
 ghost use Rattle.toml_edit.specs.DocumentView.{print_of};
 

@@ -1,9 +1,7 @@
 //! Calls that concern all slots.
-ghost use Rattle.std.specs.Prelude.{◌≡◌, not, List, [], IsPermutation, IfOk, OnOk, OnErr};
+ghost use Rattle.std.specs.Prelude.{◌≡◌, List, [], IsPermutation, IfOk, OnOk, OnErr};
 ghost use Rattle.std.specs.Iterator.{Drains, ExtendsWithItems, IsFinite};
-ghost use Rattle.toml_edit_model.specs.Order.{sorted_by};
 ghost use Rattle.toml_edit_model.specs.Retaining.{RetainsBy};
-ghost use Rattle.toml_edit_model.specs.Sorting.{IsSortOf, name_lt};
 ghost use Rattle.toml_edit_slots.specs.Closures.{SaysOfSlot, SortsAs};
 ghost use Rattle.toml_edit_slots.specs.Seen.{Adds, seen, slot_seen};
 
@@ -48,21 +46,6 @@ impl<T> Slots<T> {
         let sorted = self.entries.sort_by(compare);
         index_those(&mut self.index, &self.entries);
         sorted
-    }
-
-    /// Sorts the slots by the bytes of their names.
-    ///
-    /// # Errors
-    ///
-    /// Fails only if memory runs out; the slots then stay as they were.
-    pub fn sort_by_name(&mut self) -> Result<(), AllocError>
-        ensures permutation { IsPermutation (seen self.old) (seen self.new) }
-        ensures sorted { OnOk result (IsSortOf name_lt (seen self.old) (seen self.new)) }
-        // The order of names is lawful, so that there is one such list.
-        ensures in_order { OnOk result (seen self.new ≡ sorted_by (λ s r. not (name_lt r s)) (seen self.old)) }
-        ensures err { OnErr result (self.new ≡ self.old) }
-    {
-        self.sort_by(|one, other| one.key.cmp(&other.key))
     }
 
     /// Removes all slots.

@@ -136,8 +136,8 @@ value-returns-in_default-clause-adds t c n h =
     let other : (b : Brackets) → first s ≢ opening_byte b = λ b e. c.in_default.ensures b (c.first.ensures ∙ e) in
     subst (Leaves c.scalar.new.events.items c.scalar.result) (sym (ap by is ∙ ap (preceded old) (value_scalar m c.args.level c.args.whole s other))) c.scalar.ensures.adds
 
-pub value-returns-then-level-eq-MOST-clause-adds : goal.value-returns-then-level-eq-MOST-clause-adds
-value-returns-then-level-eq-MOST-clause-adds t c n h =
+pub value-returns-then-level-eq-NESTING_LIMIT-clause-adds : goal.value-returns-then-level-eq-NESTING_LIMIT-clause-adds
+value-returns-then-level-eq-NESTING_LIMIT-clause-adds t c n h =
     let old = c.args.events.now.items in
     let s = c.args.s.now in
     let (m, is) = loop.one_less n (omega (arith, h)) in
@@ -146,7 +146,7 @@ value-returns-then-level-eq-MOST-clause-adds t c n h =
     let rest = c.skip-rest.result.now in
     let pushed = added old c.push.new.self.items c.part.result _ c.in_ok-push.ensures.items c.part.ensures in
     ap by is
-    ∙ ap (preceded old) (value_sinks m c.args.level c.args.whole s (omega arith) c.in-Some.brackets here c.if-level-eq-MOST.true)
+    ∙ ap (preceded old) (value_sinks m c.args.level c.args.whole s (omega arith) c.in-Some.brackets here c.if-level-eq-NESTING_LIMIT.true)
     ∙ ap (λ (x : Text). deep (old ++ between TooDeep (c.args.whole - length s) (c.args.whole - length x) ∷ [])) (sym c.skip-rest.ensures.rest)
     ∙ ap deep (sym pushed)
 
@@ -165,7 +165,7 @@ value-returns-clause-adds t c n h =
     let inside = λ (level : ℕ) (x : Text). items_read b m level c.args.whole false x in
     let one_more : suc c.args.level ≡ c.args.level + 1 = omega arith in
     let all = ap by is
-    ∙ ap (preceded old) (value_opens m c.args.level c.args.whole s (omega arith) (omega arith) c.if-level-eq-MOST.false b here)
+    ∙ ap (preceded old) (value_opens m c.args.level c.args.whole s (omega arith) (omega arith) c.if-level-eq-NESTING_LIMIT.false b here)
     ∙ preceded-twice old (between (opening b) (c.args.whole - length s) (c.args.whole - length (drop 1 s)) ∷ []) (inside (suc c.args.level) (drop 1 s))
     ∙ ap (λ (es : List Event). preceded es (inside (suc c.args.level) (drop 1 s))) (sym opened)
     ∙ ap (λ (x : Text). preceded c.push-2.new.self.items (inside (suc c.args.level) x)) (sym c.skip-rest.ensures.rest)

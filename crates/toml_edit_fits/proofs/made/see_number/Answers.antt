@@ -1,6 +1,0 @@
--- An integer of 64 bits is in range.
-use Rattle.toml_edit_fits.proofs.MadeLaws.{integer-fits}
-use Rattle.toml_edit_fits.proofs.made.see_number.Goals as goal
-
-pub returns : goal.returns
-returns c = integer-fits c.args.value c.ranges.value
