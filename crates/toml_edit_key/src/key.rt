@@ -223,14 +223,16 @@ impl Key {
         &mut parts.leaf
     }
 
-    /// Returns the whitespace between the key and the dots beside it.
+    /// Returns the decor of the key beside dots: the whitespace between the key and the dots before
+    /// and after it.
     pub fn dotted_decor(&self) -> &Decor
         ensures { result.now ≡ self.now.dotted }
     {
         &self.parts.dotted
     }
 
-    /// Returns a mutable reference to the whitespace between the key and the dots beside it.
+    /// Returns a mutable reference to the decor of the key beside dots: the whitespace between the
+    /// key and the dots before and after it.
     pub fn dotted_decor_mut(&mut self) -> &mut Decor
         ensures* writes_back { sem 𝓛 (LendsDotted self.entry result) }
         ensures decor { result.now ≡ self.old.dotted }
@@ -512,14 +514,16 @@ impl<'k> KeyMut<'k> {
         &mut parts.leaf
     }
 
-    /// Returns the whitespace between the key and the dots beside it.
+    /// Returns the decor of the key beside dots: the whitespace between the key and the dots before
+    /// and after it.
     pub fn dotted_decor(&self) -> &Decor
         ensures { result.now ≡ (key_of self.now).dotted }
     {
         &self.parts.dotted
     }
 
-    /// Returns a mutable reference to the whitespace between the key and the dots beside it.
+    /// Returns a mutable reference to the decor of the key beside dots: the whitespace between the
+    /// key and the dots before and after it.
     pub fn dotted_decor_mut(&mut self) -> &mut Decor
         ensures* writes_back { sem 𝓛 (LendsDottedMut self.entry result) }
         ensures decor { result.now ≡ (key_of self.old).dotted }

@@ -16,11 +16,11 @@ use toml_edit_key::{Key, KeyMut};
 use toml_edit_repr::{Decor, Mem};
 
 impl<T> Slots<T> {
-    /// Returns the entry of the name. If it is vacant, its key has the name and no formatting.
+    /// Returns the entry of the name. A new key will have the default spelling and no decor.
     ///
     /// # Errors
     ///
-    /// Fails only if the name is new and memory runs out; the slots then stay as they were.
+    /// Returns an `AllocError` if out of memory, at a new name alone; the slots stay as they were.
     pub fn entry(&mut self, name: &str) -> Mem<Entry<'_, T>>
         ensures* refused { sem 𝓛 (RestsIfRefused T.row self.entry result) }
         ensures same_slots { IfOk result (λ e. (entry_ref e).ghost_name ≡ self.entry.ghost_name) }
@@ -36,12 +36,12 @@ impl<T> Slots<T> {
         }
     }
 
-    /// Returns the entry of the key's name. If it is vacant, it has a copy of the key with its
-    /// formatting.
+    /// Returns the entry of the key's name. A new key will be a copy of `key`, with its spelling and
+    /// its decor. An existing one stays as it is.
     ///
     /// # Errors
     ///
-    /// Fails only if the name is new and memory runs out; the slots then stay as they were.
+    /// Returns an `AllocError` if out of memory, at a new name alone; the slots stay as they were.
     pub fn entry_format(&mut self, key: &Key) -> Mem<Entry<'_, T>>
         ensures* refused { sem 𝓛 (RestsIfRefused T.row self.entry result) }
         ensures same_slots { IfOk result (λ e. (entry_ref e).ghost_name ≡ self.entry.ghost_name) }
