@@ -16,7 +16,7 @@ use Rattle.toml_edit_laws.specs.reading.Runs.{first, Read}
 use Rattle.toml_edit_laws.specs.reading.ScalarReading.{scalar_at}
 use Rattle.toml_edit_syntax.specs.Scanning.{scan, equals_at}
 use Rattle.toml_edit_syntax.specs.ValueEvents.{event, frame_events, value_at_byte, value_events, is_too_deep, are_deep}
-use Rattle.toml_edit_syntax.specs.ValueReading.{Reading, got, deep, wrong, follow, changed, behind, reading, inside, trivia_at, path_at, lone_scalar, frame_at, around, value_at, elements_at, pairs_at}
+use Rattle.toml_edit_syntax.specs.ValueReading.{Reading, got, deep, wrong, follow, changed, behind, reading, inside, trivia_at, path_at, lone_scalar, frame_at, around, value_from, elements_at, pairs_at}
 use Rattle.toml_edit_laws.proofs.reading.Steps.{chosen, starts}
 use Rattle.toml_edit_laws.proofs.reading.Begins.{StartsAscii, ascii_trivia}
 use Rattle.toml_edit_syntax.proofs.ReadingSteps.{trivia_takes}
@@ -85,7 +85,7 @@ deep_later t before es spans (is, more) =
     (list_any-append (λ (e : Event). is_too_deep e.kind) before es ∙ any_later (are_deep before) (are_deep es) is, both_spans t before es spans more)
 
 abbrev ValueDeep : ℕ → Type 0
-ValueDeep n = (whole t : Text) (level at : ℕ) → IsUtf8 whole → level ≤ nesting_limit → Cut whole at t → (es : List Event) → value_at n level at t ≡ deep es → StartsAscii t × DeepIn whole es
+ValueDeep n = (whole t : Text) (level at : ℕ) → IsUtf8 whole → level ≤ nesting_limit → Cut whole at t → (es : List Event) → value_from n level at t ≡ deep es → StartsAscii t × DeepIn whole es
 
 abbrev ElementsDeep : ℕ → Type 0
 ElementsDeep n = (whole t : Text) (level at : ℕ) (comma : Bool) → IsUtf8 whole → level ≤ nesting_limit → Cut whole at t → (es : List Event) → elements_at n level at comma t ≡ deep es → DeepIn whole es
@@ -122,7 +122,7 @@ scalar_deep t None es e = wrong_deep es e
 scalar_deep t (Some p) es e = absurd cc
 
 value_step : (n : ℕ) → ElementsDeep n → PairsDeep n → ValueDeep (suc n)
-unfolding value_at
+unfolding value_from
 value_step n elements pairs whole t level at utf8 room c es e =
     elim (chosen (first t == 0x5B) _ _ (deep es) e) [
       | inl (bracket, h) ↦
@@ -196,14 +196,14 @@ module _ (whole : Text) (start : ℕ) (v : Value) (after_value after more : Text
       )
 
 elements_value : (n level at : ℕ) (whole t before u : Text) → IsUtf8 whole → level ≤ nesting_limit → ValueDeep n → ElementsDeep n → IsWholeTrivia before → t ≡ before ++ u → Cut whole at t → (es : List Event)
-    → behind (event Before at before ∷ []) (follow (value_at n level (at + length before) u) (λ v after_value. follow (trivia_at after_value) (element_then n level (at + length before) before v))) ≡ deep es
+    → behind (event Before at before ∷ []) (follow (value_from n level (at + length before) u) (λ v after_value. follow (trivia_at after_value) (element_then n level (at + length before) before v))) ≡ deep es
     → DeepIn whole es
 elements_value n level at whole t before u utf8 room value elements trivia parts c es e =
     let start = at + length before in
     let c0 = cut_as whole t (before ++ u) at at parts refl c in
     let c1 = further whole before u at c0 in
     let head : StartsAscii u → AreSpans whole (event Before at before ∷ []) = λ ascii. (part_span whole before u at Before c0 (ascii_trivia before u trivia ascii) ascii, tt) in
-    item_deep whole (event Before at before ∷ []) (value_at n level start u) (element_then n level start before) es e
+    item_deep whole (event Before at before ∷ []) (value_from n level start u) (element_then n level start before) es e
     (λ ms read. let (ascii, is) = value whole u level start utf8 room c1 ms read in (head ascii, is))
     (λ v after_value after more ms read trails cut h.
     let took = value_takes n level start u v after_value room read in
@@ -213,7 +213,7 @@ elements_value n level at whole t before u utf8 room value elements trivia parts
     (head (subst StartsAscii (sym took.parts) (ascii_value (value_text v) after_value (value_begins v took.is))), subst (DeepIn whole) joined (deep_later whole (value_events start v ++ event After (start + length (value_text v)) after ∷ []) ks spans is)))
 
 elements_step : (n : ℕ) → ValueDeep n → ElementsDeep n → ElementsDeep (suc n)
-unfolding value_at
+unfolding value_from
 elements_step n value elements whole t level at comma utf8 room c es e =
     elim (follow_deep (trivia_at t) _ es e) [
       | inl h ↦ absurd (trivia_deep t es h)
@@ -226,14 +226,14 @@ elements_step n value elements whole t level at comma utf8 room c es e =
     ]
 
 pairs_value : (n level at start : ℕ) (whole t leading key u : Text) (f : Frame) → IsUtf8 whole → level ≤ nesting_limit → ValueDeep n → PairsDeep n → t ≡ leading ++ key → FrameTook leading key f u → start ≡ value_at_byte at f → Cut whole at t → (es : List Event)
-    → behind (frame_events at f) (follow (value_at n level start u) (λ v after_value. follow (trivia_at after_value) (pair_then n level start f v))) ≡ deep es
+    → behind (frame_events at f) (follow (value_from n level start u) (λ v after_value. follow (trivia_at after_value) (pair_then n level start f v))) ≡ deep es
     → DeepIn whole es
 pairs_value n level at start whole t leading key u f utf8 room value pairs parts frame place c es e =
     let all : t ≡ f.leading ++ behind_trivia f u = parts ∙ frame.parts ∙ sym (head_regroup f.leading (path_text f.path) f.before_equals f.after_equals u) in
     let c0 = cut_as whole t (f.leading ++ behind_trivia f u) at at all refl c in
     let c1 = cut_as whole u u (value_at_byte at f) start refl (sym place) (value_cut whole u at f c0) in
     let head : StartsAscii u → AreSpans whole (frame_events at f) = λ ascii. frame_spans IsWholeTrivia whole u at f frame.is ascii c0 in
-    item_deep whole (frame_events at f) (value_at n level start u) (pair_then n level start f) es e
+    item_deep whole (frame_events at f) (value_from n level start u) (pair_then n level start f) es e
     (λ ms read. let (ascii, is) = value whole u level start utf8 room c1 ms read in (head ascii, is))
     (λ v after_value after more ms read trails cut h.
     let took = value_takes n level start u v after_value room read in
@@ -256,7 +256,7 @@ frame_place at leading key u f took =
     )
 
 pairs_step : (n : ℕ) → ValueDeep n → PairsDeep n → PairsDeep (suc n)
-unfolding value_at
+unfolding value_from
 pairs_step n value pairs whole t level at comma utf8 room c es e =
     elim (follow_deep (trivia_at t) _ es e) [
       | inl h ↦ absurd (trivia_deep t es h)
@@ -274,7 +274,7 @@ pairs_step n value pairs whole t level at comma utf8 room c es e =
     ]
 
 mutual
-  unfolding value_at
+  unfolding value_from
 
   pub value_stops_in : (n : ℕ) → ValueDeep n
   value_stops_in zero = λ whole t level at utf8 room c es e. absurd (wrong_deep es e)

@@ -10,7 +10,7 @@ use Rattle.toml_edit_syntax.specs.declared.value.Brackets.{Brackets}
 use Rattle.toml_edit_syntax.specs.declared.value.Brackets.TheVariants as brackets
 use Rattle.toml_edit_laws.specs.reading.Runs.{first}
 use Rattle.toml_edit_syntax.specs.ValueEvents.{event, close_events, value_at_byte, frame_events, value_events, elements_events, pairs_events}
-use Rattle.toml_edit_syntax.specs.ValueReading.{Reading, got, deep, wrong, follow, changed, behind, trivia_at, frame_at, around, value_at, elements_at, pairs_at}
+use Rattle.toml_edit_syntax.specs.ValueReading.{Reading, got, deep, wrong, follow, changed, behind, trivia_at, frame_at, around, value_from, elements_at, pairs_at}
 use Rattle.toml_edit_syntax.specs.EventReading.{seen, preceded, closing, closing_byte, head_read, value_read, items_read}
 use Rattle.toml_edit_syntax.proofs.ReadingSteps.{trivia_takes}
 use Rattle.toml_edit_syntax.proofs.PathLaws.{head_text, frame_takes}
@@ -21,7 +21,7 @@ use Rattle.toml_edit_syntax.proofs.EventSteps.{between, event_is, preceded-twice
 pub trivia_length : (t w rest : Text) → trivia_at t ≡ got w rest → length w + length rest ≡ length t
 trivia_length t w rest e = omega (arith, ap length (trivia_takes t w rest e).1, length-append w rest)
 
-pub value_length : (n level at : ℕ) (t rest : Text) (v : Value) → level ≤ nesting_limit → value_at n level at t ≡ got v rest → length (value_text v) + length rest ≡ length t
+pub value_length : (n level at : ℕ) (t rest : Text) (v : Value) → level ≤ nesting_limit → value_from n level at t ≡ got v rest → length (value_text v) + length rest ≡ length t
 value_length n level at t rest v room e = omega (arith, ap length (value_takes n level at t v rest room e).parts, length-append (value_text v) rest)
 
 -- the byte at the front, which is not 0
@@ -92,7 +92,7 @@ module _ {P : Type 0} (k level whole c : ℕ) (value : Text) (lead : List Event)
         regroup : (a b : List Event) (e : Event) (d : List Event) → a ++ (b ++ (e ∷ d)) ≡ (a ++ (b ++ e ∷ [])) ++ d
         regroup a b e d = simp append_assoc
 
-    by_value : (r : Reading Value) → value_at k level (whole - length value) value ≡ r
+    by_value : (r : Reading Value) → value_from k level (whole - length value) value ≡ r
         → seen E (behind lead (follow r tail)) ≡ preceded lead (followed (seen (λ v _. value_events (whole - length value) v) r) seen_tail)
     by_value wrong h = refl
     by_value (deep es) h = refl
@@ -102,8 +102,8 @@ module _ {P : Type 0} (k level whole c : ℕ) (value : Text) (lead : List Event)
           | inr (after, more, is) ↦ rw is (by_end v rest after more (value_length k level _ value rest v room h) (trivia_length rest after more is))
         ]
 
-    pub turn : seen E (behind lead (follow (value_at k level (whole - length value) value) tail)) ≡ preceded lead (followed (value_read k level whole value) seen_tail)
-    turn = by_value (value_at k level (whole - length value) value) refl
+    pub turn : seen E (behind lead (follow (value_from k level (whole - length value) value) tail)) ≡ preceded lead (followed (value_read k level whole value) seen_tail)
+    turn = by_value (value_from k level (whole - length value) value) refl
 
 -- ---- a turn
 
@@ -184,7 +184,7 @@ module _ (k level whole : ℕ) (comma : Bool) (t before more : Text) (room : lev
       tail k level whole 0x7D value (frame_events at f) (λ v after p. pair (record f { trailing = after }) v p) no_pairs (λ a x. pairs_at k level a true x) (pairs_seen at) pairs_seen (λ q rest. close_events InlineTableClose (codes "}") (whole - length rest - 1) q.0 q.1)
 
   by_frame : (r : Reading Frame) → frame_at before more ≡ r
-      → seen (pairs_seen at) (follow r (λ f value. behind (frame_events at f) (follow (value_at k level (whole - length value) value) (pairs_tail f value))))
+      → seen (pairs_seen at) (follow r (λ f value. behind (frame_events at f) (follow (value_from k level (whole - length value) value) (pairs_tail f value))))
       ≡ followed (seen (λ f _. frame_events (whole - length more - length before) f) r) (λ value. followed (value_read k level whole value) (tail_read brackets.InlineTable k level whole))
   by_frame wrong framed = refl
   by_frame (deep es) framed = refl

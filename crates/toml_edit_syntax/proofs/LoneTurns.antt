@@ -7,7 +7,7 @@ use Rattle.toml_edit_model.specs.Syntax.{Value}
 use Rattle.toml_edit_syntax.specs.declared.event.Event.{Event}
 use Rattle.toml_edit_laws.specs.reading.Runs.{split_while}
 use Rattle.toml_edit_syntax.specs.ValueEvents.{value_events}
-use Rattle.toml_edit_syntax.specs.ValueReading.{Reading, got, deep, wrong, follow, value_at}
+use Rattle.toml_edit_syntax.specs.ValueReading.{Reading, got, deep, wrong, follow, value_from}
 use Rattle.toml_edit_syntax.specs.Reading.{lone_at}
 use Rattle.toml_edit_syntax.specs.EventReading.{seen, value_read}
 use Rattle.toml_edit_syntax.specs.StatementReading.{lone_value_read}
@@ -41,9 +41,9 @@ pub lone_turn : (t w start : Text) → ◌≡◌ {A = Text × Text} (w, start) (
 unfolding lone_at
 lone_turn t w start split lens =
     let white = split_while is_blank t in
-    let read = λ (a : ℕ) (x : Text). followed (seen (λ v _. value_events a v) (value_at (2 * length x + 2) 0 a x)) nothing_read in
+    let read = λ (a : ℕ) (x : Text). followed (seen (λ v _. value_events a v) (value_from (2 * length x + 2) 0 a x)) nothing_read in
     let w-is : length white.0 ≡ length w = ap (λ (p : Text × Text). length p.0) (sym split) in
     let start-is : white.1 ≡ start = ap (λ (p : Text × Text). p.1) (sym split) in
     let place : length w ≡ length t - length start = omega (arith, lens) in
-    by_value (length white.0) (value_at (2 * length white.1 + 2) 0 (length white.0) white.1)
+    by_value (length white.0) (value_from (2 * length white.1 + 2) 0 (length white.0) white.1)
     ∙ ap (λ (x : Text). read (length white.0) x) start-is ∙ ap (λ (a : ℕ). read a start) (w-is ∙ place)

@@ -12,7 +12,7 @@ use Rattle.toml_edit_syntax.specs.declared.event.Event.{Event}
 use Rattle.toml_edit_laws.specs.reading.Runs.{split_while}
 use Rattle.toml_edit_laws.specs.reading.ScalarReading.{ends_scalar}
 use Rattle.toml_edit_syntax.specs.ValueEvents.{value_events, shortened, are_deep}
-use Rattle.toml_edit_syntax.specs.ValueReading.{Reading, got, deep, wrong, follow, value_at}
+use Rattle.toml_edit_syntax.specs.ValueReading.{Reading, got, deep, wrong, follow, value_from}
 use Rattle.toml_edit_syntax.specs.Reading.{events_seen, lone_at, lone_read}
 use Rattle.toml_edit_syntax.specs.LoneEvents.{AreLoneEvents, ValueOpensTooMany}
 use Rattle.toml_edit_laws.proofs.reading.Steps.{chosen, split_parts}
@@ -51,7 +51,7 @@ pub lone_takes : (t rest : Text) (v : Value) → lone_at t ≡ got v rest → (l
 unfolding lone_at
 lone_takes t rest v e =
     let white = split_while is_blank t in
-    let (u, after, found, g) = follow_got (value_at (2 * length white.1 + 2) 0 (length white.0) white.1) _ v rest e in
+    let (u, after, found, g) = follow_got (value_from (2 * length white.1 + 2) 0 (length white.0) white.1) _ v rest e in
     elim (chosen (length (split_while is_blank after).1 == 0) (got u after) wrong (got v rest) g) [
       | inl (nothing, h) ↦
           let took = value_takes (2 * length white.1 + 2) 0 (length white.0) white.1 u after (omega arith) found in
@@ -68,9 +68,9 @@ before_value t v lone =
     let stop = value_begins_not is_blank (value_text v) lone.after (λ c h. grind (arith, nat_tests)) (value_begins v lone.value) in
     ap (split_while is_blank) lone.parts ∙ split_while-run is_blank lone.before (value_text v ++ lone.after) lone.white_before stop
 
-lone_open : (t a b : Text) → split_while is_blank t ≡ (a, b) → lone_at t ≡ follow (value_at (2 * length b + 2) 0 (length a) b) (λ u after. cond (length (split_while is_blank after).1 == 0) (got u after) wrong)
+lone_open : (t a b : Text) → split_while is_blank t ≡ (a, b) → lone_at t ≡ follow (value_from (2 * length b + 2) 0 (length a) b) (λ u after. cond (length (split_while is_blank after).1 == 0) (got u after) wrong)
 unfolding lone_at
-lone_open t a b e = ap (λ (p : Text × Text). follow (value_at (2 * length p.1 + 2) 0 (length p.0) p.1) (λ u after. cond (length (split_while is_blank after).1 == 0) (got u after) wrong)) e
+lone_open t a b e = ap (λ (p : Text × Text). follow (value_from (2 * length p.1 + 2) 0 (length p.0) p.1) (λ u after. cond (length (split_while is_blank after).1 == 0) (got u after) wrong)) e
 
 pub lone_reads : (t : Text) (v : Value) (lone : IsLoneValue t v) → lone_at t ≡ outcome (has_room 0 (depth v)) v lone.after (shortened 0 (value_events (length lone.before) v))
 lone_reads t v lone =
@@ -116,7 +116,7 @@ unfolding lone_at
 lone_stops_in t es utf8 e =
     let white = split_while is_blank t in
     let n = 2 * length white.1 + 2 in
-    elim (follow_deep (value_at n 0 (length white.0) white.1) _ es e) [
+    elim (follow_deep (value_from n 0 (length white.0) white.1) _ es e) [
       | inl h ↦ (value_stops_in n t white.1 0 (length white.0) utf8 (omega arith) (value_cut t) es h).1
       | inr (v, rest, found, h) ↦ elim (chosen (length (split_while is_blank rest).1 == 0) (got v rest) wrong (deep es) h) [
         | inl (nothing, g) ↦ absurd (not_deep v rest es g)
@@ -165,7 +165,7 @@ unfolding lone_at
 stops_open t es e =
     let white = split_while is_blank t in
     let n = 2 * length white.1 + 2 in
-    elim (follow_deep (value_at n 0 (length white.0) white.1) _ es e) [
+    elim (follow_deep (value_from n 0 (length white.0) white.1) _ es e) [
       | inl h ↦ lone_opens t (value_opens n 0 (length white.0) white.1 (omega arith) es h)
       | inr (v, rest, found, h) ↦ elim (chosen (length (split_while is_blank rest).1 == 0) (got v rest) wrong (deep es) h) [
         | inl (nothing, g) ↦ absurd (not_deep v rest es g)

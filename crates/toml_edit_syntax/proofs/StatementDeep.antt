@@ -8,7 +8,7 @@ use Rattle.toml_edit_syntax.specs.declared.event.Event.{Event}
 use Rattle.toml_edit_laws.specs.reading.Runs.{first, split_while}
 use Rattle.toml_edit_syntax.specs.Scanning.{scan, opening_at}
 use Rattle.toml_edit_syntax.specs.ValueEvents.{frame_events, value_at_byte}
-use Rattle.toml_edit_syntax.specs.ValueReading.{Reading, got, deep, wrong, follow, changed, reading, path_at, frame_at, value_at}
+use Rattle.toml_edit_syntax.specs.ValueReading.{Reading, got, deep, wrong, follow, changed, reading, path_at, frame_at, value_from}
 use Rattle.toml_edit_syntax.specs.Events.{statement_events}
 use Rattle.toml_edit_syntax.specs.Reading.{end_at, key_line_at, header_end_at, header_at, statement_at, statements_at, is_marked, document, cut_of}
 use Rattle.toml_edit_laws.proofs.reading.Steps.{chosen}
@@ -31,7 +31,7 @@ value_then_deep r f g es e =
     ]
 
 frame_stops : (whole leading text u : Text) (at n start : ℕ) (f : Frame) (es : List Event) → IsUtf8 whole → Cut whole at (leading ++ text) → FrameTook leading text f u → leading ++ text ≡ f.leading ++ behind_trivia f u
-    → start ≡ value_at_byte at f → (ms : List Event) → value_at n 0 start u ≡ deep ms → frame_events at f ++ ms ≡ es → DeepIn whole es
+    → start ≡ value_at_byte at f → (ms : List Event) → value_from n 0 start u ≡ deep ms → frame_events at f ++ ms ≡ es → DeepIn whole es
 frame_stops whole leading text u at n start f es utf8 c frame parts place ms read joined =
     let c0 = cut_as whole (leading ++ text) (f.leading ++ behind_trivia f u) at at parts refl c in
     let c1 = cut_as whole u u (value_at_byte at f) start refl (sym place) (value_cut whole u at f c0) in
@@ -48,7 +48,7 @@ key_line_stops_in whole leading text at es utf8 trivia c e =
           let frame = frame_takes leading text u f trivia framed in
           let (ms, read, joined) = behind_deep (frame_events at f) _ es g in
           let made = λ (v : Value) (e : Text × Text). key_line (followed_by f e.0) v e.1 in
-          frame_stops whole leading text u at (2 * length u + 2) start f es utf8 c frame (frame_parts leading text u f framed) (frame_place at leading text u f frame) ms (value_then_deep (value_at (2 * length u + 2) 0 start u) made end_at ms read) joined
+          frame_stops whole leading text u at (2 * length u + 2) start f es utf8 c frame (frame_parts leading text u f framed) (frame_place at leading text u f frame) ms (value_then_deep (value_from (2 * length u + 2) 0 start u) made end_at ms read) joined
     ]
 
 -- a header has no such bracket

@@ -9,7 +9,7 @@ use Rattle.toml_edit_syntax.specs.declared.event.EventKind.TheVariants.{Leading,
 use Rattle.toml_edit_syntax.specs.declared.event.Event.{Event}
 use Rattle.toml_edit_laws.specs.reading.Runs.{first}
 use Rattle.toml_edit_syntax.specs.ValueEvents.{event, path_events, frame_events, value_at_byte, value_events, shortened}
-use Rattle.toml_edit_syntax.specs.ValueReading.{Reading, got, follow, changed, behind, reading, frame_at, value_at}
+use Rattle.toml_edit_syntax.specs.ValueReading.{Reading, got, follow, changed, behind, reading, frame_at, value_from}
 use Rattle.toml_edit_syntax.specs.Events.{line_events, header_open, header_events, statement_events}
 use Rattle.toml_edit_syntax.specs.Reading.{end_at, key_line_at, header_at, statement_at}
 use Rattle.toml_edit_laws.proofs.reading.Steps.{chosen}
@@ -41,7 +41,7 @@ unfolding key_line_at
 key_line_takes at leading text rest s whole h =
     let (f, u, framed, h1) = follow_got (frame_at leading text) _ s rest h in
     let start = at + (length text + length leading) - length u in
-    let (v, after, found, h2) = follow_got (value_at (2 * length u + 2) 0 start u) _ s rest (behind_got (frame_events at f) _ s rest h1) in
+    let (v, after, found, h2) = follow_got (value_from (2 * length u + 2) 0 start u) _ s rest (behind_got (frame_events at f) _ s rest h1) in
     let (e, ended, same) = changed_got (λ (e : Text × Text). key_line (followed_by f e.0) v e.1) (reading (end_at after)) s rest h2 in
     subst (λ (y : Statement). Entry (leading ++ text) y rest) same
     (key_line_made leading text u after rest f v e (frame_takes leading text u f whole framed) (value_takes (2 * length u + 2) 0 start u v after (omega arith) found)
@@ -168,7 +168,7 @@ line_then f v after = changed (λ e. key_line (followed_by f e.0) v e.1) (readin
 
 key_line_open : (level at : ℕ) (f : Frame) (v : Value) (more : Text) → IsFrame IsLineEnd f → IsValue v
     → key_line_at level at f.leading (behind_trivia f (value_text v ++ more))
-    ≡ behind (frame_events at f) (follow (value_at (2 * length (value_text v ++ more) + 2) level (at + (length (behind_trivia f (value_text v ++ more)) + length f.leading) - length (value_text v ++ more)) (value_text v ++ more)) (line_then f))
+    ≡ behind (frame_events at f) (follow (value_from (2 * length (value_text v ++ more) + 2) level (at + (length (behind_trivia f (value_text v ++ more)) + length f.leading) - length (value_text v ++ more)) (value_text v ++ more)) (line_then f))
 unfolding key_line_at
 key_line_open level at f v more frame value =
     let past_space = value_begins_not is_blank (value_text v) more (λ c h. grind (arith, nat_tests)) (value_begins v value) in
@@ -186,7 +186,7 @@ key_line_reads level at f v end rest frame value ending =
     let read = value_reads (2 * length t + 2) v level start more value past_value (omega arith) in
     let last : line_then f v more ≡ got (key_line f v end) rest = ap (λ (o : Option ((Text × Text) × Text)). changed (λ e. key_line (followed_by f e.0) v e.1) (reading o)) (end_again f.trailing end rest frame.0.trailing ending) in
     key_line_open level at f v more frame value
-    ∙ ap (λ (n : ℕ). behind (frame_events at f) (follow (value_at (2 * length t + 2) level n t) (line_then f))) (value_place at f t)
+    ∙ ap (λ (n : ℕ). behind (frame_events at f) (follow (value_from (2 * length t + 2) level n t) (line_then f))) (value_place at f t)
     ∙ ap (λ (r : Reading Value). behind (frame_events at f) (follow r (line_then f))) read
     ∙ ap (behind (frame_events at f)) (follow_outcome (line_then f) fits v more vs (key_line f v end) rest last)
     ∙ behind_outcome (frame_events at f) fits (key_line f v end) rest vs

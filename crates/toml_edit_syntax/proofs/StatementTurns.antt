@@ -11,7 +11,7 @@ use Rattle.toml_edit_syntax.specs.declared.event.Event.{Event}
 use Rattle.toml_edit_laws.specs.reading.Runs.{first, split_while, Read}
 use Rattle.toml_edit_syntax.specs.Scanning.{front, line_end_rest, newline_rest, opening_at, closing_rest}
 use Rattle.toml_edit_syntax.specs.ValueEvents.{event, path_events, frame_events, value_at_byte, value_events}
-use Rattle.toml_edit_syntax.specs.ValueReading.{Reading, got, deep, wrong, follow, changed, behind, reading, path_at, frame_at, value_at}
+use Rattle.toml_edit_syntax.specs.ValueReading.{Reading, got, deep, wrong, follow, changed, behind, reading, path_at, frame_at, value_from}
 use Rattle.toml_edit_syntax.specs.Events.{header_open, statement_events}
 use Rattle.toml_edit_syntax.specs.Reading.{end_at, key_line_at, header_end_at, made_header, header_at, statement_at}
 use Rattle.toml_edit_syntax.specs.EventReading.{seen, preceded, path_read, frame_read, value_read}
@@ -64,20 +64,20 @@ module _ (whole : ℕ) (leading t : Text) (fits : length leading + length t ≤ 
       ap (λ (n : ℕ). got (frame_events at f ++ (value_events n v ++ (event LineEnd (n + length (value_text v)) e.0 ∷ []))) more) place
       ∙ ap (λ (n : ℕ). got (frame_events at f ++ (value_events (whole - length value) v ++ (event LineEnd n e.0 ∷ []))) more) end
 
-  by_value : (f : Frame) (value : Text) → value_at_byte at f ≡ whole - length value → length value ≤ whole → (r : Reading Value) → value_at (2 * length value + 2) 0 (whole - length value) value ≡ r
+  by_value : (f : Frame) (value : Text) → value_at_byte at f ≡ whole - length value → length value ≤ whole → (r : Reading Value) → value_from (2 * length value + 2) 0 (whole - length value) value ≡ r
       → seen statement_seen (behind (frame_events at f) (follow r (then_end f))) ≡ preceded (frame_events at f) (followed (seen (λ v _. value_events (whole - length value) v) r) (end_read whole))
   by_value f value place less wrong h = refl
   by_value f value place less (deep es) h = refl
   by_value f value place less (got v after) h = by_line_end f value v after place less (value_length (2 * length value + 2) 0 (whole - length value) value after v (omega arith) h) (end_at after)
 
   by_frame : (r : Reading Frame) → frame_at leading t ≡ r
-      → seen statement_seen (follow r (λ f value. behind (frame_events at f) (follow (value_at (2 * length value + 2) 0 (whole - length value) value) (then_end f))))
+      → seen statement_seen (follow r (λ f value. behind (frame_events at f) (follow (value_from (2 * length value + 2) 0 (whole - length value) value) (then_end f))))
       ≡ followed (seen (λ f _. frame_events at f) r) (λ value. followed (value_read (2 * length value + 2) 0 whole value) (end_read whole))
   by_frame wrong framed = refl
   by_frame (deep es) framed = refl
   by_frame (got f value) framed =
       let (place, less) = value_length_is f value framed in
-      by_value f value place less (value_at (2 * length value + 2) 0 (whole - length value) value) refl
+      by_value f value place less (value_from (2 * length value + 2) 0 (whole - length value) value) refl
 
   pub key_line_turn : key_line_read whole leading t ≡ followed (frame_read whole leading t) (λ value. followed (value_read (2 * length value + 2) 0 whole value) (end_read whole))
   unfolding key_line_at

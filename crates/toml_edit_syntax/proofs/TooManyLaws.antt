@@ -16,7 +16,7 @@ use Rattle.toml_edit_laws.specs.reading.ScalarReading.{scalar_at}
 use Rattle.toml_edit_laws.proofs.reading.Steps.{chosen, starts}
 use Rattle.toml_edit_syntax.specs.Scanning.{scan}
 use Rattle.toml_edit_syntax.specs.ValueEvents.{event, frame_events, value_events}
-use Rattle.toml_edit_syntax.specs.ValueReading.{Reading, got, deep, wrong, follow, changed, behind, inside, trivia_at, frame_at, around, value_at, elements_at, pairs_at}
+use Rattle.toml_edit_syntax.specs.ValueReading.{Reading, got, deep, wrong, follow, changed, behind, inside, trivia_at, frame_at, around, value_from, elements_at, pairs_at}
 use Rattle.toml_edit_syntax.specs.Events.{exceeds_depth, has_deep_value, statement_events, is_closing_bracket, OpensTooMany}
 use Rattle.toml_edit_syntax.specs.Reading.{end_at, key_line_at, header_at, statement_at, statements_at, is_marked, document, cut_of}
 use Rattle.toml_edit_syntax.proofs.ScanningLaws.{IsEnding}
@@ -71,7 +71,7 @@ pub record PairsOpen (level : ℕ) (t : Text) : Type 0 where
   pub deep : nesting_limit < level + pairs_depth pairs
 
 abbrev OpensValue : ℕ → Type 0
-OpensValue n = (level at : ℕ) (t : Text) → level ≤ nesting_limit → (es : List Event) → value_at n level at t ≡ deep es → ValueOpens level t
+OpensValue n = (level at : ℕ) (t : Text) → level ≤ nesting_limit → (es : List Event) → value_from n level at t ≡ deep es → ValueOpens level t
 
 abbrev OpensElements : ℕ → Type 0
 OpensElements n = (level at : ℕ) (comma : Bool) (t : Text) → level ≤ nesting_limit → (es : List Event) → elements_at n level at comma t ≡ deep es → ElementsOpen level t
@@ -156,7 +156,7 @@ cases_open kind bracket level at r es e =
     ]
 
 value_step : (n : ℕ) → OpensElements n → OpensPairs n → OpensValue (suc n)
-unfolding value_at
+unfolding value_from
 value_step n elements pairs level at t room es e =
     elim (chosen (first t == 0x5B) _ _ (deep es) e) [
       | inl (bracket, h) ↦
@@ -240,11 +240,11 @@ later_element level t before u v after_value after more leads trails is parts va
     }
 
 elements_value : (n level at : ℕ) (t before u : Text) → level ≤ nesting_limit → OpensValue n → OpensElements n → IsWholeTrivia before → t ≡ before ++ u → (es : List Event)
-    → behind (event Before at before ∷ []) (follow (value_at n level (at + length before) u) (λ v after_value. follow (trivia_at after_value) (element_then n level (at + length before) before v))) ≡ deep es
+    → behind (event Before at before ∷ []) (follow (value_from n level (at + length before) u) (λ v after_value. follow (trivia_at after_value) (element_then n level (at + length before) before v))) ≡ deep es
     → ElementsOpen level t
 elements_value n level at t before u room value elements trivia parts es e =
     let start = at + length before in
-    elim (cases_item (event Before at before ∷ []) (value_at n level start u) (element_then n level start before) es e) [
+    elim (cases_item (event Before at before ∷ []) (value_from n level start u) (element_then n level start before) es e) [
       | inl (ms, read) ↦ first_element level t before u trivia parts (value level start u room ms read)
       | inr (v, after_value, after, more, ms, found, trails, cut, h) ↦
           let took = value_takes n level start u v after_value room found in
@@ -254,7 +254,7 @@ elements_value n level at t before u room value elements trivia parts es e =
     ]
 
 elements_step : (n : ℕ) → OpensValue n → OpensElements n → OpensElements (suc n)
-unfolding value_at
+unfolding value_from
 elements_step n value elements level at comma t room es e =
     elim (follow_deep (trivia_at t) _ es e) [
       | inl h ↦ absurd (trivia_deep t es h)
@@ -314,10 +314,10 @@ later_pair level t leading key u f v after_value after more parts frame trails i
     }
 
 pairs_value : (n level at start : ℕ) (t leading key u : Text) (f : Frame) → level ≤ nesting_limit → OpensValue n → OpensPairs n → t ≡ leading ++ key → FrameTook leading key f u → (es : List Event)
-    → behind (frame_events at f) (follow (value_at n level start u) (λ v after_value. follow (trivia_at after_value) (pair_then n level start f v))) ≡ deep es
+    → behind (frame_events at f) (follow (value_from n level start u) (λ v after_value. follow (trivia_at after_value) (pair_then n level start f v))) ≡ deep es
     → PairsOpen level t
 pairs_value n level at start t leading key u f room value pairs parts frame es e =
-    elim (cases_item (frame_events at f) (value_at n level start u) (pair_then n level start f) es e) [
+    elim (cases_item (frame_events at f) (value_from n level start u) (pair_then n level start f) es e) [
       | inl (ms, read) ↦ first_pair level t leading key u f parts frame (value level start u room ms read)
       | inr (v, after_value, after, more, ms, found, trails, cut, h) ↦
           let took = value_takes n level start u v after_value room found in
@@ -327,7 +327,7 @@ pairs_value n level at start t leading key u f room value pairs parts frame es e
     ]
 
 pairs_step : (n : ℕ) → OpensValue n → OpensPairs n → OpensPairs (suc n)
-unfolding value_at
+unfolding value_from
 pairs_step n value pairs level at comma t room es e =
     elim (follow_deep (trivia_at t) _ es e) [
       | inl h ↦ absurd (trivia_deep t es h)
@@ -344,7 +344,7 @@ pairs_step n value pairs level at comma t room es e =
     ]
 
 mutual
-  unfolding value_at
+  unfolding value_from
 
   pub value_opens : (n : ℕ) → OpensValue n
   value_opens zero = λ level at t room es e. absurd (wrong_deep es e)
@@ -415,7 +415,7 @@ line_opens at leading text es trivia e =
           let n = 2 * length u + 2 in
           let (ms, read, joined) = behind_deep (frame_events at f) _ es g in
           let made = λ (v : Value) (e : Text × Text). key_line (followed_by f e.0) v e.1 in
-          key_line_opens leading text u f (frame_takes leading text u f trivia found) (value_opens n 0 start u (omega arith) ms (value_then_deep (value_at n 0 start u) made end_at ms read))
+          key_line_opens leading text u f (frame_takes leading text u f trivia found) (value_opens n 0 start u (omega arith) ms (value_then_deep (value_from n 0 start u) made end_at ms read))
     ]
 
 statement_opens : (at : ℕ) (leading text : Text) (es : List Event) → IsWholeTrivia leading → statement_at 0 at leading text ≡ deep es → StatementsOpen (leading ++ text)

@@ -14,7 +14,7 @@ use Rattle.toml_edit_syntax.specs.declared.event.Event.{Event}
 use Rattle.toml_edit_laws.specs.reading.Runs.{first}
 use Rattle.toml_edit_laws.specs.reading.ScalarReading.{is_stop, ends_scalar}
 use Rattle.toml_edit_syntax.specs.ValueEvents.{event, opens, frame_events, value_at_byte, close_events, value_events, elements_events, pairs_events, shortened}
-use Rattle.toml_edit_syntax.specs.ValueReading.{Reading, got, deep, follow, changed, behind, trivia_at, frame_at, value_at, elements_at, pairs_at}
+use Rattle.toml_edit_syntax.specs.ValueReading.{Reading, got, deep, follow, changed, behind, trivia_at, frame_at, value_from, elements_at, pairs_at}
 use Rattle.toml_edit_laws.proofs.reading.Begins.{is_opening, scalar_begins, begins_not}
 use Rattle.toml_edit_laws.proofs.reading.TokenLaws.{scalar_again}
 use Rattle.toml_edit_syntax.proofs.ScanningLaws.{front_is}
@@ -95,7 +95,7 @@ room_here level d e (below, big) = has_room_false level (max d e) (below, omega 
 
 abbrev ReadsValue : ℕ → Type 0
 ReadsValue n = (v : Value) (level at : ℕ) (rest : Text) → IsValue v → ends_scalar rest ≡ true → 2 * length (value_text v ++ rest) ≤ n
-    → value_at n level at (value_text v ++ rest) ≡ outcome (has_room level (depth v)) v rest (shortened level (value_events at v))
+    → value_from n level at (value_text v ++ rest) ≡ outcome (has_room level (depth v)) v rest (shortened level (value_events at v))
 
 -- what stands from the items to behind the closing bracket
 abbrev pub close_text : Bool → Bool → Text → ℕ → Text → Text
@@ -113,8 +113,8 @@ ReadsPairs n = (ps : Pairs) (level at : ℕ) (comma ends : Bool) (w rest : Text)
 
 -- ---- values
 
-scalar_reads : (n : ℕ) (s : Scalar) (t : Text) (level at : ℕ) (rest : Text) → Spells s t → ends_scalar rest ≡ true → value_at (suc n) level at (t ++ rest) ≡ got (scalar s t) rest
-unfolding value_at
+scalar_reads : (n : ℕ) (s : Scalar) (t : Text) (level at : ℕ) (rest : Text) → Spells s t → ends_scalar rest ≡ true → value_from (suc n) level at (t ++ rest) ≡ got (scalar s t) rest
+unfolding value_from
 scalar_reads n s t level at rest is stop =
     let no_array = begins_not (λ c. c == 0x5B) t rest (λ c h. grind (arith, nat_tests)) (scalar_begins s t is) in
     let no_table = begins_not (λ c. c == 0x7B) t rest (λ c h. grind (arith, nat_tests)) (scalar_begins s t is) in
@@ -133,22 +133,22 @@ none_of : (has ends : Bool) (w : Text) → IsClose has ends w → has ≡ false 
 none_of has true w (whole, is) e = absurd (false≢true (sym e ∙ is))
 none_of has false w close e = refl
 
-array_full : (n level at : ℕ) (t : Text) → (level == nesting_limit) ≡ true → value_at (suc n) level at (91 ∷ t) ≡ deep (shortened level (event ArrayOpen at (codes "[") ∷ []))
-unfolding value_at
+array_full : (n level at : ℕ) (t : Text) → (level == nesting_limit) ≡ true → value_from (suc n) level at (91 ∷ t) ≡ deep (shortened level (event ArrayOpen at (codes "[") ∷ []))
+unfolding value_from
 array_full n level at t full = rw full refl
 
 array_open : (n level at : ℕ) (t : Text) → (level == nesting_limit) ≡ false
-    → value_at (suc n) level at (91 ∷ t) ≡ behind (event ArrayOpen at (codes "[") ∷ []) (changed (λ (p : Elements × (Bool × Text)). array p.0 p.1.0 p.1.1) (elements_at n (suc level) (at + 1) false t))
-unfolding value_at
+    → value_from (suc n) level at (91 ∷ t) ≡ behind (event ArrayOpen at (codes "[") ∷ []) (changed (λ (p : Elements × (Bool × Text)). array p.0 p.1.0 p.1.1) (elements_at n (suc level) (at + 1) false t))
+unfolding value_from
 array_open n level at t room = rw room refl
 
-inline_table_full : (n level at : ℕ) (t : Text) → (level == nesting_limit) ≡ true → value_at (suc n) level at (123 ∷ t) ≡ deep (shortened level (event InlineTableOpen at (codes "{") ∷ []))
-unfolding value_at
+inline_table_full : (n level at : ℕ) (t : Text) → (level == nesting_limit) ≡ true → value_from (suc n) level at (123 ∷ t) ≡ deep (shortened level (event InlineTableOpen at (codes "{") ∷ []))
+unfolding value_from
 inline_table_full n level at t full = rw full refl
 
 inline_table_open : (n level at : ℕ) (t : Text) → (level == nesting_limit) ≡ false
-    → value_at (suc n) level at (123 ∷ t) ≡ behind (event InlineTableOpen at (codes "{") ∷ []) (changed (λ (p : Pairs × (Bool × Text)). inline_table p.0 p.1.0 p.1.1) (pairs_at n (suc level) (at + 1) false t))
-unfolding value_at
+    → value_from (suc n) level at (123 ∷ t) ≡ behind (event InlineTableOpen at (codes "{") ∷ []) (changed (λ (p : Pairs × (Bool × Text)). inline_table p.0 p.1.0 p.1.1) (pairs_at n (suc level) (at + 1) false t))
+unfolding value_from
 inline_table_open n level at t room = rw room refl
 
 pub outcome_same : {A : Type 0} (fits : Bool) (a : A) (rest : Text) (es more : List Event) → (fits ≡ false → es ≡ more) → outcome fits a rest es ≡ outcome fits a rest more
@@ -169,7 +169,7 @@ cut_inside level o inner ends d opening room stops none =
     rw (opening, room) (ap (λ (x : List Event). o ∷ x) (sym (stops (no_room (suc level) d none) ends)))
 
 array_reads : (n : ℕ) → ReadsElements n → (es : Elements) (ends : Bool) (w : Text) (level at : ℕ) (rest : Text) → IsValue (array es ends w) → 2 * length (value_text (array es ends w) ++ rest) ≤ suc n
-    → value_at (suc n) level at (value_text (array es ends w) ++ rest) ≡ outcome (has_room level (depth (array es ends w))) (array es ends w) rest (shortened level (value_events at (array es ends w)))
+    → value_from (suc n) level at (value_text (array es ends w) ++ rest) ≡ outcome (has_room level (depth (array es ends w))) (array es ends w) rest (shortened level (value_events at (array es ends w)))
 array_reads n elements es ends w level at rest (close, are) bound =
     let t = elements_text es ++ close_text (has_elements es) ends w 93 rest in
     let d = elements_depth es in
@@ -179,7 +179,7 @@ array_reads n elements es ends w level at rest (close, are) bound =
     let last = close_events ArrayClose (codes "]") (at + length (value_text (array es ends w)) - 1) ends w in
     let same : value_text (array es ends w) ++ rest ≡ 91 ∷ t =
     ap (λ (x : Text). 91 ∷ x) (sym (closed_parts (elements_text es) (comma_text ends) w 93 rest) ∙ ap (λ (b : Bool). elements_text es ++ (comma_text b ++ (w ++ (93 ∷ rest)))) (sym (has_and has ends w close))) in
-    ap (value_at (suc n) level at) same ∙ elim (eqb_tells level nesting_limit) [
+    ap (value_from (suc n) level at) same ∙ elim (eqb_tells level nesting_limit) [
       | inl (full, is) ↦
           array_full n level at t full ∙ ap deep (sym (list_full level o [] refl full (inner ++ last)))
           ∙ ap (λ (b : Bool). outcome b (array es ends w) rest (shortened level (o ∷ (inner ++ last)))) (sym (has_room_false level (suc d) (omega arith, omega arith)))
@@ -196,7 +196,7 @@ array_reads n elements es ends w level at rest (close, are) bound =
     ]
 
 inline_table_reads : (n : ℕ) → ReadsPairs n → (ps : Pairs) (ends : Bool) (w : Text) (level at : ℕ) (rest : Text) → IsValue (inline_table ps ends w) → 2 * length (value_text (inline_table ps ends w) ++ rest) ≤ suc n
-    → value_at (suc n) level at (value_text (inline_table ps ends w) ++ rest) ≡ outcome (has_room level (depth (inline_table ps ends w))) (inline_table ps ends w) rest (shortened level (value_events at (inline_table ps ends w)))
+    → value_from (suc n) level at (value_text (inline_table ps ends w) ++ rest) ≡ outcome (has_room level (depth (inline_table ps ends w))) (inline_table ps ends w) rest (shortened level (value_events at (inline_table ps ends w)))
 inline_table_reads n pairs ps ends w level at rest (close, are) bound =
     let t = pairs_text ps ++ close_text (has_pairs ps) ends w 125 rest in
     let d = pairs_depth ps in
@@ -206,7 +206,7 @@ inline_table_reads n pairs ps ends w level at rest (close, are) bound =
     let last = close_events InlineTableClose (codes "}") (at + length (value_text (inline_table ps ends w)) - 1) ends w in
     let same : value_text (inline_table ps ends w) ++ rest ≡ 123 ∷ t =
     ap (λ (x : Text). 123 ∷ x) (sym (closed_parts (pairs_text ps) (comma_text ends) w 125 rest) ∙ ap (λ (b : Bool). pairs_text ps ++ (comma_text b ++ (w ++ (125 ∷ rest)))) (sym (has_and has ends w close))) in
-    ap (value_at (suc n) level at) same ∙ elim (eqb_tells level nesting_limit) [
+    ap (value_from (suc n) level at) same ∙ elim (eqb_tells level nesting_limit) [
       | inl (full, is) ↦
           inline_table_full n level at t full ∙ ap deep (sym (list_full level o [] refl full (inner ++ last)))
           ∙ ap (λ (b : Bool). outcome b (inline_table ps ends w) rest (shortened level (o ∷ (inner ++ last)))) (sym (has_room_false level (suc d) (omega arith, omega arith)))
@@ -263,12 +263,12 @@ item_outcome head r next level start d v after more c cs a rest e later stays wh
 
 elements_open : (n level at : ℕ) (comma : Bool) (before t : Text) → trivia_at (before ++ t) ≡ got before t → (first t == 0x5D) ≡ false
     → elements_at (suc n) level at comma (before ++ t)
-    ≡ behind (event Before at before ∷ []) (follow (value_at n level (at + length before) t) (λ v after_value. follow (trivia_at after_value) (element_then n level (at + length before) before v)))
-unfolding value_at
+    ≡ behind (event Before at before ∷ []) (follow (value_from n level (at + length before) t) (λ v after_value. follow (trivia_at after_value) (element_then n level (at + length before) before v)))
+unfolding value_from
 elements_open n level at comma before t e none = rw (e, none) refl
 
 elements_end : (n level at : ℕ) (comma : Bool) (w rest : Text) → IsWholeTrivia w → elements_at (suc n) level at comma (w ++ (93 ∷ rest)) ≡ got (no_elements, (comma, w)) rest
-unfolding value_at
+unfolding value_from
 elements_end n level at comma w rest whole = rw (trivia_again w (93 ∷ rest) 93 rest whole refl refl) refl
 
 -- an element whose value is read, before this
@@ -289,7 +289,7 @@ element_reads n values a v es level at comma ends w more c cs rest before after 
     let more_ends : ends_scalar more ≡ true = ap ends_scalar starts ∙ rw no_blank stop in
     let read = values v level start (a.after ++ more) is (ends_trivia a.after more after more_ends) (omega (arith, length-append a.before t)) in
     elements_open n level at comma a.before t (trivia_before_value a.before (value_text v) (a.after ++ more) before begins) no_end
-    ∙ item_outcome (event Before at a.before ∷ []) (value_at n level start t) (element_then n level start a.before) level start (elements_depth es) v a.after more c cs (element a v es, (ends, w)) rest
+    ∙ item_outcome (event Before at a.before ∷ []) (value_from n level start t) (element_then n level start a.before) level start (elements_depth es) v a.after more c cs (element a v es, (ends, w)) rest
     (event After end a.after) (elements_events (end + length a.after + 1) es) (λ m. refl) after starts stops refl read goes
 
 -- the last element without a comma
@@ -334,11 +334,11 @@ element_more n values elements a v es level at comma ends w rest before after is
 
 pairs_open : (n level at : ℕ) (comma : Bool) (leading key : Text) (f : Frame) (t : Text) → trivia_at (leading ++ key) ≡ got leading key → (first key == 0x7D) ≡ false → frame_at leading key ≡ got f t
     → pairs_at (suc n) level at comma (leading ++ key) ≡ frame_then n level at leading key f t
-unfolding value_at
+unfolding value_from
 pairs_open n level at comma leading key f t e none framed = rw (e, none, framed) refl
 
 pairs_end : (n level at : ℕ) (comma : Bool) (w rest : Text) → IsWholeTrivia w → pairs_at (suc n) level at comma (w ++ (125 ∷ rest)) ≡ got (no_pairs, (comma, w)) rest
-unfolding value_at
+unfolding value_from
 pairs_end n level at comma w rest whole = rw (trivia_again w (125 ∷ rest) 125 rest whole refl refl) refl
 
 -- where the value of a pair begins
@@ -371,8 +371,8 @@ pair_reads n values f v ps level at comma ends w more c cs rest frame is starts 
     let lens : length t ≤ length key = omega (arith, length-append (path_text f.path) after_path, length-append f.before_equals (61 ∷ (f.after_equals ++ t)), length-append f.after_equals t) in
     let read = values v level start (f.trailing ++ more) is (ends_trivia f.trailing more spaced.trailing more_ends) (omega (arith, length-append f.leading key)) in
     pairs_open n level at comma f.leading key (followed_by f []) t leads no_end (frame_again IsWholeTrivia f t frame no_blank_value)
-    ∙ ap (λ (x : ℕ). behind (frame_events at f) (follow (value_at n level x t) (λ v after_value. follow (trivia_at after_value) (pair_then n level x (followed_by f []) v)))) (value_place at f t)
-    ∙ item_outcome (frame_events at f) (value_at n level start t) (pair_then n level start (followed_by f [])) level start (pairs_depth ps) v f.trailing more c cs (pair f v ps, (ends, w)) rest
+    ∙ ap (λ (x : ℕ). behind (frame_events at f) (follow (value_from n level x t) (λ v after_value. follow (trivia_at after_value) (pair_then n level x (followed_by f []) v)))) (value_place at f t)
+    ∙ item_outcome (frame_events at f) (value_from n level start t) (pair_then n level start (followed_by f [])) level start (pairs_depth ps) v f.trailing more c cs (pair f v ps, (ends, w)) rest
     (event After end f.trailing) (pairs_events (end + length f.trailing + 1) ps) (stays_frame level at f) spaced.trailing starts stops refl read goes
 
 -- the last pair without a comma

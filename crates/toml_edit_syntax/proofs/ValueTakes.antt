@@ -13,7 +13,7 @@ use Rattle.toml_edit_laws.specs.reading.Runs.{first, Read}
 use Rattle.toml_edit_laws.specs.reading.ScalarReading.{scalar_at}
 use Rattle.toml_edit_syntax.specs.Scanning.{front}
 use Rattle.toml_edit_syntax.specs.ValueEvents.{event, frame_events, value_events}
-use Rattle.toml_edit_syntax.specs.ValueReading.{Reading, got, wrong, follow, changed, behind, trivia_at, lone_scalar, frame_at, around, value_at, elements_at, pairs_at}
+use Rattle.toml_edit_syntax.specs.ValueReading.{Reading, got, wrong, follow, changed, behind, trivia_at, lone_scalar, frame_at, around, value_from, elements_at, pairs_at}
 use Rattle.toml_edit_laws.proofs.reading.Steps.{chosen, starts}
 use Rattle.toml_edit_laws.proofs.reading.TokenLaws.{scalar_takes}
 use Rattle.toml_edit_syntax.proofs.ScanningLaws.{front_of}
@@ -44,7 +44,7 @@ pub record PairsTook (level : ℕ) (comma : Bool) (t : Text) (ps : Pairs) (ends 
   pub none : has_pairs ps ≡ false → ends ≡ comma
 
 abbrev TakesValue : ℕ → Type 0
-TakesValue n = (level at : ℕ) (t : Text) (v : Value) (rest : Text) → level ≤ nesting_limit → value_at n level at t ≡ got v rest → ValueTook level t v rest
+TakesValue n = (level at : ℕ) (t : Text) (v : Value) (rest : Text) → level ≤ nesting_limit → value_from n level at t ≡ got v rest → ValueTook level t v rest
 
 abbrev TakesElements : ℕ → Type 0
 TakesElements n = (level at : ℕ) (comma : Bool) (t : Text) (es : Elements) (ends : Bool) (w rest : Text) → level ≤ nesting_limit
@@ -151,7 +151,7 @@ pair_then n level start f v after more =
 abbrev pub frame_then : ℕ → ℕ → ℕ → Text → Text → Frame → Text → Reading (Pairs × (Bool × Text))
 frame_then n level at leading key f value =
     let start = at + (length key + length leading) - length value in
-    behind (frame_events at f) (follow (value_at n level start value) (λ v rest. follow (trivia_at rest) (pair_then n level start f v)))
+    behind (frame_events at f) (follow (value_from n level start value) (λ v rest. follow (trivia_at rest) (pair_then n level start f v)))
 
 -- ---- values
 
@@ -187,7 +187,7 @@ lone_made level t rest v (Some (s, more)) room found e =
     subst (λ (x : Text). ValueTook level t v x) after (subst (λ (y : Value). ValueTook level t y more) value made)
 
 value_step : (n : ℕ) → TakesElements n → TakesPairs n → TakesValue (suc n)
-unfolding value_at
+unfolding value_from
 value_step n elements pairs level at t v rest room e =
     elim (chosen (first t == 0x5B) _ _ (got v rest) e) [
       | inl (bracket, h) ↦
@@ -263,10 +263,10 @@ elements_more level comma t before v after more es ends w rest took sign later =
     }
 
 elements_value : (n level at : ℕ) (comma : Bool) (t before value_front : Text) (es : Elements) (ends : Bool) (w rest : Text) → level ≤ nesting_limit → TakesValue n → TakesElements n → IsWholeTrivia before → t ≡ before ++ value_front
-    → behind (event Before at before ∷ []) (follow (value_at n level (at + length before) value_front) (λ v after_value. follow (trivia_at after_value) (element_then n level (at + length before) before v))) ≡ got (es, (ends, w)) rest
+    → behind (event Before at before ∷ []) (follow (value_from n level (at + length before) value_front) (λ v after_value. follow (trivia_at after_value) (element_then n level (at + length before) before v))) ≡ got (es, (ends, w)) rest
     → ElementsTook level comma t es ends w rest
 elements_value n level at comma t before value_front es ends w rest room value elements whole_before before_parts e =
-    let (v, after_value, after, more, found, whole_after, after_parts, g) = value_then (event Before at before ∷ []) (value_at n level (at + length before) value_front) (element_then n level (at + length before) before) (es, (ends, w)) rest e in
+    let (v, after_value, after, more, found, whole_after, after_parts, g) = value_then (event Before at before ∷ []) (value_from n level (at + length before) value_front) (element_then n level (at + length before) before) (es, (ends, w)) rest e in
     let took = element_made level t before value_front v after_value after more whole_before before_parts (value level (at + length before) value_front v after_value room found) whole_after after_parts in
     let next = at + length before + length (value_text v) + length after + 1 in
     item_then (λ (x : Elements) (b : Bool) (u r : Text). ElementsTook level comma t x b u r) 0x5D more (value_events (at + length before) v ++ event After (at + length before + length (value_text v)) after ∷ [])
@@ -276,7 +276,7 @@ elements_value n level at comma t before value_front es ends w rest room value e
     g
 
 elements_step : (n : ℕ) → TakesValue n → TakesElements n → TakesElements (suc n)
-unfolding value_at
+unfolding value_from
 elements_step n value elements level at comma t es ends w rest room e =
     let (before, value_front, leads, h) = follow_got (trivia_at t) _ (es, (ends, w)) rest e in
     let (whole_before, before_parts) = trivia_takes t before value_front leads in
@@ -359,10 +359,10 @@ pairs_more level comma t f v after more ps ends w rest took sign later =
 
 pairs_value : (n level at start : ℕ) (comma : Bool) (t leading key value_front : Text) (f : Frame) (ps : Pairs) (ends : Bool) (w rest : Text) → level ≤ nesting_limit → TakesValue n → TakesPairs n
     → t ≡ leading ++ key → FrameTook leading key f value_front
-    → behind (frame_events at f) (follow (value_at n level start value_front) (λ v after_value. follow (trivia_at after_value) (pair_then n level start f v))) ≡ got (ps, (ends, w)) rest
+    → behind (frame_events at f) (follow (value_from n level start value_front) (λ v after_value. follow (trivia_at after_value) (pair_then n level start f v))) ≡ got (ps, (ends, w)) rest
     → PairsTook level comma t ps ends w rest
 pairs_value n level at start comma t leading key value_front f ps ends w rest room value pairs parts frame e =
-    let (v, after_value, after, more, found, whole_after, after_parts, g) = value_then (frame_events at f) (value_at n level start value_front) (pair_then n level start f) (ps, (ends, w)) rest e in
+    let (v, after_value, after, more, found, whole_after, after_parts, g) = value_then (frame_events at f) (value_from n level start value_front) (pair_then n level start f) (ps, (ends, w)) rest e in
     let took = pair_made level t leading key value_front after_value after more f v parts frame (value level start value_front v after_value room found) whole_after after_parts in
     let next = start + length (value_text v) + length after + 1 in
     item_then (λ (x : Pairs) (b : Bool) (u r : Text). PairsTook level comma t x b u r) 0x7D more (value_events start v ++ event After (start + length (value_text v)) after ∷ [])
@@ -379,7 +379,7 @@ pairs_frame n level at comma t leading key ps ends w rest room value pairs whole
     pairs_value n level at (at + (length key + length leading) - length value_front) comma t leading key value_front f ps ends w rest room value pairs parts (frame_takes leading key value_front f whole framed) g
 
 pairs_step : (n : ℕ) → TakesValue n → TakesPairs n → TakesPairs (suc n)
-unfolding value_at
+unfolding value_from
 pairs_step n value pairs level at comma t ps ends w rest room e =
     let (leading, key, leads, h) = follow_got (trivia_at t) _ (ps, (ends, w)) rest e in
     let (whole, leading_parts) = trivia_takes t leading key leads in
@@ -398,7 +398,7 @@ not_got : {A : Type 0} (a : A) (t : Text) → wrong ≡ got a t → ⊥
 not_got a t e = absurd cc
 
 mutual
-  unfolding value_at
+  unfolding value_from
 
   pub value_takes : (n : ℕ) → TakesValue n
   value_takes zero = λ level at t v rest room e. absurd (not_got v rest e)

@@ -10,13 +10,13 @@ use Rattle.toml_edit_syntax.specs.declared.value.Brackets.{Brackets}
 use Rattle.toml_edit_syntax.specs.declared.value.Brackets.TheVariants as brackets
 use Rattle.toml_edit_laws.specs.reading.Runs.{first}
 use Rattle.toml_edit_syntax.specs.ValueEvents.{event, close_events, value_events, elements_events, pairs_events}
-use Rattle.toml_edit_syntax.specs.ValueReading.{Reading, got, deep, changed, behind, value_at, elements_at, pairs_at}
+use Rattle.toml_edit_syntax.specs.ValueReading.{Reading, got, deep, changed, behind, value_from, elements_at, pairs_at}
 use Rattle.toml_edit_syntax.specs.EventReading.{seen, preceded, opening, opening_byte, scalar_read, value_read, items_read}
 use Rattle.toml_edit_syntax.proofs.EventSteps.{between, event_is, seen_behind}
 use Rattle.toml_edit_syntax.proofs.ItemTurns.{less_one, value_length}
 
 pub value_scalar : (n level whole : ℕ) (t : Text) → ((b : Brackets) → first t ≢ opening_byte b) → value_read (suc n) level whole t ≡ scalar_read whole t
-unfolding value_at
+unfolding value_from
 value_scalar n level whole t other = rw (ne_eqb (first t) 0x5B (other brackets.Array), ne_eqb (first t) 0x7B (other brackets.InlineTable)) refl
 
 module _ (n level whole : ℕ) (t : Text) (fits : length t ≤ whole) where
@@ -24,17 +24,17 @@ module _ (n level whole : ℕ) (t : Text) (fits : length t ≤ whole) where
   bracket_is kind c here some = event_is kind _ _ _ (c ∷ []) refl (omega (arith, less_one t c (eq-eqb (first t) c here) some))
 
   pub value_sinks : (b : Brackets) → first t ≡ opening_byte b → level ≡ nesting_limit → value_read (suc n) level whole t ≡ deep (between TooDeep (whole - length t) (whole - length (drop 1 t)) ∷ [])
-  unfolding value_at
+  unfolding value_from
   value_sinks brackets.Array here full = rw (eq-eqb (first t) 0x5B here, eq-eqb level nesting_limit full) (ap (λ (e : Event). deep (e ∷ [])) (bracket_is TooDeep 0x5B here (omega arith)))
   value_sinks brackets.InlineTable here full = rw (ne_eqb (first t) 0x5B (λ e. omega arith), eq-eqb (first t) 0x7B here, eq-eqb level nesting_limit full) (ap (λ (e : Event). deep (e ∷ [])) (bracket_is TooDeep 0x7B here (omega arith)))
 
   module _ (room : level ≤ nesting_limit) (some : level ≢ nesting_limit) where
-    array_is : first t ≡ 0x5B → value_at (suc n) level (whole - length t) t ≡ behind (event ArrayOpen (whole - length t) (codes "[") ∷ []) (changed (λ p. array p.0 p.1.0 p.1.1) (elements_at n (suc level) (whole - length t + 1) false (drop 1 t)))
-    unfolding value_at
+    array_is : first t ≡ 0x5B → value_from (suc n) level (whole - length t) t ≡ behind (event ArrayOpen (whole - length t) (codes "[") ∷ []) (changed (λ p. array p.0 p.1.0 p.1.1) (elements_at n (suc level) (whole - length t + 1) false (drop 1 t)))
+    unfolding value_from
     array_is here = rw (eq-eqb (first t) 0x5B here, ne_eqb level nesting_limit some) refl
 
-    table_is : first t ≡ 0x7B → value_at (suc n) level (whole - length t) t ≡ behind (event InlineTableOpen (whole - length t) (codes "{") ∷ []) (changed (λ p. inline_table p.0 p.1.0 p.1.1) (pairs_at n (suc level) (whole - length t + 1) false (drop 1 t)))
-    unfolding value_at
+    table_is : first t ≡ 0x7B → value_from (suc n) level (whole - length t) t ≡ behind (event InlineTableOpen (whole - length t) (codes "{") ∷ []) (changed (λ p. inline_table p.0 p.1.0 p.1.1) (pairs_at n (suc level) (whole - length t + 1) false (drop 1 t)))
+    unfolding value_from
     table_is here = rw (ne_eqb (first t) 0x5B (λ e. omega arith), eq-eqb (first t) 0x7B here, ne_eqb level nesting_limit some) refl
 
     pub value_opens : (b : Brackets) → first t ≡ opening_byte b

@@ -9,7 +9,7 @@ use Rattle.toml_edit_syntax.specs.declared.value.Brackets.TheVariants as bracket
 use Rattle.toml_edit_laws.specs.reading.ScalarReading.{scalar_at}
 use Rattle.toml_edit_syntax.specs.Scanning.{equals_at}
 use Rattle.toml_edit_syntax.specs.ValueEvents.{event, path_events, frame_events, close_events, value_events, elements_events, pairs_events}
-use Rattle.toml_edit_syntax.specs.ValueReading.{Reading, got, deep, wrong, reading, lone_scalar, segments_at, frame_at, value_at, elements_at, pairs_at}
+use Rattle.toml_edit_syntax.specs.ValueReading.{Reading, got, deep, wrong, reading, lone_scalar, segments_at, frame_at, value_from, elements_at, pairs_at}
 
 -- the events of a part, by that part and the text after it
 abbrev pub seen : {A : Type 0} → (A → Text → List Event) → Reading A → Reading (List Event)
@@ -70,7 +70,7 @@ abbrev pub scalar_read : ℕ → Text → Reading (List Event)
 scalar_read whole t = seen (λ v _. value_events (whole - length t) v) (lone_scalar t (scalar_at t))
 
 abbrev pub value_read : ℕ → ℕ → ℕ → Text → Reading (List Event)
-value_read n level whole t = seen (λ v _. value_events (whole - length t) v) (value_at n level (whole - length t) t)
+value_read n level whole t = seen (λ v _. value_events (whole - length t) v) (value_from n level (whole - length t) t)
 
 -- the elements or the pairs after an opening bracket, and the closing bracket
 abbrev pub items_read : Brackets → ℕ → ℕ → ℕ → Bool → Text → Reading (List Event)

@@ -8,7 +8,7 @@ use Rattle.toml_edit_syntax.specs.declared.event.Event.{Event}
 use Rattle.toml_edit_laws.specs.reading.Runs.{first, split_while, Read}
 use Rattle.toml_edit_syntax.specs.Scanning.{front, scan, line_end_rest, newline_rest, opening_at, closing_rest}
 use Rattle.toml_edit_syntax.specs.ValueEvents.{event, frame_events, value_events}
-use Rattle.toml_edit_syntax.specs.ValueReading.{Reading, got, deep, wrong, follow, changed, behind, reading, path_at, frame_at, value_at}
+use Rattle.toml_edit_syntax.specs.ValueReading.{Reading, got, deep, wrong, follow, changed, behind, reading, path_at, frame_at, value_from}
 use Rattle.toml_edit_syntax.specs.Events.{statement_events, events_from, events_of}
 
 -- ---- statements
@@ -23,7 +23,7 @@ unfoldable pub key_line_at : ℕ → ℕ → Text → Text → Reading Statement
 key_line_at level at leading t =
     follow (frame_at leading t) (λ f value.
     let start = at + (length t + length leading) - length value in
-    behind (frame_events at f) (follow (value_at (2 * length value + 2) level start value) (λ v after.
+    behind (frame_events at f) (follow (value_from (2 * length value + 2) level start value) (λ v after.
     changed (λ e. key_line (record f { trailing = e.0 }) v e.1) (reading (end_at after)))))
 
 -- the white space before the closing brackets of a header, and what follows them with the newline
@@ -103,7 +103,7 @@ text_read t = events_seen (λ d _. events_of d) (cut_of 0 t)
 unfoldable pub lone_at : Text → Reading Value
 lone_at t =
     let white = split_while is_blank t in
-    follow (value_at (2 * length white.1 + 2) 0 (length white.0) white.1) (λ v rest. if length (split_while is_blank rest).1 == 0 then got v rest else wrong)
+    follow (value_from (2 * length white.1 + 2) 0 (length white.0) white.1) (λ v rest. if length (split_while is_blank rest).1 == 0 then got v rest else wrong)
 
 -- the events of a lone value
 abbrev pub lone_read : Text → Option (List Event)

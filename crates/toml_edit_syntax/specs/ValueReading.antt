@@ -89,9 +89,9 @@ around before after = record { before = before; after = after }
 -- comma that ends them, where one does, and the text before the closing bracket. The comma says that one comes before. The first
 -- number bounds the steps.
 unfoldable mutual
-  pub value_at : ℕ → ℕ → ℕ → Text → Reading Value
-  value_at zero level at t = wrong
-  value_at (suc n) level at t =
+  pub value_from : ℕ → ℕ → ℕ → Text → Reading Value
+  value_from zero level at t = wrong
+  value_from (suc n) level at t =
       if first t == 0x5B then inside ArrayOpen (codes "[") level at (changed (λ p. array p.0 p.1.0 p.1.1) (elements_at n (suc level) (at + 1) false (drop 1 t)))
       else if first t == 0x7B then inside InlineTableOpen (codes "{") level at (changed (λ p. inline_table p.0 p.1.0 p.1.1) (pairs_at n (suc level) (at + 1) false (drop 1 t)))
       else lone_scalar t (scalar_at t)
@@ -101,7 +101,7 @@ unfoldable mutual
   elements_at (suc n) level at comma t =
       follow (trivia_at t) (λ before value.
       if first value == 0x5D then got (no_elements, (comma, before)) (drop 1 value)
-      else behind (event Before at before ∷ []) (follow (value_at n level (at + length before) value) (λ v rest.
+      else behind (event Before at before ∷ []) (follow (value_from n level (at + length before) value) (λ v rest.
       follow (trivia_at rest) (λ after more.
       let start = at + length before in
       let end = start + length (value_text v) in
@@ -118,7 +118,7 @@ unfoldable mutual
       if first key == 0x7D then got (no_pairs, (comma, leading)) (drop 1 key)
       else follow (frame_at leading key) (λ f value.
       let start = at + (length key + length leading) - length value in
-      behind (frame_events at f) (follow (value_at n level start value) (λ v rest.
+      behind (frame_events at f) (follow (value_from n level start value) (λ v rest.
       follow (trivia_at rest) (λ after more.
       let end = start + length (value_text v) in
       if first more == 0x2C

@@ -3,7 +3,7 @@ use Rattle.std.proofs.Common.{◌≡◌, ℕ, ◌+◌, ◌*◌, ◌<◌, ◌≤�
 use Rattle.std.specs.Char.{is_digit, digit_value}
 use Rattle.std.proofs.lemmas.Bool.{eq-eqb, le-ltb}
 use Rattle.std.proofs.lemmas.List.{drop_more, drop_all}
-use Rattle.toml_edit_laws.specs.reading.Tokens.{digits_at, natural_of, below}
+use Rattle.toml_edit_laws.specs.reading.Tokens.{digits_at, natural_of, if_below}
 use Rattle.toml_edit_laws.proofs.reading.Steps.{chosen}
 use Rattle.toml_edit_laws.proofs.common.OptionSteps.{guard_read}
 use Rattle.std.specs.Prelude.{[], ◌∷◌}
@@ -58,22 +58,22 @@ digits_grow base after_digit n m (c ∷ cs) h e =
     ]
 
 -- a number that is not below the limit
-limited : (limit : ℕ) (o : Option ℕ) → ((m : ℕ) → o ≡ Some m → limit ≤ m) → below limit o ≡ None
+limited : (limit : ℕ) (o : Option ℕ) → ((m : ℕ) → o ≡ Some m → limit ≤ m) → if_below limit o ≡ None
 limited limit None h = refl
 limited limit (Some m) h = rw (le-ltb m limit (h m refl)) refl
 
 -- past the limit there is no number below it
 pub below_past : (base : ℕ) (after_digit : Bool) (n limit : ℕ) (ds whole : List ℕ) → 1 ≤ base → limit ≤ n
-    → digits_at base after_digit n ds ≡ digits_at base false 0 whole → below limit (natural_of base whole) ≡ None
+    → digits_at base after_digit n ds ≡ digits_at base false 0 whole → if_below limit (natural_of base whole) ≡ None
 below_past base after_digit n limit ds whole h past e =
     limited limit (digits_at base false 0 whole) (λ m found. le_trans past (digits_grow base after_digit n m ds h (e ∙ found)))
 
 -- no number, and so none below the limit
-pub below_none : (base limit : ℕ) (whole : List ℕ) → digits_at base false 0 whole ≡ None → below limit (natural_of base whole) ≡ None
+pub below_none : (base limit : ℕ) (whole : List ℕ) → digits_at base false 0 whole ≡ None → if_below limit (natural_of base whole) ≡ None
 below_none base limit whole e = rw e refl
 
 -- where the digits end there is a number below the limit, if a digit stands last and the number is
 pub below_end : (base limit : ℕ) (after_digit : Bool) (n : ℕ) (whole : List ℕ) → cond after_digit (Some n) None ≡ digits_at base false 0 whole
-    → below limit (natural_of base whole) ≡ cond (after_digit && nat_lt n limit) (Some n) None
+    → if_below limit (natural_of base whole) ≡ cond (after_digit && nat_lt n limit) (Some n) None
 below_end base limit true n whole e = rw (← e) refl
 below_end base limit false n whole e = rw (← e) refl

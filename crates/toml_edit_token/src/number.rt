@@ -61,7 +61,7 @@ fn natural(digits: &[u8], base: u32, limit: u64) -> Option<u64>
     requires low { 2 ≤ base }
     requires high { base ≤ 16 }
     requires limit { limit ≤ 2 ^ 63 + 1 }
-    ensures value { result ≡ spec.below limit (spec.natural_of base digits.now) }
+    ensures value { result ≡ spec.if_below limit (spec.natural_of base digits.now) }
     ensures below { IfSome result (λ n. n < limit) }
 {
     let mut value = 0u64;

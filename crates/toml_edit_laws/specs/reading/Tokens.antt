@@ -106,8 +106,8 @@ abbrev pub whole : {A : Type 0} → Read A → Option A
 whole r = option_and_then (λ p. if is_empty p.1 then Some p.0 else None) r
 
 -- a number below the limit
-abbrev pub below : ℕ → Option ℕ → Option ℕ
-below limit o = option_and_then (λ n. if nat_lt n limit then Some n else None) o
+abbrev pub if_below : ℕ → Option ℕ → Option ℕ
+if_below limit o = option_and_then (λ n. if nat_lt n limit then Some n else None) o
 
 -- an integer of 64 bits
 abbrev pub fitting : Option ℤ → Option ℤ
