@@ -6,9 +6,7 @@ ghost use Rattle.toml_edit_fits.specs.FitTests as tests;
 use crate::trivia::{ends_line, is_white, is_whole};
 use toml_edit_key::Key;
 use toml_edit_repr::{Decor, Mode};
-
-/// The most keys in a path, and the most brackets that are open at once.
-pub(crate) const NESTING_LIMIT: usize = 80;
+use toml_edit_syntax::NESTING_LIMIT;
 
 /// The keys before a key in its path: how many more the path may have, and whether those before are
 /// few enough, with whitespace alone beside their dots.

@@ -4,11 +4,12 @@ ghost use Rattle.toml_edit_repr.specs.Modes.{mode_of};
 ghost use Rattle.toml_edit_tree.specs.View.{item_view, items_view, slots_view, value_view};
 ghost use Rattle.toml_edit_fits.specs.FitTests as tests;
 
-use crate::route::{NESTING_LIMIT, Route, element_fits, no_keys, pair_fits, then_key};
+use crate::route::{Route, element_fits, no_keys, pair_fits, then_key};
 use crate::trivia::is_whole;
 use toml_edit_key::Key;
 use toml_edit_repr::Mode;
 use toml_edit_slots::Slots;
+use toml_edit_syntax::NESTING_LIMIT;
 use toml_edit_tree::{Item, Value};
 
 /// Returns `true` if the decors inside a value suit their places, no more than so many brackets

@@ -7,6 +7,7 @@ mod key_path;
 mod options;
 mod pairs;
 mod reader;
+mod slots;
 mod statement;
 
 pub use from_str::{FromStr, FromStrWith};
@@ -14,9 +15,11 @@ pub use from_str::{FromStr, FromStrWith};
 pub use key_path::{PathKey, next_key};
 pub use options::ParseOptions;
 #[doc(hidden)]
-pub use pairs::{KeyPath, add_last, push_item};
+pub use pairs::KeyPath;
 #[doc(hidden)]
 pub use reader::{are_cut_short, raw, refusal, refusal_at_end, refusal_of_all, split_first};
+#[doc(hidden)]
+pub use slots::{add_last, push_item};
 #[doc(hidden)]
 pub use statement::{HeaderSpans, put, read_header, read_key_line};
 pub use toml_edit_version::Version;

@@ -10,7 +10,6 @@ ghost use Rattle.toml_edit_model.specs.Paths.{Path, Mention, line_mentions};
 ghost use Rattle.toml_edit_model.specs.Conversions.{with_decor};
 ghost use Rattle.toml_edit_model.specs.Tree.{inline, owned, unset};
 ghost use Rattle.toml_edit_model.specs.TreeOf.{Entry, spanned_form, decor_at, value_start};
-ghost use Rattle.toml_edit_laws.specs.FlatTree.{with_slot};
 ghost use Rattle.toml_edit_laws.specs.InlineTree.{pair_path, path_fields, way_message};
 ghost use Rattle.toml_edit_laws.specs.Standing.{Stands};
 ghost use Rattle.toml_edit_error.specs.Fault.{IfToml};
@@ -21,7 +20,7 @@ ghost use Rattle.toml_edit_syntax.specs.declared.event.EventKind.TheVariants.{Af
 ghost use Rattle.toml_edit_tree.specs.Containers.{inline_node};
 ghost use Rattle.toml_edit_parser.specs.ScalarRead.{ReadsName};
 ghost use Rattle.toml_edit_parser.specs.PairRead as spec;
-ghost use Rattle.toml_edit_parser.specs.PairRead.{AddsBelow, AddsEntry, AddsInside, AddsLast, EndsInline, EndsPair, IsEndOfPath, IsPassed, IsPathAt, PairsStand, ReadsPair, ReadsPairs, key_with};
+ghost use Rattle.toml_edit_parser.specs.PairRead.{AddsBelow, AddsEntry, AddsInside, EndsInline, EndsPair, IsEndOfPath, IsPassed, IsPathAt, PairsStand, ReadsPair, ReadsPairs, key_with};
 ghost use Rattle.toml_edit_parser.specs.Listed.{IsListed};
 ghost use Rattle.toml_edit_parser.specs.ValueRead.{split_close, split_leading, span_at, spanned_raw, AreIn, ReadsValue};
 ghost use Rattle.toml_edit_tree.specs.View.{inline_view, item_view, slots_view, value_view};
@@ -31,19 +30,18 @@ ghost use Rattle.toml_edit_model.specs.OwnedForm.{KeyFits, NodeFits, SlotsFit, c
 use crate::reader::{
     Close, cut, raw, read_value, refusal, refusal_at_end, refusal_of_all, split_close, split_first,
 };
-use std::alloc::{AllocError, Global};
-use std::mem;
+use crate::slots::{add_last, push_item};
+use std::alloc::Global;
 use toml_edit_error::ParseFault;
 use toml_edit_key::Key;
-use toml_edit_repr::{Decor, Mem, RawString};
-use toml_edit_slots::{Slot, Slots};
-use toml_edit_syntax::{Event, EventKind, Span};
+use toml_edit_repr::{Decor, RawString};
+use toml_edit_slots::Slots;
+use toml_edit_syntax::{Event, EventKind, NESTING_LIMIT, Span};
 use toml_edit_token::decode_key;
 use toml_edit_tree::{InlineTable, Item, Value};
 
-/// The number of events of the longest path: one for each of 80 keys, and two for each dot between
-/// them.
-pub(crate) const MOST_PATH_EVENTS: usize = 238;
+/// The number of events of the longest path: one for each key, and two for each dot between them.
+pub(crate) const MOST_PATH_EVENTS: usize = 3 * NESTING_LIMIT - 2;
 
 /// Where the parts of a pair before its value are, and the events of its path.
 #[derive(Clone, Copy)]
@@ -430,48 +428,6 @@ fn extend_message(value: &Value) -> &'static str
         Value::Array(_) => "cannot extend value of type array with a dotted key",
         Value::InlineTable(_) => "duplicate key",
     }
-}
-
-/// Adds a slot at the end, and leaves a placeholder in the place of its item.
-///
-/// Fails with `duplicate key` at the span if the key exists, and if out of memory. The slots are
-/// unchanged then.
-#[doc(hidden)]
-#[inline(always)]
-pub fn add_last(
-    alloc: Global,
-    source: &str,
-    key: Key,
-    span: Span,
-    item: &mut Item,
-    slots: &mut Slots<Item>,
-) -> Result<(), ParseFault>
-    requires span { IsSpanOf source.now span }
-    ensures last { AddsLast source.now span key (item_view item.old) (slots_view slots.old) (slots_view slots.new) result }
-    ensures fits { KeyFits source.now key → NodeFits source.now (item_view item.old) → SlotsFit source.now (slots_view slots.old)
-        → OnOk result (SlotsFit source.now (slots_view slots.new)) }
-    ensures input { IfErr result (λ e. IfToml e (λ r. r.input ≡ source.now)) }
-    ensures listed { IfErr result (λ e. IfToml e IsListed) }
-{
-    let item = mem::replace(item, Item::None);
-    match slots.try_push(Slot { key, item }) {
-        Ok(()) => Ok(()),
-        Err(refused) => match refused.place() {
-            Some(_) => Err(refusal(alloc, source, "duplicate key", span)),
-            None => Err(ParseFault::from(AllocError)),
-        },
-    }
-}
-
-/// Pushes a slot with a new key. If out of memory, the slots are unchanged, and key and item are
-/// dropped.
-#[doc(hidden)]
-pub fn push_item(slots: &mut Slots<Item>, key: Key, item: Item) -> Mem<()>
-    requires { place key.name slots.old ≡ None }
-    ensures { OnOk result (slots_view slots.new ≡ with_slot (slots_view slots.old) key (item_view item)) }
-{
-    slots.push(Slot { key, item })?;
-    Ok(())
 }
 
 /// Reads the name of the key that is spelled at the span.

@@ -1,7 +1,7 @@
 use Rattle.std.proofs.Common.{ap, ◌∙◌}
 use Rattle.toml_edit_tree.specs.View.{slots_view}
 use Rattle.toml_edit_parser.proofs.SlotLaws.{slots_view-append}
-use Rattle.toml_edit_parser.proofs.pairs.push_item.Goals as goal
+use Rattle.toml_edit_parser.proofs.slots.push_item.Goals as goal
 
 pub returns : goal.returns
 returns c = ap slots_view c.in_ok-push.ensures.slots ∙ slots_view-append c.args.slots.now _

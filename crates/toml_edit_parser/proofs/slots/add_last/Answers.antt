@@ -9,7 +9,7 @@ use Rattle.toml_edit_error.specs.Report.{Report}
 use Rattle.toml_edit_parser.proofs.ReadLaws.{mapped}
 use Rattle.toml_edit_parser.proofs.EntryLaws.{last-put, last-refused}
 use Rattle.toml_edit_parser.proofs.SlotLaws.{fits-with_slot, slots_view-append}
-use Rattle.toml_edit_parser.proofs.pairs.add_last.Goals as goal
+use Rattle.toml_edit_parser.proofs.slots.add_last.Goals as goal
 
 pub returns-in-Some-clause-last : goal.returns-in-Some-clause-last
 returns-in-Some-clause-last c =

@@ -1,0 +1,62 @@
+//! Adding slots at the end of a table.
+ghost use Rattle.std.specs.Prelude.{◌≡◌, None, OnOk, IfErr};
+ghost use Rattle.toml_edit_model.specs.OwnedForm.{KeyFits, NodeFits, SlotsFit};
+ghost use Rattle.toml_edit_laws.specs.FlatTree.{with_slot};
+ghost use Rattle.toml_edit_error.specs.Fault.{IfToml};
+ghost use Rattle.toml_edit_slots.specs.Slots.{place};
+ghost use Rattle.toml_edit_syntax.specs.Events.{IsSpanOf};
+ghost use Rattle.toml_edit_tree.specs.View.{item_view, slots_view};
+ghost use Rattle.toml_edit_parser.specs.Listed.{IsListed};
+ghost use Rattle.toml_edit_parser.specs.PairRead.{AddsLast};
+
+use crate::reader::refusal;
+use std::alloc::{AllocError, Global};
+use std::mem;
+use toml_edit_error::ParseFault;
+use toml_edit_key::Key;
+use toml_edit_repr::Mem;
+use toml_edit_slots::{Slot, Slots};
+use toml_edit_syntax::Span;
+use toml_edit_tree::Item;
+
+/// Adds a slot at the end, and leaves a placeholder in the place of its item.
+///
+/// Fails with `duplicate key` at the span if the key exists, and if out of memory. The slots are
+/// unchanged then.
+#[doc(hidden)]
+#[inline(always)]
+pub fn add_last(
+    alloc: Global,
+    source: &str,
+    key: Key,
+    span: Span,
+    item: &mut Item,
+    slots: &mut Slots<Item>,
+) -> Result<(), ParseFault>
+    requires span { IsSpanOf source.now span }
+    ensures last { AddsLast source.now span key (item_view item.old) (slots_view slots.old) (slots_view slots.new) result }
+    ensures fits { KeyFits source.now key → NodeFits source.now (item_view item.old) → SlotsFit source.now (slots_view slots.old)
+        → OnOk result (SlotsFit source.now (slots_view slots.new)) }
+    ensures input { IfErr result (λ e. IfToml e (λ r. r.input ≡ source.now)) }
+    ensures listed { IfErr result (λ e. IfToml e IsListed) }
+{
+    let item = mem::replace(item, Item::None);
+    match slots.try_push(Slot { key, item }) {
+        Ok(()) => Ok(()),
+        Err(refused) => match refused.place() {
+            Some(_) => Err(refusal(alloc, source, "duplicate key", span)),
+            None => Err(ParseFault::from(AllocError)),
+        },
+    }
+}
+
+/// Pushes a slot with a new key. If out of memory, the slots are unchanged, and key and item are
+/// dropped.
+#[doc(hidden)]
+pub fn push_item(slots: &mut Slots<Item>, key: Key, item: Item) -> Mem<()>
+    requires { place key.name slots.old ≡ None }
+    ensures { OnOk result (slots_view slots.new ≡ with_slot (slots_view slots.old) key (item_view item)) }
+{
+    slots.push(Slot { key, item })?;
+    Ok(())
+}
