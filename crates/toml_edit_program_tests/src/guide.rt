@@ -250,26 +250,17 @@ fn is_edited(edited: Result<String, EditFault>, wanted: &str) -> bool {
 
 /// Returns `true` if there was nothing to be edited.
 fn is_missing(edited: Result<String, EditFault>) -> bool {
-    match edited {
-        Err(EditFault::Missing) => true,
-        _ => false,
-    }
+    matches!(edited, Err(EditFault::Missing))
 }
 
 /// Returns `true` if the text that was to be edited is refused.
 fn is_refused(edited: Result<String, EditFault>) -> bool {
-    match edited {
-        Err(EditFault::Toml(_)) => true,
-        _ => false,
-    }
+    matches!(edited, Err(EditFault::Toml(_)))
 }
 
 /// Returns `true` if the key that was to be added is there.
 fn is_present(edited: Result<String, EditFault>) -> bool {
-    match edited {
-        Err(EditFault::Present) => true,
-        _ => false,
-    }
+    matches!(edited, Err(EditFault::Present))
 }
 
 const TWICE: &str = "a = 1\na = 2\n";
@@ -345,10 +336,7 @@ fn is_reloaded(alloc: Global, document: &DocumentMut, wanted: &str) -> bool {
 }
 
 fn is_unfit(reloaded: Result<DocumentMut, EditFault>) -> bool {
-    match reloaded {
-        Err(EditFault::Unfit) => true,
-        _ => false,
-    }
+    matches!(reloaded, Err(EditFault::Unfit))
 }
 
 fn reloads_until_it_is_dotted(alloc: Global, document: &mut DocumentMut) -> bool {
