@@ -8,13 +8,13 @@ use Rattle.toml_edit.specs.model.Scalars.{string}
 use Rattle.toml_edit.specs.model.Text.{Text, same_text}
 use Rattle.toml_edit.specs.model.Spelling.{SpellsKey}
 use Rattle.toml_edit.specs.model.Paths.{to_key}
-use Rattle.toml_edit.specs.model.Tree.{Key, TableFields, Node, leaf, table, Slots, no_slots, slot, Tree, unset, has_key, is_value_node, HasTrueSpelling, IsWellMade, SlotsAreWellMade}
+use Rattle.toml_edit.specs.model.Tree.{Key, TableFields, Node, leaf, table, Slots, no_slots, slot, Tree, node_decor, unset, has_key, is_value_node, HasTrueSpelling, IsWellMade, SlotsAreWellMade}
 use Rattle.toml_edit.specs.model.HeaderOrder.{visit_of}
 use Rattle.toml_edit.specs.model.Slots.{Slot, keyed, with_item, on_item, lookup_slot, changed}
 use Rattle.toml_edit.specs.model.Lists.{slot_list, slots_from, on_slots, is_item}
 use Rattle.toml_edit.specs.model.Iterating.{filled}
 use Rattle.toml_edit.specs.model.TableCalls.{get}
-use Rattle.toml_edit.specs.laws.Locality.{is_plain_value}
+use Rattle.toml_edit.specs.laws.Locality.{KeepsFrame, is_plain_value}
 use Rattle.toml_edit.specs.laws.EditLists.{after_all, AllApply, EditsStayLocal}
 use Rattle.toml_edit.specs.Documents.{IsOwnedReading, MeansWhatIsShown}
 use Rattle.toml_edit_guide.specs.Edits.{setting, string_like, HasValueSet}
@@ -144,15 +144,18 @@ pub slots_from-list : (ss : Slots) → slots_from (slot_list ss) ≡ ss
 slots_from-list no_slots = refl
 slots_from-list (slot k n ss) = ap (λ r. slot k n r) (slots_from-list ss)
 
-same-tree : (t u : Tree) (xs : Slots) → u.root ≡ t.root → u.trailing ≡ t.trailing → u.slots ≡ xs → record t { slots = xs } ≡ u
+pub same-tree : (t u : Tree) (xs : Slots) → u.root ≡ t.root → u.trailing ≡ t.trailing → u.slots ≡ xs → record t { slots = xs } ≡ u
 same-tree t u xs root trailing slots =
     sym (ap (λ r. record u { root = r }) root ∙ ap (λ r. record (record t { trailing = r }) { slots = u.slots }) trailing ∙ ap (λ ss. record t { slots = ss }) slots)
 
+decor-like : (old : Node) (x : Text) → node_decor (string_like old x) ≡ node_decor old
+decor-like old x = refl
+
 -- a string that is put in place of a value of a table, in its decor, and what is written then
-pub told : (text name key x out : Text) (t u : Tree) → ((mode : Mode) → EditsStayLocal mode) → (r : IsOwnedReading text t)
+pub told : (text name key x out : Text) (t u : Tree) → ((mode : Mode) → EditsStayLocal mode) → ((mode : Mode) → KeepsFrame mode) → (r : IsOwnedReading text t)
     → SetsInTree name key (leaf (string x) None unset) t u → out ≡ print_in plain false u → MeansWhatIsShown plain false u
     → HasValueSet text name key x out
-told text name key x out t u law r (root, trailing, (n, m, there, (f, ss, xs, n-is, m-is, (old, inside, value, changes)), others)) print back =
+told text name key x out t u law keeps r (root, trailing, (n, m, there, (f, ss, xs, n-is, m-is, (old, inside, value, changes)), others)) print back =
     let new : Node = string_like old x in
     let found : get name (slot_list t.slots) ≡ Some (table f ss) = there ∙ ap (λ (y : Node). Some y) n-is in
     let made : SlotsAreWellMade t.slots = r.tree.made in
@@ -173,6 +176,7 @@ told text name key x out t u law r (root, trailing, (n, m, there, (f, ss, xs, n-
       applies = a;
       was = was-old t made name key f ss old new found inside value refl (tt, tt);
       leaves = local.0;
+      around = keeps plain (local.0.0.keys ++ (a.0.1 ∷ [])) old new (decor-like old x);
       stays = local.1;
       print = print ∙ ap (print_in plain false) (sym is);
       back = subst (MeansWhatIsShown plain false) (sym is) back;

@@ -1,7 +1,10 @@
 -- Laws that proofs of the guide share.
 pub mod EditLaws
 pub mod ExchangeLaws
+pub mod FaultLaws
 pub mod LineLaws
 pub mod MoveLaws
+pub mod NormalLaws
+pub mod RemovalLaws
 pub mod SlotLaws
 pub mod ViewLaws

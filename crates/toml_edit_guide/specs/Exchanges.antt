@@ -15,7 +15,8 @@ use Rattle.toml_edit.specs.Documents.{IsOwnedTreeOf, MeansWhatIsShown}
 -- the slot of the name has a table, and is gone
 abbrev pub TakesTable : Text → List (Slot Node) → List (Slot Node) → Type 0
 TakesTable name es new =
-    (s : Slot Node) × (f : TableFields) × (ss : Slots) × (lookup_slot name es ≡ Some s) × (s.item ≡ table f ss) × (new ≡ without name es)
+    (s : Slot Node) × (f : TableFields) × (ss : Slots) × (lookup_slot name es ≡ Some s)
+    × (s.item ≡ table f ss) × (new ≡ without name es)
 
 -- the key is new, and its slot is last
 abbrev pub AddsNew : Text → Node → List (Slot Node) → List (Slot Node) → Type 0
@@ -25,7 +26,8 @@ abbrev pub Exchanges : Text → Text → Node → List (Slot Node) → List (Slo
 Exchanges name key n es new = (mid : List (Slot Node)) × TakesTable name es mid × AddsNew key n mid new
 
 abbrev pub ExchangesInTree : Text → Text → Node → Tree → Tree → Type 0
-ExchangesInTree name key n t u = (u.root ≡ t.root) × (u.trailing ≡ t.trailing) × Exchanges name key n (slot_list t.slots) (slot_list u.slots)
+ExchangesInTree name key n t u =
+    (u.root ≡ t.root) × (u.trailing ≡ t.trailing) × Exchanges name key n (slot_list t.slots) (slot_list u.slots)
 
 -- the edits: a slot of the root is removed, and a string is added under a new key there
 abbrev pub exchanging : Text → Text → Text → List Edit

@@ -1,52 +1,88 @@
 //! Changing the text of a document, and saying what stays.
-ghost use Rattle.std.specs.Prelude.{◌≡◌, true, IfOk, IfSome, IsTrue, None, codes, string_bytes};
-ghost use Rattle.toml_edit.specs.DocumentView.{tree_owned, IsPrintedAs};
+ghost use Rattle.std.specs.Prelude.{◌≡◌, true, IfErr, IfOk, IsTrue, OnOk, codes, is_some, string_bytes};
+ghost use Rattle.toml_edit.specs.DocumentView.{print_of, tree_owned, IsPrintedAs};
 ghost use Rattle.toml_edit.specs.model.Conversions.{with_decor};
-ghost use Rattle.toml_edit.specs.model.Scalars.{string};
-ghost use Rattle.toml_edit.specs.model.Tree.{is_value_node, leaf, node_decor, unset};
+ghost use Rattle.toml_edit.specs.model.Lists.{slot_list};
+ghost use Rattle.toml_edit.specs.model.Tree.{is_value_node, node_decor};
+ghost use Rattle.toml_edit.specs.tree.Containers.{value_in};
 ghost use Rattle.toml_edit.specs.tree.SlotsOf.{slots_of};
 ghost use Rattle.toml_edit.specs.tree.View.{fields_view, item_view, value_view};
 ghost use Rattle.toml_edit_guide.specs.Edits.{HasValueSet};
+ghost use Rattle.toml_edit_guide.specs.Faults.{FailsToFit, SetFails};
+ghost use Rattle.toml_edit_guide.specs.Paths.{value_below, value_inside, value_under};
+ghost use Rattle.toml_edit_guide.specs.Prints.{MeansItsTree, TreeFits};
 ghost use Rattle.toml_edit_guide.specs.Sets.{SetsBelow, SetsInTable, SetsInTree, SetsValue};
 
 use crate::changing::replace_value;
+use crate::fault::EditFault;
 use std::alloc::Global;
-use toml_edit::laws::edits;
-use toml_edit::{DocumentMut, Item, ParseFault, Table, Value};
+use toml_edit::laws::{edits, replaced};
+use toml_edit::{DocumentMut, Item, Table, Value};
 
 /// Replaces the version of a package, and returns the text in its normal form: all other statements
-/// are as they were. Returns `None` if there is no such value.
-pub fn set_version(alloc: Global, text: &str, version: &str) -> Result<Option<String>, ParseFault>
-    ensures { IfOk result (λ answer. IfSome answer (λ s. ∥ HasValueSet text.now (codes "package") (codes "version") version.now (string_bytes s) ∥₁)) }
+/// are as they were.
+///
+/// # Errors
+///
+/// As [`set_string`].
+pub fn set_version(alloc: Global, text: &str, version: &str) -> Result<String, EditFault>
+    ensures set { IfOk result (λ s.
+        ∥ HasValueSet text.now (codes "package") (codes "version") version.now (string_bytes s) ∥₁) }
+    ensures fails { IfErr result
+        (SetFails text.now (codes "package") (codes "version") version.now) }
 {
     set_string(alloc, text, "package", "version", version)
 }
 
 /// Replaces the value under a key of a table by a string, as [`set_version`] does.
+///
+/// # Errors
+///
+/// [`EditFault::Toml`] if the text is refused, [`EditFault::Missing`] if there is no such value,
+/// [`EditFault::Unfit`] if the document would not fit, and [`EditFault::Memory`] if out of memory.
 pub fn set_string(
     alloc: Global,
     text: &str,
     name: &str,
     key: &str,
     value: &str,
-) -> Result<Option<String>, ParseFault>
-    ensures { IfOk result (λ answer. IfSome answer (λ s. ∥ HasValueSet text.now name.now key.now value.now (string_bytes s) ∥₁)) }
+) -> Result<String, EditFault>
+    ensures set { IfOk result (λ s.
+        ∥ HasValueSet text.now name.now key.now value.now (string_bytes s) ∥₁) }
+    ensures fails { IfErr result (SetFails text.now name.now key.now value.now) }
 {
     edits();
+    replaced();
     let mut document = DocumentMut::from_str(alloc, text)?;
     let value = Value::string(alloc, value)?;
     if !replace_in_document(&mut document, name, key, value) {
-        return Ok(None);
+        return Err(EditFault::Missing);
     }
+    print_edited(alloc, &document)
+}
+
+/// Returns the text of an edited document, which is valid TOML and means what the tree says.
+///
+/// # Errors
+///
+/// [`EditFault::Unfit`] if the document does not fit, and [`EditFault::Memory`] if out of memory.
+pub fn print_edited(alloc: Global, document: &DocumentMut) -> Result<String, EditFault>
+    ensures text { IfOk result (λ s. string_bytes s ≡ print_of document.now) }
+    ensures means { OnOk result (∥ MeansItsTree document.now ∥₁) }
+    ensures fails { IfErr result (FailsToFit (TreeFits document.now)) }
+{
     if !document.fits(alloc)? {
-        return Ok(None);
+        return Err(EditFault::Unfit);
     }
-    Ok(Some(document.print(alloc)?))
+    Ok(document.print(alloc)?)
 }
 
 /// Replaces the value under a key of a table of the document. Returns `false` if there is none.
 fn replace_in_document(document: &mut DocumentMut, name: &str, key: &str, value: Value) -> bool
-    ensures tree { IsTrue result → SetsInTree name.now key.now (value_view value) (tree_owned document.old) (tree_owned document.new) }
+    ensures found { result
+        ≡ is_some (value_below name.now key.now (slot_list (tree_owned document.old).slots)) }
+    ensures tree { IsTrue result → SetsInTree name.now key.now (value_view value)
+        (tree_owned document.old) (tree_owned document.new) }
     ensures printed { IsPrintedAs document.new document.old }
 {
     replace_below(document.as_table_mut(), name, key, value)
@@ -55,7 +91,8 @@ fn replace_in_document(document: &mut DocumentMut, name: &str, key: &str, value:
 /// Replaces the value that the item is, and keeps the whitespace and the comment around it. Returns
 /// `false` where it is none.
 fn replace_in_item(item: &mut Item, value: Value) -> bool
-    ensures { IsTrue result → (is_value_node (item_view item.old) ≡ true)
+    ensures found { result ≡ is_some (value_in (item_view item.old)) }
+    ensures item { IsTrue result → (is_value_node (item_view item.old) ≡ true)
         × (item_view item.new ≡ with_decor (node_decor (item_view item.old)) (value_view value)) }
 {
     match item.as_value_mut() {
@@ -72,7 +109,9 @@ fn replace_in_item(item: &mut Item, value: Value) -> bool
 
 /// Replaces the value under the key, as [`replace_in_item`] does.
 fn replace_in_table(table: &mut Table, key: &str, value: Value) -> bool
-    ensures slots { IsTrue result → SetsValue key.now (value_view value) (slots_of table.old) (slots_of table.new) }
+    ensures found { result ≡ is_some (value_under key.now (slots_of table.old)) }
+    ensures slots { IsTrue result
+        → SetsValue key.now (value_view value) (slots_of table.old) (slots_of table.new) }
     ensures fields { IsTrue result → fields_view table.new ≡ fields_view table.old }
 {
     match table.get_mut(key) {
@@ -86,7 +125,9 @@ fn replace_in_table(table: &mut Table, key: &str, value: Value) -> bool
 
 /// Replaces the value under the key in the table that the item is, as [`replace_in_item`] does.
 fn replace_in_item_table(item: &mut Item, key: &str, value: Value) -> bool
-    ensures { IsTrue result → SetsInTable key.now (value_view value) (item_view item.old) (item_view item.new) }
+    ensures found { result ≡ is_some (value_inside key.now (item_view item.old)) }
+    ensures item { IsTrue result
+        → SetsInTable key.now (value_view value) (item_view item.old) (item_view item.new) }
 {
     match item.as_table_mut() {
         Some(table) => replace_in_table(table, key, value),
@@ -99,7 +140,9 @@ fn replace_in_item_table(item: &mut Item, key: &str, value: Value) -> bool
 
 /// Replaces the value under the key of the table under the name, as [`replace_in_item`] does.
 fn replace_below(root: &mut Table, name: &str, key: &str, value: Value) -> bool
-    ensures slots { IsTrue result → SetsBelow name.now key.now (value_view value) (slots_of root.old) (slots_of root.new) }
+    ensures found { result ≡ is_some (value_below name.now key.now (slots_of root.old)) }
+    ensures slots { IsTrue result
+        → SetsBelow name.now key.now (value_view value) (slots_of root.old) (slots_of root.new) }
     ensures fields { IsTrue result → fields_view root.new ≡ fields_view root.old }
 {
     match root.get_mut(name) {

@@ -9,7 +9,10 @@ use toml_edit_guide::changing::set_value;
 use toml_edit_guide::documents::{print_if_fits, read_exactly, read_strictly, report};
 use toml_edit_guide::editing::{set_string, set_version};
 use toml_edit_guide::exchanging::exchange;
+use toml_edit_guide::fault::EditFault;
+use toml_edit_guide::normalizing::{normalize, reload};
 use toml_edit_guide::reading::{integer_at, names, span_at};
+use toml_edit_guide::removing::remove_key;
 use toml_edit_tests::holding::is_text;
 
 const SERVER: &str = "title = 'x'\n\n# two servers\n[server]\nport = 80  # http\nhost = 'a'\n";
@@ -237,14 +240,30 @@ fn prints_what_fits(rt: HostRuntime) {
     }
 }
 
-/// Returns `true` if this text came of an edit, or with `None` nothing was edited.
-fn is_edited(edited: Result<Option<String>, ParseFault>, wanted: Option<&str>) -> bool {
+/// Returns `true` if this text came of an edit.
+fn is_edited(edited: Result<String, EditFault>, wanted: &str) -> bool {
     match edited {
-        Ok(Some(text)) => wanted == Some(text.as_str()),
-        Ok(None) => wanted.is_none(),
+        Ok(text) => text.as_str() == wanted,
         Err(_) => false,
     }
 }
+
+/// Returns `true` if there was nothing to be edited.
+fn is_missing(edited: Result<String, EditFault>) -> bool {
+    matches!(edited, Err(EditFault::Missing))
+}
+
+/// Returns `true` if the text that was to be edited is refused.
+fn is_refused(edited: Result<String, EditFault>) -> bool {
+    matches!(edited, Err(EditFault::Toml(_)))
+}
+
+/// Returns `true` if the key that was to be added is there.
+fn is_present(edited: Result<String, EditFault>) -> bool {
+    matches!(edited, Err(EditFault::Present))
+}
+
+const TWICE: &str = "a = 1\na = 2\n";
 
 #[test]
 fn sets_a_version(rt: HostRuntime) {
@@ -252,35 +271,85 @@ fn sets_a_version(rt: HostRuntime) {
         "# a crate\n[package]\nname = 'x'  # its name\n# by hand\nversion  = '0.1.0' # the first\n\n[lib]\na.c = 1\nb = 2\n";
     let after =
         "# a crate\n[package]\nname = 'x'  # its name\n# by hand\nversion  = \"0.2.0\" # the first\n\n[lib]\na.c = 1\nb = 2\n";
-    assert!(rt; is_edited(set_version(rt.alloc(), before, "0.2.0"), Some(after)));
-    assert!(rt; is_edited(set_version(rt.alloc(), SERVER, "0.2.0"), None));
+    assert!(rt; is_edited(set_version(rt.alloc(), before, "0.2.0"), after));
+    assert!(rt; is_missing(set_version(rt.alloc(), SERVER, "0.2.0")));
     let named = "title = 'x'\n\n# two servers\n[server]\nport = 80  # http\nhost = \"b\"\n";
-    assert!(rt;
-        is_edited(
-            set_string(rt.alloc(), SERVER, "server", "host", "b"),
-            Some(named)
-        )
-    );
-    assert!(rt; is_edited(set_string(rt.alloc(), SERVER, "server", "name", "b"), None));
-    assert!(rt; is_edited(set_string(rt.alloc(), SERVER, "title", "host", "b"), None));
-    assert!(rt; set_string(rt.alloc(), "a = 1\na = 2\n", "a", "b", "c").is_err());
+    assert!(rt; is_edited(set_string(rt.alloc(), SERVER, "server", "host", "b"), named));
+    assert!(rt; is_missing(set_string(rt.alloc(), SERVER, "server", "name", "b")));
+    assert!(rt; is_missing(set_string(rt.alloc(), SERVER, "title", "host", "b")));
+    assert!(rt; is_refused(set_string(rt.alloc(), TWICE, "a", "b", "c")));
 }
+
+const TABLES: &str =
+    "# all\ntitle = 'x' # short\n\n# old\n[a]\nb = 1 # one\n\n# below it\n[a.c]\n\n# kept\n[d]\ne = 2 # two\n";
 
 #[test]
 fn exchanges_a_table_for_a_key(rt: HostRuntime) {
-    let before =
-        "# all\ntitle = 'x' # short\n\n# old\n[a]\nb = 1 # one\n\n# below it\n[a.c]\n\n# kept\n[d]\ne = 2 # two\n";
     let after = "# all\ntitle = 'x' # short\na = \"moved\"\n\n# kept\n[d]\ne = 2 # two\n";
-    assert!(rt; is_edited(exchange(rt.alloc(), before, "a", "a", "moved"), Some(after)));
-    assert!(rt; is_edited(exchange(rt.alloc(), before, "a", "title", "moved"), None));
-    assert!(rt; is_edited(exchange(rt.alloc(), before, "title", "f", "moved"), None));
-    assert!(rt; is_edited(exchange(rt.alloc(), before, "g", "f", "moved"), None));
+    assert!(rt; is_edited(exchange(rt.alloc(), TABLES, "a", "a", "moved"), after));
+    assert!(rt; is_present(exchange(rt.alloc(), TABLES, "a", "title", "moved")));
+    assert!(rt; is_missing(exchange(rt.alloc(), TABLES, "title", "f", "moved")));
+    assert!(rt; is_missing(exchange(rt.alloc(), TABLES, "g", "title", "moved")));
     let moved = "# two\ntitle = 'x'\nserver = \"s\"\n";
     assert!(rt;
         is_edited(
             exchange(rt.alloc(), "# two\ntitle = 'x'\n[t]\n", "t", "server", "s"),
-            Some(moved)
+            moved
         )
     );
-    assert!(rt; exchange(rt.alloc(), "a = 1\na = 2\n", "a", "b", "c").is_err());
+    assert!(rt; is_refused(exchange(rt.alloc(), TWICE, "a", "b", "c")));
+}
+
+#[test]
+fn removes_a_key(rt: HostRuntime) {
+    let without_a = "# all\ntitle = 'x' # short\n\n# kept\n[d]\ne = 2 # two\n";
+    assert!(rt; is_edited(remove_key(rt.alloc(), TABLES, "a"), without_a));
+    let without_title =
+        "\n# old\n[a]\nb = 1 # one\n\n# below it\n[a.c]\n\n# kept\n[d]\ne = 2 # two\n";
+    assert!(rt; is_edited(remove_key(rt.alloc(), TABLES, "title"), without_title));
+    assert!(rt; is_missing(remove_key(rt.alloc(), TABLES, "b")));
+    assert!(rt; is_refused(remove_key(rt.alloc(), TWICE, "a")));
+}
+
+/// Returns `true` if this is the normal form of the text.
+fn is_normalized(alloc: Global, text: &str, wanted: &str) -> bool {
+    match normalize(alloc, text) {
+        Ok(normal) => normal.as_str() == wanted,
+        Err(_) => false,
+    }
+}
+
+#[test]
+fn normalizes(rt: HostRuntime) {
+    let gathered = "a.x = 1 # one\na.y = 3\nb = 2\n";
+    assert!(rt; is_normalized(rt.alloc(), "a.x = 1 # one\r\nb = 2\r\na.y = 3", gathered));
+    assert!(rt; is_normalized(rt.alloc(), gathered, gathered));
+    assert!(rt; normalize(rt.alloc(), TWICE).is_err());
+}
+
+/// Returns `true` if the document is read from its print, and prints this then.
+fn is_reloaded(alloc: Global, document: &DocumentMut, wanted: &str) -> bool {
+    match reload(alloc, document) {
+        Ok(again) => is_text(again.print(alloc), wanted),
+        Err(_) => false,
+    }
+}
+
+fn is_unfit(reloaded: Result<DocumentMut, EditFault>) -> bool {
+    matches!(reloaded, Err(EditFault::Unfit))
+}
+
+fn reloads_until_it_is_dotted(alloc: Global, document: &mut DocumentMut) -> bool {
+    let is_set = set_defaults(document.as_table_mut()).is_ok();
+    let fits = is_reloaded(alloc, document, "# one\na = 1\nb = 5\n");
+    document.as_table_mut().set_dotted(true);
+    is_set && fits && is_unfit(reload(alloc, document))
+}
+
+#[test]
+fn reloads_what_fits(rt: HostRuntime) {
+    match DocumentMut::from_str(rt.alloc(), "# one\na = 1\n") {
+        Ok(mut document) => assert!(rt; reloads_until_it_is_dotted(rt.alloc(), &mut document)),
+        Err(_) => assert!(rt; false),
+    }
 }

@@ -1,14 +1,21 @@
 -- The document's tree, by its root.
 use Rattle.std.proofs.Common.{ap, subst, sym, ◌∙◌, ◌≡◌}
+use Rattle.std.specs.Prelude.{is_some}
 use Rattle.toml_edit.specs.model.Lists.{slot_list}
 use Rattle.toml_edit.specs.model.Tree.{Slots, Tree}
 use Rattle.toml_edit.specs.tree.View.{item_view, table_slots, tree_view, value_view}
 use Rattle.toml_edit.specs.tree.declared.item.Item.TheVariants as items
 use Rattle.toml_edit.specs.DocumentView.{tree_owned}
 use Rattle.toml_edit.specs.Roots.{tree_under}
+use Rattle.toml_edit_guide.specs.Paths.{value_below}
 use Rattle.toml_edit_guide.specs.Sets.{SetsBelow}
 use Rattle.toml_edit_guide.proofs.ViewLaws.{root-tree, trailing-at}
 use Rattle.toml_edit_guide.proofs.editing.replace_in_document.Goals as goal
+
+pub returns-clause-found : goal.returns-clause-found
+returns-clause-found c =
+    c.replace_below.ensures.found
+    ∙ ap (λ (ss : Slots). is_some (value_below c.args.name.now c.args.key.now (slot_list ss))) c.as_table_mut.ensures.slots
 
 pub returns-clause-tree : goal.returns-clause-tree
 returns-clause-tree c =

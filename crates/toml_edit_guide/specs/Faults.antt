@@ -1,0 +1,82 @@
+-- Why the text of a document is not edited.
+use Rattle.std.specs.Prelude.{◌≡◌, true, ◌++◌, List, None, codes, is_some, option_and_then}
+use Rattle.toml_edit.specs.Documents.{IsOwnedReading, IsRefusal}
+use Rattle.toml_edit.specs.error.declared.toml_error.ParseFault as parsing
+use Rattle.toml_edit.specs.error.declared.toml_error.ParseFault.TheVariants as parsings
+use Rattle.toml_edit.specs.model.Excerpt.{excerpt}
+use Rattle.toml_edit.specs.model.Fits.{FitsIn}
+use Rattle.toml_edit.specs.model.Lists.{slot_list}
+use Rattle.toml_edit.specs.model.Mode.{plain}
+use Rattle.toml_edit.specs.model.Scalars.{string}
+use Rattle.toml_edit.specs.model.Slots.{Slot, lookup, lookup_key, without}
+use Rattle.toml_edit.specs.model.Text.{Text, newline}
+use Rattle.toml_edit.specs.model.Tree.{Node, Tree, leaf, unset}
+use Rattle.toml_edit.specs.tree.Containers.{table_in}
+use Rattle.toml_edit_guide.specs.declared.fault.EditFault.{EditFault}
+use Rattle.toml_edit_guide.specs.declared.fault.EditFault.TheVariants.{Toml, Memory, Missing, Present, Unfit}
+use Rattle.toml_edit_guide.specs.Exchanges.{ExchangesInTree}
+use Rattle.toml_edit_guide.specs.Paths.{value_below}
+use Rattle.toml_edit_guide.specs.Removals.{without_key}
+use Rattle.toml_edit_guide.specs.Sets.{SetsInTree}
+
+-- what is shown of it
+abbrev pub fault_text : EditFault → Text
+fault_text (Toml e) = excerpt e.input e.span e.message
+fault_text Memory = codes "out of memory" ++ newline
+fault_text Missing = codes "not found" ++ newline
+fault_text Present = codes "already there" ++ newline
+fault_text Unfit = codes "does not fit" ++ newline
+
+-- a fault of parsing, passed on
+abbrev pub parsing_fault : parsing.ParseFault → EditFault
+parsing_fault (parsings.Toml e) = Toml e
+parsing_fault parsings.Memory = Memory
+
+-- memory ran out, or a tree does not fit
+abbrev pub FailsToFit : Type 0 → EditFault → Type 0
+FailsToFit Fits Unfit = Fits → ⊥
+FailsToFit Fits Memory = Unit {0}
+FailsToFit Fits _ = ⊥
+
+-- Why no value under a key of a table is replaced by a string: the text is refused; its tree has no value there; or the tree would not fit
+-- with this string in place of the value.
+abbrev pub SetFails : Text → Text → Text → Text → EditFault → Type 0
+SetFails text name key value (Toml report) = IsRefusal text report
+SetFails text name key value Memory = Unit {0}
+SetFails text name key value Missing =
+    (t : Tree) × IsOwnedReading text t × (value_below name key (slot_list t.slots) ≡ None)
+SetFails text name key value Present = ⊥
+SetFails text name key value Unfit =
+    (t : Tree) × (u : Tree) × IsOwnedReading text t
+    × SetsInTree name key (leaf (string value) None unset) t u × (FitsIn plain u → ⊥)
+
+-- why a slot that has a table is not removed and a key not added: there is no such table; or there is, and the key is one of the others
+abbrev pub SlotsStay : Text → Text → List (Slot Node) → EditFault → Type 0
+SlotsStay name key es Memory = Unit {0}
+SlotsStay name key es Missing = option_and_then table_in (lookup name es) ≡ None
+SlotsStay name key es Present =
+    (is_some (option_and_then table_in (lookup name es)) ≡ true)
+    × (is_some (lookup_key key (without name es)) ≡ true)
+SlotsStay name key es _ = ⊥
+
+-- why no table is removed and no string added: the text is refused; so it is with the slots of its root; or the tree would not fit
+abbrev pub ExchangeFails : Text → Text → Text → Text → EditFault → Type 0
+ExchangeFails text name key value (Toml report) = IsRefusal text report
+ExchangeFails text name key value Memory = Unit {0}
+ExchangeFails text name key value Missing =
+    (t : Tree) × IsOwnedReading text t × SlotsStay name key (slot_list t.slots) Missing
+ExchangeFails text name key value Present =
+    (t : Tree) × IsOwnedReading text t × SlotsStay name key (slot_list t.slots) Present
+ExchangeFails text name key value Unfit =
+    (t : Tree) × (u : Tree) × IsOwnedReading text t
+    × ExchangesInTree name key (leaf (string value) None unset) t u × (FitsIn plain u → ⊥)
+
+-- why no key of the root is removed: the text is refused; there is no such key; or the tree would not fit
+abbrev pub RemovalFails : Text → Text → EditFault → Type 0
+RemovalFails text name (Toml report) = IsRefusal text report
+RemovalFails text name Memory = Unit {0}
+RemovalFails text name Missing =
+    (t : Tree) × IsOwnedReading text t × (lookup name (slot_list t.slots) ≡ None)
+RemovalFails text name Present = ⊥
+RemovalFails text name Unfit =
+    (t : Tree) × IsOwnedReading text t × (FitsIn plain (without_key name t) → ⊥)

@@ -1,0 +1,50 @@
+//! Writing a text in its normal form, and reading a document from its print.
+ghost use Rattle.std.specs.Prelude.{IfErr, IfOk, string_bytes};
+ghost use Rattle.toml_edit.specs.DocumentView.{print_of, tree_owned};
+ghost use Rattle.toml_edit.specs.Documents.{IsRefusal};
+ghost use Rattle.toml_edit.specs.error.Fault.{IfToml};
+ghost use Rattle.toml_edit_guide.specs.Faults.{FailsToFit};
+ghost use Rattle.toml_edit_guide.specs.Normals.{IsNormalized, IsReloaded};
+ghost use Rattle.toml_edit_guide.specs.Prints.{TreeFits};
+
+use crate::fault::EditFault;
+use std::alloc::Global;
+use toml_edit::laws::{agree, cut, normal, reparse};
+use toml_edit::{DocumentMut, ParseFault};
+
+/// Returns the normal form of a text. That of the result is the result itself.
+///
+/// # Errors
+///
+/// [`ParseFault::Toml`] if the text is refused, and [`ParseFault::Memory`] if out of memory.
+pub fn normalize(alloc: Global, text: &str) -> Result<String, ParseFault>
+    ensures normal { IfOk result (λ s. IsNormalized text.now (string_bytes s)) }
+    ensures refused { IfErr result (λ e. IfToml e (IsRefusal text.now)) }
+{
+    cut();
+    normal();
+    let document = DocumentMut::from_str(alloc, text)?;
+    Ok(document.print(alloc)?)
+}
+
+/// Reads a document from its print, as it is read after it was saved. What it means stays.
+///
+/// # Errors
+///
+/// [`EditFault::Unfit`] if the document does not fit, and [`EditFault::Memory`] if out of memory.
+/// A document that fits is never refused.
+pub fn reload(alloc: Global, document: &DocumentMut) -> Result<DocumentMut, EditFault>
+    ensures reloaded { IfOk result (λ m.
+        ∥ IsReloaded (print_of document.now) (tree_owned document.now) (tree_owned m) ∥₁) }
+    ensures fails { IfErr result (FailsToFit (TreeFits document.now)) }
+{
+    cut();
+    agree();
+    reparse();
+    if !document.fits(alloc)? {
+        return Err(EditFault::Unfit);
+    }
+    let text = document.print(alloc)?;
+    let reloaded = DocumentMut::from_str(alloc, text.as_str())?;
+    Ok(reloaded)
+}
