@@ -13,11 +13,11 @@ use Rattle.toml_edit_tree.specs.Containers.{table_node}
 use Rattle.toml_edit_tree.specs.Elements.{listed}
 use Rattle.toml_edit_tree.specs.View.{value_view, slots_view, table_view}
 use Rattle.toml_edit_tree.specs.declared.array.Array.{Array}
-use Rattle.toml_edit_tree.specs.declared.array.ArrayIter.{ArrayIter}
+use Rattle.toml_edit_tree.specs.declared.array.iter.ArrayIter.{ArrayIter}
 use Rattle.toml_edit_tree.specs.declared.array_of_tables.ArrayOfTables.{ArrayOfTables}
 use Rattle.toml_edit_tree.specs.declared.array_of_tables.ArrayOfTablesIter.{ArrayOfTablesIter}
 use Rattle.toml_edit_tree.specs.declared.inline_table.InlineTable.{InlineTable}
-use Rattle.toml_edit_tree.specs.declared.inline_table.InlineTableIter.{InlineTableIter}
+use Rattle.toml_edit_tree.specs.declared.inline_table.iter.InlineTableIter.{InlineTableIter}
 use Rattle.toml_edit_tree.specs.declared.item.Item.{Item}
 use Rattle.toml_edit_tree.specs.declared.item.Item.TheVariants as items
 use Rattle.toml_edit_tree.specs.declared.table.Table.{Table}

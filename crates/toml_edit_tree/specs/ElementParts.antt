@@ -10,7 +10,7 @@ use Rattle.toml_edit_tree.specs.View.{table_view, value_view}
 use Rattle.toml_edit_tree.specs.declared.array.Array.{Array}
 use Rattle.toml_edit_tree.specs.declared.array.iter.ArrayIntoIter.{ArrayIntoIter}
 use Rattle.toml_edit_tree.specs.declared.array_of_tables.ArrayOfTables.{ArrayOfTables}
-use Rattle.toml_edit_tree.specs.declared.array_of_tables.iter.ArrayOfTablesIntoIter.{ArrayOfTablesIntoIter}
+use Rattle.toml_edit_tree.specs.declared.array_of_tables.ArrayOfTablesIntoIter.{ArrayOfTablesIntoIter}
 use Rattle.toml_edit_tree.specs.declared.table.Table.{Table}
 use Rattle.toml_edit_tree.specs.declared.value.Value.{Value}
 

@@ -7,7 +7,7 @@ use Rattle.toml_edit_model.specs.Lists.{slot_list}
 use Rattle.toml_edit_model.specs.Text.{Text}
 use Rattle.toml_edit_model.specs.Tree.{Node}
 use Rattle.toml_edit_tree.specs.declared.item.Item.{Item}
-use Rattle.toml_edit_tree.specs.declared.table.Iter.{Iter}
+use Rattle.toml_edit_tree.specs.declared.table.iter.Iter.{Iter}
 use Rattle.toml_edit_tree.specs.View.{item_view, slots_view}
 
 -- what an iterator has left

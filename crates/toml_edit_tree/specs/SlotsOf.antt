@@ -14,7 +14,7 @@ use Rattle.toml_edit_slots.specs.Closures.{FnReturnsAtTwo}
 use Rattle.toml_edit_tree.specs.declared.inline_table.InlineTable.{InlineTable}
 use Rattle.toml_edit_tree.specs.declared.item.Item.{Item}
 use Rattle.toml_edit_tree.specs.declared.table.Table.{Table}
-use Rattle.toml_edit_tree.specs.declared.table.iterate.IntoIter.{IntoIter}
+use Rattle.toml_edit_tree.specs.declared.table.iter.IntoIter.{IntoIter}
 use Rattle.toml_edit_tree.specs.View.{fields_view, inline_view, item_view, slots_view, table_slots}
 
 abbrev pub slots_of : Table → List (Slot Node)

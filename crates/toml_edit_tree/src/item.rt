@@ -1,29 +1,41 @@
-//! Items: the type, its kinds, and its construction. Look-up inside items is in `item/index.rt`,
-//! and the kinds of a value in `item/casts.rt`.
-ghost use Rattle.std.specs.Prelude.{◌≡◌, ◌↔◌, true, None, Some, IfOk, IsTrue, is_some, option_map};
+//! Items: what a table has under a key, and what it can be taken for. Conversions are in
+//! `convert.rt`, and the trait for look-up by a number or a key in `index.rt`.
 ghost use Rattle.std.specs.Borrow.{sem};
-ghost use Rattle.toml_edit_model.specs.Tree.{nothing, no_items, no_slots, is_value_node};
-ghost use Rattle.toml_edit_model.specs.Conversions.{with_decor};
-ghost use Rattle.toml_edit_tree.specs.Casts.{both_sides, type_of};
+ghost use Rattle.std.specs.Prelude.{◌↔◌, ◌≡◌, IfErr, IfOk, IfSome, IsOk, IsSome, IsTrue, List, None, OnErr, OnOk, Some, is_some, option_and_then, option_map, true};
+ghost use Rattle.toml_edit_datetime.specs.DatetimeView.{datetime_view};
+ghost use Rattle.toml_edit_model.specs.Conversions.{item_display, with_decor};
+ghost use Rattle.toml_edit_model.specs.Indexing.{index_or_inserted, indexed, item_under, number, text};
+ghost use Rattle.toml_edit_model.specs.Lists.{items_in, on_slots, slots_in};
+ghost use Rattle.toml_edit_model.specs.Slots.{place};
+ghost use Rattle.toml_edit_model.specs.Tree.{is_value_node, no_items, no_slots, nothing};
+ghost use Rattle.toml_edit_slots.specs.declared.slots.Slot.{Slot};
+ghost use Rattle.toml_edit_tree.specs.Casts.{array_in, both_sides, datetime_in, float_in, inline_in, integer_in, text_in, truth_in, type_of};
 ghost use Rattle.toml_edit_tree.specs.ContainerParts.{LendsTable, LendsTables};
+ghost use Rattle.toml_edit_tree.specs.Containers.{table_in, table_node, tables_in, tables_node, value_in};
 ghost use Rattle.toml_edit_tree.specs.ElementHolds.{table_held, value_held};
 ghost use Rattle.toml_edit_tree.specs.ElementLending.{LendsValue};
+ghost use Rattle.toml_edit_tree.specs.Elements.{listed};
+ghost use Rattle.toml_edit_tree.specs.Indexed.{LendsSlotsIn, lent_under, or_else, shown_slots, slots_held, with_slots};
 ghost use Rattle.toml_edit_tree.specs.InlineLending.{LendsOwnValue};
+ghost use Rattle.toml_edit_tree.specs.ItemParts.{LendsArrayIn, LendsInlineIn, item_span};
 ghost use Rattle.toml_edit_tree.specs.ItemPlaces.{LendsOwnTable};
 ghost use Rattle.toml_edit_tree.specs.TableLending.{new_table};
-ghost use Rattle.toml_edit_tree.specs.Containers.{table_in, table_node, tables_in, tables_node, value_in};
-ghost use Rattle.toml_edit_tree.specs.View.{item_view, table_view, tables_view, value_view};
+ghost use Rattle.toml_edit_tree.specs.View.{array_view, inline_view, item_view, table_view, tables_view, value_view};
+ghost use Rattle.toml_edit_tree.specs.declared.index.IndexFault.TheVariants.{WrongKind};
 
+use crate::array::Array;
 use crate::array_of_tables::ArrayOfTables;
 use crate::copy::copy_item;
+use crate::index::{Index, IndexFault, filled_item, filled_place, item_at, place_under};
+use crate::inline_table::InlineTable;
 use crate::table::Table;
 use crate::value::Value;
 use std::alloc::Global;
+use std::ops::Range;
+use std::{fmt, mem};
+use toml_edit_datetime::{Datetime, FloatText};
 use toml_edit_repr::{Mem, RawString};
-
-mod casts;
-mod index;
-mod shown;
+use toml_edit_slots::Slots;
 
 /// What a table has under a key: a value, a table, an array of tables, or nothing.
 ///
@@ -58,6 +70,234 @@ impl Default for Item {
     }
 }
 
+// Placeholders
+impl Item {
+    /// Returns `true` if the item is a placeholder.
+    pub fn is_none(&self) -> bool
+        ensures { IsTrue result ↔ (item_view self.now ≡ nothing) }
+    {
+        matches!(self, Item::None)
+    }
+
+    /// Fills a placeholder with `item`, and returns a mutable reference to this item.
+    ///
+    /// Any other item stays, and `item` is dropped.
+    pub fn or_insert(&mut self, item: Item) -> &mut Item
+        ensures same_item { result.ghost_name ≡ self.entry.ghost_name }
+        ensures item { item_view result.now ≡ or_else (item_view item) (item_view self.old) }
+    {
+        if self.is_none() {
+            drop(mem::replace(self, item));
+        } else {
+            drop(item);
+        }
+        self
+    }
+}
+
+// Look-up
+impl Item {
+    /// Returns the item that `index` finds, or `None` if there is none or this item is of another
+    /// kind.
+    ///
+    /// A number finds a slot of an array or an array of tables, a placeholder too. A text finds an
+    /// item of a table or an inline table that is no placeholder. Indexing by `[..]` requires that
+    /// there is one.
+    ///
+    /// # Examples
+    ///
+    /// ```rust,ignore
+    /// root.get(table)?.get(key)?.as_integer()
+    /// ```
+    ///
+    /// From `integer_at` of the guide, docs/GUIDE.md.
+    pub fn get<I: Index>(&self, index: I) -> Option<&Item>
+        ensures { option_map (λ x. item_view x.now) result ≡ indexed (I.stands_for index) (item_view self.now) }
+    {
+        index.index(self)
+    }
+
+    /// Returns a mutable reference to the item that [`get`](Self::get) finds, or `None`.
+    ///
+    /// It never inserts: see [`index_or_insert`](Self::index_or_insert). No contract says what this
+    /// item is after a write through the reference. Where a proof needs that, take the table by
+    /// [`as_table_mut`](Self::as_table_mut) and call [`Table::get_mut`](crate::Table::get_mut).
+    pub fn get_mut<I: Index>(&mut self, index: I) -> Option<&mut Item>
+        ensures { option_map (λ x. item_view x.now) result ≡ indexed (I.stands_for index) (item_view self.old) }
+    {
+        index.index_mut(self)
+    }
+
+    /// Returns a mutable reference to the item under `key`, after adding a placeholder if it is
+    /// missing.
+    ///
+    /// It works on tables and inline tables. A new key has the default spelling and is added at the
+    /// end. A placeholder first becomes an inline table, made by `alloc`.
+    ///
+    /// No contract says what this item is after an error, or after a write through the reference.
+    /// [`Table::index_or_insert`](crate::Table::index_or_insert) has one that does.
+    ///
+    /// # Errors
+    ///
+    /// Returns [`IndexFault::WrongKind`] if this item is neither a table, an inline table nor a
+    /// placeholder. Returns [`IndexFault::Memory`] if out of memory, at a new key.
+    pub fn index_or_insert(&mut self, alloc: Global, key: &str) -> Result<&mut Item, IndexFault>
+        ensures item { IfOk result (λ lent. lent_under key.now (item_view self.old) ≡ Some (item_view lent.now)) }
+        ensures kind { IfErr result (λ fault. (fault ≡ WrongKind) ↔ (index_or_inserted key.now (item_view self.old) ≡ None)) }
+        ensures present { IsSome (item_under key.now (item_view self.old)) → IsOk result }
+    {
+        match self.make_place(alloc, key) {
+            Ok(at) => match self.as_slots_mut() {
+                Some(slots) => Ok(slots.item_mut(at)),
+                None => unreachable!(),
+            },
+            Err(fault) => Err(fault),
+        }
+    }
+
+    /// Finds the slot of the key, or makes it as `index_or_insert` does, and returns its number.
+    ///
+    /// # Errors
+    ///
+    /// Those of `index_or_insert`.
+    #[doc(hidden)]
+    pub fn make_place(&mut self, alloc: Global, key: &str) -> Result<usize, IndexFault>
+        ensures made { OnOk result (index_or_inserted key.now (item_view self.old) ≡ Some (item_view self.new)) }
+        ensures place { IfOk result (λ at. option_and_then (place key.now) (slots_in (item_view self.new)) ≡ Some at) }
+        ensures kind { IfErr result (λ fault. (fault ≡ WrongKind) ↔ (index_or_inserted key.now (item_view self.old) ≡ None)) }
+        ensures present { IsSome (item_under key.now (item_view self.old)) → IsOk result }
+        ensures err { OnErr result (self.new ≡ self.old) }
+    {
+        if self.is_none() {
+            return match self.make_inline(alloc, key) {
+                Ok(at) => Ok(at),
+                Err(_) => Err(IndexFault::Memory),
+            };
+        }
+        match self.as_slots_mut() {
+            Some(slots) => match place_under(slots, key) {
+                Ok(at) => Ok(at),
+                Err(_) => Err(IndexFault::Memory),
+            },
+            None => Err(IndexFault::WrongKind),
+        }
+    }
+
+    /// Makes a placeholder an inline table with a placeholder under the key, and returns its
+    /// number.
+    fn make_inline(&mut self, alloc: Global, key: &str) -> Mem<usize>
+        requires { item_view self.old ≡ nothing }
+        ensures made { OnOk result (index_or_inserted key.now nothing ≡ Some (item_view self.new)) }
+        ensures place { IfOk result (λ at. option_and_then (place key.now) (slots_in (item_view self.new)) ≡ Some at) }
+        ensures err { OnErr result (self.new ≡ self.old) }
+    {
+        let mut table = InlineTable::new(alloc);
+        match place_under(&mut table.items, key) {
+            Ok(at) => {
+                drop(mem::replace(self, Item::Value(Value::InlineTable(table))));
+                Ok(at)
+            }
+            Err(refused) => {
+                drop(table);
+                Err(refused)
+            }
+        }
+    }
+
+    /// Returns the slots of a table or an inline table, or `None` for any other item.
+    #[doc(hidden)]
+    pub fn as_slots(&self) -> Option<&Slots<Item>>
+        ensures { option_map (λ es. shown_slots es.now) result ≡ slots_in (item_view self.now) }
+    {
+        match self {
+            Item::Table(table) => Some(&table.slots),
+            Item::Value(Value::InlineTable(table)) => Some(&table.items),
+            _ => None,
+        }
+    }
+
+    /// Returns a mutable reference to the slots of a table or an inline table, or `None`.
+    #[doc(hidden)]
+    pub fn as_slots_mut(&mut self) -> Option<&mut Slots<Item>>
+        ensures* writes_back { sem 𝓛 (LendsSlotsIn self.entry result) }
+        ensures slots { option_map (λ es. shown_slots es.now) result ≡ slots_in (item_view self.old) }
+        // Writing other slots replaces these alone, and writing them back changes nothing.
+        ensures others { (es : List (Slot Item)) → item_view (with_slots es self.old) ≡ on_slots (λ _. shown_slots es) (item_view self.old) }
+        ensures own { IfSome result (λ es. with_slots es.now self.old ≡ self.old) }
+    {
+        self.own_slots_mut()
+    }
+
+    /// Returns a mutable reference to the slots of a table or an inline table, or `None`.
+    fn own_slots_mut(&mut self) -> Option<&mut Slots<Item>>
+        ensures* writes_back { sem 𝓛 (LendsSlotsIn self.entry result) }
+        ensures slots { option_map (λ es. es.now) result ≡ slots_held self.old }
+    {
+        match self {
+            Item::Table(table) => Some(table.own_slots_mut()),
+            Item::Value(value) => value.own_slots_mut(),
+            _ => None,
+        }
+    }
+
+    /// Returns the slots of an array or an array of tables, or `None` for any other item.
+    fn as_items(&self) -> Option<&[Item]>
+        ensures { option_map (λ xs. listed xs.now) result ≡ items_in (item_view self.now) }
+    {
+        match self {
+            Item::Value(Value::Array(array)) => Some(array.values.as_slice()),
+            Item::ArrayOfTables(tables) => Some(tables.values.as_slice()),
+            _ => None,
+        }
+    }
+
+    /// Returns slot `at` of an array or an array of tables, a placeholder too.
+    pub(crate) fn slot_at(&self, at: usize) -> Option<&Item>
+        ensures { option_map (λ x. item_view x.now) result ≡ indexed (number at) (item_view self.now) }
+    {
+        match self.as_items() {
+            Some(items) => item_at(items, at),
+            None => None,
+        }
+    }
+
+    /// Returns a mutable reference to slot `at` of an array or an array of tables, a placeholder
+    /// too.
+    pub(crate) fn slot_at_mut(&mut self, at: usize) -> Option<&mut Item>
+        ensures { option_map (λ x. item_view x.now) result ≡ indexed (number at) (item_view self.old) }
+    {
+        match self {
+            Item::Value(Value::Array(array)) => array.slot_at_mut(at),
+            Item::ArrayOfTables(tables) => tables.slot_at_mut(at),
+            _ => None,
+        }
+    }
+
+    /// Returns the item under the key of a table or an inline table, unless it is a placeholder.
+    pub(crate) fn item_under(&self, key: &str) -> Option<&Item>
+        ensures { option_map (λ x. item_view x.now) result ≡ indexed (text key.now) (item_view self.now) }
+    {
+        match self.as_slots() {
+            Some(slots) => filled_item(slots, key),
+            None => None,
+        }
+    }
+
+    /// Returns a mutable reference to the item under the key, unless it is a placeholder.
+    pub(crate) fn item_under_mut(&mut self, key: &str) -> Option<&mut Item>
+        ensures { option_map (λ x. item_view x.now) result ≡ indexed (text key.now) (item_view self.old) }
+    {
+        match self.as_slots_mut() {
+            Some(slots) => match filled_place(slots, key) {
+                Some(at) => Some(slots.item_mut(at)),
+                None => None,
+            },
+            None => None,
+        }
+    }
+}
+
+// Kinds
 impl Item {
     /// Returns the name of the item's type in the words of TOML, for messages.
     ///
@@ -72,13 +312,6 @@ impl Item {
             Item::Table(_) => "table",
             Item::ArrayOfTables(_) => "array of tables",
         }
-    }
-
-    /// Returns `true` if the item is a placeholder.
-    pub fn is_none(&self) -> bool
-        ensures { IsTrue result ↔ (item_view self.now ≡ nothing) }
-    {
-        matches!(self, Item::None)
     }
 
     /// Returns the value, or `None` for any other item.
@@ -113,18 +346,6 @@ impl Item {
     {
         match self {
             Item::Value(lent) => lent,
-            _ => unreachable!(),
-        }
-    }
-
-    /// Returns a mutable reference to the table of an item that is one.
-    pub(crate) fn own_table_mut(&mut self) -> &mut Table
-        requires { is_some (table_held self.old) ≡ true }
-        ensures* writes_back { sem 𝓛 (LendsOwnTable self.entry result) }
-        ensures table { table_held self.old ≡ Some result.now }
-    {
-        match self {
-            Item::Table(lent) => lent,
             _ => unreachable!(),
         }
     }
@@ -184,6 +405,18 @@ impl Item {
         }
     }
 
+    /// Returns a mutable reference to the table of an item that is one.
+    pub(crate) fn own_table_mut(&mut self) -> &mut Table
+        requires { is_some (table_held self.old) ≡ true }
+        ensures* writes_back { sem 𝓛 (LendsOwnTable self.entry result) }
+        ensures table { table_held self.old ≡ Some result.now }
+    {
+        match self {
+            Item::Table(lent) => lent,
+            _ => unreachable!(),
+        }
+    }
+
     /// Returns `true` if the item is a [`Table`], which an inline table is not.
     pub fn is_table(&self) -> bool
         ensures { result ≡ is_some (table_in (item_view self.now)) }
@@ -221,7 +454,185 @@ impl Item {
     {
         self.as_array_of_tables().is_some()
     }
+}
 
+// Kinds of values
+impl Item {
+    /// Returns the number of an integer, or `None` for any other item.
+    ///
+    /// # Examples
+    ///
+    /// ```rust,ignore
+    /// root.get(table)?.get(key)?.as_integer()
+    /// ```
+    ///
+    /// From `integer_at` of the guide, docs/GUIDE.md.
+    pub fn as_integer(&self) -> Option<i64>
+        ensures { result ≡ integer_in (item_view self.now) }
+    {
+        match self {
+            Item::Value(value) => value.as_integer(),
+            _ => None,
+        }
+    }
+
+    /// Returns `true` if the item is an integer.
+    pub fn is_integer(&self) -> bool
+        ensures { result ≡ is_some (integer_in (item_view self.now)) }
+    {
+        match self {
+            Item::Value(value) => value.is_integer(),
+            _ => false,
+        }
+    }
+
+    /// Returns the text of a float, or `None` for any other item.
+    ///
+    /// A float is kept as its text, of any magnitude and never rounded, so there is no `as_float`.
+    pub fn as_float_text(&self) -> Option<&FloatText>
+        ensures { option_map (λ x. x.now) result ≡ float_in (item_view self.now) }
+    {
+        match self {
+            Item::Value(value) => value.as_float_text(),
+            _ => None,
+        }
+    }
+
+    /// Returns `true` if the item is a float.
+    pub fn is_float(&self) -> bool
+        ensures { result ≡ is_some (float_in (item_view self.now)) }
+    {
+        match self {
+            Item::Value(value) => value.is_float(),
+            _ => false,
+        }
+    }
+
+    /// Returns the boolean, or `None` for any other item.
+    pub fn as_bool(&self) -> Option<bool>
+        ensures { result ≡ truth_in (item_view self.now) }
+    {
+        match self {
+            Item::Value(value) => value.as_bool(),
+            _ => None,
+        }
+    }
+
+    /// Returns `true` if the item is a boolean, whether `true` or `false`.
+    pub fn is_bool(&self) -> bool
+        ensures { result ≡ is_some (truth_in (item_view self.now)) }
+    {
+        match self {
+            Item::Value(value) => value.is_bool(),
+            _ => false,
+        }
+    }
+
+    /// Returns the text of a string, without quotes and escapes, or `None` for any other item.
+    pub fn as_str(&self) -> Option<&str>
+        ensures { option_map (λ t. t.now) result ≡ text_in (item_view self.now) }
+    {
+        match self {
+            Item::Value(value) => value.as_str(),
+            _ => None,
+        }
+    }
+
+    /// Returns `true` if the item is a string.
+    pub fn is_str(&self) -> bool
+        ensures { result ≡ is_some (text_in (item_view self.now)) }
+    {
+        match self {
+            Item::Value(value) => value.is_str(),
+            _ => false,
+        }
+    }
+
+    /// Returns the date-time, date or time, or `None` for any other item.
+    pub fn as_datetime(&self) -> Option<&Datetime>
+        ensures { option_map (λ x. datetime_view x.now) result ≡ datetime_in (item_view self.now) }
+    {
+        match self {
+            Item::Value(value) => value.as_datetime(),
+            _ => None,
+        }
+    }
+
+    /// Returns `true` if the item is a date-time, a date or a time.
+    pub fn is_datetime(&self) -> bool
+        ensures { result ≡ is_some (datetime_in (item_view self.now)) }
+    {
+        match self {
+            Item::Value(value) => value.is_datetime(),
+            _ => false,
+        }
+    }
+
+    /// Returns the array, or `None` for any other item.
+    pub fn as_array(&self) -> Option<&Array>
+        ensures { option_map (λ a. array_view a.now) result ≡ array_in (item_view self.now) }
+    {
+        match self {
+            Item::Value(value) => value.as_array(),
+            _ => None,
+        }
+    }
+
+    /// Returns a mutable reference to the array, or `None` for any other item.
+    pub fn as_array_mut(&mut self) -> Option<&mut Array>
+        ensures* writes_back { sem 𝓛 (LendsArrayIn self.entry result) }
+        ensures array { option_map (λ a. array_view a.now) result ≡ array_in (item_view self.old) }
+    {
+        match self {
+            Item::Value(value) => value.as_array_mut(),
+            _ => None,
+        }
+    }
+
+    /// Returns `true` if the item is an array. An array of tables is not.
+    pub fn is_array(&self) -> bool
+        ensures { result ≡ is_some (array_in (item_view self.now)) }
+    {
+        match self {
+            Item::Value(value) => value.is_array(),
+            _ => false,
+        }
+    }
+
+    /// Returns the inline table, or `None` for any other item.
+    pub fn as_inline_table(&self) -> Option<&InlineTable>
+        ensures { option_map (λ t. inline_view t.now) result ≡ inline_in (item_view self.now) }
+    {
+        match self {
+            Item::Value(value) => value.as_inline_table(),
+            _ => None,
+        }
+    }
+
+    /// Returns a mutable reference to the inline table, or `None` for any other item.
+    pub fn as_inline_table_mut(&mut self) -> Option<&mut InlineTable>
+        ensures* writes_back { sem 𝓛 (LendsInlineIn self.entry result) }
+        ensures table { option_map (λ t. inline_view t.now) result ≡ inline_in (item_view self.old) }
+    {
+        match self {
+            Item::Value(value) => value.as_inline_table_mut(),
+            _ => None,
+        }
+    }
+
+    /// Returns `true` if the item is an inline table. A [`Table`](crate::Table) is not.
+    pub fn is_inline_table(&self) -> bool
+        ensures { result ≡ is_some (inline_in (item_view self.now)) }
+    {
+        match self {
+            Item::Value(value) => value.is_inline_table(),
+            _ => false,
+        }
+    }
+}
+
+// Formatting
+impl Item {
     /// Sets the decor of a value, and leaves any other item as it is.
     #[doc(hidden)]
     pub fn decorate(&mut self, prefix: RawString, suffix: RawString)
@@ -229,6 +640,29 @@ impl Item {
     {
         if let Item::Value(value) = self {
             value.surround(prefix, suffix);
+        }
+    }
+
+    /// Returns the byte range of the item in the source, or `None` if it was made or has no span.
+    ///
+    /// It is that of the value, of a table's header with its brackets, or from the first header of
+    /// an array of tables to the last. A `DocumentMut` has no spans: read them before `into_mut`.
+    ///
+    /// # Examples
+    ///
+    /// ```rust,ignore
+    /// root.get(key)?.span()
+    /// ```
+    ///
+    /// From `span_at` of the guide, docs/GUIDE.md.
+    pub fn span(&self) -> Option<Range<usize>>
+        ensures { result ≡ item_span (item_view self.now) }
+    {
+        match self {
+            Item::None => None,
+            Item::Value(value) => value.span(),
+            Item::Table(table) => table.span(),
+            Item::ArrayOfTables(tables) => tables.span(),
         }
     }
 
@@ -294,5 +728,23 @@ impl From<ArrayOfTables> for Item {
 
     fn from(array: ArrayOfTables) -> Item {
         Item::ArrayOfTables(array)
+    }
+}
+
+/// Writes the value, the lines of the table, or the array of tables as an array of inline tables. A
+/// placeholder is written as nothing.
+///
+/// As for a [`Table`](crate::Table), neither headers nor the tables below that have them are
+/// written.
+impl fmt::Display for Item {
+    ghost output = { λ item. Some (item_display (item_view item)) };
+
+    fn fmt<W: fmt::Write>(&self, f: &mut fmt::Formatter<W>) -> fmt::Result {
+        match self {
+            Item::None => Ok(()),
+            Item::Value(value) => value.fmt(f),
+            Item::Table(table) => table.fmt(f),
+            Item::ArrayOfTables(tables) => tables.fmt(f),
+        }
     }
 }

@@ -1,47 +1,48 @@
-//! Tables: the type, its construction, what belongs to its header, and look-up by key. Its
-//! submodules have the calls that change slots, iterate over them, and lend them.
-ghost use Rattle.std.specs.Prelude.{◌≡◌, ◌<◌, List, None, Some, IfOk, IfSome, OnOk, length, option_and_then, option_map, slice_get};
+//! Tables: the type and its calls. Sorts are in `sort.rt`, the lists of lines in `lines.rt`, and
+//! conversions in `convert.rt`.
 ghost use Rattle.std.specs.Borrow.{sem};
-ghost use Rattle.std.specs.Iterator.{YieldsFirstBy, item_count};
-ghost use Rattle.toml_edit_model.specs.Iterating.{filled_pairs};
-ghost use Rattle.toml_edit_model.specs.Lists.{slot_list};
-ghost use Rattle.toml_edit_model.specs.Slots.{AreApart, changed, lookup_key, with_item};
-ghost use Rattle.toml_edit_model.specs.TableCalls.{get};
-ghost use Rattle.toml_edit_model.specs.Tree.{no_slots, SlotsAreWellMade};
+ghost use Rattle.std.specs.Iterator.{Drains, ExtendsWithItems, IsFinite};
+ghost use Rattle.std.specs.Option.{option_copied, option_map_or};
+ghost use Rattle.std.specs.Prelude.{[], ◌<◌, ◌↔◌, ◌≡◌, Bool, IfErr, IfOk, IfSome, IsOk, IsSome, IsTrue, List, OnErr, OnOk, Some, false, length, map, option_and_then, option_map, slice_get};
+ghost use Rattle.toml_edit_model.specs.Conversions.{formatted, table_display};
+ghost use Rattle.toml_edit_model.specs.Iterating.{filled, filled_pairs};
+ghost use Rattle.toml_edit_model.specs.Lists.{is_item, slots_from};
+ghost use Rattle.toml_edit_model.specs.OwnedForm.{DecorFits, SlotsFit, owned_fields, owned_slots};
+ghost use Rattle.toml_edit_model.specs.Retaining.{RetainsBy};
+ghost use Rattle.toml_edit_model.specs.Slots.{AreApart, changed, extended, has_slot, inserted, inserted_formatted, lookup, lookup_key, lookup_slot, pairs, those, with_item, without};
+ghost use Rattle.toml_edit_model.specs.TableCalls.{contains_key, contains_table, contains_tables, contains_value, get, get_slot};
+ghost use Rattle.toml_edit_model.specs.Tree.{Key, Node, SlotsAreWellMade, no_slots};
 ghost use Rattle.toml_edit_model.specs.TreeOf.{made_by_path, root_fields, spanned_form};
-ghost use Rattle.toml_edit_tree.specs.ContainerParts.{LendsTableDecor, LendsTableSlots, table_holding};
-ghost use Rattle.std.specs.Option.{option_copied};
 ghost use Rattle.toml_edit_slots.specs.Slots.{items_of, place};
-ghost use Rattle.toml_edit_tree.specs.SlotsOf.{slots_of};
+ghost use Rattle.toml_edit_tree.specs.ContainerParts.{LendsTableDecor, LendsTableSlots, table_holding};
+ghost use Rattle.toml_edit_tree.specs.Containers.{headed, range_in, table_node, table_with_dotted, table_with_implicit, table_with_position};
+ghost use Rattle.toml_edit_tree.specs.Held.{held_left};
+ghost use Rattle.toml_edit_tree.specs.Indexed.{LendsMade, item_put, lent_under, written_under};
+ghost use Rattle.toml_edit_tree.specs.SlotsOf.{AddsSlots, SaysOfItem, slot_read, slot_taken, slots_of};
 ghost use Rattle.toml_edit_tree.specs.TableLending.{LendsHeld, new_table, with_item_under};
+ghost use Rattle.toml_edit_tree.specs.View.{fields_view, item_view, slots_view, table_slots, table_view};
+ghost use Rattle.toml_edit_tree.specs.declared.index.IndexFault.TheVariants.{Memory};
+ghost use Rattle.toml_edit_tree.specs.declared.item.Item.{Item};
 ghost use Rattle.toml_edit_tree.specs.declared.table.Table.{out-Table};
-ghost use Rattle.toml_edit_tree.specs.Containers.{range_in, headed, table_with_dotted, table_with_implicit, table_with_position};
-ghost use Rattle.toml_edit_tree.specs.Held.{held_left, pair_read};
-ghost use Rattle.toml_edit_tree.specs.View.{item_view, slots_view, table_slots, table_view, fields_view};
-ghost use Rattle.toml_edit_model.specs.OwnedForm.{DecorFits, SlotsFit, owned_slots, owned_fields};
 
+use crate::convert::format_slots;
 use crate::copy::copy_table;
 use crate::despan::despan_table;
-use crate::index::slots::filled_item;
+use crate::encode::put_table_lines;
+use crate::index::{IndexFault, filled_item, place_under};
 use crate::item::Item;
-use std::alloc::Global;
-use std::ops::Range;
-use std::slice;
-use toml_edit_key::Key;
-use toml_edit_repr::{Decor, Mem};
-use toml_edit_slots::{Slot, Slots};
-
-mod at;
-mod change;
-pub mod entry;
-mod index;
-mod iterate;
-mod look_up;
-
 pub use entry::{Entry, OccupiedEntry, VacantEntry};
-pub use iterate::IntoIter;
-#[doc(hidden)]
-pub use iterate::is_filled;
+pub use iter::{IntoIter, Iter};
+use std::alloc::Global;
+use std::fmt;
+use std::ops::Range;
+use toml_edit_key::Key;
+use toml_edit_repr::{Decor, Mem, Mode};
+use toml_edit_slots::{NoMemory, Slot, Slots};
+use toml_edit_stream::{Printed, Sink, show};
+
+pub mod entry;
+mod iter;
 
 /// A table that headers or dotted keys define, or the root of a document (TOML, "Table").
 ///
@@ -89,6 +90,7 @@ impl Drop for Table {
     }
 }
 
+// Constructors
 impl Table {
     /// Creates an empty table, which takes no memory before its first slot.
     ///
@@ -109,8 +111,21 @@ impl Table {
         Table::of_slots(Slots::new(alloc))
     }
 
+    /// Creates a table of the pairs, inserted as by [`extend`](Self::extend).
+    ///
+    /// # Errors
+    ///
+    /// Returns an `AllocError` if out of memory.
+    pub fn from_iter<U: IntoIterator<Item = (Key, Item)>>(alloc: Global, pairs: U) -> Mem<Table>
+        requires { (it : U.IntoIter) → U.into_iter_gives pairs it → U.IntoIter.can_next it × IsFinite (U.IntoIter.remaining it) }
+        ensures { IfOk result (λ table. (it : U.IntoIter) × (xs : List (Key × Item)) × U.into_iter_gives pairs it × Drains U.IntoIter.next_gives it xs
+            × (table_view table ≡ record { fields = new_table; slots = slots_from (extended (map slot_taken xs) []) })) }
+    {
+        Ok(Table::of_slots(Slots::from_iter(alloc, pairs)?))
+    }
+
     /// Makes a new table of these slots.
-    pub(crate) fn of_slots(slots: Slots<Item>) -> Table
+    fn of_slots(slots: Slots<Item>) -> Table
         ensures { table_view result ≡ record { fields = new_table; slots = slots_view slots } }
     {
         Table {
@@ -176,51 +191,18 @@ impl Table {
             span: Some((start, end)),
         }
     }
+}
 
-    /// Returns a mutable reference to the slots.
-    #[doc(hidden)]
-    pub fn slots_mut(&mut self) -> &mut Slots<Item>
-        ensures* writes_back { sem 𝓛 (LendsTableSlots self.entry result) }
-        ensures slots { slots_view result.now ≡ table_slots self.old }
-        // Writing other slots changes nothing else.
-        ensures others { (slots : List (Slot Item)) → table_view (table_holding slots self.old)
-            ≡ record { fields = fields_view self.old; slots = slots_view slots } }
-    {
-        &mut self.slots
-    }
-
-    /// Returns the slots, and drops all else of the table.
-    #[doc(hidden)]
-    pub fn into_slots(self) -> Slots<Item>
-        ensures { slots_view result ≡ table_slots self }
-    {
-        let Table {
-            slots,
-            decor,
-            implicit: _,
-            dotted: _,
-            position: _,
-            span: _,
-        } = self;
-        drop(decor);
-        slots
-    }
-
-    /// Replaces each span of `source` by the text there.
+// Formatting
+impl Table {
+    /// Unsets the decor of each value and of its key, so that they print with default whitespace.
     ///
-    /// # Errors
-    ///
-    /// Returns an `AllocError` if out of memory. Some spans may be left then, so the document has
-    /// to be dropped.
-    #[doc(hidden)]
-    pub fn despan(&mut self, alloc: Global, source: &str) -> Mem<()>
-        requires decor { DecorFits source.now (fields_view self.old).decor }
-        requires slots { SlotsFit source.now (table_slots self.old) }
-        requires spelled { ∥ SlotsAreWellMade (owned_slots source.now (table_slots self.old)) ∥₁ }
-        ensures fields { OnOk result (fields_view self.new ≡ owned_fields source.now (fields_view self.old)) }
-        ensures slots { OnOk result (table_slots self.new ≡ owned_slots source.now (table_slots self.old)) }
+    /// Comments there are removed. Spellings stay, and so does all inside values and tables.
+    pub fn fmt(&mut self)
+        ensures slots { slots_of self.new ≡ formatted (slots_of self.old) }
+        ensures fields { fields_view self.new ≡ fields_view self.old }
     {
-        despan_table(self, alloc, source)
+        format_slots(&mut self.slots);
     }
 
     /// Returns `true` if the table exists only for the tables below it (TOML, "Table", on
@@ -323,6 +305,25 @@ impl Table {
         &mut self.decor
     }
 
+    /// Returns the key of this name as the table has it, with spelling and decor, or `None` if it
+    /// is missing. A key with a placeholder is returned too.
+    ///
+    /// # Examples
+    ///
+    /// ```rust,ignore
+    /// if table.key(old).is_none() || table.key(new).is_some() {
+    ///     return Ok(false);
+    /// }
+    /// ```
+    ///
+    /// From `rename` of the guide, docs/GUIDE.md.
+    pub fn key(&self, key: &str) -> Option<&Key>
+        ensures { option_copied result ≡ lookup_key key.now (slots_of self.now) }
+    {
+        let at = self.slots.find(key)?;
+        Some(&self.slots.as_slice()[at].key)
+    }
+
     /// Returns the byte range of the header in the source, both brackets included.
     ///
     /// A table that has no header of its own spans the key that implied it, and the root has an
@@ -333,6 +334,104 @@ impl Table {
     {
         let (start, end) = self.span?;
         Some(start..end)
+    }
+
+    /// Replaces each span of `source` by the text there.
+    ///
+    /// # Errors
+    ///
+    /// Returns an `AllocError` if out of memory. Some spans may be left then, so the document has
+    /// to be dropped.
+    #[doc(hidden)]
+    pub fn despan(&mut self, alloc: Global, source: &str) -> Mem<()>
+        requires decor { DecorFits source.now (fields_view self.old).decor }
+        requires slots { SlotsFit source.now (table_slots self.old) }
+        requires spelled { ∥ SlotsAreWellMade (owned_slots source.now (table_slots self.old)) ∥₁ }
+        ensures fields { OnOk result (fields_view self.new ≡ owned_fields source.now (fields_view self.old)) }
+        ensures slots { OnOk result (table_slots self.new ≡ owned_slots source.now (table_slots self.old)) }
+    {
+        despan_table(self, alloc, source)
+    }
+
+    /// Copies the table, with all spellings, decors, spans and positions.
+    ///
+    /// The copy of a table that has a position is printed beside its original. Use
+    /// [`set_position`](Self::set_position) to free it.
+    ///
+    /// # Errors
+    ///
+    /// Returns an `AllocError` if out of memory.
+    pub fn clone(&self, alloc: Global) -> Mem<Table>
+        ensures { IfOk result (λ copy. table_view copy ≡ table_view self.now) }
+    {
+        copy_table(self, alloc)
+    }
+}
+
+// Access
+impl Table {
+    /// Iterates over the names of the keys and the items, in order and without placeholders.
+    ///
+    /// There is no `iter_mut`: for each number below [`slots`](Self::slots), use
+    /// [`key_value_at_mut`](Self::key_value_at_mut).
+    ///
+    /// # Examples
+    ///
+    /// ```rust,ignore
+    /// for (name, _item) in table.iter() {
+    ///     names.push_str(name)?;
+    ///     names.push_str("\n")?;
+    /// }
+    /// ```
+    ///
+    /// From `names` of the guide, docs/GUIDE.md.
+    pub fn iter(&self) -> Iter<'_>
+        ensures { held_left result ≡ filled_pairs (slots_of self.now) }
+    {
+        Iter {
+            slots: self.slots.as_slice().iter(),
+        }
+    }
+
+    /// Returns the number of slots, placeholders included.
+    ///
+    /// [`len`](Self::len) counts them without placeholders.
+    pub fn slots(&self) -> usize
+        ensures count { result ≡ length (slots_of self.now) }
+        ensures apart { AreApart (slots_of self.now) }
+    {
+        let _entries = self.slots.as_slice();
+        self.slots.len()
+    }
+
+    /// Returns the number of slots that are no placeholders, which [`iter`](Self::iter) gives.
+    ///
+    /// [`slots`](Self::slots) counts placeholders too.
+    pub fn len(&self) -> usize
+        ensures { result ≡ length (filled (slots_of self.now)) }
+    {
+        let mut count = 0;
+        for slot in self.slots.as_slice() {
+            if is_filled(slot) {
+                count += 1;
+            }
+        }
+        count
+    }
+
+    /// Returns `true` if there are no slots but placeholders.
+    pub fn is_empty(&self) -> bool
+        ensures { IsTrue result ↔ (filled (slots_of self.now) ≡ []) }
+    {
+        self.len() == 0
+    }
+
+    /// Removes all slots, placeholders included, and keeps the decor, the position and the flags.
+    pub fn clear(&mut self)
+        ensures slots { slots_of self.new ≡ [] }
+        ensures fields { fields_view self.new ≡ fields_view self.old }
+    {
+        self.slots.clear();
     }
 
     /// Returns the item under `key`, or `None` if the key is missing or has a placeholder.
@@ -388,108 +487,315 @@ impl Table {
         }
     }
 
-    /// Returns the key of this name as the table has it, with spelling and decor, or `None` if it
-    /// is missing. A key with a placeholder is returned too.
+    /// Returns the key and the item of slot `at`, a placeholder too, or `None` if `at` is not below
+    /// [`slots`](Self::slots).
     ///
     /// # Examples
     ///
     /// ```rust,ignore
-    /// if table.key(old).is_none() || table.key(new).is_some() {
-    ///     return Ok(false);
-    /// }
+    /// let name = match table.key_value_at(0) {
+    ///     Some((key, _item)) => String::from_str(alloc, key.get())?,
+    ///     None => return Ok(None),
+    /// };
     /// ```
     ///
-    /// From `rename` of the guide, docs/GUIDE.md.
-    pub fn key(&self, key: &str) -> Option<&Key>
-        ensures { option_copied result ≡ lookup_key key.now (slots_of self.now) }
+    /// From `take_first` of the guide, docs/GUIDE.md.
+    pub fn key_value_at(&self, at: usize) -> Option<(&Key, &Item)>
+        ensures { option_map slot_read result ≡ slice_get (slots_of self.now) at }
     {
-        let at = self.slots.find(key)?;
-        Some(&self.slots.as_slice()[at].key)
+        self.slots.key_value_at(at)
     }
 
-    /// Iterates over the names of the keys and the items, in order and without placeholders.
+    /// Returns the key of this name and its item, or `None` if the key is missing or has a
+    /// placeholder.
     ///
-    /// There is no `iter_mut`: for each number below [`slots`](Self::slots), use
-    /// [`key_value_at_mut`](Self::key_value_at_mut).
-    ///
-    /// # Examples
-    ///
-    /// ```rust,ignore
-    /// for (name, _item) in table.iter() {
-    ///     names.push_str(name)?;
-    ///     names.push_str("\n")?;
-    /// }
-    /// ```
-    ///
-    /// From `names` of the guide, docs/GUIDE.md.
-    pub fn iter(&self) -> Iter<'_>
-        ensures { held_left result ≡ filled_pairs (slots_of self.now) }
+    /// The key has the spelling and the decor that it has in the table.
+    pub fn get_key_value(&self, key: &str) -> Option<(&Key, &Item)>
+        ensures { option_map slot_read result ≡ get_slot key.now (slots_of self.now) }
     {
-        Iter {
-            slots: self.slots.as_slice().iter(),
+        let (key, item) = self.slots.get_key_value(key)?;
+        if item.is_none() {
+            None
+        } else {
+            Some((key, item))
         }
     }
 
-    /// Copies the table, with all spellings, decors, spans and positions.
+    /// Returns `true` if `key` has an item that is no placeholder.
+    pub fn contains_key(&self, key: &str) -> bool
+        ensures found { result ≡ contains_key key.now (slots_of self.now) }
+        // Then indexing by `[..]` finds the item.
+        ensures there { IsTrue result → IsSome (get key.now (slots_of self.now)) }
+    {
+        match self.item_under(key) {
+            Some(item) => !item.is_none(),
+            None => false,
+        }
+    }
+
+    /// Returns `true` if the item under `key` is a [`Table`].
     ///
-    /// The copy of a table that has a position is printed beside its original. Use
-    /// [`set_position`](Self::set_position) to free it.
+    /// An inline table is a value: see [`contains_value`](Self::contains_value).
+    pub fn contains_table(&self, key: &str) -> bool
+        ensures { result ≡ contains_table key.now (slots_of self.now) }
+    {
+        match self.item_under(key) {
+            Some(item) => item.is_table(),
+            None => false,
+        }
+    }
+
+    /// Returns `true` if the item under `key` is a value, inline tables and arrays included.
+    pub fn contains_value(&self, key: &str) -> bool
+        ensures { result ≡ contains_value key.now (slots_of self.now) }
+    {
+        match self.item_under(key) {
+            Some(item) => item.is_value(),
+            None => false,
+        }
+    }
+
+    /// Returns `true` if the item under `key` is an array of tables.
+    ///
+    /// An array of inline tables is a value: see [`contains_value`](Self::contains_value).
+    pub fn contains_array_of_tables(&self, key: &str) -> bool
+        ensures { result ≡ contains_tables key.now (slots_of self.now) }
+    {
+        match self.item_under(key) {
+            Some(item) => item.is_array_of_tables(),
+            None => false,
+        }
+    }
+
+    /// Returns the item under the key, a placeholder too.
+    fn item_under(&self, key: &str) -> Option<&Item>
+        // The item passes a test exactly if a slot of this key does.
+        ensures { (test : Node → Bool) → option_map_or (λ x. test (item_view x.now)) result false ≡ has_slot key.now (those test (slots_of self.now)) }
+    {
+        let (_, item) = self.slots.get_key_value(key)?;
+        Some(item)
+    }
+
+    /// Returns a mutable reference to the item under `key`, after adding a placeholder at the end
+    /// if the key is missing.
+    ///
+    /// A new key has the default spelling. The placeholder isn't printed until something else is
+    /// written. To keep a placeholder out, use [`entry`](Self::entry). The table grows by its own
+    /// allocator, and `_alloc` is there to match [`Item::index_or_insert`].
     ///
     /// # Errors
     ///
-    /// Returns an `AllocError` if out of memory.
-    pub fn clone(&self, alloc: Global) -> Mem<Table>
-        ensures { IfOk result (λ copy. table_view copy ≡ table_view self.now) }
+    /// Returns [`IndexFault::Memory`] if out of memory, at a new key alone, and no other fault.
+    pub fn index_or_insert(&mut self, _alloc: Global, key: &str) -> Result<&mut Item, IndexFault>
+        ensures* writes_back { sem 𝓛 (LendsMade self.entry key.now result) }
+        ensures item { IfOk result (λ lent. lent_under key.now (table_node (table_view self.old)) ≡ Some (item_view lent.now)) }
+        // What the table is after a write through the reference.
+        ensures leaves { (w : Item) → written_under key.now (item_view w) (table_node (table_view self.old))
+            ≡ Some (table_node (table_view (item_put key.now w self.old))) }
+        ensures present { IsTrue (has_slot key.now (slots_of self.old)) → IsOk result }
+        ensures fault { IfErr result (λ fault. fault ≡ Memory) }
     {
-        copy_table(self, alloc)
+        match place_under(&mut self.slots, key) {
+            Ok(at) => Ok(self.item_at_mut(at)),
+            Err(_) => Err(IndexFault::Memory),
+        }
     }
-}
 
-/// An iterator over the names of the keys of a table and their items, in order and without
-/// placeholders.
-///
-/// Returned by [`Table::iter`], and by `iter` of the trait `AnyTable`.
-///
-/// # Examples
-///
-/// ```rust,ignore
-/// for (name, _item) in table.iter() {
-///     names.push_str(name)?;
-///     names.push_str("\n")?;
-/// }
-/// ```
-///
-/// From `names` of the guide, docs/GUIDE.md.
-#[derive(Drop)]
-pub struct Iter<'a> {
-    slots: slice::Iter<'a, Slot<Item>>,
-}
+    /// Inserts `item` under `key` and returns the item that it replaces, if any.
+    ///
+    /// An existing key keeps its place, but its spelling is reset and its decor unset, so the
+    /// comment above it goes. The comment after the old value goes with that value. To keep them,
+    /// write through [`get_mut`](Self::get_mut). A new key is added at the end. A placeholder is
+    /// returned as `Some(Item::None)`.
+    ///
+    /// To insert only what is missing, use [`entry`](Self::entry).
+    ///
+    /// # Errors
+    ///
+    /// Returns a [`NoMemory`] with `item` if out of memory. Replacing never fails.
+    ///
+    /// # Examples
+    ///
+    /// ```rust,ignore
+    /// drop(root.insert(name, Item::Table(table)).map_err(no_memory)?);
+    /// ```
+    ///
+    /// From `add_table` of the guide, docs/GUIDE.md.
+    pub fn insert(&mut self, key: &str, item: Item) -> Result<Option<Item>, NoMemory<Item>>
+        ensures old { IfOk result (λ old. option_map item_view old ≡ lookup key.now (slots_of self.old)) }
+        ensures slots { OnOk result (slots_of self.new ≡ inserted key.now (item_view item) (slots_of self.old)) }
+        ensures present { IsTrue (has_slot key.now (slots_of self.old)) → IsOk result }
+        ensures fields { fields_view self.new ≡ fields_view self.old }
+        ensures back { IfErr result (λ refused. refused.0 ≡ item) }
+        ensures err { OnErr result (self.new ≡ self.old) }
+    {
+        self.slots.insert(key, item)
+    }
 
-impl<'a> Iter<'a> {
-    /// Iterates over those of these slots that are no placeholders.
+    /// Inserts `item` under a copy of `key` and returns the item that it replaces, if any.
+    ///
+    /// An existing key keeps its place, but gets the spelling and the decor of `key`. A new one is
+    /// added at the end. A placeholder is returned as `Some(Item::None)`. For a key of default
+    /// spelling, use [`insert`](Self::insert).
+    ///
+    /// # Errors
+    ///
+    /// Returns a [`NoMemory`] with `item` if out of memory. The copy takes memory at an existing
+    /// key too.
+    ///
+    /// # Examples
+    ///
+    /// ```rust,ignore
+    /// if let Some((key, item)) = take_first(alloc, table)? {
+    ///     drop(table.insert_formatted(&key, item).map_err(no_memory)?);
+    /// }
+    /// ```
+    ///
+    /// From `move_first` of the guide, docs/GUIDE.md.
+    pub fn insert_formatted(
+        &mut self,
+        key: &Key,
+        item: Item,
+    ) -> Result<Option<Item>, NoMemory<Item>>
+        ensures old { IfOk result (λ old. option_map item_view old ≡ lookup key.now.name (slots_of self.old)) }
+        ensures slots { OnOk result (slots_of self.new ≡ inserted_formatted key.now (item_view item) (slots_of self.old)) }
+        ensures fields { fields_view self.new ≡ fields_view self.old }
+        ensures back { IfErr result (λ refused. refused.0 ≡ item) }
+        ensures err { OnErr result (self.new ≡ self.old) }
+    {
+        self.slots.insert_formatted(key, item)
+    }
+
+    /// Removes the slot of `key` and returns its item, or `None` if the key is missing.
+    ///
+    /// The other slots keep their order. The comment above the key and the comment after its value
+    /// go too; [`remove_entry`](Self::remove_entry) returns the key with its decor. A placeholder
+    /// is removed as well, and returned as `Some(Item::None)`.
+    pub fn remove(&mut self, key: &str) -> Option<Item>
+        ensures item { option_map item_view result ≡ lookup key.now (slots_of self.old) }
+        ensures slots { slots_of self.new ≡ without key.now (slots_of self.old) }
+        ensures fields { fields_view self.new ≡ fields_view self.old }
+    {
+        let slot = self.slots.remove(key)?;
+        Some(slot.into_item())
+    }
+
+    /// Removes the slot of `key` and returns its key and its item, or `None` if the key is missing.
+    ///
+    /// The key has its spelling and its decor, so that it can be inserted again by
+    /// [`insert_formatted`](Self::insert_formatted). The other slots keep their order. A
+    /// placeholder is returned as `Item::None`.
+    ///
+    /// # Examples
+    ///
+    /// ```rust,ignore
+    /// Ok(table.remove_entry(name.as_str()))
+    /// ```
+    ///
+    /// From `take_first` of the guide, docs/GUIDE.md.
+    pub fn remove_entry(&mut self, key: &str) -> Option<(Key, Item)>
+        ensures slot { option_map slot_taken result ≡ lookup_slot key.now (slots_of self.old) }
+        ensures slots { slots_of self.new ≡ without key.now (slots_of self.old) }
+        ensures fields { fields_view self.new ≡ fields_view self.old }
+    {
+        self.slots.remove_entry(key)
+    }
+
+    /// Keeps the slots for which `keep` returns `true`, in their order, and removes the others.
+    ///
+    /// The closure is passed the name of the key and the item, which is `Item::None` for a
+    /// placeholder.
+    pub fn retain<F: Fn(&str, &Item) -> bool>(&mut self, keep: F)
+    where
+        F: Drop,
+        requires { F.IsAlwaysCallable keep }
+        ensures kept { RetainsBy (SaysOfItem F.Fn keep) (slots_of self.old) (slots_of self.new) }
+        ensures fields { fields_view self.new ≡ fields_view self.old }
+    {
+        self.slots.retain(keep);
+    }
+
+    /// Inserts the pairs one after another.
+    ///
+    /// An existing key keeps its place, its spelling and its decor, and gets the item;
+    /// [`insert`](Self::insert) would reset it. A new key is added at the end, with its spelling
+    /// and its decor.
+    ///
+    /// # Errors
+    ///
+    /// Returns an `AllocError` if out of memory. The table keeps the pairs that were inserted
+    /// before, and the others are dropped.
+    pub fn extend<U: IntoIterator<Item = (Key, Item)>>(&mut self, pairs: U) -> Mem<()>
+        requires { (it : U.IntoIter) → U.into_iter_gives pairs it → U.IntoIter.can_next it × IsFinite (U.IntoIter.remaining it) }
+        ensures { ExtendsWithItems U.into_iter_gives U.IntoIter.next_gives AddsSlots pairs self.old self.new result }
+    {
+        self.slots.extend(pairs)
+    }
+
+    /// Returns a mutable reference to the slots.
     #[doc(hidden)]
-    pub fn over(slots: &'a [Slot<Item>]) -> Iter<'a>
-        ensures { held_left result ≡ filled_pairs (slot_list (slots_view slots.now)) }
+    pub fn slots_mut(&mut self) -> &mut Slots<Item>
+        ensures* writes_back { sem 𝓛 (LendsTableSlots self.entry result) }
+        ensures slots { slots_view result.now ≡ table_slots self.old }
+        // Writing other slots changes nothing else.
+        ensures others { (slots : List (Slot Item)) → table_view (table_holding slots self.old)
+            ≡ record { fields = fields_view self.old; slots = slots_view slots } }
     {
-        Iter {
-            slots: slots.iter(),
-        }
+        &mut self.slots
+    }
+
+    /// Returns a mutable reference to the slots.
+    pub(crate) fn own_slots_mut(&mut self) -> &mut Slots<Item>
+        ensures* writes_back { sem 𝓛 (LendsTableSlots self.entry result) }
+        ensures slots { result.now ≡ (out-Table self.old).slots }
+    {
+        &mut self.slots
+    }
+
+    /// Returns the slots, and drops all else of the table.
+    #[doc(hidden)]
+    pub fn into_slots(self) -> Slots<Item>
+        ensures { slots_view result ≡ table_slots self }
+    {
+        let Table {
+            slots,
+            decor,
+            implicit: _,
+            dotted: _,
+            position: _,
+            span: _,
+        } = self;
+        drop(decor);
+        slots
     }
 }
 
-impl<'a> Iterator for Iter<'a> {
-    type Item = (&'a str, &'a Item);
+/// Returns `true` if the slot is no placeholder.
+#[doc(hidden)]
+pub fn is_filled(slot: &Slot<Item>) -> bool
+    ensures { result ≡ is_item (item_view slot.now.item) }
+{
+    !slot.item.is_none()
+}
 
-    ghost next_gives = { YieldsFirstBy pair_read held_left };
+/// Writes the lines of the table: its values, and those of dotted tables and of dotted inline
+/// tables.
+///
+/// Its header isn't written, and neither are the tables below it that have headers. Carriage
+/// returns (CR) outside strings are dropped. Before `into_mut`, spellings and decors are spans of
+/// the source, which are written as if they were unset.
+impl fmt::Display for Table {
+    ghost output = { λ table. Some (table_display (table_slots table)) };
 
-    ghost remaining = { item_count held_left };
+    fn fmt<W: fmt::Write>(&self, f: &mut fmt::Formatter<W>) -> fmt::Result {
+        show(f, self)
+    }
+}
 
-    fn next(&mut self) -> Option<(&'a str, &'a Item)> {
-        while let Some(slot) = self.slots.next() {
-            if is_filled(slot) {
-                return Some((slot.key.get(), &slot.item));
-            }
-        }
-        None
+impl Printed for Table {
+    ghost text = { λ table. table_display (table_slots table) };
+
+    fn put_into<S: Sink>(&self, out: &mut S) {
+        put_table_lines(out, Mode::Plain, self)
     }
 }

@@ -1,33 +1,39 @@
 //! Values: the type, its kinds, its decor, and what it is made of.
-ghost use Rattle.std.specs.Prelude.{◌≡◌, None, Some, OnOk, IfOk, option_map, is_some, string_bytes};
 ghost use Rattle.std.specs.Borrow.{sem};
-ghost use Rattle.toml_edit_model.specs.Scalars.{string, integer, float, boolean, datetime};
+ghost use Rattle.std.specs.Iterator.{Drains, IsFinite};
+ghost use Rattle.std.specs.Prelude.{[], ◌≡◌, IfOk, List, None, OnOk, Some, is_some, map, option_map, string_bytes};
 ghost use Rattle.toml_edit_datetime.specs.DateView.{date_view};
-ghost use Rattle.toml_edit_datetime.specs.TimeView.{time_view};
 ghost use Rattle.toml_edit_datetime.specs.DatetimeView.{datetime_view};
-ghost use Rattle.toml_edit_model.specs.Tree.{leaf, span, unset, node_decor, IsWellMade};
-ghost use Rattle.toml_edit_model.specs.Conversions.{with_decor};
-ghost use Rattle.toml_edit_tree.specs.Casts.{type_of, text_in, integer_in, float_in, truth_in, datetime_in, of_date, of_time, array_in, inline_in, span_in, both_sides, LendsDecor};
+ghost use Rattle.toml_edit_datetime.specs.TimeView.{time_view};
+ghost use Rattle.toml_edit_model.specs.Conversions.{new_array, new_inline, with_decor};
+ghost use Rattle.toml_edit_model.specs.Lists.{items_from, slots_from};
+ghost use Rattle.toml_edit_model.specs.OwnedForm.{NodeFits, owned_node};
+ghost use Rattle.toml_edit_model.specs.Scalars.{boolean, datetime, float, integer, string};
+ghost use Rattle.toml_edit_model.specs.Slots.{extended};
+ghost use Rattle.toml_edit_model.specs.Tree.{IsWellMade, Key, inline, leaf, list, node_decor, span, unset};
+ghost use Rattle.toml_edit_token.specs.Decoded.{scalar_view};
+ghost use Rattle.toml_edit_tree.specs.Casts.{LendsDecor, array_in, both_sides, datetime_in, float_in, inline_in, integer_in, of_date, of_time, span_in, text_in, truth_in, type_of};
 ghost use Rattle.toml_edit_tree.specs.ContainerParts.{LendsArray, LendsInline};
 ghost use Rattle.toml_edit_tree.specs.Containers.{array_node, inline_node};
-ghost use Rattle.toml_edit_token.specs.Decoded.{scalar_view};
+ghost use Rattle.toml_edit_tree.specs.Indexed.{LendsValueSlots, value_slots};
+ghost use Rattle.toml_edit_tree.specs.InlineSlots.{value_taken};
 ghost use Rattle.toml_edit_tree.specs.View.{array_view, inline_view, value_view};
-ghost use Rattle.toml_edit_model.specs.OwnedForm.{NodeFits, owned_node};
 
 use crate::array::Array;
 use crate::copy::copy_value;
 use crate::despan::despan_value;
 use crate::encode::{put_array, put_inline};
 use crate::inline_table::InlineTable;
+use crate::item::Item;
 use std::alloc::Global;
 use std::fmt;
 use std::ops::Range;
 use toml_edit_datetime::{Date, Datetime, FloatText, Time};
+use toml_edit_key::Key;
 use toml_edit_repr::{Decor, Formatted, Mem, RawString};
+use toml_edit_slots::Slots;
 use toml_edit_stream::{Printed, Sink, show};
 use toml_edit_token::Scalar;
-
-mod make;
 
 /// A value with its spelling and its decor (TOML, "Key/Value Pair").
 ///
@@ -61,7 +67,65 @@ pub enum Value {
     InlineTable(InlineTable),
 }
 
+// Constructors
 impl Value {
+    /// Makes a string with a copy of `text`, of default spelling and unset decor.
+    ///
+    /// A `String` becomes a value without a copy by `Value::from`.
+    ///
+    /// # Errors
+    ///
+    /// Returns an `AllocError` if out of memory.
+    ///
+    /// # Examples
+    ///
+    /// ```rust,ignore
+    /// let name = Value::string(alloc, *feature)?;
+    /// names.push(name).map_err(no_memory)?;
+    /// ```
+    ///
+    /// From `add_dependency` of the guide, docs/GUIDE.md.
+    pub fn string(alloc: Global, text: &str) -> Mem<Value>
+        ensures { IfOk result (λ v. value_view v ≡ leaf (string text.now) None unset) }
+    {
+        Ok(Value::String(Formatted::new(String::from_str(alloc, text)?)))
+    }
+
+    /// Creates an array of the values, in order and each with its decor.
+    ///
+    /// # Errors
+    ///
+    /// Returns an `AllocError` if out of memory.
+    pub fn from_iter<U: IntoIterator<Item = Value>>(alloc: Global, values: U) -> Mem<Value>
+        requires { (it : U.IntoIter) → U.into_iter_gives values it → U.IntoIter.can_next it × IsFinite (U.IntoIter.remaining it) }
+        ensures { IfOk result (λ value. (it : U.IntoIter) × (vs : List Value) × U.into_iter_gives values it × Drains U.IntoIter.next_gives it vs
+            × (value_view value ≡ list new_array (items_from (map value_view vs)))) }
+    {
+        match Array::from_iter(alloc, values) {
+            Ok(array) => Ok(Value::Array(array)),
+            Err(refused) => Err(refused),
+        }
+    }
+
+    /// Creates an inline table of the pairs, inserted one after another.
+    ///
+    /// Where a name comes again, its first key keeps its place, its spelling and its decor, and
+    /// gets the later value.
+    ///
+    /// # Errors
+    ///
+    /// Returns an `AllocError` if out of memory.
+    pub fn from_pairs<U: IntoIterator<Item = (Key, Value)>>(alloc: Global, pairs: U) -> Mem<Value>
+        requires { (it : U.IntoIter) → U.into_iter_gives pairs it → U.IntoIter.can_next it × IsFinite (U.IntoIter.remaining it) }
+        ensures { IfOk result (λ value. (it : U.IntoIter) × (ps : List (Key × Value)) × U.into_iter_gives pairs it × Drains U.IntoIter.next_gives it ps
+            × (value_view value ≡ inline new_inline (slots_from (extended (map value_taken ps) [])))) }
+    {
+        match InlineTable::from_iter(alloc, pairs) {
+            Ok(table) => Ok(Value::InlineTable(table)),
+            Err(refused) => Err(refused),
+        }
+    }
+
     /// Makes a scalar whose spelling spans the bytes from `start` to `end` of the source.
     #[doc(hidden)]
     pub fn spanned(scalar: Scalar, start: usize, end: usize, decor: Decor) -> Value
@@ -79,33 +143,10 @@ impl Value {
             )),
         }
     }
+}
 
-    /// Replaces each span of `source` by the text there.
-    ///
-    /// # Errors
-    ///
-    /// Returns an `AllocError` if out of memory. Some spans may be left then, so the document has
-    /// to be dropped.
-    #[doc(hidden)]
-    pub fn despan(&mut self, alloc: Global, source: &str) -> Mem<()>
-        requires fits { NodeFits source.now (value_view self.old) }
-        requires spelled { ∥ IsWellMade (owned_node source.now (value_view self.old)) ∥₁ }
-        ensures { OnOk result (value_view self.new ≡ owned_node source.now (value_view self.old)) }
-    {
-        despan_value(self, alloc, source)
-    }
-
-    /// Copies the value, with all spellings, decors and spans.
-    ///
-    /// # Errors
-    ///
-    /// Returns an `AllocError` if out of memory.
-    pub fn clone(&self, alloc: Global) -> Mem<Value>
-        ensures { IfOk result (λ copy. value_view copy ≡ value_view self.now) }
-    {
-        copy_value(self, alloc)
-    }
-
+// Kinds
+impl Value {
     /// Returns the name of the value's type in the words of TOML, for messages.
     ///
     /// It is one of `string`, `integer`, `float`, `boolean`, `datetime`, `array` and
@@ -185,6 +226,23 @@ impl Value {
         self.as_float_text().is_some()
     }
 
+    /// Returns the boolean, or `None` for any other value.
+    pub fn as_bool(&self) -> Option<bool>
+        ensures { result ≡ truth_in (value_view self.now) }
+    {
+        match self {
+            Value::Boolean(scalar) => Some(*scalar.value()),
+            _ => None,
+        }
+    }
+
+    /// Returns `true` if the value is a boolean, whether `true` or `false`.
+    pub fn is_bool(&self) -> bool
+        ensures { result ≡ is_some (truth_in (value_view self.now)) }
+    {
+        self.as_bool().is_some()
+    }
+
     /// Returns the date-time, date or time, or `None` for any other value.
     ///
     /// # Examples
@@ -208,23 +266,6 @@ impl Value {
         ensures { result ≡ is_some (datetime_in (value_view self.now)) }
     {
         self.as_datetime().is_some()
-    }
-
-    /// Returns the boolean, or `None` for any other value.
-    pub fn as_bool(&self) -> Option<bool>
-        ensures { result ≡ truth_in (value_view self.now) }
-    {
-        match self {
-            Value::Boolean(scalar) => Some(*scalar.value()),
-            _ => None,
-        }
-    }
-
-    /// Returns `true` if the value is a boolean, whether `true` or `false`.
-    pub fn is_bool(&self) -> bool
-        ensures { result ≡ is_some (truth_in (value_view self.now)) }
-    {
-        self.as_bool().is_some()
     }
 
     /// Returns the array, or `None` for any other value.
@@ -283,6 +324,20 @@ impl Value {
         self.as_inline_table().is_some()
     }
 
+    /// Returns a mutable reference to the slots of an inline table, or `None` for any other value.
+    pub(crate) fn own_slots_mut(&mut self) -> Option<&mut Slots<Item>>
+        ensures* writes_back { sem 𝓛 (LendsValueSlots self.entry result) }
+        ensures slots { option_map (λ es. es.now) result ≡ value_slots self.old }
+    {
+        match self {
+            Value::InlineTable(table) => Some(table.own_slots_mut()),
+            _ => None,
+        }
+    }
+}
+
+// Formatting
+impl Value {
     /// Returns the whitespace and comments around the value.
     ///
     /// An unset side prints as the default for its place: one space after `=`, say. The comment
@@ -335,13 +390,6 @@ impl Value {
         }
     }
 
-    /// Sets both sides of the decor.
-    pub(crate) fn surround(&mut self, prefix: RawString, suffix: RawString)
-        ensures { value_view self.new ≡ with_decor (both_sides prefix suffix) (value_view self.old) }
-    {
-        *self.decor_mut() = Decor::new(prefix, suffix);
-    }
-
     /// Returns the value with `prefix` before it and `suffix` after it, in place of its decor.
     ///
     /// An empty text is not an unset side: it prints as nothing, and an unset side as its default.
@@ -359,6 +407,13 @@ impl Value {
         let mut value = self;
         *value.decor_mut() = Decor::new(prefix, suffix);
         value
+    }
+
+    /// Sets both sides of the decor.
+    pub(crate) fn surround(&mut self, prefix: RawString, suffix: RawString)
+        ensures { value_view self.new ≡ with_decor (both_sides prefix suffix) (value_view self.old) }
+    {
+        *self.decor_mut() = Decor::new(prefix, suffix);
     }
 
     /// Unsets both sides of the decor.
@@ -388,26 +443,30 @@ impl Value {
         }
     }
 
-    /// Makes a string with a copy of `text`, of default spelling and unset decor.
+    /// Replaces each span of `source` by the text there.
     ///
-    /// A `String` becomes a value without a copy by `Value::from`.
+    /// # Errors
+    ///
+    /// Returns an `AllocError` if out of memory. Some spans may be left then, so the document has
+    /// to be dropped.
+    #[doc(hidden)]
+    pub fn despan(&mut self, alloc: Global, source: &str) -> Mem<()>
+        requires fits { NodeFits source.now (value_view self.old) }
+        requires spelled { ∥ IsWellMade (owned_node source.now (value_view self.old)) ∥₁ }
+        ensures { OnOk result (value_view self.new ≡ owned_node source.now (value_view self.old)) }
+    {
+        despan_value(self, alloc, source)
+    }
+
+    /// Copies the value, with all spellings, decors and spans.
     ///
     /// # Errors
     ///
     /// Returns an `AllocError` if out of memory.
-    ///
-    /// # Examples
-    ///
-    /// ```rust,ignore
-    /// let name = Value::string(alloc, *feature)?;
-    /// names.push(name).map_err(no_memory)?;
-    /// ```
-    ///
-    /// From `add_dependency` of the guide, docs/GUIDE.md.
-    pub fn string(alloc: Global, text: &str) -> Mem<Value>
-        ensures { IfOk result (λ v. value_view v ≡ leaf (string text.now) None unset) }
+    pub fn clone(&self, alloc: Global) -> Mem<Value>
+        ensures { IfOk result (λ copy. value_view copy ≡ value_view self.now) }
     {
-        Ok(Value::String(Formatted::new(String::from_str(alloc, text)?)))
+        copy_value(self, alloc)
     }
 }
 

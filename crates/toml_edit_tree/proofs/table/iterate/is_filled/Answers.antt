@@ -1,6 +1,0 @@
--- What is no placeholder.
-use Rattle.toml_edit_tree.proofs.SlotsLaws.{is_item-not}
-use Rattle.toml_edit_tree.proofs.table.iterate.is_filled.Goals as goal
-
-pub returns : goal.returns
-returns c = is_item-not c.is_none.result _ c.is_none.ensures
