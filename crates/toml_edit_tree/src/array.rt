@@ -485,6 +485,8 @@ impl Array {
     /// Inserts `value`, with its decor, before what is at index `at`, as [`insert`](Self::insert)
     /// does.
     ///
+    /// A contract requires that `at` is at most [`len`](Self::len).
+    ///
     /// # Errors
     ///
     /// Returns a [`NoMemory`] with `value` if out of memory.

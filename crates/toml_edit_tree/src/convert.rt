@@ -115,8 +115,9 @@ impl Table {
 impl ArrayOfTables {
     /// Converts the array of tables into an array of its slots.
     ///
-    /// Each table is made an inline table, as by [`Table::into_inline_table`], and the array is
-    /// formatted on one line, as by [`Array::fmt`](Array::fmt).
+    /// Each table is made an inline table, as by [`Table::into_inline_table`], which removes the
+    /// comments of its header, keys and values. The array is formatted on one line, as by
+    /// [`Array::fmt`](Array::fmt).
     pub fn into_array(self) -> Array
         ensures { array_node (array_view result) ≡ made_value (tables_node (tables_view self)) }
     {

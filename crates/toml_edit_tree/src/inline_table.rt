@@ -686,7 +686,7 @@ impl InlineTable {
     /// Keeps the values for which `keep` returns `true`, in their order, and removes the others.
     ///
     /// The closure is passed the name of the key and the value. Slots without a value are removed
-    /// too.
+    /// too. The decors of a removed key and value, with their comments, go with them.
     pub fn retain<F: Fn(&str, &Value) -> bool>(&mut self, keep: F)
     where
         F: Drop,

@@ -205,7 +205,8 @@ impl<'a> OccupiedEntry<'a> {
         self.table.leaf_decor_at_mut(at)
     }
 
-    /// Returns a mutable reference to the whitespace between the key and the dots beside it.
+    /// Returns a mutable reference to the decor of the key beside dots: the whitespace between the
+    /// key and the dots before and after it.
     pub fn dotted_decor_mut(&mut self) -> &mut Decor
         ensures* writes_back { sem 𝓛 (OccupiedLendsDotted self.entry result) }
         ensures decor { option_map (λ key. key.dotted) (entry_key (Occupied self.old)) ≡ Some result.now }
@@ -218,7 +219,7 @@ impl<'a> OccupiedEntry<'a> {
         self.table.dotted_decor_at_mut(at)
     }
 
-    /// Resets the key to its default spelling, and unsets its decor.
+    /// Resets the key to its default spelling and unsets its decors, so a comment above it goes.
     pub fn fmt_key(&mut self)
         ensures same_table { (entry_ref (Occupied self.new)).ghost_name ≡ (entry_ref (Occupied self.old)).ghost_name }
         ensures same_place { entry_place (Occupied self.new) ≡ entry_place (Occupied self.old) }
