@@ -16,12 +16,15 @@ use Rattle.toml_edit_tree.specs.contracts.table.Table.{the_row as table_row}
 
 -- the document ends with the final root of r
 abbrev pub LendsRoot : MutBor DocumentMut → MutBor Table → Fml
-LendsRoot s r = Lends document_row table_row s r (λ w. record s.now { root = items.Table w; rooted = table-is w })
+LendsRoot s r =
+    Lends document_row table_row s r
+    (λ w. record s.now { root = items.Table w; rooted = table-is w })
 
--- The document ends with the final item of r in the slot of the key in its root, which may be new; its tree stays where none is lent.
--- How it is printed stays.
+-- The document ends with the final item of r in the slot of the key in its root, which may be new;
+-- its tree stays where none is lent. How it is printed stays.
 abbrev pub LendsUnder : {E : Type 0} → MutBor DocumentMut → Text → Result (MutBor Item) E → Fml
 LendsUnder s k r = LendsSoOk document_row item_row s r
-    (λ n w. (written_under k (item_view w) (root_node (tree_owned s.now)) ≡ Some (root_node (tree_owned n)))
+    (λ n w. (written_under k (item_view w) (root_node (tree_owned s.now))
+    ≡ Some (root_node (tree_owned n)))
     × ((tree_owned n).trailing ≡ (tree_owned s.now).trailing) × IsPrintedAs n s.now)
     (λ n. (tree_owned n ≡ tree_owned s.now) × IsPrintedAs n s.now)

@@ -7,7 +7,9 @@ use Rattle.toml_edit.specs.declared.headers.Header.{Header}
 use Rattle.toml_edit.specs.declared.headers.Walk.{Walk}
 
 abbrev pub header_view : Header → Headed
-header_view h = headed h.place (keys_on h.path.now ++ (h.key.now ∷ [])) h.is_element (fields_view h.table.now) (table_slots h.table.now)
+header_view h =
+    headed h.place (keys_on h.path.now ++ (h.key.now ∷ [])) h.is_element (fields_view h.table.now)
+    (table_slots h.table.now)
 
 abbrev pub walk_view : Walk → Walked
 walk_view w = record { tables = map header_view w.headers.items; seen = w.seen }

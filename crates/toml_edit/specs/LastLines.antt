@@ -12,7 +12,10 @@ abbrev mutual
   pub last_line : Slots → Option Decor → Option Decor
   last_line no_slots before = before
   last_line (slot k n ss) before =
-      last_line ss (elim (is_line_node n) [ true ↦ Some (node_decor n) | false ↦ last_dotted n before ])
+      last_line ss (elim (is_line_node n) [
+        | true ↦ Some (node_decor n)
+        | false ↦ last_dotted n before
+      ])
 
   pub last_dotted : Node → Option Decor → Option Decor
   last_dotted (table f ss) before = if f.is_dotted then last_line ss before else before
@@ -24,10 +27,12 @@ abbrev mutual
 
 -- the last line of an item of a table, and of an item of a dotted inline table
 abbrev pub last_of : Node → Option Decor → Option Decor
-last_of n before = elim (is_line_node n) [ true ↦ Some (node_decor n) | false ↦ last_dotted n before ]
+last_of n before =
+    elim (is_line_node n) [ true ↦ Some (node_decor n) | false ↦ last_dotted n before ]
 
 abbrev pub last_inside : Node → Option Decor → Option Decor
-last_inside n before = elim (is_line_node n) [ true ↦ Some (node_decor n) | false ↦ last_pair_in n before ]
+last_inside n before =
+    elim (is_line_node n) [ true ↦ Some (node_decor n) | false ↦ last_pair_in n before ]
 
 -- the last line of a root; a dotted root has none
 abbrev pub last_of_root : TableFields → Slots → Option Decor

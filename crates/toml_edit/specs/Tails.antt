@@ -13,7 +13,8 @@ after_feed Both = Feed
 
 -- the tail after a byte more
 abbrev pub tail_step : Tail → ℕ → Tail
-tail_step t c = if c == carriage_return then Return else (if c == line_feed then after_feed t else Nothing)
+tail_step t c =
+    if c == carriage_return then Return else (if c == line_feed then after_feed t else Nothing)
 
 -- the tail after these bytes more
 abbrev pub tail_after : Tail → Text → Tail

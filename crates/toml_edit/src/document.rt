@@ -133,7 +133,8 @@ impl<S: SourceText> Document<S> {
         ensures source { IfOk result (λ x. source x ≡ S.content raw) }
         ensures plain { IfOk result (λ x. IsPlainRead x) }
         // An accepted text is never refused.
-        ensures every { (d : Cut) → AcceptedAs (S.content raw) d → IsOk result ⊎ IsErrOf result ParseFault.Memory }
+        ensures every { (d : Cut) → AcceptedAs (S.content raw) d
+            → IsOk result ⊎ IsErrOf result ParseFault.Memory }
         ensures refused { IfErr result (λ e. IfToml e (IsRefusal (S.content raw))) }
     {
         Document::parse_with(alloc, raw, ParseOptions::new())
@@ -155,12 +156,16 @@ impl<S: SourceText> Document<S> {
         raw: S,
         options: ParseOptions,
     ) -> Result<Document<S>, ParseFault>
-        ensures accepted { IfOk result (λ x. IsReadingIn (mode_of options) (version_of options) (S.content raw) (tree_read x) (open_read x)) }
+        ensures accepted { IfOk result
+            (λ x. IsReadingIn (mode_of options) (version_of options) (S.content raw) (tree_read x)
+            (open_read x)) }
         ensures mode { IfOk result (λ x. mode_read x ≡ mode_of options) }
         ensures source { IfOk result (λ x. source x ≡ S.content raw) }
         // A text that the version accepts is never refused.
-        ensures every { (d : Cut) → AcceptedIn (version_of options) (S.content raw) d → IsOk result ⊎ IsErrOf result ParseFault.Memory }
-        ensures refused { IfErr result (λ e. IfToml e (IsRefusalIn (version_of options) (S.content raw))) }
+        ensures every { (d : Cut) → AcceptedIn (version_of options) (S.content raw) d
+            → IsOk result ⊎ IsErrOf result ParseFault.Memory }
+        ensures refused { IfErr result
+            (λ e. IfToml e (IsRefusalIn (version_of options) (S.content raw))) }
     {
         let version = options.get_version();
         let mode = options.get_mode();
@@ -228,11 +233,13 @@ impl<S: SourceText> Document<S> {
         ensures root { item_view result ≡ root_node (tree_read self) }
         // As the root of a document with the mode of this one, its print means what the source
         // means.
-        ensures print { (d : Cut) → AcceptedAs (source self) d → IsTreeOf (spanned_in (mode_read self)) d (tree_read self)
+        ensures print { (d : Cut) → AcceptedAs (source self) d
+            → IsTreeOf (spanned_in (mode_read self)) d (tree_read self)
             → PrintsMeaningOf (mode_read self) d (record (tree_read self) { trailing = owned [] }) }
         // So does its print in a document that `DocumentMut::from` makes, which keeps no line
         // endings.
-        ensures print_plain { (d : Cut) → AcceptedAs (source self) d → IsTreeOf (spanned_in (mode_read self)) d (tree_read self)
+        ensures print_plain { (d : Cut) → AcceptedAs (source self) d
+            → IsTreeOf (spanned_in (mode_read self)) d (tree_read self)
             → PrintsMeaningOf model.plain d (record (tree_read self) { trailing = owned [] }) }
     {
         let Document {
@@ -258,11 +265,13 @@ impl<S: SourceText> Document<S> {
         ensures slots { table_slots result ≡ (tree_read self).slots }
         // As the root of a document with the mode of this one, its print means what the source
         // means.
-        ensures print { (d : Cut) → AcceptedAs (source self) d → IsTreeOf (spanned_in (mode_read self)) d (tree_read self)
+        ensures print { (d : Cut) → AcceptedAs (source self) d
+            → IsTreeOf (spanned_in (mode_read self)) d (tree_read self)
             → PrintsMeaningOf (mode_read self) d (tree_view result (owned [])) }
         // So does its print in a document that `DocumentMut::from` makes, which keeps no line
         // endings.
-        ensures print_plain { (d : Cut) → AcceptedAs (source self) d → IsTreeOf (spanned_in (mode_read self)) d (tree_read self)
+        ensures print_plain { (d : Cut) → AcceptedAs (source self) d
+            → IsTreeOf (spanned_in (mode_read self)) d (tree_read self)
             → PrintsMeaningOf model.plain d (tree_view result (owned [])) }
     {
         let Document {
@@ -286,8 +295,10 @@ impl<S: SourceText> Document<S> {
     ///
     /// Returns an `AllocError` if out of memory, and then drops the document.
     pub fn into_mut(self, alloc: Global) -> Mem<DocumentMut>
-        ensures owned { IfOk result (λ m. tree_owned m ≡ owned_tree (source self) (tree_read self)) }
-        ensures kept { IfOk result (λ m. (mode_owned m ≡ mode_read self) × (open_owned m ≡ open_read self)) }
+        ensures owned { IfOk result
+            (λ m. tree_owned m ≡ owned_tree (source self) (tree_read self)) }
+        ensures kept { IfOk result
+            (λ m. (mode_owned m ≡ mode_read self) × (open_owned m ≡ open_read self)) }
         // The tree of an accepted text stays its tree, fits and is steady. It prints as the normal
         // form, which is accepted, means what the text means, and prints as itself. A version of
         // TOML that accepts the text accepts the print. The tree fits in each mode; the rest is of
@@ -356,7 +367,8 @@ impl Document<String> {
         ensures source { IfOk result (λ x. source x ≡ text.now) }
         ensures plain { IfOk result (λ x. IsPlainRead x) }
         // An accepted text is never refused.
-        ensures every { (d : Cut) → AcceptedAs text.now d → IsOk result ⊎ IsErrOf result ParseFault.Memory }
+        ensures every { (d : Cut) → AcceptedAs text.now d
+            → IsOk result ⊎ IsErrOf result ParseFault.Memory }
         ensures refused { IfErr result (λ e. IfToml e (IsRefusal text.now)) }
     {
         let raw = String::from_str(alloc, text)?;
@@ -452,7 +464,8 @@ impl DocumentMut {
         ensures accepted { IfOk result (λ m. IsOwnedReading text.now (tree_owned m)) }
         ensures plain { IfOk result (λ m. IsPlain m) }
         // An accepted text is never refused.
-        ensures every { (d : Cut) → AcceptedAs text.now d → IsOk result ⊎ IsErrOf result ParseFault.Memory }
+        ensures every { (d : Cut) → AcceptedAs text.now d
+            → IsOk result ⊎ IsErrOf result ParseFault.Memory }
         ensures refused { IfErr result (λ e. IfToml e (IsRefusal text.now)) }
     {
         DocumentMut::from_str_with(alloc, text, ParseOptions::new())
@@ -476,10 +489,13 @@ impl DocumentMut {
         text: &str,
         options: ParseOptions,
     ) -> Result<DocumentMut, ParseFault>
-        ensures accepted { IfOk result (λ m. IsOwnedReadingIn (mode_of options) (version_of options) text.now (tree_owned m) (open_owned m)) }
+        ensures accepted { IfOk result
+            (λ m. IsOwnedReadingIn (mode_of options) (version_of options) text.now (tree_owned m)
+            (open_owned m)) }
         ensures mode { IfOk result (λ m. mode_owned m ≡ mode_of options) }
         // A text that the version accepts is never refused.
-        ensures every { (d : Cut) → AcceptedIn (version_of options) text.now d → IsOk result ⊎ IsErrOf result ParseFault.Memory }
+        ensures every { (d : Cut) → AcceptedIn (version_of options) text.now d
+            → IsOk result ⊎ IsErrOf result ParseFault.Memory }
         ensures refused { IfErr result (λ e. IfToml e (IsRefusalIn (version_of options) text.now)) }
     {
         let document = Document::parse_with(alloc, text, options)?;
@@ -665,10 +681,12 @@ impl DocumentMut {
     ///
     /// From `print_if_fits` of the guide, docs/GUIDE.md.
     pub fn fits(&self, _alloc: Global) -> Mem<bool>
-        ensures fits { IfOk result (λ fits. IsTrue fits ↔ FitsIn (mode_owned self.now) (tree_owned self.now)) }
+        ensures fits { IfOk result
+            (λ fits. IsTrue fits ↔ FitsIn (mode_owned self.now) (tree_owned self.now)) }
         // The print is accepted then, and means what the tree shows.
         ensures reparse { IfOk result (λ fits. IsTrue fits
-            → ∥ MeansWhatIsShown (mode_owned self.now) (open_owned self.now) (tree_owned self.now) ∥₁) }
+            → ∥ MeansWhatIsShown (mode_owned self.now) (open_owned self.now)
+            (tree_owned self.now) ∥₁) }
         // The tree is well made, as its types ensure.
         ensures made { ∥ SlotsAreWellMade (tree_owned self.now).slots ∥₁ }
         ensures free { IsOk result }
@@ -684,7 +702,8 @@ impl From<Table> for DocumentMut {
     ghost use Rattle.toml_edit.specs.DocumentView.{IsPlain, tree_owned};
     ghost use Rattle.toml_edit_tree.specs.View.{tree_view};
 
-    ghost from_gives = { λ root document. (tree_owned document ≡ tree_view root (owned [])) × IsPlain document };
+    ghost from_gives = { λ root document. (tree_owned document ≡ tree_view root (owned []))
+        × IsPlain document };
 
     fn from(root: Table) -> DocumentMut {
         DocumentMut {

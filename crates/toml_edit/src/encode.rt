@@ -140,7 +140,8 @@ fn put_side_if<S: Sink>(out: &mut S, mode: Mode, stands: bool, side: Option<&Raw
 
 /// Returns `true` if the side of a decor has a line feed, which is the same in both modes.
 fn has_newline(side: Option<&RawString>) -> bool
-    ensures { (mode : LineMode) → result ≡ has_byte line_feed (shown_side mode [] (option_copied side.entry)) }
+    ensures { (mode : LineMode)
+        → result ≡ has_byte line_feed (shown_side mode [] (option_copied side.entry)) }
 {
     match side {
         Some(raw) => raw_has_newline(raw),

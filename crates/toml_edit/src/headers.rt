@@ -44,7 +44,9 @@ fn enter_slots<'p, 'a>(
     slots: &'a Slots<Item>,
     path: &'p Path<'p, 'a>,
 ) -> Mem<()>
-    ensures { OnOk result (walk_view walk.new ≡ walked (slots_view slots.now) (keys_on path.now) (walk_view walk.old)) }
+    ensures { OnOk result
+        (walk_view walk.new
+        ≡ walked (slots_view slots.now) (keys_on path.now) (walk_view walk.old)) }
 {
     let entries = slots.as_slice();
     'slots: for slot in entries {
@@ -61,7 +63,10 @@ fn enter_item<'p, 'a>(
     key: &'a Key,
     path: &'p Path<'p, 'a>,
 ) -> Mem<()>
-    ensures { OnOk result (walk_view walk.new ≡ walked_node (item_view item.now) (keys_on path.now ++ (key.now ∷ [])) (walk_view walk.old)) }
+    ensures { OnOk result
+        (walk_view walk.new
+        ≡ walked_node (item_view item.now) (keys_on path.now ++ (key.now ∷ []))
+        (walk_view walk.old)) }
 {
     match item {
         Item::Table(table) => enter_table(walk, table, false, key, path),
@@ -79,7 +84,8 @@ fn enter_elements<'p, 'a>(
     path: &'p Path<'p, 'a>,
 ) -> Mem<()>
     ensures { OnOk result (walk_view walk.new
-        ≡ walked_items (items_view items.now.items) (keys_on path.now ++ (key.now ∷ [])) (walk_view walk.old)) }
+        ≡ walked_items (items_view items.now.items) (keys_on path.now ++ (key.now ∷ []))
+        (walk_view walk.old)) }
 {
     'items: for item in items {
         if let Item::Table(table) = item {
@@ -112,7 +118,8 @@ fn enter_table<'p, 'a>(
 
 /// Returns `false` only if none of the slots holds a table or an array of tables.
 fn have_tables(slots: &Slots<Item>) -> bool
-    ensures { (keys : List KeyView) → (before : Walked) → result ≡ false → walked (slots_view slots.now) keys before ≡ before }
+    ensures { (keys : List KeyView) → (before : Walked) → result ≡ false
+        → walked (slots_view slots.now) keys before ≡ before }
 {
     let entries = slots.as_slice();
     'slots: for slot in entries {
@@ -125,7 +132,8 @@ fn have_tables(slots: &Slots<Item>) -> bool
 
 /// Returns `true` if the item is a table or an array of tables.
 fn holds_tables(item: &Item) -> bool
-    ensures { (keys : List KeyView) → (before : Walked) → result ≡ false → walked_node (item_view item.now) keys before ≡ before }
+    ensures { (keys : List KeyView) → (before : Walked) → result ≡ false
+        → walked_node (item_view item.now) keys before ≡ before }
 {
     match item {
         Item::Table(_) | Item::ArrayOfTables(_) => true,
@@ -153,7 +161,8 @@ fn add_table<'p, 'a>(
     path: &'p Path<'p, 'a>,
 ) -> Mem<()>
     ensures { OnOk result (walk_view walk.new
-        ≡ enter (walk_view walk.old) (keys_on path.now ++ (key.now ∷ [])) is_element (fields_view table.now) (table_slots table.now)) }
+        ≡ enter (walk_view walk.old) (keys_on path.now ++ (key.now ∷ [])) is_element
+        (fields_view table.now) (table_slots table.now)) }
 {
     if table.is_dotted() {
         return Ok(());
@@ -235,7 +244,9 @@ fn may_have_lines(slots: &Slots<Item>) -> bool {
 
 /// Sorts the headers by their places. Those of one place stay in the order of the walk.
 fn sort_headers(headers: &mut Vec<Header<'_, '_>>) -> Mem<()>
-    ensures { OnOk result (map header_view headers.new.items ≡ sorted_by by_place (map header_view headers.old.items)) }
+    ensures { OnOk result
+        (map header_view headers.new.items
+        ≡ sorted_by by_place (map header_view headers.old.items)) }
 {
     headers.sort_by_key(|header| header.place)?;
     Ok(())

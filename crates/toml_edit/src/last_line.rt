@@ -14,7 +14,9 @@ use toml_edit_tree::{Item, Table, Value};
 /// Returns the decor of the last statement of a document: of the value of a line, or of the table
 /// of a header. `headers` are in the order in which they are printed.
 pub(crate) fn last_decor<'a>(root: &'a Table, headers: &[Header<'_, 'a>]) -> Option<&'a Decor>
-    ensures { option_copied result ≡ last_headed (map header_view headers.now) (last_of_root (fields_view root.now) (table_slots root.now)) }
+    ensures { option_copied result
+        ≡ last_headed (map header_view headers.now)
+        (last_of_root (fields_view root.now) (table_slots root.now)) }
 {
     match headers.last() {
         Some(header) => last_of_slots(&header.table.slots, Some(header.table.decor())),
@@ -95,7 +97,8 @@ fn last_of_pair<'a>(item: &'a Item, before: Option<&'a Decor>) -> Option<&'a Dec
 /// without lines.
 #[cycle(last_pair)]
 fn last_of_value<'a>(value: &'a Value, before: Option<&'a Decor>) -> Option<&'a Decor>
-    ensures { option_copied result ≡ last_inside (value_view value.now) (option_copied before.entry) }
+    ensures { option_copied result
+        ≡ last_inside (value_view value.now) (option_copied before.entry) }
 {
     match value {
         Value::InlineTable(table) => {

@@ -56,7 +56,9 @@ impl<'a> Laid<'a> {
         trailing: &'a RawString,
     ) -> Mem<Laid<'a>>
         requires { keys_on top.now ≡ [] }
-        ensures { IfOk result (λ laid. laid_text laid ≡ print_in (mode_of mode) open_end (tree_view root.now trailing.now)) }
+        ensures { IfOk result
+            (λ laid. laid_text laid
+            ≡ print_in (mode_of mode) open_end (tree_view root.now trailing.now)) }
     {
         let headers = headers_in_order(arena, root, top)?;
         Ok(Laid {

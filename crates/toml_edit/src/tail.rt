@@ -100,7 +100,8 @@ impl<S: Sink> Sink for Held<'_, S> {
 
 /// Puts the text without the newline at its end, which has `count` bytes.
 pub(crate) fn put_but_newline<T: Printed, S: Sink>(out: &mut S, printed: &T, count: usize)
-    ensures { (d : Option Decor) → (front : List ℕ) → count ≡ length (newline_of exact d) → front ++ newline_of exact d ≡ T.text printed.now
+    ensures { (d : Option Decor) → (front : List ℕ) → count ≡ length (newline_of exact d)
+        → front ++ newline_of exact d ≡ T.text printed.now
         → WritesInCalls S.puts out.old front out.new }
 {
     let mut held = Held {

@@ -13,7 +13,8 @@ abbrev pub split_name : List Text → Option (Text × List Text)
 split_name [] = None
 split_name (k ∷ ks) = Some (k, ks)
 
--- Where these slots are found they come out, and what held them has others in their place; where there are none, both stay.
+-- Where these slots are found they come out, and what held them has others in their place; where
+-- there are none, both stay.
 abbrev pub Swaps : {X : Type 0} → Option Slots → Slots → X → X → Slots → X → Type 0
 Swaps found others old want out new =
     ((inner : Slots) → found ≡ Some inner → (out ≡ inner) × (new ≡ want))

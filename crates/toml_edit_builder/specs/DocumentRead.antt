@@ -25,17 +25,20 @@ pub record MarksMistake (t : Text) (r : Report) : Type 0 where
   pub marks : r.span ≡ Some (span.start, span.end)
   pub within : IsSpanOf t span
 
--- The report is of the text, with one of the messages that there are. Of a text of the grammar it names a fault of the first faulty
--- statement, which may be what the statement has that the version hasn't. Of another it says what is wrong with its syntax, unless too
--- many brackets are open before that.
+-- The report is of the text, with one of the messages that there are. Of a text of the grammar it
+-- names a fault of the first faulty statement, which may be what the statement has that the version
+-- hasn't. Of another it says what is wrong with its syntax, unless too many brackets are open
+-- before that.
 pub record IsRefusalIn (version : Version) (t : Text) (r : Report) : Type 0 where
   pub input : r.input ≡ t
   pub listed : IsListedIn version r
   pub names : (d : Document) → IsCut d t → IsRefusedIn version d (fault_of r)
   pub syntax : ((d : Document) → IsCut d t → ⊥) → MarksMistake t r ⊎ OpensTooMany t
 
--- The text has one cut, by which the version accepts it, and these slots and this trailing text are the tree of it, read in this mode.
-pub record IsParsedWith (mode : Mode) (version : Version) (t : Text) (slots : Slots) (trailing : Raw) (is_open : Bool) : Type 0 where
+-- The text has one cut, by which the version accepts it, and these slots and this trailing text are
+-- the tree of it, read in this mode.
+pub record IsParsedWith (mode : Mode) (version : Version) (t : Text) (slots : Slots)
+    (trailing : Raw) (is_open : Bool) : Type 0 where
   pub document : Document
   pub accepted : AcceptedIn version t document
   pub only : (other : Document) → IsCut other t → other ≡ document

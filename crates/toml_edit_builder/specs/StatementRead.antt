@@ -1,5 +1,5 @@
--- What reading the statements of a text, one after another, does to what is held of its tree (TOML 1.1.0, "Key/Value Pair", "Table" and
--- "Array of Tables").
+-- What reading the statements of a text, one after another, does to what is held of its tree (TOML
+-- 1.1.0, "Key/Value Pair", "Table" and "Array of Tables").
 use Rattle.std.specs.Prelude.{◌≡◌, ℕ, ◌+◌, ◌-◌, Bool, true, if◌then◌else◌, List, [], ◌++◌, length, map, Some, String, Vec, Result, Ok, Err}
 use Rattle.std.specs.declared.alloc.Global.{Global}
 use Rattle.std.specs.Borrow.{Bor}
@@ -36,36 +36,46 @@ use Rattle.toml_edit_builder.specs.declared.statement.HeaderParts.{HeaderParts}
 abbrev pub IsWhole : Statement → Type 0
 IsWhole s = IsStatement (λ end. Unit {0}) s
 
--- What is held between statements: the slots of the root, without those of the table of the last block, which are held by themselves,
--- the keys of that block, and how many headers there were. Where a header headed a table that was only passed through, the table is
--- where it was: put in the order of their keys, they are the builder's slots.
+-- What is held between statements: the slots of the root, without those of the table of the last
+-- block, which are held by themselves, the keys of that block, and how many headers there were.
+-- Where a header headed a table that was only passed through, the table is where it was: put in the
+-- order of their keys, they are the builder's slots.
 pub record IsHeld (b : Builder) (h : Building) : Type 0 where
   pub block : b.block ≡ names h.block.items
   pub headers : b.headers ≡ h.headers
   pub left : Slots
   pub there : slots_along b.block (slots_view h.root) ≡ Some left
-  pub slots : b.slots ≡ slots_by_place (put_along b.block (slots_view h.current) (slots_view h.root))
+  pub slots : b.slots
+      ≡ slots_by_place (put_along b.block (slots_view h.current) (slots_view h.root))
   pub placed : ArePlaced b.start (put_along b.block (slots_view h.current) (slots_view h.root))
 
 -- The statement is right and is added: the builder after it is what is held. These events follow.
-pub record IsAdded (mode : Mode) (b : Builder) (s : Statement) (more : List Event) (new : Building) (rest : List Event) : Type 0 where
+pub record IsAdded (mode : Mode) (b : Builder) (s : Statement) (more : List Event) (new : Building)
+    (rest : List Event) : Type 0 where
   pub node : Node
   pub is_node : IsStatementNode mode b.start s node
   pub slots : Slots
   pub faultless : own_faults b.start s ≡ []
   pub added_is : added mode b s node ≡ Some slots
-  pub held : (inner : Slots) → slots_along (behind b s slots).block slots ≡ Some inner → IsHeld (behind b s slots) new
+  pub held : (inner : Slots) → slots_along (behind b s slots).block slots ≡ Some inner
+      → IsHeld (behind b s slots) new
   pub rest_is : rest ≡ shortened 0 more
 
--- what reading a statement returns, where these events follow it: it is added, or the report names what is in it
-abbrev pub ReadsStatement : Mode → Text → Builder → Statement → List Event → Building → Result (Bor (List Event)) ParseFault → Type 0
+-- what reading a statement returns, where these events follow it: it is added, or the report names
+-- what is in it
+abbrev pub ReadsStatement : Mode → Text → Builder → Statement → List Event → Building
+    → Result (Bor (List Event)) ParseFault → Type 0
 ReadsStatement mode t b s more new (Ok r) = IsAdded mode b s more new r.now
 ReadsStatement mode t b s more new (Err e) = IfToml e (NamesOne t (faults_at b s))
 
--- And in a version of the grammar: the statement is one of the version too, or the report may name what it has that the version hasn't.
-abbrev pub ReadsInVersion : Mode → Version → Text → Builder → Statement → List Event → Building → Result (Bor (List Event)) ParseFault → Type 0
-ReadsInVersion mode version t b s more new (Ok r) = (is_of_version version s ≡ true) × IsAdded mode b s more new r.now
-ReadsInVersion mode version t b s more new (Err e) = IfToml e (NamesOne t (late_faults version b.start s ++ faults_at b s))
+-- And in a version of the grammar: the statement is one of the version too, or the report may name
+-- what it has that the version hasn't.
+abbrev pub ReadsInVersion : Mode → Version → Text → Builder → Statement → List Event → Building
+    → Result (Bor (List Event)) ParseFault → Type 0
+ReadsInVersion mode version t b s more new (Ok r) =
+    (is_of_version version s ≡ true) × IsAdded mode b s more new r.now
+ReadsInVersion mode version t b s more new (Err e) =
+    IfToml e (NamesOne t (late_faults version b.start s ++ faults_at b s))
 
 -- ---- a header
 
@@ -74,13 +84,19 @@ abbrev pub kind_of : Bool → Span → Kind
 kind_of is_array brackets = if is_array then kinds.Element brackets else kinds.Table
 
 -- the parts of a header that begins at this byte
-pub record AreHeaderParts (mode : Mode) (h : Header) (end : Text) (start : ℕ) (parts : HeaderParts) : Type 0 where
+pub record AreHeaderParts (mode : Mode) (h : Header) (end : Text) (start : ℕ)
+    (parts : HeaderParts) : Type 0 where
   pub leading : parts.leading ≡ span_at start h.leading
   pub is_array : parts.is_array ≡ h.is_array
   pub brackets : parts.brackets ≡ span_at (start + length h.leading) (brackets_text h)
-  pub path : IsPathFrom (header_leaf (spanned_in mode) (start + length h.leading + length (opening_brackets h.is_array)) h)
-      (start + length h.leading + length (opening_brackets h.is_array) + length h.opening) h.path parts.path
-  pub trailing : parts.trailing ≡ span_at (start + length h.leading + length (brackets_text h)) (with_return mode h.trailing end)
+  pub path : IsPathFrom
+      (header_leaf (spanned_in mode)
+      (start + length h.leading + length (opening_brackets h.is_array)) h)
+      (start + length h.leading + length (opening_brackets h.is_array)
+      + length h.opening) h.path parts.path
+  pub trailing : parts.trailing
+      ≡ span_at (start + length h.leading + length (brackets_text h))
+      (with_return mode h.trailing end)
 
 -- the names of a path's keys; reading them fails only if memory runs out
 abbrev pub ReadsNames : List Segment → Result (Vec (String Global) Global) ParseFault → Type 0
@@ -91,9 +107,11 @@ ReadsNames p (Err e) = IfToml e (λ r. ⊥)
 pub record IsOpened (mode : Mode) (b : Builder) (s : Statement) (new : Building) : Type 0 where
   pub slots : Slots
   pub added_is : added mode b s nothing ≡ Some slots
-  pub held : (inner : Slots) → slots_along (behind b s slots).block slots ≡ Some inner → IsHeld (behind b s slots) new
+  pub held : (inner : Slots) → slots_along (behind b s slots).block slots ≡ Some inner
+      → IsHeld (behind b s slots) new
 
-abbrev pub OpensBlock : (mode : Mode) {A : Type 0} → Text → Builder → Statement → Building → Result A ParseFault → Type 0
+abbrev pub OpensBlock : (mode : Mode) {A : Type 0} → Text → Builder → Statement → Building
+    → Result A ParseFault → Type 0
 OpensBlock mode t b s new (Ok a) = IsOpened mode b s new
 OpensBlock mode t b s new (Err e) = IfToml e (NamesOne t (table_way_faults (clash_at b s)))
 
@@ -105,10 +123,17 @@ final_event d = event Final (length (document_text d) - length d.final) d.final
 
 -- a tree that was read
 abbrev pub tree_of : Slots → Raw → Tree
-tree_of slots trailing = record { root = root_fields spanned_form; slots = slots; trailing = trailing }
+tree_of slots trailing = record {
+  root = root_fields spanned_form;
+  slots = slots;
+  trailing = trailing;
+}
 
--- what building the tree of a document returns, in a version of the grammar: the document is accepted, and this is its tree, or the report
--- names a fault of its first faulty statement
-abbrev pub Builds : (mode : Mode) {S : Type 0} → Version → (S → Slots) → Text → Document → Result (S × Raw) ParseFault → Type 0
-Builds mode version view t d (Ok r) = (is_accepted_in version d ≡ true) × IsTreeOf (spanned_in mode) d (tree_of (view r.0) r.1)
-Builds mode version view t d (Err e) = IfToml e (λ r. (r.input ≡ t) × IsRefusedIn version d (fault_of r))
+-- what building the tree of a document returns, in a version of the grammar: the document is
+-- accepted, and this is its tree, or the report names a fault of its first faulty statement
+abbrev pub Builds : (mode : Mode) {S : Type 0} → Version → (S → Slots) → Text → Document
+    → Result (S × Raw) ParseFault → Type 0
+Builds mode version view t d (Ok r) =
+    (is_accepted_in version d ≡ true) × IsTreeOf (spanned_in mode) d (tree_of (view r.0) r.1)
+Builds mode version view t d (Err e) =
+    IfToml e (λ r. (r.input ≡ t) × IsRefusedIn version d (fault_of r))

@@ -1,5 +1,5 @@
--- What a statement adds at the end of its path, and what adding it does to the tables of a document (TOML 1.1.0, "Keys", "Table" and
--- "Array of Tables").
+-- What a statement adds at the end of its path, and what adding it does to the tables of a document
+-- (TOML 1.1.0, "Keys", "Table" and "Array of Tables").
 use Rattle.std.specs.Prelude.{◌≡◌, ◌&&◌, not, Bool, true, false, ℕ, List, Option, Some, None, option_map, if◌then◌else◌, Result, Ok, Err}
 use Rattle.toml_edit_model.specs.Mode.{Mode}
 use Rattle.toml_edit_model.specs.Roles.{extends}
@@ -41,17 +41,24 @@ is_line _ = false
 abbrev pub IsHeaded : Mode → Source → Node → Type 0
 IsHeaded mode s n = n ≡ table (header_fields (spanned_in mode) s s.statement) no_slots
 
--- The item is that of the statement, if this is a header: its table, where an element has the place of the header's brackets.
+-- The item is that of the statement, if this is a header: its table, where an element has the place
+-- of the header's brackets.
 abbrev pub IsItemFor : Mode → Kind → Source → Node → Type 0
 IsItemFor mode kinds.Line s n = Unit {0}
 IsItemFor mode kinds.Table s n = IsHeaded mode s n
 IsItemFor mode (kinds.Element brackets) s n =
-    IsHeaded mode s n × (brackets ≡ record { start = brackets_from (spanned_in mode) s s.statement; end = brackets_to (spanned_in mode) s s.statement })
+    IsHeaded mode s n × (brackets
+    ≡ record {
+      start = brackets_from (spanned_in mode) s s.statement;
+      end = brackets_to (spanned_in mode) s s.statement;
+    })
 
 -- ---- a path
 
--- The path is the end of that of a statement of the text, from one of its keys on, and these are its mentions.
-pub record IsPathOf (mode : Mode) (t : Text) (s : Source) (ms : List (Mention Source)) (path : KeyPath) : Type 0 where
+-- The path is the end of that of a statement of the text, from one of its keys on, and these are
+-- its mentions.
+pub record IsPathOf (mode : Mode) (t : Text) (s : Source) (ms : List (Mention Source))
+    (path : KeyPath) : Type 0 where
   pub start : ℕ
   pub segments : List Segment
   pub ends : IsEndOfPath segments
@@ -60,7 +67,8 @@ pub record IsPathOf (mode : Mode) (t : Text) (s : Source) (ms : List (Mention So
   pub read : IsPathFrom (statement_leaf (spanned_in mode) s s.statement) start segments path
 
 -- the key of a mention, and where it is spelled; its path goes on after it, or ends there
-pub record IsKeyOf (mode : Mode) (s : Source) (passes : Bool) (m : Mention Source) (k : Key) (at : Span) : Type 0 where
+pub record IsKeyOf (mode : Mode) (s : Source) (passes : Bool) (m : Mention Source) (k : Key)
+    (at : Span) : Type 0 where
   pub key : k ≡ key_at (spanned_in mode) m
   pub source : m.source ≡ s
   pub role : extends m.role ≡ passes
@@ -68,29 +76,42 @@ pub record IsKeyOf (mode : Mode) (s : Source) (passes : Bool) (m : Mention Sourc
 
 -- ---- what is done
 
--- What was to be done is done, or the report is of the text and names what is in the way; memory may run out at any time.
-abbrev pub Goes : {A X : Type 0} → Text → Option X → Option (Mention Source × Node) → X → Result A ParseFault → Type 0
+-- What was to be done is done, or the report is of the text and names what is in the way; memory
+-- may run out at any time.
+abbrev pub Goes : {A X : Type 0} → Text → Option X → Option (Mention Source × Node) → X
+    → Result A ParseFault → Type 0
 Goes t want way new (Ok x) = want ≡ Some new
-Goes t want way new (Err e) = IfToml e (λ r. (r.input ≡ t) × (option_map table_way_fault way ≡ Some (fault_of r)))
+Goes t want way new (Err e) =
+    IfToml e (λ r. (r.input ≡ t) × (option_map table_way_fault way ≡ Some (fault_of r)))
 
 -- adding something at the end of a path below these slots
-abbrev pub AddsPath : (mode : Mode) {A : Type 0} → Text → Addition → List (Mention Source) → Slots → Slots → Result A ParseFault → Type 0
-AddsPath mode t a ms old new result = Goes t (add_in_place mode a ms old) (path_clash a ms old) new result
+abbrev pub AddsPath : (mode : Mode) {A : Type 0} → Text → Addition → List (Mention Source) → Slots
+    → Slots → Result A ParseFault → Type 0
+AddsPath mode t a ms old new result =
+    Goes t (add_in_place mode a ms old) (path_clash a ms old) new result
 
 -- adding it below a key with this item, where these mentions are the path after the key
-abbrev pub AddsInside : (mode : Mode) {A : Type 0} → Text → Addition → Mention Source → List (Mention Source) → Node → Node → Result A ParseFault → Type 0
-AddsInside mode t a m ms old new result = Goes t (inside a (add_in_place mode a ms) old) (clash_inside a m (path_clash a ms) old) new result
+abbrev pub AddsInside : (mode : Mode) {A : Type 0} → Text → Addition → Mention Source
+    → List (Mention Source) → Node → Node → Result A ParseFault → Type 0
+AddsInside mode t a m ms old new result =
+    Goes t (inside a (add_in_place mode a ms) old)
+    (clash_inside a m (path_clash a ms) old) new result
 
 -- adding it at the last key of a path
-abbrev pub PutsLast : (mode : Mode) {A : Type 0} → Text → Addition → Mention Source → Slots → Slots → Result A ParseFault → Type 0
-PutsLast mode t a m old new result = Goes t (put_in_place mode a m old (node_at m.segment.key old)) (last_key_clash a m (node_at m.segment.key old)) new result
+abbrev pub PutsLast : (mode : Mode) {A : Type 0} → Text → Addition → Mention Source → Slots → Slots
+    → Result A ParseFault → Type 0
+PutsLast mode t a m old new result =
+    Goes t (put_in_place mode a m old (node_at m.segment.key old))
+    (last_key_clash a m (node_at m.segment.key old)) new result
 
--- the table of a header with these fields, with the slots of the table that is there, if until now that was only passed through
+-- the table of a header with these fields, with the slots of the table that is there, if until now
+-- that was only passed through
 abbrev pub opened : TableFields → Node → Option Node
 opened g (table f inner) = if f.is_implicit && not f.is_dotted then Some (table g inner) else None
 opened g n = None
 
--- the array of tables that is there, with the table of a header that ends at this byte as one more element
+-- the array of tables that is there, with the table of a header that ends at this byte as one more
+-- element
 abbrev pub with_element : ℕ → Node → Node → Option Node
 with_element end n (tables e xs) = Some (tables (reaching e end) (with_item xs n))
 with_element end n other = None

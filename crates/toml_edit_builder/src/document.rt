@@ -33,7 +33,8 @@ fn cut_short(
     requires cut { AreEventsOf source.now events.items }
     requires spans { AreIn source.now events.items }
     requires short { are_deep events.items ≡ true }
-    ensures every { (d : Document) → AcceptedIn (grammar version) source.now d → result ≡ ParseFault.Memory }
+    ensures every { (d : Document) → AcceptedIn (grammar version) source.now d
+        → result ≡ ParseFault.Memory }
     ensures refused { IfToml result (IsRefusalIn (grammar version) source.now) }
 {
     match build(alloc, source, events, version, mode) {
@@ -66,8 +67,10 @@ fn read_all(
     requires cut { AreEventsOf source.now events.items }
     requires spans { AreIn source.now events.items }
     requires whole { are_deep events.items ≡ false }
-    ensures parsed { IfOk result (λ r. IsParsedWith (mode_of mode) (grammar version) source.now (slots_view r.0) r.1 r.2) }
-    ensures every { (d : Document) → AcceptedIn (grammar version) source.now d → IsOk result ⊎ IsErrOf result ParseFault.Memory }
+    ensures parsed { IfOk result
+        (λ r. IsParsedWith (mode_of mode) (grammar version) source.now (slots_view r.0) r.1 r.2) }
+    ensures every { (d : Document) → AcceptedIn (grammar version) source.now d
+        → IsOk result ⊎ IsErrOf result ParseFault.Memory }
     ensures refused { IfErr result (λ e. IfToml e (IsRefusalIn (grammar version) source.now)) }
 {
     let open_end = ends_open(events.as_slice());
@@ -86,8 +89,10 @@ fn parse_events(
 ) -> Result<(Slots<Item>, RawString, bool), ParseFault>
     requires cut { AreEventsOf source.now events.items }
     requires spans { AreIn source.now events.items }
-    ensures parsed { IfOk result (λ r. IsParsedWith (mode_of mode) (grammar version) source.now (slots_view r.0) r.1 r.2) }
-    ensures every { (d : Document) → AcceptedIn (grammar version) source.now d → IsOk result ⊎ IsErrOf result ParseFault.Memory }
+    ensures parsed { IfOk result
+        (λ r. IsParsedWith (mode_of mode) (grammar version) source.now (slots_view r.0) r.1 r.2) }
+    ensures every { (d : Document) → AcceptedIn (grammar version) source.now d
+        → IsOk result ⊎ IsErrOf result ParseFault.Memory }
     ensures refused { IfErr result (λ e. IfToml e (IsRefusalIn (grammar version) source.now)) }
 {
     if are_cut_short(events.as_slice()) {
@@ -109,9 +114,11 @@ pub fn parse_with(
     version: Version,
     mode: Mode,
 ) -> Result<(Slots<Item>, RawString, bool), ParseFault>
-    ensures parsed { IfOk result (λ r. IsParsedWith (mode_of mode) (grammar version) source.now (slots_view r.0) r.1 r.2) }
+    ensures parsed { IfOk result
+        (λ r. IsParsedWith (mode_of mode) (grammar version) source.now (slots_view r.0) r.1 r.2) }
     // A text that the version accepts is never refused.
-    ensures every { (d : Document) → AcceptedIn (grammar version) source.now d → IsOk result ⊎ IsErrOf result ParseFault.Memory }
+    ensures every { (d : Document) → AcceptedIn (grammar version) source.now d
+        → IsOk result ⊎ IsErrOf result ParseFault.Memory }
     ensures refused { IfErr result (λ e. IfToml e (IsRefusalIn (grammar version) source.now)) }
 {
     match events(alloc, source) {

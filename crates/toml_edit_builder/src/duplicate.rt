@@ -15,7 +15,12 @@ use toml_edit_syntax::Span;
 #[inline(never)]
 pub(crate) fn duplicate_key(alloc: Global, source: &str, span: Span) -> ParseFault
     requires { IsSpanOf source.now span }
-    ensures report { IfToml result (λ r. r ≡ record { message = faults.duplicate_key; span = Some (span.start, span.end); input = source.now }) }
+    ensures report { IfToml result
+        (λ r. r ≡ record {
+          message = faults.duplicate_key;
+          span = Some (span.start, span.end);
+          input = source.now;
+        }) }
     ensures listed { IfToml result IsListed }
 {
     refusal(alloc, source, "duplicate key", span)

@@ -41,8 +41,10 @@ pub(crate) fn put_last(
     slots: &mut Slots<Item>,
 ) -> Result<(), ParseFault>
     requires { IsSpanOf source.now at }
-    ensures put { (mode : Mode) (s : Source) (m : Mention Source) → IsItemFor mode kind s (item_view item.old) → IsKeyOf mode s false m key at
-        → PutsLast mode source.now (addition_for kind (item_view item.old)) m (slots_view slots.old) (slots_view slots.new) result }
+    ensures put { (mode : Mode) (s : Source) (m : Mention Source)
+        → IsItemFor mode kind s (item_view item.old) → IsKeyOf mode s false m key at
+        → PutsLast mode source.now (addition_for kind (item_view item.old)) m
+        (slots_view slots.old) (slots_view slots.new) result }
     ensures input { IfErr result (λ e. IfToml e (λ r. r.input ≡ source.now)) }
     ensures listed { IfErr result (λ e. IfToml e IsListed) }
 {
@@ -66,7 +68,8 @@ fn put_table(
     slots: &mut Slots<Item>,
 ) -> Result<(), ParseFault>
     requires { IsSpanOf source.now at }
-    ensures put { (mode : Mode) (s : Source) (m : Mention Source) → IsHeaded mode s (item_view item.old) → IsKeyOf mode s false m key at
+    ensures put { (mode : Mode) (s : Source) (m : Mention Source)
+        → IsHeaded mode s (item_view item.old) → IsKeyOf mode s false m key at
         → PutsLast mode source.now a_table m (slots_view slots.old) (slots_view slots.new) result }
     ensures input { IfErr result (λ e. IfToml e (λ r. r.input ≡ source.now)) }
     ensures listed { IfErr result (λ e. IfToml e IsListed) }
@@ -96,7 +99,8 @@ fn put_opened(
     requires at { IsSpanOf source.now at }
     requires there { place key.name slots.old ≡ Some there }
     requires within { there < length slots.old }
-    ensures put { (mode : Mode) (s : Source) (m : Mention Source) → IsHeaded mode s (item_view item.old) → IsKeyOf mode s false m key at
+    ensures put { (mode : Mode) (s : Source) (m : Mention Source)
+        → IsHeaded mode s (item_view item.old) → IsKeyOf mode s false m key at
         → PutsLast mode source.now a_table m (slots_view slots.old) (slots_view slots.new) result }
     ensures input { IfErr result (λ e. IfToml e (λ r. r.input ≡ source.now)) }
     ensures listed { IfErr result (λ e. IfToml e IsListed) }
@@ -109,7 +113,8 @@ fn put_opened(
 /// Puts a slot in the place of the one of its name, which is dropped.
 fn put_slot(key: Key, there: usize, item: Item, slots: &mut Slots<Item>)
     requires { place key.name slots.old ≡ Some there }
-    ensures { slots_view slots.new ≡ replace_slot key.name key (item_view item) (slots_view slots.old) }
+    ensures { slots_view slots.new
+        ≡ replace_slot key.name key (item_view item) (slots_view slots.old) }
 {
     let past = slots.replace(there, Slot { key, item });
     drop(past);
@@ -125,8 +130,10 @@ fn open_item(
     item: &mut Item,
 ) -> Result<(), ParseFault>
     requires { IsSpanOf source.now at }
-    ensures opened { (mode : Mode) (g : TableFields) (s : Source) (m : Mention Source) (k : Key) → item_view item.old ≡ table_of g no_slots → IsKeyOf mode s false m k at
-        → Goes source.now (opened g (item_view there.old)) (table_clash m (Some (item_view there.old))) (item_view item.new) result }
+    ensures opened { (mode : Mode) (g : TableFields) (s : Source) (m : Mention Source) (k : Key)
+        → item_view item.old ≡ table_of g no_slots → IsKeyOf mode s false m k at
+        → Goes source.now (opened g (item_view there.old))
+        (table_clash m (Some (item_view there.old))) (item_view item.new) result }
     ensures input { IfErr result (λ e. IfToml e (λ r. r.input ≡ source.now)) }
     ensures listed { IfErr result (λ e. IfToml e IsListed) }
 {
@@ -145,8 +152,10 @@ fn open_table(
     item: &mut Item,
 ) -> Result<(), ParseFault>
     requires { IsSpanOf source.now at }
-    ensures opened { (mode : Mode) (g : TableFields) (s : Source) (m : Mention Source) (k : Key) → item_view item.old ≡ table_of g no_slots → IsKeyOf mode s false m k at
-        → Goes source.now (opened g (table_node (table_view there.old))) (table_clash m (Some (table_node (table_view there.old)))) (item_view item.new) result }
+    ensures opened { (mode : Mode) (g : TableFields) (s : Source) (m : Mention Source) (k : Key)
+        → item_view item.old ≡ table_of g no_slots → IsKeyOf mode s false m k at
+        → Goes source.now (opened g (table_node (table_view there.old)))
+        (table_clash m (Some (table_node (table_view there.old)))) (item_view item.new) result }
     ensures input { IfErr result (λ e. IfToml e (λ r. r.input ≡ source.now)) }
     ensures listed { IfErr result (λ e. IfToml e IsListed) }
 {
@@ -167,7 +176,8 @@ fn taken_slots(alloc: Global, table: &mut Table) -> Slots<Item>
 
 /// Puts these slots into an item that is a table, in place of its own.
 fn fill(item: &mut Item, slots: Slots<Item>)
-    ensures { (g : TableFields) → item_view item.old ≡ table_of g no_slots → item_view item.new ≡ table_of g (slots_view slots) }
+    ensures { (g : TableFields) → item_view item.old ≡ table_of g no_slots
+        → item_view item.new ≡ table_of g (slots_view slots) }
 {
     if let Item::Table(table) = item {
         fill_table(table, slots);
@@ -176,7 +186,8 @@ fn fill(item: &mut Item, slots: Slots<Item>)
 
 /// Puts these slots into a table, in place of its own.
 fn fill_table(table: &mut Table, slots: Slots<Item>)
-    ensures { table_view table.new ≡ record { fields = fields_view table.old; slots = slots_view slots } }
+    ensures { table_view table.new
+        ≡ record { fields = fields_view table.old; slots = slots_view slots } }
 {
     *table.slots_mut() = slots;
 }
@@ -195,8 +206,11 @@ fn put_element(
     slots: &mut Slots<Item>,
 ) -> Result<(), ParseFault>
     requires { IsSpanOf source.now at }
-    ensures put { (mode : Mode) (s : Source) (m : Mention Source) → IsItemFor mode (kinds.Element brackets) s (item_view item.old) → IsKeyOf mode s false m key at
-        → PutsLast mode source.now an_element m (slots_view slots.old) (slots_view slots.new) result }
+    ensures put { (mode : Mode) (s : Source) (m : Mention Source)
+        → IsItemFor mode (kinds.Element brackets) s (item_view item.old)
+        → IsKeyOf mode s false m key at
+        → PutsLast mode source.now an_element m (slots_view slots.old)
+        (slots_view slots.new) result }
     ensures input { IfErr result (λ e. IfToml e (λ r. r.input ≡ source.now)) }
     ensures listed { IfErr result (λ e. IfToml e IsListed) }
 {
@@ -219,7 +233,8 @@ fn put_tables(
 ) -> Mem<()>
     requires { place key.name slots.old ≡ None }
     ensures { OnOk result (slots_view slots.new
-        ≡ with_slot (slots_view slots.old) key (tables_of (Some (brackets.start, brackets.end)) (item_of (item_view item.old) no_items))) }
+        ≡ with_slot (slots_view slots.old) key
+        (tables_of (Some (brackets.start, brackets.end)) (item_of (item_view item.old) no_items))) }
 {
     let mut tables = ArrayOfTables::begun(alloc, brackets.start, brackets.end);
     tables.add_element(mem::replace(item, Item::None), brackets.end)?;
@@ -237,8 +252,10 @@ fn add_element(
     holder: &mut Item,
 ) -> Result<(), ParseFault>
     requires { IsSpanOf source.now at }
-    ensures added { (mode : Mode) (s : Source) (m : Mention Source) (k : Key) → IsKeyOf mode s false m k at
-        → Goes source.now (with_element brackets.end (item_view item.old) (item_view holder.old)) (element_clash m (Some (item_view holder.old)))
+    ensures added { (mode : Mode) (s : Source) (m : Mention Source) (k : Key)
+        → IsKeyOf mode s false m k at
+        → Goes source.now (with_element brackets.end (item_view item.old) (item_view holder.old))
+        (element_clash m (Some (item_view holder.old)))
         (item_view holder.new) result }
     ensures input { IfErr result (λ e. IfToml e (λ r. r.input ≡ source.now)) }
     ensures listed { IfErr result (λ e. IfToml e IsListed) }

@@ -70,7 +70,8 @@ fn whole(building: Building) -> Slots<Item>
 
 /// Returns the text after the last statement, which alone is left.
 fn trailing(events: &[Event]) -> RawString
-    ensures { (start : ℕ) (t : Text) → events.now ≡ event Final start t ∷ [] → result ≡ span_of start t }
+    ensures { (start : ℕ) (t : Text) → events.now ≡ event Final start t ∷ []
+        → result ≡ span_of start t }
 {
     match events.first() {
         Some(last) => spanned(last.span),

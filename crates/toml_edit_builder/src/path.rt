@@ -63,8 +63,10 @@ pub fn add_path(
     slots: &mut Slots<Item>,
 ) -> Result<(), ParseFault>
     requires { AreIn source.now path.events.now }
-    ensures added { (mode : Mode) (s : Source) (ms : List (Mention Source)) → IsItemFor mode kind s (item_view item.old) → IsPathOf mode source.now s ms path.entry
-        → AddsPath mode source.now (addition_for kind (item_view item.old)) ms (slots_view slots.old) (slots_view slots.new) result }
+    ensures added { (mode : Mode) (s : Source) (ms : List (Mention Source))
+        → IsItemFor mode kind s (item_view item.old) → IsPathOf mode source.now s ms path.entry
+        → AddsPath mode source.now (addition_for kind (item_view item.old)) ms
+        (slots_view slots.old) (slots_view slots.new) result }
     ensures input { IfErr result (λ e. IfToml e (λ r. r.input ≡ source.now)) }
     ensures listed { IfErr result (λ e. IfToml e IsListed) }
 {
@@ -91,8 +93,10 @@ pub(crate) fn add_value(
     slots: &mut Slots<Item>,
 ) -> Result<(), ParseFault>
     requires { AreIn source.now path.events.now }
-    ensures added { (mode : Mode) (s : Source) (ms : List (Mention Source)) → IsPathOf mode source.now s ms path.entry
-        → AddsPath mode source.now (a_value (item_view item.old)) ms (slots_view slots.old) (slots_view slots.new) result }
+    ensures added { (mode : Mode) (s : Source) (ms : List (Mention Source))
+        → IsPathOf mode source.now s ms path.entry
+        → AddsPath mode source.now (a_value (item_view item.old)) ms (slots_view slots.old)
+        (slots_view slots.new) result }
     ensures input { IfErr result (λ e. IfToml e (λ r. r.input ≡ source.now)) }
     ensures listed { IfErr result (λ e. IfToml e IsListed) }
 {
@@ -122,7 +126,8 @@ fn add_below(
 ) -> Result<(), ParseFault>
     requires new { place key.name slots.old ≡ None }
     requires path { AreIn source.now path.events.now }
-    ensures added { (mode : Mode) (s : Source) (ms : List (Mention Source)) → IsItemFor mode kind s (item_view item.old) → IsPathOf mode source.now s ms path.entry
+    ensures added { (mode : Mode) (s : Source) (ms : List (Mention Source))
+        → IsItemFor mode kind s (item_view item.old) → IsPathOf mode source.now s ms path.entry
         → Goes source.now (option_map (λ inner. with_slot (slots_view slots.old) key
         (table_of (made_by_path spanned_form (makes_dotted (addition_for kind (item_view item.old))) (Some (span.start, span.end))) inner))
         (model.add_in_place mode (addition_for kind (item_view item.old)) ms no_slots)) None (slots_view slots.new) result }
@@ -137,7 +142,9 @@ fn add_below(
 
 /// Makes the table of a key that a path passes through.
 fn passed_item(dotted: bool, span: Span, slots: Slots<Item>) -> Item
-    ensures { item_view result ≡ table_of (made_by_path spanned_form dotted (Some (span.start, span.end))) (slots_view slots) }
+    ensures { item_view result
+        ≡ table_of (made_by_path spanned_form dotted (Some (span.start, span.end)))
+        (slots_view slots) }
 {
     Item::Table(Table::passed(slots, dotted, span.start, span.end))
 }
@@ -157,9 +164,11 @@ fn add_in_item(
 ) -> Result<(), ParseFault>
     requires span { IsSpanOf source.now span }
     requires path { AreIn source.now path.events.now }
-    ensures added { (mode : Mode) (s : Source) (m : Mention Source) (ms : List (Mention Source)) (k : Key) → IsItemFor mode kind s (item_view item.old) → IsKeyOf mode s true m k span
+    ensures added { (mode : Mode) (s : Source) (m : Mention Source) (ms : List (Mention Source))
+        (k : Key) → IsItemFor mode kind s (item_view item.old) → IsKeyOf mode s true m k span
         → IsPathOf mode source.now s ms path.entry
-        → AddsInside mode source.now (addition_for kind (item_view item.old)) m ms (item_view holder.old) (item_view holder.new) result }
+        → AddsInside mode source.now (addition_for kind (item_view item.old)) m ms
+        (item_view holder.old) (item_view holder.new) result }
     ensures input { IfErr result (λ e. IfToml e (λ r. r.input ≡ source.now)) }
     ensures listed { IfErr result (λ e. IfToml e IsListed) }
 {
@@ -175,7 +184,8 @@ fn add_in_item(
 
 /// Returns the message about a path that goes on through this value.
 fn extend_message(value: &Value) -> &'static str
-    ensures message { (later : Role) → extends later ≡ true → result.now ≡ table_way_message later (value_view value.now) }
+    ensures message { (later : Role) → extends later ≡ true
+        → result.now ≡ table_way_message later (value_view value.now) }
     // It is one of the listed messages.
     ensures listed { Contains fault_messages result.now }
 {
@@ -204,9 +214,11 @@ fn add_in_table(
 ) -> Result<(), ParseFault>
     requires span { IsSpanOf source.now span }
     requires path { AreIn source.now path.events.now }
-    ensures added { (mode : Mode) (s : Source) (m : Mention Source) (ms : List (Mention Source)) (k : Key) → IsItemFor mode kind s (item_view item.old) → IsKeyOf mode s true m k span
+    ensures added { (mode : Mode) (s : Source) (m : Mention Source) (ms : List (Mention Source))
+        (k : Key) → IsItemFor mode kind s (item_view item.old) → IsKeyOf mode s true m k span
         → IsPathOf mode source.now s ms path.entry
-        → AddsInside mode source.now (addition_for kind (item_view item.old)) m ms (table_node (table_view table.old)) (table_node (table_view table.new)) result }
+        → AddsInside mode source.now (addition_for kind (item_view item.old)) m ms
+        (table_node (table_view table.old)) (table_node (table_view table.new)) result }
     ensures input { IfErr result (λ e. IfToml e (λ r. r.input ≡ source.now)) }
     ensures listed { IfErr result (λ e. IfToml e IsListed) }
 {
@@ -233,9 +245,11 @@ fn add_in_tables(
 ) -> Result<(), ParseFault>
     requires span { IsSpanOf source.now span }
     requires path { AreIn source.now path.events.now }
-    ensures added { (mode : Mode) (s : Source) (m : Mention Source) (ms : List (Mention Source)) (k : Key) → IsItemFor mode kind s (item_view item.old) → IsKeyOf mode s true m k span
+    ensures added { (mode : Mode) (s : Source) (m : Mention Source) (ms : List (Mention Source))
+        (k : Key) → IsItemFor mode kind s (item_view item.old) → IsKeyOf mode s true m k span
         → IsPathOf mode source.now s ms path.entry
-        → AddsInside mode source.now (addition_for kind (item_view item.old)) m ms (tables_node (tables_view tables.old)) (tables_node (tables_view tables.new)) result }
+        → AddsInside mode source.now (addition_for kind (item_view item.old)) m ms
+        (tables_node (tables_view tables.old)) (tables_node (tables_view tables.new)) result }
     ensures input { IfErr result (λ e. IfToml e (λ r. r.input ≡ source.now)) }
     ensures listed { IfErr result (λ e. IfToml e IsListed) }
 {
@@ -261,9 +275,13 @@ fn add_in_element(
 ) -> Result<(), ParseFault>
     requires span { IsSpanOf source.now span }
     requires path { AreIn source.now path.events.now }
-    ensures added { (mode : Mode) (s : Source) (m : Mention Source) (ms : List (Mention Source)) (k : Key) (way : Node) → IsItemFor mode kind s (item_view item.old)
-        → IsKeyOf mode s true m k span → IsPathOf mode source.now s ms path.entry → spec.AreTables way
-        → Goes source.now (change_table (model.add_in_place mode (addition_for kind (item_view item.old)) ms) (item_view holder.old))
+    ensures added { (mode : Mode) (s : Source) (m : Mention Source) (ms : List (Mention Source))
+        (k : Key) (way : Node) → IsItemFor mode kind s (item_view item.old)
+        → IsKeyOf mode s true m k span → IsPathOf mode source.now s ms path.entry
+        → spec.AreTables way
+        → Goes source.now (change_table
+        (model.add_in_place mode (addition_for kind (item_view item.old)) ms)
+        (item_view holder.old))
         (clash_in_last (m, way) (path_clash (addition_for kind (item_view item.old)) ms) (item_of (item_view holder.old) no_items)) (item_view holder.new) result }
     ensures input { IfErr result (λ e. IfToml e (λ r. r.input ≡ source.now)) }
     ensures listed { IfErr result (λ e. IfToml e IsListed) }
@@ -285,8 +303,11 @@ fn add_in_slots(
     table: &mut Table,
 ) -> Result<(), ParseFault>
     requires { AreIn source.now path.events.now }
-    ensures added { (mode : Mode) (s : Source) (ms : List (Mention Source)) → IsItemFor mode kind s (item_view item.old) → IsPathOf mode source.now s ms path.entry
-        → Goes source.now (change_table (model.add_in_place mode (addition_for kind (item_view item.old)) ms) (table_node (table_view table.old)))
+    ensures added { (mode : Mode) (s : Source) (ms : List (Mention Source))
+        → IsItemFor mode kind s (item_view item.old) → IsPathOf mode source.now s ms path.entry
+        → Goes source.now (change_table
+        (model.add_in_place mode (addition_for kind (item_view item.old)) ms)
+        (table_node (table_view table.old)))
         (path_clash (addition_for kind (item_view item.old)) ms (table_view table.old).slots) (table_node (table_view table.new)) result }
     ensures input { IfErr result (λ e. IfToml e (λ r. r.input ≡ source.now)) }
     ensures listed { IfErr result (λ e. IfToml e IsListed) }

@@ -53,11 +53,15 @@ pub(crate) struct HeaderParts<'a> {
 /// deep, only what is before the bracket that is one too many counts.
 fn late_part(source: &str, version: Version, events: &[Event]) -> Option<Span>
     requires { AreIn source.now events.now }
-    ensures found { (s : Statement) (start : ℕ) (more : List Event) → IsWhole s → Stands source.now start (statement_text s)
+    ensures found { (s : Statement) (start : ℕ) (more : List Event) → IsWhole s
+        → Stands source.now start (statement_text s)
         → events.now ≡ shortened 0 (statement_events start s ++ more)
-        → IfSome result (λ span. Contains (late_faults (grammar version) start s) (fault needs_message span.start (span.end - span.start))) }
-    ensures none { (s : Statement) (start : ℕ) (more : List Event) → IsWhole s → Stands source.now start (statement_text s)
-        → events.now ≡ shortened 0 (statement_events start s ++ more) → has_deep_value s ≡ false → IsNone result
+        → IfSome result (λ span. Contains (late_faults (grammar version) start s)
+        (fault needs_message span.start (span.end - span.start))) }
+    ensures none { (s : Statement) (start : ℕ) (more : List Event) → IsWhole s
+        → Stands source.now start (statement_text s)
+        → events.now ≡ shortened 0 (statement_events start s ++ more) → has_deep_value s ≡ false
+        → IsNone result
         → is_of_version (grammar version) s ≡ true }
     ensures span { IfSome result (λ span. IsSpanOf source.now span) }
     // TOML 1.1 lacks nothing.
@@ -81,13 +85,16 @@ pub(crate) fn read_in_version<'a>(
 ) -> Result<&'a [Event], ParseFault>
     requires spans { AreIn source.now events.now }
     requires count { building.old.headers + length events.now < 2 ^ 63 }
-    ensures statement { (b : Builder) (s : Statement) (more : List Event) → IsWhole s → Stands source.now b.start (statement_text s)
-        → IsEnded source.now b.start s → IsHeld b building.old → events.now ≡ shortened 0 (statement_events b.start s ++ more)
+    ensures statement { (b : Builder) (s : Statement) (more : List Event) → IsWhole s
+        → Stands source.now b.start (statement_text s)
+        → IsEnded source.now b.start s → IsHeld b building.old
+        → events.now ≡ shortened 0 (statement_events b.start s ++ more)
         → ReadsInVersion (mode_of mode) (grammar version) source.now b s more building.new result }
     ensures input { IfErr result (λ e. IfToml e (λ r. r.input ≡ source.now)) }
     ensures listed { IfErr result (λ e. IfToml e (IsListedIn (grammar version))) }
     ensures rest { IfOk result (λ r. AreIn source.now r.now × (length r.now < length events.now)) }
-    ensures count { IfOk result (λ r. building.new.headers + length r.now ≤ building.old.headers + length events.now) }
+    ensures count { IfOk result
+        (λ r. building.new.headers + length r.now ≤ building.old.headers + length events.now) }
 {
     match late_part(source, version, events) {
         Some(span) => Err(refusal(alloc, source, "needs TOML 1.1", span)),
@@ -105,13 +112,16 @@ fn read_statement<'a>(
 ) -> Result<&'a [Event], ParseFault>
     requires spans { AreIn source.now events.now }
     requires count { building.old.headers + length events.now < 2 ^ 63 }
-    ensures statement { (b : Builder) (s : Statement) (more : List Event) → IsWhole s → Stands source.now b.start (statement_text s)
-        → IsEnded source.now b.start s → IsHeld b building.old → events.now ≡ shortened 0 (statement_events b.start s ++ more)
+    ensures statement { (b : Builder) (s : Statement) (more : List Event) → IsWhole s
+        → Stands source.now b.start (statement_text s)
+        → IsEnded source.now b.start s → IsHeld b building.old
+        → events.now ≡ shortened 0 (statement_events b.start s ++ more)
         → ReadsStatement (mode_of mode) source.now b s more building.new result }
     ensures input { IfErr result (λ e. IfToml e (λ r. r.input ≡ source.now)) }
     ensures listed { IfErr result (λ e. IfToml e IsListed) }
     ensures rest { IfOk result (λ r. AreIn source.now r.now × (length r.now < length events.now)) }
-    ensures count { IfOk result (λ r. building.new.headers + length r.now ≤ building.old.headers + length events.now) }
+    ensures count { IfOk result
+        (λ r. building.new.headers + length r.now ≤ building.old.headers + length events.now) }
 {
     let Some((leading, behind)) = split_first(events) else {
         return Err(refusal_at_end(alloc, source, "expected a key"));
@@ -155,9 +165,12 @@ fn add_line<'a>(
 ) -> Result<&'a [Event], ParseFault>
     requires leading { IsSpanOf source.now leading }
     requires spans { AreIn source.now events.now }
-    ensures line { (b : Builder) (f : Frame) (v : syntax.Value) (end : Text) (more : List Event) → IsWhole (key_line f v end)
-        → Stands source.now b.start (statement_text (key_line f v end)) → IsEnded source.now b.start (key_line f v end) → IsHeld b building.old
-        → leading ≡ span_at b.start f.leading → events.now ≡ shortened 0 (line_behind b.start f v more)
+    ensures line { (b : Builder) (f : Frame) (v : syntax.Value) (end : Text) (more : List Event)
+        → IsWhole (key_line f v end)
+        → Stands source.now b.start (statement_text (key_line f v end))
+        → IsEnded source.now b.start (key_line f v end) → IsHeld b building.old
+        → leading ≡ span_at b.start f.leading
+        → events.now ≡ shortened 0 (line_behind b.start f v more)
         → ReadsStatement (mode_of mode) source.now b (key_line f v end) more building.new result }
     ensures input { IfErr result (λ e. IfToml e (λ r. r.input ≡ source.now)) }
     ensures listed { IfErr result (λ e. IfToml e IsListed) }
@@ -186,11 +199,15 @@ fn add_header<'a>(
 ) -> Result<&'a [Event], ParseFault>
     requires spans { AreIn source.now events.now }
     requires count { building.old.headers + length events.now < 2 ^ 63 }
-    ensures header { (b : Builder) (h : Header) (end : Text) (more : List Event) → IsWhole (syntax.header h end)
-        → Stands source.now b.start (statement_text (syntax.header h end)) → IsEnded source.now b.start (syntax.header h end)
+    ensures header { (b : Builder) (h : Header) (end : Text) (more : List Event)
+        → IsWhole (syntax.header h end)
+        → Stands source.now b.start (statement_text (syntax.header h end))
+        → IsEnded source.now b.start (syntax.header h end)
         → IsHeld b building.old → leading ≡ span_at b.start h.leading → is_array ≡ h.is_array
-        → opening ≡ span_at (b.start + length h.leading) (opening_brackets h.is_array) → events.now ≡ shortened 0 (header_behind b.start h more)
-        → ReadsStatement (mode_of mode) source.now b (syntax.header h end) more building.new result }
+        → opening ≡ span_at (b.start + length h.leading) (opening_brackets h.is_array)
+        → events.now ≡ shortened 0 (header_behind b.start h more)
+        → ReadsStatement (mode_of mode) source.now b
+        (syntax.header h end) more building.new result }
     ensures input { IfErr result (λ e. IfToml e (λ r. r.input ≡ source.now)) }
     ensures listed { IfErr result (λ e. IfToml e IsListed) }
     ensures rest { IfOk result (λ r. AreIn source.now r.now × (length r.now < length events.now)) }
@@ -223,8 +240,10 @@ fn open_block(
 ) -> Result<(), ParseFault>
     requires path { AreIn source.now header.path.events.now }
     requires count { building.old.headers + 1 < 2 ^ 63 }
-    ensures opens { (mode : modes.Mode) (b : Builder) (h : Header) (end : Text) → IsWhole (syntax.header h end)
-        → Stands source.now b.start (statement_text (syntax.header h end)) → IsHeld b building.old → AreHeaderParts mode h end b.start header.entry
+    ensures opens { (mode : modes.Mode) (b : Builder) (h : Header) (end : Text)
+        → IsWhole (syntax.header h end)
+        → Stands source.now b.start (statement_text (syntax.header h end)) → IsHeld b building.old
+        → AreHeaderParts mode h end b.start header.entry
         → OpensBlock mode source.now b (syntax.header h end) building.new result }
     ensures input { IfErr result (λ e. IfToml e (λ r. r.input ≡ source.now)) }
     ensures listed { IfErr result (λ e. IfToml e IsListed) }
@@ -274,7 +293,8 @@ fn header_kind(header: HeaderParts<'_>) -> Kind
 /// Puts the table of the header of this number in the item's place, without slots, but with room
 /// for so many.
 fn head_item(alloc: Global, header: HeaderParts<'_>, position: isize, room: usize, item: &mut Item)
-    ensures { (mode : modes.Mode) (b : Builder) (h : Header) (end : Text) → AreHeaderParts mode h end b.start header.entry → position ≡ pos (suc b.headers)
+    ensures { (mode : modes.Mode) (b : Builder) (h : Header) (end : Text)
+        → AreHeaderParts mode h end b.start header.entry → position ≡ pos (suc b.headers)
         → IsHeaded mode (source_at b (syntax.header h end)) (item_view item.new) }
 {
     put(item, headed_item(alloc, header, position, room));
@@ -282,7 +302,8 @@ fn head_item(alloc: Global, header: HeaderParts<'_>, position: isize, room: usiz
 
 /// Makes the table of the header of this number, without slots, but with room for so many.
 fn headed_item(alloc: Global, header: HeaderParts<'_>, position: isize, room: usize) -> Item
-    ensures { (mode : modes.Mode) (b : Builder) (h : Header) (end : Text) → AreHeaderParts mode h end b.start header.entry → position ≡ pos (suc b.headers)
+    ensures { (mode : modes.Mode) (b : Builder) (h : Header) (end : Text)
+        → AreHeaderParts mode h end b.start header.entry → position ≡ pos (suc b.headers)
         → IsHeaded mode (source_at b (syntax.header h end)) (item_view result) }
 {
     let decor = Decor::new(raw(header.leading), raw(header.trailing));
@@ -294,7 +315,8 @@ fn headed_item(alloc: Global, header: HeaderParts<'_>, position: isize, room: us
 /// Reads the names of the keys of a path.
 fn read_names(alloc: Global, source: &str, path: KeyPath<'_>) -> Result<Vec<String>, ParseFault>
     requires { AreIn source.now path.events.now }
-    ensures names { (own : Decor) (p : List Segment) (start : ℕ) → IsEndOfPath p → Stands source.now start (path_text p)
+    ensures names { (own : Decor) (p : List Segment) (start : ℕ) → IsEndOfPath p
+        → Stands source.now start (path_text p)
         → IsPathFrom own start p path.entry → ReadsNames p result }
     ensures input { IfErr result (λ e. IfToml e (λ r. r.input ≡ source.now)) }
     ensures listed { IfErr result (λ e. IfToml e IsListed) }

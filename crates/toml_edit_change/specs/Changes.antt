@@ -11,14 +11,16 @@ use Rattle.toml_edit_change.specs.declared.fault.ChangeFault.TheVariants.{NoSuch
 abbrev pub names : List Key → List Text
 names path = map (λ k. k.name) path
 
--- What is done leaves what is meant. A refusal is the one that is meant, and leaves all as it was, as running out of memory does.
+-- What is done leaves what is meant. A refusal is the one that is meant, and leaves all as it was,
+-- as running out of memory does.
 abbrev pub Changes : {A : Type 0} → Answer A → A → A → Result (Unit {0}) ChangeFault → Type 0
 Changes meant old new (Ok u) = meant ≡ done new
 Changes meant old new (Err NoSuchPath) = (meant ≡ refused no_such_path) × (new ≡ old)
 Changes meant old new (Err WrongKind) = (meant ≡ refused wrong_kind) × (new ≡ old)
 Changes meant old new (Err Memory) = new ≡ old
 
--- the slots of a table without what a path leads to: the slot of its only key, or what is below that of its first
+-- the slots of a table without what a path leads to: the slot of its only key, or what is below
+-- that of its first
 abbrev pub removed_slot : Text → List Text → List (Slot Node) → Answer (List (Slot Node))
 removed_slot k [] ss = drop_slot k ss (present (lookup_slot k ss))
 removed_slot k (l ∷ path) ss = change_slot false k (remove_below (l ∷ path)) ss (lookup_slot k ss)
@@ -26,4 +28,5 @@ removed_slot k (l ∷ path) ss = change_slot false k (remove_below (l ∷ path))
 -- the elements of this kind, likewise
 abbrev pub removed_element : (Node → Bool) → Text → List Text → List Node → Answer (List Node)
 removed_element is k [] ns = drop_element ns (element_of is k ns)
-removed_element is k (l ∷ path) ns = change_element (remove_below (l ∷ path)) ns (element_of is k ns)
+removed_element is k (l ∷ path) ns =
+    change_element (remove_below (l ∷ path)) ns (element_of is k ns)

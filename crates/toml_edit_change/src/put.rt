@@ -175,7 +175,8 @@ fn set_in_element(
 ) -> Result<(), ChangeFault>
     requires { IfSome at (λ place. place < length items.old) }
     ensures { (is : Node → Bool) (k : Text) → at ≡ place_named is k (nodes items.old)
-        → Changes (change_element (set_below (item_view value.old) (names rest.now)) (nodes items.old) (element_of is k (nodes items.old)))
+        → Changes (change_element (set_below (item_view value.old) (names rest.now))
+        (nodes items.old) (element_of is k (nodes items.old)))
         (nodes items.old) (nodes items.new) result }
 {
     match at {
@@ -225,7 +226,8 @@ fn set_here(item: &mut Item, value: &mut Item) -> Result<(), ChangeFault>
 
 /// Gives the new value the decor of the old one, which is about to be dropped.
 fn keep_decor(old: &mut Value, value: &mut Item)
-    ensures { item_view value.new ≡ with_decor (node_decor (value_view old.old)) (item_view value.old) }
+    ensures { item_view value.new
+        ≡ with_decor (node_decor (value_view old.old)) (item_view value.old) }
 {
     if let Item::Value(new) = value {
         swap_decors(old, new);
@@ -234,7 +236,8 @@ fn keep_decor(old: &mut Value, value: &mut Item)
 
 /// Swaps the decors of two values.
 fn swap_decors(old: &mut Value, new: &mut Value)
-    ensures { value_view new.new ≡ with_decor (node_decor (value_view old.old)) (value_view new.old) }
+    ensures { value_view new.new
+        ≡ with_decor (node_decor (value_view old.old)) (value_view new.old) }
 {
     mem::swap(old.decor_mut(), new.decor_mut());
 }
@@ -257,7 +260,8 @@ fn fill_below(
 /// Wraps a value in inline tables down the path to it. If out of memory, what is left is
 /// unspecified.
 fn make_below(alloc: Global, path: &[Key], value: &mut Item) -> Mem<()>
-    ensures { OnOk result (item_view value.new ≡ made_below (names path.now) (item_view value.old)) }
+    ensures { OnOk result
+        (item_view value.new ≡ made_below (names path.now) (item_view value.old)) }
 {
     match path.split_first() {
         None => Ok(()),
@@ -290,7 +294,9 @@ fn wrap(alloc: Global, key: &str, value: &mut Item) -> Mem<()>
 /// of memory, the slots are unchanged.
 fn push_new(slots: &mut Slots<Item>, key: &str, item: &mut Item) -> Mem<()>
     requires { place key.now slots.old ≡ None }
-    ensures made { OnOk result (shown_slots slots.new ≡ shown_slots slots.old ++ one (keyed (new_key key.now) (item_view item.old))) }
+    ensures made { OnOk result
+        (shown_slots slots.new
+        ≡ shown_slots slots.old ++ one (keyed (new_key key.now) (item_view item.old))) }
     ensures err { OnErr result (slots.new ≡ slots.old) }
 {
     let key = Key::from_text(slots.allocator(), key)?;

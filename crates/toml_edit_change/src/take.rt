@@ -118,7 +118,8 @@ fn remove_in_element(
 ) -> Result<(), ChangeFault>
     requires { IfSome at (λ place. place < length items.old.items) }
     ensures changes { (is : Node → Bool) (k : Text) → at ≡ place_named is k (nodes items.old.items)
-        → Changes (removed_element is k (names rest.now) (nodes items.old.items)) (nodes items.old.items) (nodes items.new.items) result }
+        → Changes (removed_element is k (names rest.now) (nodes items.old.items))
+        (nodes items.old.items) (nodes items.new.items) result }
     ensures fault { IfErr result (λ fault. fault ≡ NoSuchPath) }
 {
     match at {

@@ -13,9 +13,12 @@ use Rattle.toml_edit_laws.specs.Locality.{into_element, Leads, has_block}
 use Rattle.toml_edit_laws.specs.Commands.{done, number_of, set_below, set_at, remove_below, remove_at}
 use Rattle.toml_edit_laws.specs.CommandLaws.{NamesTable, ChangesStatement, AddsStatement, DropsStatements, made_below}
 
--- What is said of a key in a table that the walk of the print enters, of which this path is the table's and these texts follow.
+-- What is said of a key in a table that the walk of the print enters, of which this path is the
+-- table's and these texts follow.
 abbrev pub AtKey : Tree → List Text → (List Text → Visit → Text → List Text → Type 0) → Type 0
-AtKey t names Is = (path : List Text) (v : Visit) (k : Text) (inner : List Text) → names ≡ path ++ (k ∷ inner) → NamesTable t path v → Is path v k inner
+AtKey t names Is =
+    (path : List Text) (v : Visit) (k : Text) (inner : List Text) → names ≡ path ++ (k ∷ inner)
+    → NamesTable t path v → Is path v k inner
 
 module _ (mode : Mode) where
   -- ---- set
@@ -24,10 +27,13 @@ module _ (mode : Mode) where
   abbrev pub ChangesOne : Document → Tree → Tree → List Text → Node → Type 0
   ChangesOne d t u names value =
       AtKey t names
-      (λ path v k inner. (l : Key) (old n : Node) → lookup_slot k (slot_list v.slots) ≡ Some (keyed l old) → is_value_node old ≡ true
-      → set_below value inner old ≡ done n → ChangesStatement mode d t u (to_key v.path l.name) old n)
+      (λ path v k inner. (l : Key) (old n : Node)
+      → lookup_slot k (slot_list v.slots) ≡ Some (keyed l old) → is_value_node old ≡ true
+      → set_below value inner old ≡ done n
+      → ChangesStatement mode d t u (to_key v.path l.name) old n)
 
-  -- At a new key of the root or of a table that has a header, or below one: one statement more, after the others of the table.
+  -- At a new key of the root or of a table that has a header, or below one: one statement more,
+  -- after the others of the table.
   abbrev pub AddsOne : Document → Tree → Tree → List Text → Node → Type 0
   AddsOne d t u names value =
       AtKey t names
@@ -45,20 +51,23 @@ module _ (mode : Mode) where
   -- At a slot: its statements go, with those of all below it.
   abbrev pub DropsSlot : Document → Tree → Tree → List Text → Type 0
   DropsSlot d t u names =
-      (path : List Text) (v : Visit) (k : Text) (s : Slot Node) → names ≡ path ++ (k ∷ []) → NamesTable t path v → lookup_slot k (slot_list v.slots) ≡ Some s
+      (path : List Text) (v : Visit) (k : Text) (s : Slot Node) → names ≡ path ++ (k ∷ [])
+      → NamesTable t path v → lookup_slot k (slot_list v.slots) ≡ Some s
       → DropsStatements mode d t u (to_key v.path s.key.name)
 
   -- At an element of an array of tables: its own go, with those of all below it.
   abbrev pub DropsElement : Document → Tree → Tree → List Text → Type 0
   DropsElement d t u names =
-      (path : List Text) (v w : Visit) (k x : Text) (i : ℕ) → names ≡ path ++ (k ∷ x ∷ []) → NamesTable t path v → number_of x ≡ Some i
+      (path : List Text) (v w : Visit) (k x : Text) (i : ℕ) → names ≡ path ++ (k ∷ x ∷ [])
+      → NamesTable t path v → number_of x ≡ Some i
       → Leads (into_element k i ∷ []) v w → DropsStatements mode d t u w.path
 
   -- Inside a value: that value's statement changes, in its frame.
   abbrev pub DropsInside : Document → Tree → Tree → List Text → Type 0
   DropsInside d t u names =
       AtKey t names
-      (λ path v k inner. (l : Key) (old n : Node) → lookup_slot k (slot_list v.slots) ≡ Some (keyed l old) → is_value_node old ≡ true
+      (λ path v k inner. (l : Key) (old n : Node)
+      → lookup_slot k (slot_list v.slots) ≡ Some (keyed l old) → is_value_node old ≡ true
       → remove_below inner old ≡ done n → ChangesStatement mode d t u (to_key v.path l.name) old n)
 
   -- The second tree is the first without the slot or the element at the path, all else as it was.

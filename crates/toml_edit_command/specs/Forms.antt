@@ -1,4 +1,5 @@
--- What is asked for by options and words, a command's words by its name, and how PATH and VALUE stop it.
+-- What is asked for by options and words, a command's words by its name, and how PATH and VALUE
+-- stop it.
 use Rattle.std.specs.Prelude.{◌≡◌, ◌⊎◌, List, Option, Some, None}
 use Rattle.toml_edit_model.specs.Text.{Text}
 use Rattle.toml_edit_model.specs.Version.{Version}
@@ -27,4 +28,5 @@ abbrev pub MayStopPath : Text → Stop → Type 0
 MayStopPath t stop = (stop ≡ Memory) ⊎ ((stop ≡ Mistaken mistakes.Path) × IsNoPath t)
 
 abbrev pub MayStopValue : Version → Text → Stop → Type 0
-MayStopValue version t stop = (stop ≡ Memory) ⊎ ((stop ≡ Mistaken mistakes.Value) × IsNoValue version t)
+MayStopValue version t stop =
+    (stop ≡ Memory) ⊎ ((stop ≡ Mistaken mistakes.Value) × IsNoValue version t)

@@ -14,7 +14,9 @@ use Rattle.toml_edit_command.specs.declared.stop.Mistake.TheVariants.{Words, Pat
 -- ---- lines
 
 abbrev pub usage_line : Text
-usage_line = codes "tomled: usage: tomled [exact] [strict] print | get PATH | set PATH VALUE | remove PATH" ++ newline
+usage_line =
+    codes "tomled: usage: tomled [exact] [strict] print | get PATH | set PATH VALUE | remove PATH"
+    ++ newline
 
 abbrev pub encoding_line : Text
 encoding_line = codes "tomled: input is not UTF-8" ++ newline
@@ -38,18 +40,21 @@ mistake_line Unfit = codes "tomled: does not fit" ++ newline
 
 -- ---- mistakes
 
--- It is in the words: they are no command, or PATH is no lone path, or PATH is one and VALUE is no lone value.
+-- It is in the words: they are no command, or PATH is no lone path, or PATH is one and VALUE is no
+-- lone value.
 abbrev pub InWords : Asked → Mistake → Type 0
 InWords q Words = ¬ (IsCommand q.command)
 InWords q Path = (path : Text) × TakesPath q.command path × IsNoPath path
 InWords q Value =
-    (path : Text) × (value : Text) × (names : List Text) × IsSet q.command path value × SpellsPath path names × IsNoValue q.version value
+    (path : Text) × (value : Text) × (names : List Text) × IsSet q.command path value
+    × SpellsPath path names × IsNoValue q.version value
 InWords q NoSuchPath = ⊥
 InWords q WrongKind = ⊥
 InWords q Unfit = ⊥
 
 module _ (mode : Mode) where
-  -- It is in what they say of the tree: nothing is at the path, or the wrong kind, or the changed tree does not fit.
+  -- It is in what they say of the tree: nothing is at the path, or the wrong kind, or the changed
+  -- tree does not fit.
   abbrev pub InTree : Action → Tree → Mistake → Type 0
   InTree a t Words = ⊥
   InTree a t Path = ⊥
@@ -60,7 +65,8 @@ module _ (mode : Mode) where
 
   -- so it is in that of what was left to read
   abbrev pub InRead : Version → Action → Option Text → Mistake → Type 0
-  InRead version a known m = (t : Tree) × InTree a t m × IfSome known (λ bytes. IsReadOf mode version bytes t)
+  InRead version a known m =
+      (t : Tree) × InTree a t m × IfSome known (λ bytes. IsReadOf mode version bytes t)
 
 abbrev pub IsMistaken : Asked → Option Text → Mistake → Type 0
 IsMistaken q known m = InWords q m ⊎ ((a : Action) × Says q a × InRead q.mode q.version a known m)

@@ -23,7 +23,8 @@ module _ (version : Version) where
 
   -- the second text is the excerpt of a fault for which the version refuses the first
   abbrev pub IsExcerptOf : Text → Text → Type 0
-  IsExcerptOf t shown = (r : Report) × IsRefusalIn version t r × (shown ≡ excerpt r.input r.span r.message)
+  IsExcerptOf t shown =
+      (r : Report) × IsRefusalIn version t r × (shown ≡ excerpt r.input r.span r.message)
 
   -- the bytes are no text that the version accepts
   abbrev pub IsNotAccepted : Text → Type 0
@@ -49,14 +50,17 @@ DoesCommand q known old new = (a : Action) × Says q a × Does q.mode q.version 
 abbrev pub BeginsCommand : Asked → Option Text → Option Text → Option Text → Type 0
 BeginsCommand q known old new = (a : Action) × Says q a × Begins q.mode q.version a known old new
 
--- What is held grew by this line, unless the writer has failed; then it may have grown by a beginning alone.
+-- What is held grew by this line, unless the writer has failed; then it may have grown by a
+-- beginning alone.
 abbrev pub Tells : Option Text → Option Text → Bool → Text → Type 0
 Tells old new failed line = AppendsBeginning old new line × (failed ≡ false → Appends old new line)
 
 -- It grew so by the excerpt of a fault for which the version refuses the text.
 abbrev pub TellsRefusal : Version → Text → Option Text → Option Text → Bool → Type 0
-TellsRefusal version t old new failed = (shown : Text) × IsExcerptOf version t shown × Tells old new failed shown
+TellsRefusal version t old new failed =
+    (shown : Text) × IsExcerptOf version t shown × Tells old new failed shown
 
 -- It grew so by the line of the mistake that is made.
 abbrev pub TellsMistake : Asked → Option Text → Option Text → Option Text → Bool → Type 0
-TellsMistake q known old new failed = (m : Mistake) × IsMistaken q known m × Tells old new failed (mistake_line m)
+TellsMistake q known old new failed =
+    (m : Mistake) × IsMistaken q known m × Tells old new failed (mistake_line m)

@@ -56,17 +56,21 @@ StopsInWords q Memory = IsCommand q.command
 StopsInWords q ReadFailed = ⊥
 StopsInWords q WriteFailed = ⊥
 
--- a step that reads in this version stops so: what was left to read, and whether the input has failed then
+-- a step that reads in this version stops so: what was left to read, and whether the input has
+-- failed then
 abbrev pub StopsReading : Version → Option Text → Bool → Stop → Type 0
 StopsReading version known failed (Mistaken m) = ⊥
-StopsReading version known failed NotUtf8 = IfSome known (λ bytes. ¬ (IsUtf8 bytes)) × (failed ≡ false)
+StopsReading version known failed NotUtf8 =
+    IfSome known (λ bytes. ¬ (IsUtf8 bytes)) × (failed ≡ false)
 StopsReading version known failed (Refused e) =
-    IfSome known (λ bytes. IsUtf8 bytes × IsRefused version bytes × IsExcerptOf version bytes (string_bytes e)) × (failed ≡ false)
+    IfSome known (λ bytes. IsUtf8 bytes × IsRefused version bytes
+    × IsExcerptOf version bytes (string_bytes e)) × (failed ≡ false)
 StopsReading version known failed Memory = failed ≡ false
 StopsReading version known failed ReadFailed = failed ≡ true
 StopsReading version known failed WriteFailed = ⊥
 
--- a step that stops so has read the input to its end, unless memory ran out or the input failed: what is left to read then
+-- a step that stops so has read the input to its end, unless memory ran out or the input failed:
+-- what is left to read then
 abbrev pub HasReadAll : Option Text → Stop → Type 0
 HasReadAll left (Mistaken m) = IsAtEnd left
 HasReadAll left NotUtf8 = IsAtEnd left
@@ -75,7 +79,8 @@ HasReadAll left Memory = Unit {0}
 HasReadAll left ReadFailed = Unit {0}
 HasReadAll left WriteFailed = IsAtEnd left
 
--- what a step that writes has seen: what the output held before and after, and whether it has failed then
+-- what a step that writes has seen: what the output held before and after, and whether it has
+-- failed then
 pub record Outcome : Type 0 where
   pub old : Option Text
   pub new : Option Text
@@ -111,22 +116,29 @@ StopsActing a h s ReadFailed = ⊥
 StopsActing a h s WriteFailed = BeganToWrite a h s.old s.new × (s.failed ≡ true)
 
 module _ (mode : Mode) (version : Version) where
-  -- the action on what was left to read, in this mode and version, stops so, and whether the input has failed then
+  -- the action on what was left to read, in this mode and version, stops so, and whether the input
+  -- has failed then
   abbrev pub StopsDoing : Action → Option Text → Bool → Outcome → Stop → Type 0
-  StopsDoing a known failed s (Mistaken m) = InRead mode version a known m × (failed ≡ false) × IsUnwritten s
+  StopsDoing a known failed s (Mistaken m) =
+      InRead mode version a known m × (failed ≡ false) × IsUnwritten s
   StopsDoing a known failed s NotUtf8 = StopsReading version known failed NotUtf8 × IsUnwritten s
-  StopsDoing a known failed s (Refused e) = StopsReading version known failed (Refused e) × IsUnwritten s
+  StopsDoing a known failed s (Refused e) =
+      StopsReading version known failed (Refused e) × IsUnwritten s
   StopsDoing a known failed s Memory = StopsReading version known failed Memory × IsUnwritten s
-  StopsDoing a known failed s ReadFailed = StopsReading version known failed ReadFailed × IsUnwritten s
+  StopsDoing a known failed s ReadFailed =
+      StopsReading version known failed ReadFailed × IsUnwritten s
   StopsDoing a known failed s WriteFailed =
       (failed ≡ false)
-      × IfSome known (λ bytes. (d : Document) × (h : Held) × IsHeldAs mode version bytes d h × BeganToWrite a h s.old s.new) × (s.failed ≡ true)
+      × IfSome known (λ bytes. (d : Document) × (h : Held) × IsHeldAs mode version bytes d h
+      × BeganToWrite a h s.old s.new) × (s.failed ≡ true)
 
   -- ---- on the way
 
   -- what the action makes of what is held of what was left to read was written
   abbrev pub WroteRead : Action → Option Text → Option Text → Option Text → Type 0
-  WroteRead a known old new = IfSome known (λ bytes. (d : Document) × (h : Held) × IsHeldAs mode version bytes d h × Wrote a h old new)
+  WroteRead a known old new =
+      IfSome known (λ bytes. (d : Document) × (h : Held) × IsHeldAs mode version bytes d h
+      × Wrote a h old new)
 
 -- a fault of a change stops the run so
 abbrev pub stop_for : ChangeFault → Stop
@@ -145,7 +157,8 @@ StopsPrinting h s NotUtf8 = ⊥
 StopsPrinting h s (Refused e) = ⊥
 StopsPrinting h s Memory = IsUnwritten s
 StopsPrinting h s ReadFailed = ⊥
-StopsPrinting h s WriteFailed = ((x : Text) × IsPrintFor h h.tree x × AppendsBeginning s.old s.new x) × (s.failed ≡ true)
+StopsPrinting h s WriteFailed =
+    ((x : Text) × IsPrintFor h h.tree x × AppendsBeginning s.old s.new x) × (s.failed ≡ true)
 
 -- the place that the text names among so many
 abbrev pub among : ℕ → Option ℕ → Option ℕ

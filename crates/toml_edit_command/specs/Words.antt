@@ -16,7 +16,8 @@ pub data Action : Type 0 where
 
 -- ---- the mode and the version
 
--- what words ask for: the mode that the input is read in, the version of TOML that texts are read as, and what is left of the words, the command
+-- what words ask for: the mode that the input is read in, the version of TOML that texts are read
+-- as, and what is left of the words, the command
 pub record Asked : Type 0 where
   pub mode : Mode
   pub version : Version
@@ -60,14 +61,17 @@ IsCommand ws = IsPrint ws ⊎ ((path : Text) × TakesPath ws path)
 
 -- the text is a lone path, and these are the texts of its keys
 abbrev pub SpellsPath : Text → List Text → Type 0
-SpellsPath t names = (before : Text) × (p : List Segment) × (after : Text) × IsLonePath t before p after × (names ≡ map (λ s. s.key) p)
+SpellsPath t names =
+    (before : Text) × (p : List Segment) × (after : Text) × IsLonePath t before p after
+    × (names ≡ map (λ s. s.key) p)
 
 abbrev pub IsNoPath : Text → Type 0
 IsNoPath t = (names : List Text) → SpellsPath t names → ⊥
 
 -- the text is a lone value of the version, within limits and ranges, and this is its item
 abbrev pub SpellsValue : Version → Text → Node → Type 0
-SpellsValue version t n = (v : Value) × IsLoneValue t v × (is_accepted_value_in version v ≡ true) × IsLoneItem v n
+SpellsValue version t n =
+    (v : Value) × IsLoneValue t v × (is_accepted_value_in version v ≡ true) × IsLoneItem v n
 
 abbrev pub IsNoValue : Version → Text → Type 0
 IsNoValue version t = (n : Node) → SpellsValue version t n → ⊥
@@ -76,5 +80,6 @@ abbrev pub Says : Asked → Action → Type 0
 Says q printing = IsPrint q.command
 Says q (getting names) = (path : Text) × IsGet q.command path × SpellsPath path names
 Says q (setting names n) =
-    (path : Text) × (value : Text) × IsSet q.command path value × SpellsPath path names × SpellsValue q.version value n
+    (path : Text) × (value : Text) × IsSet q.command path value × SpellsPath path names
+    × SpellsValue q.version value n
 Says q (removing names) = (path : Text) × IsRemove q.command path × SpellsPath path names

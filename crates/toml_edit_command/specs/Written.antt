@@ -18,7 +18,8 @@ use Rattle.toml_edit_command.specs.Words.{Action, printing, getting, setting, re
 use Rattle.toml_edit_command.specs.Edits.{Sets, Removes}
 
 module _ (mode : Mode) where
-  -- The version accepts the bytes with this cut, and their normal text too, and this is the tree of the cut, which owns its texts.
+  -- The version accepts the bytes with this cut, and their normal text too, and this is the tree of
+  -- the cut, which owns its texts.
   pub record IsReadAs (version : Version) (bytes : Text) (d : Document) (t : Tree) : Type 0 where
     pub accepted : AcceptedIn version bytes d
     pub stays : AcceptedIn version (normal_text_in mode d) (normal_in mode d)
@@ -29,19 +30,23 @@ module _ (mode : Mode) where
   abbrev pub IsReadOf : Version → Text → Tree → Type 0
   IsReadOf version bytes t = (d : Document) × IsReadAs version bytes d t
 
-  -- The tree fits, and this is its print, its end open where that is asked for, which is accepted and means what the tree shows.
+  -- The tree fits, and this is its print, its end open where that is asked for, which is accepted
+  -- and means what the tree shows.
   pub record IsPrintOf (is_open : Bool) (u : Tree) (x : Text) : Type 0 where
     pub fits : FitsIn mode u
     pub back : ∥ MeansWhatIsShown mode is_open u ∥₁
     pub text : x ≡ print_in mode is_open u
 
-  -- Of a document and its tree `print` writes the normal text, `get` the text of the item at the path, and `set` and `remove` the print of
-  -- the tree that is changed there, its end open where that of the document is (in the plain mode it is closed).
+  -- Of a document and its tree `print` writes the normal text, `get` the text of the item at the
+  -- path, and `set` and `remove` the print of the tree that is changed there, its end open where
+  -- that of the document is (in the plain mode it is closed).
   abbrev pub Writes : Action → Document → Tree → Text → Type 0
   Writes printing d t x = x ≡ normal_text_in mode d
   Writes (getting names) d t x = get_text names t ≡ done x
-  Writes (setting names n) d t x = (u : Tree) × Sets mode d t u names n × IsPrintOf (opens mode d) u x
-  Writes (removing names) d t x = (u : Tree) × Removes mode d t u names × IsPrintOf (opens mode d) u x
+  Writes (setting names n) d t x =
+      (u : Tree) × Sets mode d t u names n × IsPrintOf (opens mode d) u x
+  Writes (removing names) d t x =
+      (u : Tree) × Removes mode d t u names × IsPrintOf (opens mode d) u x
 
 -- ---- by the tree alone
 
@@ -61,7 +66,8 @@ Refuses (removing names) t r = remove_at names t ≡ refused r
 
 -- ---- by what is held of it
 
--- what is held of a document that was read: its tree, the mode that it is printed in, and whether its end is to be open
+-- what is held of a document that was read: its tree, the mode that it is printed in, and whether
+-- its end is to be open
 pub record Held : Type 0 where
   pub tree : Tree
   pub mode : Mode
@@ -71,7 +77,8 @@ abbrev pub held : DocumentMut → Held
 held m = record { tree = tree_owned m; mode = mode_owned m; is_open = open_owned m }
 
 -- it is held of what was read in this mode
-pub record IsHeldAs (mode : Mode) (version : Version) (bytes : Text) (d : Document) (h : Held) : Type 0 where
+pub record IsHeldAs (mode : Mode) (version : Version) (bytes : Text) (d : Document)
+    (h : Held) : Type 0 where
   pub read : IsReadAs mode version bytes d h.tree
   pub same_mode : h.mode ≡ mode
   pub open_end : h.is_open ≡ opens mode d

@@ -26,7 +26,8 @@ pub fn perform<I: Input, O: Output>(
     requires input { I.has_failed input.old ≡ false }
     requires output { O.has_failed output.old ≡ false }
     ensures wrote { OnOk result (WroteRead (mode_of options) (version_of options) (action_of command) (I.remaining input.old) (O.contents output.old) (O.contents output.new)) }
-    ensures ok { OnOk result ((I.has_failed input.new ≡ false) × (O.has_failed output.new ≡ false)) }
+    ensures ok { OnOk result
+        ((I.has_failed input.new ≡ false) × (O.has_failed output.new ≡ false)) }
     ensures end { OnOk result (IsAtEnd (I.remaining input.new)) }
     ensures err_end { IfErr result (HasReadAll (I.remaining input.new)) }
     ensures err { IfErr result (StopsDoing (mode_of options) (version_of options) (action_of command) (I.remaining input.old) (I.has_failed input.new) (record {

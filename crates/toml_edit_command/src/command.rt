@@ -59,38 +59,57 @@ pub fn run<I: Input, O: Output, E: Output>(
     requires input { I.has_failed input.old ≡ false }
     requires output { O.has_failed output.old ≡ false }
     ensures status { result ≤ 4 }
-    ensures done { result ≡ 0 → DoesCommand (asked (map string_bytes words.now)) (I.remaining input.old) (O.contents output.old) (O.contents output.new) }
+    ensures done { result ≡ 0
+        → DoesCommand (asked (map string_bytes words.now)) (I.remaining input.old)
+        (O.contents output.old) (O.contents output.new) }
     ensures quiet { result ≡ 0 → errors.new ≡ errors.old }
     // What ends otherwise than for its words, or out of memory, is a command.
-    ensures said { (result ≡ 0) ⊎ (result ≡ 1) ⊎ (result ≡ 4) → (a : Action) × Says (asked (map string_bytes words.now)) a }
-    ensures refused { result ≡ 1 → IfSome (I.remaining input.old) (IsNotAccepted (asked (map string_bytes words.now)).version) }
+    ensures said { (result ≡ 0) ⊎ (result ≡ 1) ⊎ (result ≡ 4)
+        → (a : Action) × Says (asked (map string_bytes words.now)) a }
+    ensures refused { result ≡ 1
+        → IfSome (I.remaining input.old)
+        (IsNotAccepted (asked (map string_bytes words.now)).version) }
     ensures encoding { result ≡ 1 → IfSome (I.remaining input.old) (λ bytes. ¬ (IsUtf8 bytes) →
         Tells (E.contents errors.old) (E.contents errors.new) (E.has_failed errors.new) encoding_line) }
     ensures excerpt { result ≡ 1 → IfSome (I.remaining input.old) (λ bytes. IsUtf8 bytes →
         TellsRefusal (asked (map string_bytes words.now)).version bytes (E.contents errors.old) (E.contents errors.new) (E.has_failed errors.new)) }
     // The words are mistaken, or what they say of the document.
-    ensures mistaken { result ≡ 2 → TellsMistake (asked (map string_bytes words.now)) (I.remaining input.old)
+    ensures mistaken { result ≡ 2
+        → TellsMistake (asked (map string_bytes words.now)) (I.remaining input.old)
         (E.contents errors.old) (E.contents errors.new) (E.has_failed errors.new) }
     ensures wrong_words { ¬ (IsCommand (asked (map string_bytes words.now)).command) → (result ≡ 2)
-        × Tells (E.contents errors.old) (E.contents errors.new) (E.has_failed errors.new) usage_line }
+        × Tells (E.contents errors.old) (E.contents errors.new)
+        (E.has_failed errors.new) usage_line }
     // All of the input was read before the command is done or the text refused, and before a
     // mistake about the document.
     ensures end { (result ≡ 0) ⊎ (result ≡ 1) → IsAtEnd (I.remaining input.new) }
-    ensures mistaken_end { result ≡ 2 → ((m : Mistake) × InWords (asked (map string_bytes words.now)) m) ⊎ IsAtEnd (I.remaining input.new) }
+    ensures mistaken_end { result ≡ 2
+        → ((m : Mistake) × InWords (asked (map string_bytes words.now)) m)
+        ⊎ IsAtEnd (I.remaining input.new) }
     ensures print { IsPrint (asked (map string_bytes words.now)).command → ¬ (result ≡ 2) }
     // If the mistake is in the words, nothing is read.
     ensures untouched { (m : Mistake) → InWords (asked (map string_bytes words.now)) m
         → ((result ≡ 2) ⊎ (result ≡ 3)) × (input.new ≡ input.old) × (output.new ≡ output.old) }
-    ensures memory { result ≡ 3 → Tells (E.contents errors.old) (E.contents errors.new) (E.has_failed errors.new) memory_line }
-    ensures failed { (result ≡ 4) ↔ ((I.has_failed input.new ≡ true) ⊎ (O.has_failed output.new ≡ true)) }
+    ensures memory { result ≡ 3
+        → Tells (E.contents errors.old) (E.contents errors.new)
+        (E.has_failed errors.new) memory_line }
+    ensures failed { (result ≡ 4)
+        ↔ ((I.has_failed input.new ≡ true) ⊎ (O.has_failed output.new ≡ true)) }
     // The message names the input that failed, and nothing was written.
-    ensures read_fault { I.has_failed input.new ≡ true → Tells (E.contents errors.old) (E.contents errors.new) (E.has_failed errors.new) read_line }
-    ensures unread { I.has_failed input.new ≡ true → (O.contents output.new ≡ O.contents output.old) × (O.has_failed output.new ≡ false) }
+    ensures read_fault { I.has_failed input.new ≡ true
+        → Tells (E.contents errors.old) (E.contents errors.new)
+        (E.has_failed errors.new) read_line }
+    ensures unread { I.has_failed input.new ≡ true
+        → (O.contents output.new ≡ O.contents output.old) × (O.has_failed output.new ≡ false) }
     // The message names the output that failed, which holds at most a beginning of the text.
-    ensures write_fault { O.has_failed output.new ≡ true → Tells (E.contents errors.old) (E.contents errors.new) (E.has_failed errors.new) write_line }
+    ensures write_fault { O.has_failed output.new ≡ true
+        → Tells (E.contents errors.old) (E.contents errors.new)
+        (E.has_failed errors.new) write_line }
     ensures beginning { O.has_failed output.new ≡ true
-        → BeginsCommand (asked (map string_bytes words.now)) (I.remaining input.old) (O.contents output.old) (O.contents output.new) }
-    ensures unwritten { (result ≡ 1) ⊎ (result ≡ 2) ⊎ (result ≡ 3) → O.contents output.new ≡ O.contents output.old }
+        → BeginsCommand (asked (map string_bytes words.now)) (I.remaining input.old)
+        (O.contents output.old) (O.contents output.new) }
+    ensures unwritten { (result ≡ 1) ⊎ (result ≡ 2) ⊎ (result ≡ 3)
+        → O.contents output.new ≡ O.contents output.old }
 {
     let (command, options) = match Command::of_words(alloc, words) {
         Ok(read) => read,

@@ -46,7 +46,8 @@ pub fn get<O: Output>(
 
 /// Returns the item at the path below this one.
 fn item_below<'d>(item: &'d Item, path: &[Key]) -> Option<&'d Item>
-    ensures { option_map (λ x. item_view x.now) result ≡ commands.item_below (names path.now) (item_view item.now) }
+    ensures { option_map (λ x. item_view x.now) result
+        ≡ commands.item_below (names path.now) (item_view item.now) }
 {
     let mut found = item;
     'keys: for key in path {
@@ -58,7 +59,8 @@ fn item_below<'d>(item: &'d Item, path: &[Key]) -> Option<&'d Item>
 /// Returns the item that a segment of a path leads to: under a key, or the value or the table at a
 /// place.
 fn child<'d>(item: &'d Item, segment: &str) -> Option<&'d Item>
-    ensures { option_map (λ x. item_view x.now) result ≡ commands.child segment.now (item_view item.now) }
+    ensures { option_map (λ x. item_view x.now) result
+        ≡ commands.child segment.now (item_view item.now) }
 {
     if let Some(array) = item.as_array() {
         return value_at(item, place_among(array.len(), segment)?);
@@ -71,7 +73,8 @@ fn child<'d>(item: &'d Item, segment: &str) -> Option<&'d Item>
 
 /// Returns the item under a key of a table or an inline table, unless it is a placeholder.
 fn item_under<'d>(item: &'d Item, key: &str) -> Option<&'d Item>
-    ensures { option_map (λ x. item_view x.now) result ≡ option_and_then (only is_item) (indexing.item_under key.now (item_view item.now)) }
+    ensures { option_map (λ x. item_view x.now) result
+        ≡ option_and_then (only is_item) (indexing.item_under key.now (item_view item.now)) }
 {
     let found = item.as_slots()?.get(key)?;
     if found.is_none() { None } else { Some(found) }
@@ -87,7 +90,8 @@ fn place_among(count: usize, segment: &str) -> Option<usize>
 
 /// Returns the item at a place of an array, if it is a value.
 fn value_at(item: &Item, at: usize) -> Option<&Item>
-    ensures { option_map (λ x. item_view x.now) result ≡ option_and_then (only is_value_node) (indexed (number at) (item_view item.now)) }
+    ensures { option_map (λ x. item_view x.now) result
+        ≡ option_and_then (only is_value_node) (indexed (number at) (item_view item.now)) }
 {
     let found = item.get(at)?;
     if found.is_value() { Some(found) } else { None }
@@ -95,7 +99,8 @@ fn value_at(item: &Item, at: usize) -> Option<&Item>
 
 /// Returns the item at a place of an array of tables, if it is a table.
 fn table_at(item: &Item, at: usize) -> Option<&Item>
-    ensures { option_map (λ x. item_view x.now) result ≡ option_and_then (only is_table_node) (indexed (number at) (item_view item.now)) }
+    ensures { option_map (λ x. item_view x.now) result
+        ≡ option_and_then (only is_table_node) (indexed (number at) (item_view item.now)) }
 {
     let found = item.get(at)?;
     if found.is_table() { Some(found) } else { None }

@@ -22,7 +22,9 @@ pub fn read_document<I: Input>(
     options: ParseOptions,
 ) -> Result<DocumentMut, Stop>
     requires { I.has_failed input.old ≡ false }
-    ensures read { IfOk result (λ m. IfSome (I.remaining input.old) (λ bytes. IsHeldOf (mode_of options) (version_of options) bytes (held m))) }
+    ensures read { IfOk result
+        (λ m. IfSome (I.remaining input.old)
+        (λ bytes. IsHeldOf (mode_of options) (version_of options) bytes (held m))) }
     ensures mode { IfOk result (λ m. mode_owned m ≡ mode_of options) }
     ensures ok { OnOk result (I.has_failed input.new ≡ false) }
     ensures end { OnOk result (IsAtEnd (I.remaining input.new)) }
@@ -43,11 +45,13 @@ pub fn read_document<I: Input>(
 /// Reads the text of the input.
 fn text_of<I: Input>(alloc: Global, input: &mut I) -> Result<String, Stop>
     requires { I.has_failed input.old ≡ false }
-    ensures text { IfOk result (λ s. IfSome (I.remaining input.old) (λ bytes. string_bytes s ≡ bytes)) }
+    ensures text { IfOk result
+        (λ s. IfSome (I.remaining input.old) (λ bytes. string_bytes s ≡ bytes)) }
     ensures ok { OnOk result (I.has_failed input.new ≡ false) }
     ensures end { OnOk result (IsAtEnd (I.remaining input.new)) }
     // It stops so in any version.
-    ensures err { (version : Version) → IfErr result (StopsReading version (I.remaining input.old) (I.has_failed input.new)) }
+    ensures err { (version : Version)
+        → IfErr result (StopsReading version (I.remaining input.old) (I.has_failed input.new)) }
     ensures err_end { IfErr result (HasReadAll (I.remaining input.new)) }
 {
     match read_to_end(alloc, input) {
@@ -62,9 +66,12 @@ fn text_of<I: Input>(alloc: Global, input: &mut I) -> Result<String, Stop>
 
 /// Parses the text by these options.
 fn document_of(alloc: Global, text: &str, options: ParseOptions) -> Result<DocumentMut, ParseFault>
-    ensures ok { IfOk result (λ m. IsHeldOf (mode_of options) (version_of options) text.now (held m)) }
+    ensures ok { IfOk result
+        (λ m. IsHeldOf (mode_of options) (version_of options) text.now (held m)) }
     ensures mode { IfOk result (λ m. mode_owned m ≡ mode_of options) }
-    ensures refused { IfErr result (λ e. IfToml e (λ r. IsRefused (version_of options) text.now × IsRefusalIn (version_of options) text.now r)) }
+    ensures refused { IfErr result
+        (λ e. IfToml e (λ r. IsRefused (version_of options) text.now
+        × IsRefusalIn (version_of options) text.now r)) }
 {
     let document = Document::parse_with(alloc, text, options)?;
     Ok(document.into_mut(alloc)?)

@@ -33,9 +33,11 @@ enum Form<'a> {
 impl Command {
     /// Reads the command that the words say, and how it parses its input.
     pub fn of_words(alloc: Global, words: &[String]) -> Result<(Command, ParseOptions), Stop>
-        ensures said { IfOk result (λ r. Says (asked (map string_bytes words.now)) (action_of r.0)) }
+        ensures said { IfOk result
+            (λ r. Says (asked (map string_bytes words.now)) (action_of r.0)) }
         ensures mode { IfOk result (λ r. mode_of r.1 ≡ (asked (map string_bytes words.now)).mode) }
-        ensures version { IfOk result (λ r. version_of r.1 ≡ (asked (map string_bytes words.now)).version) }
+        ensures version { IfOk result
+            (λ r. version_of r.1 ≡ (asked (map string_bytes words.now)).version) }
         ensures stops { IfErr result (StopsInWords (asked (map string_bytes words.now))) }
     {
         let (options, words) = options_of(words);
@@ -47,7 +49,8 @@ impl Command {
 
     /// Reads the command that the words say, with VALUE parsed by these options.
     fn read_by(alloc: Global, words: &[String], options: ParseOptions) -> Result<Command, Stop>
-        ensures said { IfOk result (λ command. Says (asked_by options (map string_bytes words.now)) (action_of command)) }
+        ensures said { IfOk result
+            (λ command. Says (asked_by options (map string_bytes words.now)) (action_of command)) }
         ensures stops { IfErr result (StopsInWords (asked_by options (map string_bytes words.now))) }
     {
         match form_of(words) {
@@ -65,7 +68,8 @@ impl Command {
 
 /// Splits off the words `exact` and `strict`, as options of parsing.
 fn options_of(words: &[String]) -> (ParseOptions, &[String])
-    ensures { asked_by result.0 (map string_bytes result.1.now) ≡ asked (map string_bytes words.now) }
+    ensures { asked_by result.0 (map string_bytes result.1.now)
+        ≡ asked (map string_bytes words.now) }
 {
     match words {
         [first, rest @ ..] if first.as_str() == "exact" => options_in(true, rest),
@@ -75,7 +79,8 @@ fn options_of(words: &[String]) -> (ParseOptions, &[String])
 
 /// Splits off the word `strict`, of words that follow `exact` or do not.
 fn options_in(exact: bool, words: &[String]) -> (ParseOptions, &[String])
-    ensures { asked_by result.0 (map string_bytes result.1.now) ≡ asked_in (if exact then model.exact else model.plain) (map string_bytes words.now) }
+    ensures { asked_by result.0 (map string_bytes result.1.now)
+        ≡ asked_in (if exact then model.exact else model.plain) (map string_bytes words.now) }
 {
     let options = ParseOptions::new().exact(exact);
     match words {
@@ -143,7 +148,8 @@ fn path_of(alloc: Global, text: &str) -> Result<Vec<Key>, Stop>
 
 /// Parses VALUE.
 fn value_of(alloc: Global, text: &str, options: ParseOptions) -> Result<Value, Stop>
-    ensures spelled { IfOk result (λ value. SpellsValue (version_of options) text.now (value_view value)) }
+    ensures spelled { IfOk result
+        (λ value. SpellsValue (version_of options) text.now (value_view value)) }
     ensures stops { IfErr result (MayStopValue (version_of options) text.now) }
 {
     match <Value as FromStrWith>::from_str_with(alloc, text, options) {

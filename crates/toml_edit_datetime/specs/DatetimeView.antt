@@ -7,4 +7,8 @@ use Rattle.toml_edit_datetime.specs.TimeView.{time_view}
 use Rattle.toml_edit_datetime.specs.OffsetView.{offset_view}
 
 abbrev pub datetime_view : Datetime → DatetimeRecord
-datetime_view d = record { date = option_map date_view d.date; time = option_map time_view d.time; offset = option_map offset_view d.offset }
+datetime_view d = record {
+  date = option_map date_view d.date;
+  time = option_map time_view d.time;
+  offset = option_map offset_view d.offset;
+}

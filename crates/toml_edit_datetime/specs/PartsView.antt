@@ -15,7 +15,12 @@ abbrev pub date_parts_view : DateParts → Date
 date_parts_view d = record { year = d.year; month = d.month; day = d.day }
 
 abbrev pub time_parts_view : TimeParts → Time
-time_parts_view t = record { hour = t.hour; minute = t.minute; second = t.second; nanosecond = t.nanosecond }
+time_parts_view t = record {
+  hour = t.hour;
+  minute = t.minute;
+  second = t.second;
+  nanosecond = t.nanosecond;
+}
 
 abbrev pub offset_parts_view : OffsetParts → reading.OffsetParts
 offset_parts_view o = record { offset = offset_view o.offset; is_real = o.is_real }

@@ -12,6 +12,8 @@ use Rattle.toml_edit_laws.specs.reading.DatetimeReading.{ranged_of}
 -- what it spells, where that is in range, and else the fault
 pub record ReadsDatetime (text : Text) (r : Result Datetime DatetimeFault) : Type 0 where
   pub spelled : IfOk r (λ d. SpellsInRange (datetime (datetime_view d)) text)
-  pub read : (d : DatetimeRecord) → SpellsDatetime d text → is_in_range (datetime d) text ≡ true → option_map datetime_view (result_ok r) ≡ Some d
-  pub refused : (d : DatetimeRecord) → SpellsDatetime d text → IsErr r → is_in_range (datetime d) text ≡ false
+  pub read : (d : DatetimeRecord) → SpellsDatetime d text → is_in_range (datetime d) text ≡ true
+      → option_map datetime_view (result_ok r) ≡ Some d
+  pub refused : (d : DatetimeRecord) → SpellsDatetime d text → IsErr r
+      → is_in_range (datetime d) text ≡ false
   pub value : option_map datetime_view (result_ok r) ≡ ranged_of text

@@ -28,7 +28,8 @@ impl Date {
     /// Returns `None` if the calendar has no such day, or if the year is above 9999.
     pub fn new(year: u16, month: u8, day: u8) -> Option<Date>
         ensures { option_map date_view result
-            ≡ (if is_real_date (record { year = year; month = month; day = day }) then Some (record { year = year; month = month; day = day }) else None) }
+            ≡ (if is_real_date (record { year = year; month = month; day = day })
+            then Some (record { year = year; month = month; day = day }) else None) }
     {
         if year > 9999 || month > 12 || day > 31 {
             return None;

@@ -69,7 +69,8 @@ pub struct Datetime {
     date: Option<Date>,
     time: Option<Time>,
     offset: Option<Offset>,
-    pub ghost real: { has_real_parts (option_map date_view date) (option_map time_view time) (option_map offset_view offset) ≡ true },
+    pub ghost real: { has_real_parts (option_map date_view date) (option_map time_view time)
+        (option_map offset_view offset) ≡ true },
 }
 
 impl Datetime {
@@ -82,7 +83,8 @@ impl Datetime {
     /// if the offset is more than 1439 minutes either way.
     pub fn new(date: Option<Date>, time: Option<Time>, offset: Option<Offset>) -> Option<Datetime>
         ensures { option_map datetime_view result
-            ≡ (if has_real_parts (option_map date_view date) (option_map time_view time) (option_map offset_view offset)
+            ≡ (if has_real_parts (option_map date_view date) (option_map time_view time)
+            (option_map offset_view offset)
             then Some (record { date = option_map date_view date; time = option_map time_view time; offset = option_map offset_view offset })
             else None) }
     {
@@ -127,7 +129,8 @@ impl From<Date> for Datetime {
     ghost use Rattle.std.specs.Prelude.{Some, None};
     ghost use Rattle.toml_edit_datetime.specs.DatetimeView.{datetime_view};
 
-    ghost from_gives = { λ date d. datetime_view d ≡ record { date = Some (date_view date); time = None; offset = None } };
+    ghost from_gives = { λ date d. datetime_view d
+        ≡ record { date = Some (date_view date); time = None; offset = None } };
 
     fn from(date: Date) -> Datetime {
         Datetime {
@@ -143,7 +146,8 @@ impl From<Time> for Datetime {
     ghost use Rattle.std.specs.Prelude.{Some, None};
     ghost use Rattle.toml_edit_datetime.specs.DatetimeView.{datetime_view};
 
-    ghost from_gives = { λ time d. datetime_view d ≡ record { date = None; time = Some (time_view time); offset = None } };
+    ghost from_gives = { λ time d. datetime_view d
+        ≡ record { date = None; time = Some (time_view time); offset = None } };
 
     fn from(time: Time) -> Datetime {
         Datetime {

@@ -165,7 +165,8 @@ impl FloatText {
     /// Returns an `AllocError` if out of memory.
     pub fn from_text(alloc: Global, text: &str) -> Result<Option<FloatText>, AllocError>
         ensures float { IfOk result (λ o. IsSome o ↔ IsFloat text.now) }
-        ensures same { IfOk result (λ o. o ≡ (if spec.is_float_text text.now then Some text.now else None)) }
+        ensures same { IfOk result
+            (λ o. o ≡ (if spec.is_float_text text.now then Some text.now else None)) }
     {
         if !is_float(text) {
             return Ok(None);

@@ -57,7 +57,8 @@ fn real_datetime(text: &str) -> Result<Datetime, DatetimeFault>
 /// Returns the date, if there is one. Fails if the calendar has no such day.
 fn real_date(parts: Option<DateParts>) -> Result<Option<Date>, DatetimeFault>
     ensures { option_map (option_map date_view) (result_ok result)
-        ≡ (if is_absent_or is_real_date (option_map date_parts_view parts) then Some (option_map date_parts_view parts) else None) }
+        ≡ (if is_absent_or is_real_date (option_map date_parts_view parts)
+        then Some (option_map date_parts_view parts) else None) }
 {
     let Some(parts) = parts else {
         return Ok(None);
@@ -69,7 +70,8 @@ fn real_date(parts: Option<DateParts>) -> Result<Option<Date>, DatetimeFault>
 /// Returns the time, if there is one. Fails if no day has it.
 fn real_time(parts: Option<TimeParts>) -> Result<Option<Time>, DatetimeFault>
     ensures { option_map (option_map time_view) (result_ok result)
-        ≡ (if is_absent_or is_real_time (option_map time_parts_view parts) then Some (option_map time_parts_view parts) else None) }
+        ≡ (if is_absent_or is_real_time (option_map time_parts_view parts)
+        then Some (option_map time_parts_view parts) else None) }
 {
     let Some(parts) = parts else {
         return Ok(None);
@@ -83,7 +85,8 @@ fn real_time(parts: Option<TimeParts>) -> Result<Option<Time>, DatetimeFault>
 /// Returns the offset, if there is one. Fails if its hours or minutes are not those of a day.
 fn real_offset(parts: Option<OffsetParts>) -> Result<Option<Offset>, DatetimeFault>
     ensures { option_map (option_map offset_view) (result_ok result)
-        ≡ (if is_absent_or (λ o. o.is_real) (option_map offset_parts_view parts) then Some (option_map (λ o. o.offset) (option_map offset_parts_view parts)) else None) }
+        ≡ (if is_absent_or (λ o. o.is_real) (option_map offset_parts_view parts)
+        then Some (option_map (λ o. o.offset) (option_map offset_parts_view parts)) else None) }
 {
     match parts {
         None => Ok(None),

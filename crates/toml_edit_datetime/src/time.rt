@@ -18,7 +18,9 @@ pub struct Time {
     minute: u8,
     second: Option<u8>,
     nanosecond: Option<u32>,
-    pub ghost real: { is_real_time (record { hour = hour; minute = minute; second = second; nanosecond = nanosecond }) ≡ true },
+    pub ghost real: { is_real_time
+        (record { hour = hour; minute = minute; second = second; nanosecond = nanosecond })
+        ≡ true },
 }
 
 impl Time {
@@ -31,7 +33,12 @@ impl Time {
     /// nanosecond above 999,999,999, or if there is a nanosecond but no second.
     pub fn new(hour: u8, minute: u8, second: Option<u8>, nanosecond: Option<u32>) -> Option<Time>
         ensures { option_map time_view result
-            ≡ (if is_real_time (record { hour = hour; minute = minute; second = second; nanosecond = nanosecond })
+            ≡ (if is_real_time (record {
+              hour = hour;
+              minute = minute;
+              second = second;
+              nanosecond = nanosecond;
+            })
             then Some (record { hour = hour; minute = minute; second = second; nanosecond = nanosecond }) else None) }
     {
         let is_real = hour < 24

@@ -11,7 +11,9 @@ cut_of (c ∷ t) s = if nat_lt s (length (c ∷ t)) then s else last_character (
 -- a line with its number, and the marks below it from a column on, both counted from 1
 abbrev pub place_text : ℕ → ℕ → Text → Text → ℕ → Text
 place_text line column before after marks =
-    codes "TOML parse error at line " ++ (decimal line ++ (codes ", column " ++ (decimal column ++ (newline
+    codes "TOML parse error at line "
+    ++ (decimal line ++ (codes ", column " ++ (decimal column ++ (newline
     ++ (spaces (length (decimal line) + 1) ++ (codes "|" ++ (newline
     ++ (decimal line ++ (codes " | " ++ (before ++ (after ++ (newline
-    ++ (spaces (length (decimal line) + 1) ++ (codes "|" ++ (spaces column ++ (replicate marks 0x5E ++ newline))))))))))))))))
+    ++ (spaces (length (decimal line) + 1)
+    ++ (codes "|" ++ (spaces column ++ (replicate marks 0x5E ++ newline))))))))))))))))

@@ -11,7 +11,9 @@ same_span a b = a.0 == b.0 && a.1 == b.1
 
 -- their messages, their spans and their texts are equal
 abbrev pub same_report : Report → Report → Bool
-same_report a b = same_text a.message b.message && (option_eq same_span a.span b.span && same_text a.input b.input)
+same_report a b =
+    same_text a.message b.message
+    && (option_eq same_span a.span b.span && same_text a.input b.input)
 
 abbrev pub span_hash_input : ℕ × ℕ → List (List ℕ)
 span_hash_input s = fed.usize s.0 ++ fed.usize s.1

@@ -49,7 +49,8 @@ same_report_exact a b e =
     λ i. record { message = message i; span = span i; input = input i }
 
 same_report_itself : (a : Report) → same_report a a ≡ true
-same_report_itself a = rw (same_text_itself a.message, same_place_itself a.span) (same_text_itself a.input)
+same_report_itself a =
+    rw (same_text_itself a.message, same_place_itself a.span) (same_text_itself a.input)
 
 pub same_report_decides : (a b : Report) → Decides (same_report a b) (a ≡ b)
 same_report_decides a b = (same_report_exact a b, λ e. rw e (same_report_itself b))
@@ -68,5 +69,6 @@ same_report_equiv =
 pub same_report_partial_equiv : IsPartialEquivalence same_report
 same_report_partial_equiv = partial_equiv_from_equiv same_report_equiv
 
-pub report_hash_respects : (a b : Report) → IsTrue (same_report a b) → report_hash_input a ≡ report_hash_input b
+pub report_hash_respects : (a b : Report) → IsTrue (same_report a b)
+    → report_hash_input a ≡ report_hash_input b
 report_hash_respects a b e = ap report_hash_input (same_report_exact a b e)

@@ -32,9 +32,11 @@ impl<'a> Place<'a> {
         requires order { start ≤ end }
         ensures line { result.line ≡ suc (position_in text.now start).line }
         ensures column { result.column ≡ suc (position_in text.now start).column }
-        ensures content { result.before.now ++ result.after.now ≡ line_at (position_in text.now start).line text.now }
+        ensures content { result.before.now ++ result.after.now
+            ≡ line_at (position_in text.now start).line text.now }
         ensures marks { let at = position_in text.now start in
-            result.marks ≡ max 1 (min (characters (take (end - start) (drop start text.now))) (characters (line_at at.line text.now) - at.column)) }
+            result.marks ≡ max 1 (min (characters (take (end - start) (drop start text.now)))
+            (characters (line_at at.line text.now) - at.column)) }
     {
         let cut = cut(text, start);
         let (head, tail) = text.split_at(cut);

@@ -51,7 +51,11 @@ impl Model for TomlError {
 
     ghost Value = { Report };
 
-    ghost view = { λ a. record { message = string_bytes a.parts.value.message; span = a.parts.value.span; input = string_bytes a.parts.value.input } };
+    ghost view = { λ a. record {
+      message = string_bytes a.parts.value.message;
+      span = a.parts.value.span;
+      input = string_bytes a.parts.value.input;
+    } };
 
     ghost invariant = { λ a. ∥ SpanIsIn (string_bytes a.parts.value.input) a.parts.value.span ∥₁ };
 }
@@ -69,7 +73,12 @@ impl TomlError {
         input: String,
     ) -> Result<TomlError, AllocError>
         requires { ∥ SpanIsIn (string_bytes input) span ∥₁ }
-        ensures { IfOk result (λ e. e ≡ record { message = string_bytes message; span = span; input = string_bytes input }) }
+        ensures { IfOk result
+            (λ e. e ≡ record {
+              message = string_bytes message;
+              span = span;
+              input = string_bytes input;
+            }) }
     {
         let parts = Parts {
             message,
@@ -254,7 +263,8 @@ impl<T: Drop> From<AllocFailed<T>> for ParseFault {
 /// `ParseFault::Memory`.
 pub fn refusal(alloc: Global, text: &str, message: &str, span: Option<(usize, usize)>) -> ParseFault
     requires { ∥ SpanIsIn text.now span ∥₁ }
-    ensures { IfToml result (λ r. r ≡ record { message = message.now; span = span; input = text.now }) }
+    ensures { IfToml result
+        (λ r. r ≡ record { message = message.now; span = span; input = text.now }) }
 {
     match error(alloc, text, message, span) {
         Ok(error) => ParseFault::Toml(error),
@@ -270,7 +280,8 @@ fn error(
     span: Option<(usize, usize)>,
 ) -> Result<TomlError, AllocError>
     requires { ∥ SpanIsIn text.now span ∥₁ }
-    ensures { IfOk result (λ r. r ≡ record { message = message.now; span = span; input = text.now }) }
+    ensures { IfOk result
+        (λ r. r ≡ record { message = message.now; span = span; input = text.now }) }
 {
     let message = String::from_str(alloc, message)?;
     let input = String::from_str(alloc, text)?;

@@ -1,4 +1,5 @@
--- Whether what is printed of a tree suits its place and keeps the limits, slot by slot (TOML 1.1.0, "Key/Value Pair" to "Array of Tables").
+-- Whether what is printed of a tree suits its place and keeps the limits, slot by slot (TOML 1.1.0,
+-- "Key/Value Pair" to "Array of Tables").
 use Rattle.std.specs.Prelude.{ℕ, ◌-◌, Bool, true, false, not, ◌&&◌, ◌||◌, ◌==◌, nat_lt, if◌then◌else◌, []}
 use Rattle.toml_edit_model.specs.Mode.{Mode}
 use Rattle.toml_edit_model.specs.Syntax.{nesting_limit}
@@ -16,7 +17,8 @@ no_keys = record { room = nesting_limit; fits = true }
 module _ (mode : Mode) where
   -- the key may end the path
   abbrev pub key_fits : Route → Key → Bool
-  key_fits r k = (r.fits && nat_lt 0 r.room) && (r.room == nesting_limit || is_white (dot_prefix mode k))
+  key_fits r k =
+      (r.fits && nat_lt 0 r.room) && (r.room == nesting_limit || is_white (dot_prefix mode k))
 
   -- the path with one more key, before another
   abbrev pub then_key : Route → Key → Route
@@ -26,22 +28,28 @@ module _ (mode : Mode) where
 
   -- after a value: in brackets trivia, and elsewhere the end of a line
   abbrev pub may_follow : ℕ → Decor → Bool
-  may_follow room d = if room == nesting_limit then ends_line mode (shown_suffix mode [] d) else is_whole (shown_suffix mode [] d)
+  may_follow room d =
+      if room == nesting_limit then ends_line mode (shown_suffix mode [] d)
+      else is_whole (shown_suffix mode [] d)
 
   -- what is around the key and the value
   abbrev pub pair_fits : ℕ → Route → Key → Decor → Bool
   pair_fits room r k d =
       key_fits r k
-      && ((is_whole (shown_prefix mode [] k.leaf) && is_white (shown_suffix mode [] k.leaf)) && (is_white (shown_prefix mode [] d) && may_follow room d))
+      && ((is_whole (shown_prefix mode [] k.leaf) && is_white (shown_suffix mode [] k.leaf))
+      && (is_white (shown_prefix mode [] d) && may_follow room d))
 
   abbrev pub element_fits : Decor → Bool
   element_fits d = is_whole (shown_prefix mode [] d) && is_whole (shown_suffix mode [] d)
 
-  -- A value; the elements of an array; what is in an inline table; and there, a table with the keys before it.
+  -- A value; the elements of an array; what is in an inline table; and there, a table with the keys
+  -- before it.
   abbrev mutual
     pub value_fits : ℕ → Node → Bool
-    value_fits room (list f xs) = nat_lt 0 room && (is_whole (shown_raw mode f.trailing) && items_fit (room - 1) xs)
-    value_fits room (inline f ss) = nat_lt 0 room && (is_whole (shown_raw mode f.trailing) && inside_fits (room - 1) no_keys ss)
+    value_fits room (list f xs) =
+        nat_lt 0 room && (is_whole (shown_raw mode f.trailing) && items_fit (room - 1) xs)
+    value_fits room (inline f ss) =
+        nat_lt 0 room && (is_whole (shown_raw mode f.trailing) && inside_fits (room - 1) no_keys ss)
     value_fits room (leaf s spelling d) = true
     value_fits room (table f ss) = nat_lt 0 room
     value_fits room (tables e xs) = nat_lt 0 room
@@ -50,12 +58,18 @@ module _ (mode : Mode) where
     pub items_fit : ℕ → Items → Bool
     items_fit room no_items = true
     items_fit room (item n xs) =
-        elim (is_value_node n) [ true ↦ element_fits (node_decor n) && value_fits room n | false ↦ true ] && items_fit room xs
+        elim (is_value_node n) [
+          | true ↦ element_fits (node_decor n) && value_fits room n
+          | false ↦ true
+        ] && items_fit room xs
 
     pub inside_fits : ℕ → Route → Slots → Bool
     inside_fits room r no_slots = true
     inside_fits room r (slot k n ss) =
-        elim (is_line_node n) [ true ↦ pair_fits room r k (node_decor n) && value_fits room n | false ↦ within_fits room (then_key r k) n ]
+        elim (is_line_node n) [
+          | true ↦ pair_fits room r k (node_decor n) && value_fits room n
+          | false ↦ within_fits room (then_key r k) n
+        ]
         && inside_fits room r ss
 
     pub within_fits : ℕ → Route → Node → Bool
@@ -68,11 +82,18 @@ module _ (mode : Mode) where
 
   -- one item of an array, and one slot of an inline table
   abbrev pub item_fits : ℕ → Node → Bool
-  item_fits room n = elim (is_value_node n) [ true ↦ element_fits (node_decor n) && value_fits room n | false ↦ true ]
+  item_fits room n =
+      elim (is_value_node n) [
+        | true ↦ element_fits (node_decor n) && value_fits room n
+        | false ↦ true
+      ]
 
   abbrev pub pair_slot_fits : ℕ → Route → Key → Node → Bool
   pair_slot_fits room r k n =
-      elim (is_line_node n) [ true ↦ pair_fits room r k (node_decor n) && value_fits room n | false ↦ within_fits room (then_key r k) n ]
+      elim (is_line_node n) [
+        | true ↦ pair_fits room r k (node_decor n) && value_fits room n
+        | false ↦ within_fits room (then_key r k) n
+      ]
 
   -- the lines of a table, with the keys before them
   abbrev mutual
@@ -111,9 +132,11 @@ module _ (mode : Mode) where
 
   abbrev pub header_fits : Route → Key → Decor → Bool
   header_fits r k d =
-      (key_fits r k && brackets_fit k.leaf) && (is_whole (shown_prefix mode [] d) && ends_line mode (shown_suffix mode [] d))
+      (key_fits r k && brackets_fit k.leaf)
+      && (is_whole (shown_prefix mode [] d) && ends_line mode (shown_suffix mode [] d))
 
-  -- a table below the root: its header, if it has one, and its lines; a dotted one is no element, and has neither
+  -- a table below the root: its header, if it has one, and its lines; a dotted one is no element,
+  -- and has neither
   abbrev pub table_fits : Route → Key → Bool → TableFields → Slots → Bool
   table_fits r k is_element f ss =
       if f.is_dotted then not is_element
@@ -150,7 +173,8 @@ module _ (mode : Mode) where
   abbrev pub root_fits : TableFields → Slots → Raw → Bool
   root_fits f ss trailing =
       (not f.is_dotted && lines_fit no_keys ss)
-      && ((is_whole (shown_prefix mode [] f.decor) && is_whole (shown_suffix mode [] f.decor)) && is_final (shown_raw mode trailing))
+      && ((is_whole (shown_prefix mode [] f.decor) && is_whole (shown_suffix mode [] f.decor))
+      && is_final (shown_raw mode trailing))
 
   -- all but the order of headers
   abbrev pub parts_fit : Tree → Bool

@@ -1,4 +1,5 @@
--- Whether the headers of elements are in order, found in one walk over the tables (TOML 1.1.0, "Array of Tables").
+-- Whether the headers of elements are in order, found in one walk over the tables (TOML 1.1.0,
+-- "Array of Tables").
 use Rattle.std.specs.Prelude.{◌≡◌, ℤ, Bool, true, false, not, ◌&&◌, ◌||◌, int_le, if◌then◌else◌, Option, None, Some, unwrap_or, option_and_then, option_map}
 use Rattle.toml_edit_model.specs.Tree.{TableFields, Node, nothing, leaf, list, inline, table, tables, Items, no_items, item, Slots, no_slots, slot, has_key}
 use Rattle.toml_edit_laws.specs.PrintByVisits.{has_own_header, root_place}
@@ -51,13 +52,14 @@ marks_of seen highest = record { seen = seen; highest = highest }
 abbrev pub place_in : Marks → TableFields → ℤ
 place_in m f = unwrap_or f.position m.seen
 
--- One more table is entered; none, where its header is before that of the element that it is in, or, of an element, before those of
--- the elements before it.
+-- One more table is entered; none, where its header is before that of the element that it is in,
+-- or, of an element, before those of the elements before it.
 abbrev pub enter : Bool → Option ℤ → Marks → TableFields → Slots → Option Marks
 enter is_element low m f ss =
     if f.is_dotted then Some m
     else if has_own_header is_element f ss
-    then (if reaches low (place_in m f) && (not is_element || reaches m.highest (place_in m f)) then Some (marks_of (place_in m f) (later m.highest (place_in m f))) else None)
+    then (if reaches low (place_in m f) && (not is_element || reaches m.highest (place_in m f))
+    then Some (marks_of (place_in m f) (later m.highest (place_in m f))) else None)
     else Some (marks_of (place_in m f) m.highest)
 
 -- below an element, its place is the first
@@ -71,8 +73,11 @@ abbrev mutual
   order_slots low m (slot k n ss) = option_and_then (λ w. order_slots low w ss) (order_node low m n)
 
   pub order_node : Option ℤ → Marks → Node → Option Marks
-  order_node low m (table f ss) = option_and_then (λ w. order_slots (first_below false low m f) w ss) (enter false low m f ss)
-  order_node low m (tables e xs) = option_map (λ w. marks_of w.seen (latest m.highest w.highest)) (order_items low (marks_of m.seen None) xs)
+  order_node low m (table f ss) =
+      option_and_then (λ w. order_slots (first_below false low m f) w ss) (enter false low m f ss)
+  order_node low m (tables e xs) =
+      option_map (λ w. marks_of w.seen (latest m.highest w.highest))
+      (order_items low (marks_of m.seen None) xs)
   order_node low m (leaf s spelling d) = Some m
   order_node low m (list f xs) = Some m
   order_node low m (inline f ss) = Some m
@@ -83,7 +88,8 @@ abbrev mutual
   order_items low m (item n xs) = option_and_then (λ w. order_items low w xs) (order_item low m n)
 
   pub order_item : Option ℤ → Marks → Node → Option Marks
-  order_item low m (table f ss) = option_and_then (λ w. order_slots (first_below true low m f) w ss) (enter true low m f ss)
+  order_item low m (table f ss) =
+      option_and_then (λ w. order_slots (first_below true low m f) w ss) (enter true low m f ss)
   order_item low m (tables e xs) = Some m
   order_item low m (leaf s spelling d) = Some m
   order_item low m (list f xs) = Some m

@@ -9,8 +9,8 @@ abbrev pub starts_with_feed : Text → Bool
 starts_with_feed [] = false
 starts_with_feed (c ∷ t) = c == line_feed
 
--- Whether a comment is open at the end of trivia, after one that is open or not; none, where the text is no trivia. A carriage return
--- comes only before a line feed.
+-- Whether a comment is open at the end of trivia, after one that is open or not; none, where the
+-- text is no trivia. A carriage return comes only before a line feed.
 abbrev pub open_after : Bool → Text → Option Bool
 open_after is_open [] = Some is_open
 open_after is_open (c ∷ t) =
@@ -48,7 +48,8 @@ ends_line_from is_open (c ∷ t) =
 abbrev pub ends_line : Mode → Text → Bool
 ends_line mode t = ends_line_from false (line_end mode t)
 
--- A carriage return before this text is passed over: in the plain mode it isn't shown, and in the exact mode it begins a newline.
+-- A carriage return before this text is passed over: in the plain mode it isn't shown, and in the
+-- exact mode it begins a newline.
 abbrev pub passes_return : Mode → Text → Bool
 passes_return plain t = true
 passes_return exact t = starts_with_feed t

@@ -29,7 +29,8 @@ fn root_marks(root: &Table) -> Marks
 
 /// Returns `true` if each element's headers, its own first, come before the next element's.
 fn headers_are_ordered(root: &Table) -> bool
-    ensures { result ≡ is_some (tests.order_slots None (tests.root_marks (fields_view root.now)) (table_slots root.now)) }
+    ensures { result ≡ is_some
+        (tests.order_slots None (tests.root_marks (fields_view root.now)) (table_slots root.now)) }
 {
     order_slots(None, root_marks(root), &root.slots).is_some()
 }

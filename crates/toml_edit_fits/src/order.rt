@@ -62,7 +62,8 @@ fn place_in(marks: Marks, table: &Table) -> isize
 /// Enters a table, in an element whose header has the place `low`, if it is in one. Returns `None`
 /// if its header is too late, or comes before one that it has to follow.
 fn enter(is_element: bool, low: Option<isize>, marks: Marks, table: &Table) -> Option<Marks>
-    ensures { result ≡ tests.enter is_element low marks (fields_view table.now) (table_slots table.now) }
+    ensures { result ≡ tests.enter is_element low marks (fields_view table.now)
+        (table_slots table.now) }
 {
     if table.is_dotted() {
         return Some(marks);

@@ -15,7 +15,8 @@ use toml_edit_tree::{Item, Table, table_has_lines};
 
 /// Returns `true` if a table below the root has a header.
 pub(crate) fn has_header(is_element: bool, table: &Table) -> bool
-    ensures { result ≡ visits.has_own_header is_element (fields_view table.now) (table_slots table.now) }
+    ensures { result ≡ visits.has_own_header is_element (fields_view table.now)
+        (table_slots table.now) }
 {
     is_element || !table.is_implicit() || table_has_lines(table)
 }
@@ -45,7 +46,8 @@ fn header_fits(mode: Mode, route: Route, key: &Key, decor: &Decor) -> bool
 /// Returns `true` if the header and the lines of a table fit. A dotted table has neither, and may
 /// be no element.
 fn table_fits(mode: Mode, route: Route, key: &Key, is_element: bool, table: &Table) -> bool
-    ensures { result ≡ tests.table_fits (mode_of mode) route key.now is_element (fields_view table.now) (table_slots table.now) }
+    ensures { result ≡ tests.table_fits (mode_of mode) route key.now is_element
+        (fields_view table.now) (table_slots table.now) }
 {
     if table.is_dotted() {
         return !is_element;
@@ -83,7 +85,8 @@ fn node_fits(mode: Mode, route: Route, key: &Key, item: &Item) -> bool
 /// Returns `true` if the elements of an array of tables fit, and the tables below them.
 #[cycle(tables)]
 fn elements_fit(mode: Mode, route: Route, key: &Key, items: &Vec<Item>) -> bool
-    ensures { result ≡ tests.elements_fit (mode_of mode) route key.now (items_view items.now.items) }
+    ensures { result ≡ tests.elements_fit (mode_of mode) route key.now
+        (items_view items.now.items) }
 {
     'items: for item in items {
         if !as_element_fits(mode, route, key, item) {
@@ -108,7 +111,8 @@ fn as_element_fits(mode: Mode, route: Route, key: &Key, item: &Item) -> bool
 #[cycle(tables)]
 fn entered_fits(mode: Mode, route: Route, key: &Key, is_element: bool, table: &Table) -> bool
     ensures { result
-        ≡ (tests.table_fits (mode_of mode) route key.now is_element (fields_view table.now) (table_slots table.now)
+        ≡ (tests.table_fits (mode_of mode) route key.now is_element (fields_view table.now)
+        (table_slots table.now)
         && tests.tables_fit (mode_of mode) (tests.then_key (mode_of mode) route key.now) (table_slots table.now)) }
 {
     table_fits(mode, route, key, is_element, table)
@@ -118,7 +122,8 @@ fn entered_fits(mode: Mode, route: Route, key: &Key, is_element: bool, table: &T
 /// Returns `true` if the decor around the root and the trailing text suit their places, its lines
 /// fit, and it is not dotted.
 fn root_fits(mode: Mode, root: &Table, trailing: &RawString) -> bool
-    ensures { result ≡ tests.root_fits (mode_of mode) (fields_view root.now) (table_slots root.now) trailing.now }
+    ensures { result ≡ tests.root_fits (mode_of mode) (fields_view root.now)
+        (table_slots root.now) trailing.now }
 {
     !root.is_dotted()
         && lines_fit(mode, no_keys(), &root.slots)
@@ -131,7 +136,9 @@ fn root_fits(mode: Mode, root: &Table, trailing: &RawString) -> bool
 /// neither the root nor an element is dotted, and paths and values are within their limits.
 pub(crate) fn parts_fit(mode: Mode, root: &Table, trailing: &RawString) -> bool
     ensures { result
-        ≡ (tests.root_fits (mode_of mode) (fields_view root.now) (table_slots root.now) trailing.now && tests.tables_fit (mode_of mode) tests.no_keys (table_slots root.now)) }
+        ≡ (tests.root_fits (mode_of mode) (fields_view root.now)
+        (table_slots root.now) trailing.now
+        && tests.tables_fit (mode_of mode) tests.no_keys (table_slots root.now)) }
 {
     root_fits(mode, root, trailing) && tables_fit(mode, no_keys(), &root.slots)
 }

@@ -15,7 +15,8 @@ use toml_edit_token::run::{is_blank, is_visible};
 /// Returns the text of a side. One that is unset, or a span, prints as its default, and so suits
 /// its place as the empty text does.
 fn text_of(side: Option<&RawString>) -> &str
-    ensures { (mode : ModelMode) → shown_text mode result.now ≡ shown_side mode [] (option_copied side.entry) }
+    ensures { (mode : ModelMode)
+        → shown_text mode result.now ≡ shown_side mode [] (option_copied side.entry) }
 {
     match side {
         Some(raw) => raw.as_str().unwrap_or(""),
@@ -85,7 +86,8 @@ fn open_after(mode: Mode, text: &str) -> Option<bool>
 
 /// Returns `true` if the side has a newline. Its LF prints in each mode.
 pub(crate) fn has_newline(side: Option<&RawString>) -> bool
-    ensures { (mode : ModelMode) → result ≡ has_byte line_feed (shown_side mode [] (option_copied side.entry)) }
+    ensures { (mode : ModelMode)
+        → result ≡ has_byte line_feed (shown_side mode [] (option_copied side.entry)) }
 {
     has_feed(text_of(side))
 }
@@ -122,7 +124,8 @@ pub(crate) fn is_final(mode: Mode, side: Option<&RawString>) -> bool
 /// Returns `true` if the side is whitespace, and then perhaps a comment. In the exact mode it may
 /// end in the CR of the line's newline.
 pub(crate) fn ends_line(mode: Mode, side: Option<&RawString>) -> bool
-    ensures { result ≡ tests.ends_line (mode_of mode) (shown_side (mode_of mode) [] (option_copied side.entry)) }
+    ensures { result ≡ tests.ends_line (mode_of mode)
+        (shown_side (mode_of mode) [] (option_copied side.entry)) }
 {
     let text = line_text(text_of(side));
     !has_feed(text) && open_after(mode, text).is_some()

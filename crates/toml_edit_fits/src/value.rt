@@ -90,7 +90,8 @@ fn pair_slot_fits(mode: Mode, room: usize, route: Route, key: &Key, item: &Item)
 /// Returns `true` if the pair of a value fits, or those in a dotted inline table.
 #[cycle(value)]
 fn pair_value_fits(mode: Mode, room: usize, route: Route, key: &Key, value: &Value) -> bool
-    ensures { result ≡ tests.pair_slot_fits (mode_of mode) room route key.now (value_view value.now) }
+    ensures { result ≡ tests.pair_slot_fits (mode_of mode) room route key.now
+        (value_view value.now) }
 {
     match value {
         Value::InlineTable(table) => {

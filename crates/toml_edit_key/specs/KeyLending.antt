@@ -12,11 +12,17 @@ use Rattle.toml_edit_repr.specs.contracts.repr.Decor as decor
 
 -- the key ends with the final parts of r
 abbrev pub LendsKeyMut : MutBor Key → KeyMut → Fml
-LendsKeyMut s r = follows key.the_row key_parts.the_row s.ghost_name (lent_parts r).ghost_name (λ w. with_parts w s.now)
+LendsKeyMut s r =
+    follows key.the_row key_parts.the_row s.ghost_name (lent_parts r).ghost_name
+    (λ w. with_parts w s.now)
 
 -- the lent key ends with the final decor of r as its leaf decor, or as its dotted decor
 abbrev pub LendsLeafMut : MutBor KeyMut → MutBor Decor → Fml
-LendsLeafMut s r = Lends (key_mut.the_row (record { mir = named 1; lft = [] })) decor.the_row s r (λ w. record s.now { parts = record s.now.parts { now = record s.now.parts.now { leaf = w } } })
+LendsLeafMut s r =
+    Lends (key_mut.the_row (record { mir = named 1; lft = [] })) decor.the_row s r
+    (λ w. record s.now { parts = record s.now.parts { now = record s.now.parts.now { leaf = w } } })
 
 abbrev pub LendsDottedMut : MutBor KeyMut → MutBor Decor → Fml
-LendsDottedMut s r = Lends (key_mut.the_row (record { mir = named 1; lft = [] })) decor.the_row s r (λ w. record s.now { parts = record s.now.parts { now = record s.now.parts.now { dotted = w } } })
+LendsDottedMut s r =
+    Lends (key_mut.the_row (record { mir = named 1; lft = [] })) decor.the_row s r
+    (λ w. record s.now { parts = record s.now.parts { now = record s.now.parts.now { dotted = w } } })

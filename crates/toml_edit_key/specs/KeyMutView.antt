@@ -12,8 +12,18 @@ lent_parts m = m.parts
 
 -- the key with these parts
 abbrev pub with_parts : KeyParts → Key → Key
-with_parts p k = record { name = k.name; spelling = kept p.is_default k.spelling; leaf = p.leaf; dotted = p.dotted }
+with_parts p k = record {
+  name = k.name;
+  spelling = kept p.is_default k.spelling;
+  leaf = p.leaf;
+  dotted = p.dotted;
+}
 
 -- the key itself
 abbrev pub key_of : KeyMut → Key
-key_of m = record { name = m.name.now; spelling = kept m.parts.now.is_default (option_map (λ r. r.now) m.repr); leaf = m.parts.now.leaf; dotted = m.parts.now.dotted }
+key_of m = record {
+  name = m.name.now;
+  spelling = kept m.parts.now.is_default (option_map (λ r. r.now) m.repr);
+  leaf = m.parts.now.leaf;
+  dotted = m.parts.now.dotted;
+}

@@ -27,7 +27,8 @@ segment before p after = record { before = before; key = p.0; spelled = p.1; aft
 abbrev pub outer : Text → Text → Decor
 outer before after = record { prefix = some_text before; suffix = some_text after }
 
--- the keys, in at most n segments, of a path that has this text before it and this white space before its next segment
+-- the keys, in at most n segments, of a path that has this text before it and this white space
+-- before its next segment
 unfoldable pub keys_at : ℕ → Text → Text → Text → Option (List Key)
 keys_at zero before gap t = None
 keys_at (suc n) before gap t =
@@ -38,7 +39,8 @@ keys_at (suc n) before gap t =
     else option_and_then
     (λ tail.
     let next = split_while is_blank tail in
-    option_map (λ ks. path_key unset (segment gap p.0 white.0) ∷ ks) (keys_at n before next.0 next.1))
+    option_map (λ ks. path_key unset (segment gap p.0 white.0) ∷ ks)
+    (keys_at n before next.0 next.1))
     (after_dot white.1))
     (front_key t)
 
@@ -52,7 +54,8 @@ lone_at t = let white = split_while is_blank t in keys_at (suc (length white.1))
 abbrev pub joined_keys : List Key → Option (List Key) → Option (List Key)
 joined_keys ks o = option_map (λ more. ks ++ more) o
 
--- The keys of the whole are those already read, and then those of what is left, which has room for its segments.
+-- The keys of the whole are those already read, and then those of what is left, which has room for
+-- its segments.
 pub record HasRead (t before : Text) (ks : List Key) (gap rest : Text) : Type 0 where
   pub fuel : ℕ
   pub room : length rest < fuel
@@ -60,11 +63,14 @@ pub record HasRead (t before : Text) (ks : List Key) (gap rest : Text) : Type 0 
 
 -- a text of which keys were read, up to a dot and this tail
 abbrev pub HasReadTo : Text → Text → List Key → Text → Type 0
-HasReadTo t before ks tail = let next = split_while is_blank tail in HasRead t before ks next.0 next.1
+HasReadTo t before ks tail =
+    let next = split_while is_blank tail in HasRead t before ks next.0 next.1
 
 -- any such text reads as these keys and more
 abbrev pub GoesOn : Text → Type 0
-GoesOn tail = (t before : Text) (ks : List Key) → HasReadTo t before ks tail → (more : List Key) × (0 < length more) × (lone_at t ≡ Some (ks ++ more))
+GoesOn tail =
+    (t before : Text) (ks : List Key) → HasReadTo t before ks tail
+    → (more : List Key) × (0 < length more) × (lone_at t ≡ Some (ks ++ more))
 
 -- no such text reads as keys
 abbrev pub StopsIn : Text → Type 0

@@ -21,7 +21,9 @@ limit_fault t = record { message = recursion_limit; span = None; input = t }
 
 -- the text is a lone path, and these are its keys
 abbrev pub AreLoneKeys : Text → List Key → Type 0
-AreLoneKeys t ks = (before : Text) × (p : List Segment) × (after : Text) × IsLonePath t before p after × (ks ≡ lone_keys before p after)
+AreLoneKeys t ks =
+    (before : Text) × (p : List Segment) × (after : Text) × IsLonePath t before p after
+    × (ks ≡ lone_keys before p after)
 
 -- ---- steps
 

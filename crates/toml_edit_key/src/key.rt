@@ -80,7 +80,12 @@ impl Model for Key {
 
     ghost Value = { KeyView };
 
-    ghost view = { λ a. record { name = string_bytes a.text; spelling = kept a.parts.is_default a.repr; leaf = a.parts.leaf; dotted = a.parts.dotted } };
+    ghost view = { λ a. record {
+      name = string_bytes a.text;
+      spelling = kept a.parts.is_default a.repr;
+      leaf = a.parts.leaf;
+      dotted = a.parts.dotted;
+    } };
 
     ghost invariant = { λ a. ∥ HasTrueSpelling (SpellsKey (string_bytes a.text)) a.repr ∥₁ };
 }
@@ -197,7 +202,8 @@ impl Key {
     /// Returns an `AllocError` if out of memory. A spelling of the key's own takes none.
     pub fn display_repr(&self, alloc: Global) -> Mem<CowStr<'_>>
         ensures text { IfOk result (λ text. cow_str_bytes text ≡ key_text self.now) }
-        ensures free { IsSome (option_and_then text_of self.now.spelling) → IsOkAnd result IsBorrowedStr }
+        ensures free { IsSome (option_and_then text_of self.now.spelling)
+            → IsOkAnd result IsBorrowedStr }
     {
         displayed(alloc, self.get(), self.as_repr())
     }
@@ -487,7 +493,8 @@ impl<'k> KeyMut<'k> {
     ///
     /// Returns an `AllocError` if out of memory. A spelling of the key's own takes none.
     pub fn display_repr(&self, alloc: Global) -> Mem<CowStr<'_>>
-        ensures free { IsSome (option_and_then text_of (key_of self.now).spelling) → IsOkAnd result IsBorrowedStr }
+        ensures free { IsSome (option_and_then text_of (key_of self.now).spelling)
+            → IsOkAnd result IsBorrowedStr }
         ensures text { IfOk result (λ text. cow_str_bytes text ≡ key_text (key_of self.now)) }
     {
         displayed(alloc, self.name, self.as_repr())
@@ -534,7 +541,8 @@ impl<'k> KeyMut<'k> {
 
     /// Resets the key to its default spelling, and unsets both of its decors.
     pub fn fmt(&mut self)
-        ensures same_reference { (lent_parts self.new).ghost_name ≡ (lent_parts self.old).ghost_name }
+        ensures same_reference { (lent_parts self.new).ghost_name
+            ≡ (lent_parts self.old).ghost_name }
         ensures key { key_of self.new ≡ reset_key (key_of self.old) }
     {
         self.parts.leaf.clear();
@@ -575,8 +583,11 @@ pub(crate) fn default_spelling(alloc: Global, name: &str) -> Mem<Repr>
 
 /// Returns the spelling if it is a text, else the default one of the name.
 pub(crate) fn displayed<'a>(alloc: Global, name: &'a str, repr: Option<&'a Repr>) -> Mem<CowStr<'a>>
-    ensures text { IfOk result (λ text. cow_str_bytes text ≡ shown_spelling (key_spelling name.now) (option_copied repr.entry)) }
-    ensures free { IsSome (option_and_then text_of (option_copied repr.entry)) → IsOkAnd result IsBorrowedStr }
+    ensures text { IfOk result
+        (λ text. cow_str_bytes text
+        ≡ shown_spelling (key_spelling name.now) (option_copied repr.entry)) }
+    ensures free { IsSome (option_and_then text_of (option_copied repr.entry))
+        → IsOkAnd result IsBorrowedStr }
 {
     match spelling_text(repr) {
         Some(spelling) => Ok(CowStr::Borrowed(spelling)),

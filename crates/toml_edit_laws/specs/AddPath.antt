@@ -1,5 +1,6 @@
--- One function for key lines, headers and headers in double brackets: what is added at the end of a path of keys, key by key. The laws
--- of building don't cite it: it is for code that goes down a path one key at a time.
+-- One function for key lines, headers and headers in double brackets: what is added at the end of a
+-- path of keys, key by key. The laws of building don't cite it: it is for code that goes down a
+-- path one key at a time.
 use Rattle.std.specs.Prelude.{◌≡◌, ℕ, ◌+◌, Bool, true, false, if◌then◌else◌, List, [], ◌∷◌, length, Option, Some, None, option_map}
 use Rattle.toml_edit_model.specs.Mode.{Mode}
 use Rattle.toml_edit_model.specs.Text.{Text}
@@ -13,7 +14,8 @@ use Rattle.toml_edit_laws.specs.TableTree.{open_table, open_element, add_line, a
 use Rattle.toml_edit_laws.specs.TableClash.{extend_clash, pass_clash, table_clash, element_clash, line_clash, header_clash}
 use Rattle.toml_edit_laws.specs.Building.{Builder, change_in}
 
--- what is added at the end of a path: the item of a key line, the table of a header, or an element of one in double brackets
+-- what is added at the end of a path: the item of a key line, the table of a header, or an element
+-- of one in double brackets
 pub data Addition : Type 0 where
   a_value : Node → Addition
   a_table : Addition
@@ -34,16 +36,20 @@ makes_dotted _ = false
 
 -- a change in the item at a key of a line: a table without a header, which becomes dotted
 abbrev pub extend_in : (Slots → Option Slots) → Node → Option Node
-extend_in change (table f inner) = if f.is_implicit then option_map (table (record f { is_dotted = true })) (change inner) else None
+extend_in change (table f inner) =
+    if f.is_implicit then option_map (table (record f { is_dotted = true })) (change inner)
+    else None
 extend_in change n = None
 
--- a change in the item at a key: of a header in that of any table, and in the last element of an array of tables
+-- a change in the item at a key: of a header in that of any table, and in the last element of an
+-- array of tables
 abbrev pub inside : Addition → (Slots → Option Slots) → Node → Option Node
 inside (a_value n) change old = extend_in change old
 inside _ change old = change_in change old
 
 -- what is in its way at or below the item at a key
-abbrev pub clash_inside : Addition → Mention Source → (Slots → Option (Mention Source × Node)) → Node → Option (Mention Source × Node)
+abbrev pub clash_inside : Addition → Mention Source → (Slots → Option (Mention Source × Node))
+    → Node → Option (Mention Source × Node)
 clash_inside (a_value n) m further old = extend_clash m further (Some old)
 clash_inside _ m further old = pass_clash m further (Some old)
 
@@ -119,10 +125,13 @@ put_along (k ∷ ks) new ss = put_under k (put_along ks new) ss (node_at k ss)
 abbrev pub IsMentionOf : Source → ℕ → Segment → Mention Source → Type 0
 IsMentionOf s start g m = (m.source ≡ s) × (m.segment ≡ g) × (m.start ≡ start + length g.before)
 
--- The mentions are of these segments of the statement, the first of which begins at this byte: all but the last pass on.
+-- The mentions are of these segments of the statement, the first of which begins at this byte: all
+-- but the last pass on.
 abbrev pub AreMentionsOf : Source → ℕ → List Segment → List (Mention Source) → Type 0
 AreMentionsOf s start [] [] = Unit {0}
-AreMentionsOf s start (g ∷ []) (m ∷ []) = IsMentionOf s start g m × (ends_path m.role ≡ true) × (extends m.role ≡ false)
+AreMentionsOf s start (g ∷ []) (m ∷ []) =
+    IsMentionOf s start g m × (ends_path m.role ≡ true) × (extends m.role ≡ false)
 AreMentionsOf s start (g ∷ h ∷ p) (m ∷ ms) =
-    IsMentionOf s start g m × (ends_path m.role ≡ false) × (extends m.role ≡ true) × AreMentionsOf s (next_start start g) (h ∷ p) ms
+    IsMentionOf s start g m × (ends_path m.role ≡ false) × (extends m.role ≡ true)
+    × AreMentionsOf s (next_start start g) (h ∷ p) ms
 AreMentionsOf s start _ _ = ⊥

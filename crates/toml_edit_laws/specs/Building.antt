@@ -1,5 +1,6 @@
--- Building the slots of a document's root, statement by statement: what is kept between statements, and what each statement does.
--- `StandsBefore` and `IsRefusedBy` are what a parser keeps up in its loop, and says where it refuses.
+-- Building the slots of a document's root, statement by statement: what is kept between statements,
+-- and what each statement does. `StandsBefore` and `IsRefusedBy` are what a parser keeps up in its
+-- loop, and says where it refuses.
 use Rattle.std.specs.Prelude.{◌≡◌, ℕ, suc, ◌+◌, ◌-◌, Bool, true, false, not, List, [], ◌∷◌, ◌++◌, length, map, flat_map, Contains, Option, Some, None, is_some, option_map, option_and_then}
 use Rattle.toml_edit_model.specs.Mode.{Mode, with_return}
 use Rattle.toml_edit_model.specs.Text.{Text, one, is_empty}
@@ -38,7 +39,8 @@ block_slots n = None
 -- the slots of the table at these keys
 abbrev pub slots_along : List Text → Slots → Option Slots
 slots_along [] ss = Some ss
-slots_along (k ∷ ks) ss = option_and_then (slots_along ks) (option_and_then block_slots (node_at k ss))
+slots_along (k ∷ ks) ss =
+    option_and_then (slots_along ks) (option_and_then block_slots (node_at k ss))
 
 -- a change of them
 abbrev pub change_in : (Slots → Option Slots) → Node → Option Node
@@ -52,7 +54,8 @@ change_along (k ∷ ks) change ss = change_under k (change_in (change_along ks c
 
 -- ---- what is kept between statements
 
--- The slots of the root, where the next statement begins, how many headers there were, and the keys of the last of them.
+-- The slots of the root, where the next statement begins, how many headers there were, and the keys
+-- of the last of them.
 pub record Builder : Type 0 where
   pub slots : Slots
   pub start : ℕ
@@ -61,22 +64,41 @@ pub record Builder : Type 0 where
 
 -- before the first statement, after a byte order mark if there is one
 abbrev pub first_builder : Bool → Builder
-first_builder has_mark = record { slots = no_slots; start = length (mark_text has_mark); headers = 0; block = [] }
+first_builder has_mark = record {
+  slots = no_slots;
+  start = length (mark_text has_mark);
+  headers = 0;
+  block = [];
+}
 
 -- a statement in its place; its number and its path make no difference to slots
 abbrev pub source_at : Builder → Statement → Source
-source_at b (key_line f v end) = record { start = b.start; headers = b.headers; path = []; statement = key_line f v end }
-source_at b (header h end) = record { start = b.start; headers = suc b.headers; path = []; statement = header h end }
+source_at b (key_line f v end) = record {
+  start = b.start;
+  headers = b.headers;
+  path = [];
+  statement = key_line f v end;
+}
+source_at b (header h end) = record {
+  start = b.start;
+  headers = suc b.headers;
+  path = [];
+  statement = header h end;
+}
 
 -- its keys, below its block or below the root; nor do the numbers of elements in their paths
 abbrev pub mentions_at : Builder → Statement → List (Mention Source)
-mentions_at b (key_line f v end) = line_mentions (source_at b (key_line f v end)) (b.start + path_start (key_line f v end)) [] f.path
+mentions_at b (key_line f v end) =
+    line_mentions (source_at b (key_line f v end))
+    (b.start + path_start (key_line f v end)) [] f.path
 mentions_at b (header h end) =
-    header_mentions (source_at b (header h end)) [] (header_role_of h) (b.start + path_start (header h end)) [] h.path
+    header_mentions (source_at b (header h end)) [] (header_role_of h)
+    (b.start + path_start (header h end)) [] h.path
 
 -- what is in its way
 abbrev pub clash_at : Builder → Statement → Option (Mention Source × Node)
-clash_at b (key_line f v end) = option_and_then (line_clash (mentions_at b (key_line f v end))) (slots_along b.block b.slots)
+clash_at b (key_line f v end) =
+    option_and_then (line_clash (mentions_at b (key_line f v end))) (slots_along b.block b.slots)
 clash_at b (header h end) = header_clash h.is_array (mentions_at b (header h end)) b.slots
 
 -- all faults that are in it
@@ -94,7 +116,12 @@ block_with ks (header h end) = map (λ s. s.key) h.path
 
 abbrev pub behind : Builder → Statement → Slots → Builder
 behind b s ss =
-    record { slots = ss; start = b.start + length (statement_text s); headers = headers_with b.headers s; block = block_with b.block s }
+    record {
+      slots = ss;
+      start = b.start + length (statement_text s);
+      headers = headers_with b.headers s;
+      block = block_with b.block s;
+    }
 
 -- ---- the statements until now
 
@@ -111,11 +138,15 @@ abbrev pub done_places : Document → List Statement → List Placed
 done_places d done = placed_from (start_context d) done
 
 abbrev pub next_place : Document → List Statement → Statement → Placed
-next_place d done s = record { source = source_of (context_behind d done) s; mentions = mentions_of (context_behind d done) s }
+next_place d done s = record {
+  source = source_of (context_behind d done) s;
+  mentions = mentions_of (context_behind d done) s;
+}
 
 -- ---- what stops a run
 
--- The document is refused: the statement after these is its first faulty one, and this is one of its faults.
+-- The document is refused: the statement after these is its first faulty one, and this is one of
+-- its faults.
 pub record Stops (d : Document) (done : List Statement) (s : Statement) (f : Fault) : Type 0 where
   pub first : IsFirstFaulty d (done_places d done) (next_place d done s)
   pub names : IsFirstFault d f
@@ -135,7 +166,8 @@ run_on go stay true (Some ss) = go ss
 run_on go stay _ _ = stay
 
 -- It stops at the first faulty statement, by its faults.
-pub record EndsAt (d : Document) (s : Statement) (rest : List Statement) (b : Builder) : Type 0 where
+pub record EndsAt (d : Document) (s : Statement) (rest : List Statement)
+    (b : Builder) : Type 0 where
   pub done : List Statement
   pub split : d.statements ≡ done ++ (s ∷ rest)
   pub first : IsFirstFaulty d (done_places d done) (next_place d done s)
@@ -147,44 +179,58 @@ pub record EndsAt (d : Document) (s : Statement) (rest : List Statement) (b : Bu
 module _ (mode : Mode) where
   -- the slots with a statement added, whose value has this item; none where something is in its way
   abbrev pub added : Builder → Statement → Node → Option Slots
-  added b (key_line f v end) n = change_along b.block (add_line mode (mentions_at b (key_line f v end)) n) b.slots
+  added b (key_line f v end) n =
+      change_along b.block (add_line mode (mentions_at b (key_line f v end)) n) b.slots
   added b (header h end) n = add_header mode h.is_array (mentions_at b (header h end)) b.slots
 
   -- the item is of the value of a statement that begins at this byte, if it has one
   abbrev pub IsStatementNode : ℕ → Statement → Node → Type 0
-  IsStatementNode start (key_line f v end) n = IsValueNode (spanned_in mode) v (start + value_start (spanned_in mode) f) f.after_equals (with_return mode f.trailing end) n
+  IsStatementNode start (key_line f v end) n =
+      IsValueNode (spanned_in mode) v (start + value_start (spanned_in mode) f) f.after_equals
+      (with_return mode f.trailing end) n
   IsStatementNode start (header h end) n = Unit {0}
 
-  -- The builder is after these statements, the first of the document: each is right after those before it, and the slots are those
-  -- of all their mentions.
+  -- The builder is after these statements, the first of the document: each is right after those
+  -- before it, and the slots are those of all their mentions.
   pub record IsBehind (d : Document) (done : List Statement) (b : Builder) : Type 0 where
     pub right : all_right_after [] (done_places d done) ≡ true
     pub start : b.start ≡ (context_behind d done).start
     pub headers : b.headers ≡ (context_behind d done).headers
     pub block : b.block ≡ keys_in (context_behind d done).block
-    pub slots : AreSlotsOf (spanned_in mode) (flat_map (λ s. s.mentions) (done_places d done)) (kept (flat_map (λ s. s.mentions) (done_places d done))) b.slots
+    pub slots : AreSlotsOf (spanned_in mode) (flat_map (λ s. s.mentions) (done_places d done))
+        (kept (flat_map (λ s. s.mentions) (done_places d done))) b.slots
 
-  -- What a statement does after these: it stops the builder by a fault of its own, or by what is in its way; else it is added, and
-  -- the builder is after it. The table of its block is there.
-  pub record IsStep (d : Document) (done : List Statement) (s : Statement) (b : Builder) : Type 0 where
+  -- What a statement does after these: it stops the builder by a fault of its own, or by what is in
+  -- its way; else it is added, and the builder is after it. The table of its block is there.
+  pub record IsStep (d : Document) (done : List Statement) (s : Statement)
+      (b : Builder) : Type 0 where
     pub faulty : (f : Fault) → Contains (own_faults b.start s) f → Stops d done s f
-    pub clashes : (x : Mention Source × Node) → clash_at b s ≡ Some x → Stops d done s (table_way_fault x)
+    pub clashes : (x : Mention Source × Node) → clash_at b s ≡ Some x
+        → Stops d done s (table_way_fault x)
     pub goes : (n : Node) → is_some (added b s n) ≡ not (is_some (clash_at b s))
     pub there : (inner : Slots) × (slots_along b.block b.slots ≡ Some inner)
-    pub keeps : (n : Node) (next : Slots) → own_faults b.start s ≡ [] → IsStatementNode b.start s n → added b s n ≡ Some next
+    pub keeps : (n : Node) (next : Slots) → own_faults b.start s ≡ [] → IsStatementNode b.start s n
+        → added b s n ≡ Some next
         → IsBehind d (done ++ one s) (behind b s next)
 
   -- the tree of the document with the builder's slots
   abbrev pub built_tree : Document → Builder → Tree
   built_tree d b =
-      record { root = root_fields (spanned_in mode); slots = b.slots; trailing = (spanned_in mode).raw (length (document_text d) - length d.final) d.final }
+      record {
+        root = root_fields (spanned_in mode);
+        slots = b.slots;
+        trailing = (spanned_in mode).raw (length (document_text d) - length d.final) d.final;
+      }
 
-  -- A builder begins before the first statement of a document, goes on statement by statement, and after the last it has the tree.
+  -- A builder begins before the first statement of a document, goes on statement by statement, and
+  -- after the last it has the tree.
   pub record IsBuilt (d : Document) : Type 0 where
     pub first : IsBehind d [] (first_builder d.has_mark)
-    pub step : (done : List Statement) (s : Statement) (rest : List Statement) (b : Builder) → d.statements ≡ done ++ (s ∷ rest) → IsBehind d done b
+    pub step : (done : List Statement) (s : Statement) (rest : List Statement) (b : Builder)
+        → d.statements ≡ done ++ (s ∷ rest) → IsBehind d done b
         → IsStep d done s b
-    pub last : (b : Builder) → IsBehind d d.statements b → (is_accepted d ≡ true) × IsTreeOf (spanned_in mode) d (built_tree d b)
+    pub last : (b : Builder) → IsBehind d d.statements b
+        → (is_accepted d ≡ true) × IsTreeOf (spanned_in mode) d (built_tree d b)
 
   abbrev pub Building : Type 0
   Building = (d : Document) → IsDocument d → IsBuilt d
@@ -197,29 +243,38 @@ module _ (mode : Mode) where
     pub split : d.statements ≡ done ++ rest
     pub behind : IsBehind d done b
 
-  -- Statements with these items are added, one after another, up to one that has a fault or can't be added.
+  -- Statements with these items are added, one after another, up to one that has a fault or can't
+  -- be added.
   abbrev pub run : Builder → List Statement → List Node → Outcome
   run b [] ns = (b, [])
   run b (s ∷ rest) [] = (b, s ∷ rest)
-  run b (s ∷ rest) (n ∷ ns) = run_on (λ ss. run (behind b s ss) rest ns) (b, s ∷ rest) (is_empty (own_faults b.start s)) (added b s n)
+  run b (s ∷ rest) (n ∷ ns) =
+      run_on (λ ss. run (behind b s ss) rest ns) (b, s ∷ rest) (is_empty (own_faults b.start s))
+      (added b s n)
 
-  -- the items are of the values of the statements, the first of which begins at this byte; where a statement has a fault any item will do
+  -- the items are of the values of the statements, the first of which begins at this byte; where a
+  -- statement has a fault any item will do
   abbrev pub AreStatementNodes : ℕ → List Statement → List Node → Type 0
   AreStatementNodes start [] [] = Unit {0}
   AreStatementNodes start (s ∷ rest) (n ∷ ns) =
-      (own_faults start s ≡ [] → IsStatementNode start s n) × AreStatementNodes (start + length (statement_text s)) rest ns
+      (own_faults start s ≡ [] → IsStatementNode start s n)
+      × AreStatementNodes (start + length (statement_text s)) rest ns
   AreStatementNodes start _ _ = ⊥
 
-  -- It ends with all statements, where the document is accepted, and then with its tree; else it stops.
+  -- It ends with all statements, where the document is accepted, and then with its tree; else it
+  -- stops.
   abbrev pub Ends : Document → Outcome → Type 0
   Ends d (b, []) = (is_accepted d ≡ true) × IsTreeOf (spanned_in mode) d (built_tree d b)
   Ends d (b, s ∷ rest) = EndsAt d s rest b
 
   abbrev pub Runs : Type 0
   Runs =
-      (d : Document) (ns : List Node) → IsDocument d → AreStatementNodes (length (mark_text d.has_mark)) d.statements ns
+      (d : Document) (ns : List Node) → IsDocument d
+      → AreStatementNodes (length (mark_text d.has_mark)) d.statements ns
       → Ends d (run (first_builder d.has_mark) d.statements ns)
 
   -- An accepted document has a tree over its text.
   abbrev pub HasTree : Type 0
-  HasTree = (d : Document) → IsDocument d → is_accepted d ≡ true → (tree : Tree) × IsTreeOf (spanned_in mode) d tree
+  HasTree =
+      (d : Document) → IsDocument d → is_accepted d ≡ true
+      → (tree : Tree) × IsTreeOf (spanned_in mode) d tree

@@ -15,8 +15,9 @@ use Rattle.toml_edit_laws.specs.Locality.{Turn, into_element, Leads, root_visit,
 
 -- ---- edits
 
--- of the table at the end of a way: a value is replaced, and its key perhaps made anew; a value is added under a new key; a slot is
--- removed; an element is removed of an array of tables that is a slot of it
+-- of the table at the end of a way: a value is replaced, and its key perhaps made anew; a value is
+-- added under a new key; a slot is removed; an element is removed of an array of tables that is a
+-- slot of it
 pub data Edit : Type 0 where
   replace : List Turn → Text → (Key → Key) → Node → Edit
   add : List Turn → Key → Node → Edit
@@ -35,16 +36,23 @@ after_all [] t = t
 after_all (e ∷ es) t = after_all es (after e t)
 
 module _ (mode : Mode) where
-  -- What the edit names is there, or isn't for a new key, and what is written there is well made and no dotted inline table.
+  -- What the edit names is there, or isn't for a new key, and what is written there is well made
+  -- and no dotted inline table.
   abbrev pub Applies : Edit → Tree → Type 0
   Applies (replace way k f n) t =
-      (v : Visit) × (l : Key) × (old : Node) × Leads way (root_visit t) v × (lookup_slot k (slot_list v.slots) ≡ Some (keyed l old))
-      × (is_value_node old ≡ true) × (is_plain_value n ≡ true) × ((f l).name ≡ l.name) × IsWellMadeSlot (f l) n
+      (v : Visit) × (l : Key) × (old : Node) × Leads way (root_visit t) v
+      × (lookup_slot k (slot_list v.slots) ≡ Some (keyed l old))
+      × (is_value_node old ≡ true) × (is_plain_value n ≡ true) × ((f l).name ≡ l.name)
+      × IsWellMadeSlot (f l) n
   Applies (add way k n) t =
-      (v : Visit) × Leads way (root_visit t) v × (lookup_slot k.name (slot_list v.slots) ≡ None) × (is_plain_value n ≡ true) × (has_block mode v ≡ true)
+      (v : Visit) × Leads way (root_visit t) v × (lookup_slot k.name (slot_list v.slots) ≡ None)
+      × (is_plain_value n ≡ true) × (has_block mode v ≡ true)
       × IsWellMadeSlot k n
-  Applies (remove way k) t = (v : Visit) × (s : Slot Node) × Leads way (root_visit t) v × (lookup_slot k (slot_list v.slots) ≡ Some s)
-  Applies (remove_element way k i) t = (v : Visit) × (w : Visit) × Leads way (root_visit t) v × Leads (into_element k i ∷ []) v w
+  Applies (remove way k) t =
+      (v : Visit) × (s : Slot Node) × Leads way (root_visit t) v
+      × (lookup_slot k (slot_list v.slots) ≡ Some s)
+  Applies (remove_element way k i) t =
+      (v : Visit) × (w : Visit) × Leads way (root_visit t) v × Leads (into_element k i ∷ []) v w
 
   -- each of the tree that those before it leave
   abbrev pub AllApply : List Edit → Tree → Type 0
@@ -55,16 +63,21 @@ module _ (mode : Mode) where
 
   -- what it leaves of them: one is changed, or added, or those of what is removed are gone
   abbrev pub Leaves : (e : Edit) (t : Tree) → Applies e t → Type 0
-  Leaves (replace way k f n) t a = OneChanges mode t (after (replace way k f n) t) (to_key a.0.path a.1.name) a.1 (f a.1) a.2 n
+  Leaves (replace way k f n) t a =
+      OneChanges mode t (after (replace way k f n) t) (to_key a.0.path a.1.name) a.1 (f a.1) a.2 n
   Leaves (add way k n) t a = OneMore mode t (after (add way k n) t) a.0 k n
-  Leaves (remove way k) t a = printed mode (after (remove way k) t) ≡ outside mode (to_key a.0.path a.1.key.name) t
-  Leaves (remove_element way k i) t a = statements (printed mode (after (remove_element way k i) t)) ≡ statements (outside mode a.1.path t)
+  Leaves (remove way k) t a =
+      printed mode (after (remove way k) t) ≡ outside mode (to_key a.0.path a.1.key.name) t
+  Leaves (remove_element way k i) t a =
+      statements (printed mode (after (remove_element way k i) t))
+      ≡ statements (outside mode a.1.path t)
 
   abbrev pub AllLeave : (es : List Edit) (t : Tree) → AllApply es t → Type 0
   AllLeave [] t a = Unit {0}
   AllLeave (e ∷ es) t a = Leaves e t a.0 × AllLeave es (after e t) a.1
 
-  -- the path that the edit names; where an element is removed, that of its array, since later elements get other numbers
+  -- the path that the edit names; where an element is removed, that of its array, since later
+  -- elements get other numbers
   abbrev pub named_path : (e : Edit) (t : Tree) → Applies e t → Path
   named_path (replace way k f n) t a = to_key a.0.path a.1.name
   named_path (add way k n) t a = to_key a.0.path k.name
@@ -79,21 +92,26 @@ module _ (mode : Mode) where
   abbrev pub unnamed : (es : List Edit) (t : Tree) → AllApply es t → List Printed → List Printed
   unnamed es t a ps = filter (λ s. not (is_named es t a s.path)) ps
 
-  -- the text of these statements, with what the tree prints before and after its own, and with its end open or not
+  -- the text of these statements, with what the tree prints before and after its own, and with its
+  -- end open or not
   abbrev pub print_of_statements : Bool → Tree → List Printed → Text
   print_of_statements is_open t ps =
       root_prefix mode t
-      ++ (joined (map statement_text (statements (if leaves_open mode is_open t then open_last ps else ps))) ++ (root_suffix mode t ++ shown_raw mode t.trailing))
+      ++ (joined (map statement_text
+      (statements (if leaves_open mode is_open t then open_last ps else ps)))
+      ++ (root_suffix mode t ++ shown_raw mode t.trailing))
 
-  -- What a list of edits leaves of a tree: the statements that no edit names stay, each as it was and in their order, and so does what is
-  -- printed before and after all.
+  -- What a list of edits leaves of a tree: the statements that no edit names stay, each as it was
+  -- and in their order, and so does what is printed before and after all.
   pub record StaysBut (es : List Edit) (t u : Tree) (a : AllApply es t) : Type 0 where
     pub others : unnamed es t a (printed mode u) ≡ unnamed es t a (printed mode t)
-    pub text : (is_open : Bool) → print_in mode is_open u ≡ print_of_statements is_open t (printed mode u)
+    pub text : (is_open : Bool)
+        → print_in mode is_open u ≡ print_of_statements is_open t (printed mode u)
     pub steady : StaysSteady mode t u
     pub made : SlotsAreWellMade u.slots
 
   abbrev pub EditsStayLocal : Type 0
   EditsStayLocal =
-      (es : List Edit) (t : Tree) → SlotsAreWellMade t.slots → is_steady_in mode t ≡ true → (a : AllApply es t)
+      (es : List Edit) (t : Tree) → SlotsAreWellMade t.slots → is_steady_in mode t ≡ true
+      → (a : AllApply es t)
       → AllLeave es t a × StaysBut es t (after_all es t) a

@@ -34,4 +34,5 @@ pub record TreeLies (source : Text) (t : Tree) : Type 0 where
   pub slots : SlotsLie source t.slots
 
 abbrev pub ExtentsLie : Mode → Type 0
-ExtentsLie mode = (d : Document) (t : Tree) → IsTreeOf (spanned_in mode) d t → TreeLies (document_text d) t
+ExtentsLie mode =
+    (d : Document) (t : Tree) → IsTreeOf (spanned_in mode) d t → TreeLies (document_text d) t

@@ -7,4 +7,6 @@ use Rattle.toml_edit_model.specs.Messages.{fault_messages}
 
 -- wherever the value is, inside however many brackets
 abbrev pub FaultMessages : Type 0
-FaultMessages = (v : Value) (start level : ℕ) → AllByRecursion (λ f. Contains fault_messages f.message) (value_faults v start level)
+FaultMessages =
+    (v : Value) (start level : ℕ)
+    → AllByRecursion (λ f. Contains fault_messages f.message) (value_faults v start level)

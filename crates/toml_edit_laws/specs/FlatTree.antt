@@ -12,7 +12,8 @@ is_among k keys = list_any (same_text k) keys
 
 -- the value is not too deep, its keys are short, its scalars in range, and its pairs agree
 abbrev pub is_right_value : Value → Bool
-is_right_value v = ((nat_le (depth v) nesting_limit && has_short_keys v) && keeps_ranges v) && has_agreeing_pairs v
+is_right_value v =
+    ((nat_le (depth v) nesting_limit && has_short_keys v) && keeps_ranges v) && has_agreeing_pairs v
 
 -- the slots with one more at the end
 abbrev pub with_slot : Slots → Key → Node → Slots

@@ -1,5 +1,6 @@
--- What a statement adds where the tables of headers stay in their places: the slots are to be put in order once, after all statements. So
--- the table of a header takes the place of one that was only passed through, and goes last in the end (TOML 1.1.0, "Table").
+-- What a statement adds where the tables of headers stay in their places: the slots are to be put
+-- in order once, after all statements. So the table of a header takes the place of one that was
+-- only passed through, and goes last in the end (TOML 1.1.0, "Table").
 use Rattle.std.specs.Prelude.{◌≡◌, ◌≤◌, ◌<◌, ℕ, true, not, ◌&&◌, if◌then◌else◌, List, [], ◌∷◌, Option, Some, None}
 use Rattle.toml_edit_model.specs.Mode.{Mode}
 use Rattle.toml_edit_model.specs.Text.{Text, same_text}
@@ -17,21 +18,27 @@ use Rattle.toml_edit_laws.specs.PlaceOrder.{key_place}
 -- the slot of a key, with another key and item
 abbrev pub replace_slot : Text → Key → Node → Slots → Slots
 replace_slot t k n no_slots = no_slots
-replace_slot t k n (slot l m ss) = if same_text t l.name then slot k n ss else slot l m (replace_slot t k n ss)
+replace_slot t k n (slot l m ss) =
+    if same_text t l.name then slot k n ss else slot l m (replace_slot t k n ss)
 
 module _ (mode : Mode) where
-  -- A header of a table that until now was only passed through heads it, where it is; no other item can be headed.
+  -- A header of a table that until now was only passed through heads it, where it is; no other item
+  -- can be headed.
   abbrev pub head_table : Mention Source → Slots → Option Node → Option Slots
-  head_table m ss None = Some (with_slot ss (key_at (spanned_in mode) m) (headed_table mode m no_slots))
+  head_table m ss None =
+      Some (with_slot ss (key_at (spanned_in mode) m) (headed_table mode m no_slots))
   head_table m ss (Some (table f inner)) =
-      if f.is_implicit && not f.is_dotted then Some (replace_slot m.segment.key (key_at (spanned_in mode) m) (headed_table mode m inner) ss) else None
+      if f.is_implicit && not f.is_dotted
+      then Some (replace_slot m.segment.key (key_at (spanned_in mode) m)
+      (headed_table mode m inner) ss) else None
   head_table m ss (Some n) = None
 
   -- the slots with the table of a header at the end of the mentions' path, where it is
   abbrev pub add_table : List (Mention Source) → Slots → Option Slots
   add_table [] ss = None
   add_table (m ∷ []) ss = head_table m ss (node_at m.segment.key ss)
-  add_table (m ∷ r ∷ rest) ss = pass_below mode m (add_table (r ∷ rest)) ss (node_at m.segment.key ss)
+  add_table (m ∷ r ∷ rest) ss =
+      pass_below mode m (add_table (r ∷ rest)) ss (node_at m.segment.key ss)
 
   -- ---- any statement
 
@@ -51,7 +58,8 @@ module _ (mode : Mode) where
   abbrev pub StandWithin : ℕ → ℕ → List (Mention Source) → Type 0
   StandWithin start end [] = Unit {0}
   StandWithin start end (m ∷ ms) =
-      (start ≤ key_place (key_at (spanned_in mode) m)) × (key_place (key_at (spanned_in mode) m) < end) × StandWithin start end ms
+      (start ≤ key_place (key_at (spanned_in mode) m))
+      × (key_place (key_at (spanned_in mode) m) < end) × StandWithin start end ms
 
 -- what a line adds is a value
 abbrev pub IsRealAddition : Addition → Type 0

@@ -1,4 +1,5 @@
--- The kept key of a path, as normal texts have it, and the mentions that the slots of a tree are kept from, are the same.
+-- The kept key of a path, as normal texts have it, and the mentions that the slots of a tree are
+-- kept from, are the same.
 use Rattle.std.specs.Prelude.{◌≡◌, true, List, [], ◌∷◌, ◌++◌, Some}
 use Rattle.std.specs.List.{AllByRecursion}
 use Rattle.toml_edit_model.specs.Syntax.{Document}
@@ -21,4 +22,6 @@ pub record IsKeptOf (ms : List (Mention Source)) (p : Path) (m : Mention Source)
 
 -- So it is for each slot of each table of an accepted document.
 abbrev pub KeptKeys : Type 0
-KeptKeys = (d : Document) → is_accepted d ≡ true → (p : Path) → AllByRecursion (IsKeptOf (all_mentions d) p) (kept (under_path p (all_mentions d)))
+KeptKeys =
+    (d : Document) → is_accepted d ≡ true → (p : Path)
+    → AllByRecursion (IsKeptOf (all_mentions d) p) (kept (under_path p (all_mentions d)))

@@ -28,9 +28,11 @@ last_newline [] = []
 last_newline (s ∷ []) = newline_after s
 last_newline (s ∷ r ∷ rest) = last_newline (r ∷ rest)
 
--- A print with an open end leaves out the last newline, where nothing follows the statements, and nothing else.
+-- A print with an open end leaves out the last newline, where nothing follows the statements, and
+-- nothing else.
 abbrev pub OpenPrints : Type 0
 OpenPrints =
     (mode : Mode) (t : Tree)
-    → (leaves_open mode true t ≡ true → print_in mode true t ++ last_newline (statements_of mode t) ≡ print_in mode false t)
+    → (leaves_open mode true t ≡ true
+    → print_in mode true t ++ last_newline (statements_of mode t) ≡ print_in mode false t)
     × (leaves_open mode true t ≡ false → print_in mode true t ≡ print_in mode false t)

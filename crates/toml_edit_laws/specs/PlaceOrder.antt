@@ -1,4 +1,5 @@
--- Slots in the order of their places: the slots of each table are in the order of where the spellings of their keys begin in the text.
+-- Slots in the order of their places: the slots of each table are in the order of where the
+-- spellings of their keys begin in the text.
 use Rattle.std.specs.Prelude.{◌≡◌, ◌<◌, ℕ, false, nat_lt, if◌then◌else◌, Option, Some}
 use Rattle.toml_edit_model.specs.Tree.{Raw, span, Key, Node, table, tables, Items, no_items, item, Slots, no_slots, slot, has_key}
 
@@ -14,7 +15,9 @@ key_place k = raw_place k.spelling
 -- a slot before the first whose key doesn't begin before its own
 abbrev pub slot_by_place : Key → Node → Slots → Slots
 slot_by_place k n no_slots = slot k n no_slots
-slot_by_place k n (slot l m ss) = if nat_lt (key_place l) (key_place k) then slot l m (slot_by_place k n ss) else slot k n (slot l m ss)
+slot_by_place k n (slot l m ss) =
+    if nat_lt (key_place l) (key_place k) then slot l m (slot_by_place k n ss)
+    else slot k n (slot l m ss)
 
 -- the slots of a table, and of each table below it, by where their keys begin
 abbrev mutual
@@ -44,4 +47,5 @@ abbrev mutual
 
   pub ArePlaced : ℕ → Slots → Type 0
   ArePlaced end no_slots = Unit {0}
-  ArePlaced end (slot k n ss) = (key_place k < end) × (has_key k.name ss ≡ false) × NodeIsPlaced end n × ArePlaced end ss
+  ArePlaced end (slot k n ss) =
+      (key_place k < end) × (has_key k.name ss ≡ false) × NodeIsPlaced end n × ArePlaced end ss

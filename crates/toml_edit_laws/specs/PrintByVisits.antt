@@ -1,5 +1,5 @@
--- The print of a tree, piece by piece in the order in which it is written, over the tables that one walk collects (TOML 1.1.0,
--- "Key/Value Pair" to "Array of Tables").
+-- The print of a tree, piece by piece in the order in which it is written, over the tables that one
+-- walk collects (TOML 1.1.0, "Key/Value Pair" to "Array of Tables").
 use Rattle.std.specs.Prelude.{◌≡◌, ℤ, pos, Bool, true, false, not, ◌&&◌, ◌||◌, int_le, if◌then◌else◌, List, [], ◌∷◌, ◌++◌, Option, None, Some, unwrap_or, codes}
 use Rattle.toml_edit_model.specs.Mode.{Mode}
 use Rattle.toml_edit_model.specs.Text.{Text, newline, is_empty, has_byte, line_feed}
@@ -22,7 +22,10 @@ abbrev mutual
   pub last_pair : Slots → Option Decor → Option Decor
   last_pair no_slots before = before
   last_pair (slot k n ss) before =
-      last_pair ss (elim (is_line_node n) [ true ↦ Some (node_decor n) | false ↦ last_pair_in n before ])
+      last_pair ss (elim (is_line_node n) [
+        | true ↦ Some (node_decor n)
+        | false ↦ last_pair_in n before
+      ])
 
   pub last_pair_in : Node → Option Decor → Option Decor
   last_pair_in (inline f ss) before = last_pair ss before
@@ -36,7 +39,8 @@ abbrev mutual
 abbrev mutual
   pub has_inside : Slots → Bool
   has_inside no_slots = false
-  has_inside (slot k n ss) = elim (is_line_node n) [ true ↦ true | false ↦ has_inside_of n ] || has_inside ss
+  has_inside (slot k n ss) =
+      elim (is_line_node n) [ true ↦ true | false ↦ has_inside_of n ] || has_inside ss
 
   pub has_inside_of : Node → Bool
   has_inside_of (inline f ss) = has_inside ss
@@ -50,7 +54,8 @@ abbrev mutual
 abbrev mutual
   pub has_lines : Slots → Bool
   has_lines no_slots = false
-  has_lines (slot k n ss) = elim (is_line_node n) [ true ↦ true | false ↦ has_dotted_lines n ] || has_lines ss
+  has_lines (slot k n ss) =
+      elim (is_line_node n) [ true ↦ true | false ↦ has_dotted_lines n ] || has_lines ss
 
   pub has_dotted_lines : Node → Bool
   has_dotted_lines (table f ss) = f.is_dotted && has_lines ss
@@ -62,7 +67,8 @@ abbrev mutual
 
 -- ---- the walk
 
--- a table below the root as it is collected: its place, the keys to it, whether it is an element, and itself
+-- a table below the root as it is collected: its place, the keys to it, whether it is an element,
+-- and itself
 pub record Headed : Type 0 where
   pub place : ℤ
   pub keys : List Key
@@ -80,7 +86,13 @@ pub record Walked : Type 0 where
   pub seen : ℤ
 
 abbrev pub headed : ℤ → List Key → Bool → TableFields → Slots → Headed
-headed place ks is_element f ss = record { place = place; keys = ks; is_element = is_element; fields = f; slots = ss }
+headed place ks is_element f ss = record {
+  place = place;
+  keys = ks;
+  is_element = is_element;
+  fields = f;
+  slots = ss;
+}
 
 -- One more table is entered. A dotted one takes no part.
 abbrev pub enter : Walked → List Key → Bool → TableFields → Slots → Walked
@@ -89,7 +101,10 @@ enter w ks is_element f ss =
     then w
     else
     record {
-      tables = if has_own_header is_element f ss then w.tables ++ (headed (unwrap_or f.position w.seen) ks is_element f ss ∷ []) else w.tables;
+      tables =
+          if has_own_header is_element f ss
+          then w.tables ++ (headed (unwrap_or f.position w.seen) ks is_element f ss ∷ [])
+          else w.tables;
       seen = unwrap_or f.position w.seen;
     }
 
@@ -109,7 +124,8 @@ abbrev mutual
 
   pub walked_items : Items → List Key → Walked → Walked
   walked_items no_items ks w = w
-  walked_items (item (table f ss) xs) ks w = walked_items xs ks (walked ss ks (enter w ks true f ss))
+  walked_items (item (table f ss) xs) ks w =
+      walked_items xs ks (walked ss ks (enter w ks true f ss))
   walked_items (item _ xs) ks w = walked_items xs ks w
 
 -- the place that is seen before the tables below a root
@@ -138,10 +154,11 @@ module _ (mode : Mode) where
   abbrev pub dotted_keys : Bool → List Key → Text
   dotted_keys is_first [] = []
   dotted_keys is_first (k ∷ ks) =
-      (if is_first then [] else dot_prefix mode k) ++ (key_text k ++ (dot_suffix mode k ++ (codes "." ++ dotted_keys false ks)))
+      (if is_first then [] else dot_prefix mode k)
+      ++ (key_text k ++ (dot_suffix mode k ++ (codes "." ++ dotted_keys false ks)))
 
-  -- What is between a key, if there is one, and the next. No law cites this and the next: they are for code that writes the path of a
-  -- header key by key.
+  -- What is between a key, if there is one, and the next. No law cites this and the next: they are
+  -- for code that writes the path of a header key by key.
   abbrev pub between_keys : Option Key → Key → Text
   between_keys None k = []
   between_keys (Some j) k = dot_suffix mode j ++ (codes "." ++ dot_prefix mode k)
@@ -154,22 +171,28 @@ module _ (mode : Mode) where
   -- the key of a line or a pair, after these keys, with its decor and the `=`
   abbrev pub key_part : Text → List Key → Key → Text
   key_part default ks k =
-      shown_prefix mode default k.leaf ++ (dotted_keys true ks ++ (before_key ks k ++ (key_text k ++ (shown_suffix mode one_space k.leaf ++ codes "="))))
+      shown_prefix mode default k.leaf
+      ++ (dotted_keys true ks
+      ++ (before_key ks k ++ (key_text k ++ (shown_suffix mode one_space k.leaf ++ codes "="))))
 
   -- a line or a pair up to the end of its value, which has this text
   abbrev pub pair_start : Text → List Key → Key → Node → Text → Text
-  pair_start default ks k n value = key_part default ks k ++ (shown_prefix mode one_space (node_decor n) ++ value)
+  pair_start default ks k n value =
+      key_part default ks k ++ (shown_prefix mode one_space (node_decor n) ++ value)
 
   -- a line
   abbrev pub line_text : List Key → Key → Node → Text → Text
-  line_text ks k n value = pair_start [] ks k n value ++ (shown_suffix mode [] (node_decor n) ++ newline)
+  line_text ks k n value =
+      pair_start [] ks k n value ++ (shown_suffix mode [] (node_decor n) ++ newline)
 
   -- ---- arrays
 
   -- an element with its decor, and the comma before it
   abbrev pub element_text : Bool → Node → Text → Text
   element_text is_first n value =
-      comma_before is_first ++ (shown_prefix mode (element_default is_first) (node_decor n) ++ (value ++ shown_suffix mode [] (node_decor n)))
+      comma_before is_first
+      ++ (shown_prefix mode (element_default is_first) (node_decor n)
+      ++ (value ++ shown_suffix mode [] (node_decor n)))
 
   -- ---- inline tables
 
@@ -178,19 +201,24 @@ module _ (mode : Mode) where
   between_pairs None = []
   between_pairs (Some d) = shown_suffix mode [] d ++ codes ","
 
-  -- what is between the last pair, whose value has this decor, if there is one, and the text before the brace
+  -- what is between the last pair, whose value has this decor, if there is one, and the text before
+  -- the brace
   abbrev pub after_pairs : Bool → Option Decor → Text
   after_pairs comma None = []
   after_pairs comma (Some d) = shown_suffix mode one_space d ++ comma_text comma
 
-  -- A value from its first byte to its last; the elements of an array, and the comma that ends them; the pairs of an inline table,
-  -- after one whose value has this decor, each up to the end of its value.
+  -- A value from its first byte to its last; the elements of an array, and the comma that ends
+  -- them; the pairs of an inline table, after one whose value has this decor, each up to the end of
+  -- its value.
   abbrev mutual
     pub written_value : Node → Text
     written_value (leaf s spelling d) = scalar_text s spelling
-    written_value (list f xs) = codes "[" ++ (written_items f.comma true xs ++ (shown_raw mode f.trailing ++ codes "]"))
+    written_value (list f xs) =
+        codes "[" ++ (written_items f.comma true xs ++ (shown_raw mode f.trailing ++ codes "]"))
     written_value (inline f ss) =
-        codes "{" ++ (written_pairs ss [] None ++ (after_pairs f.comma (last_pair ss None) ++ (shown_raw mode f.trailing ++ codes "}")))
+        codes "{" ++ (written_pairs ss [] None
+        ++ (after_pairs f.comma (last_pair ss None)
+        ++ (shown_raw mode f.trailing ++ codes "}")))
     written_value (table f ss) = codes "{}"
     written_value (tables e xs) = codes "{}"
     written_value nothing = codes "{}"
@@ -210,7 +238,8 @@ module _ (mode : Mode) where
           | true ↦ between_pairs before ++ pair_start one_space ks k n (written_value n)
           | false ↦ written_pairs_in n (ks ++ (k ∷ [])) before
         ]
-        ++ written_pairs ss ks (elim (is_line_node n) [ true ↦ Some (node_decor n) | false ↦ last_pair_in n before ])
+        ++ written_pairs ss ks
+        (elim (is_line_node n) [ true ↦ Some (node_decor n) | false ↦ last_pair_in n before ])
 
     pub written_pairs_in : Node → List Key → Option Decor → Text
     written_pairs_in (inline f ss) ks before = written_pairs ss ks before
@@ -227,7 +256,10 @@ module _ (mode : Mode) where
     pub written_inside : Slots → List Key → Text
     written_inside no_slots ks = []
     written_inside (slot k n ss) ks =
-        elim (is_line_node n) [ true ↦ line_text ks k n (written_value n) | false ↦ written_inside_of n (ks ++ (k ∷ [])) ]
+        elim (is_line_node n) [
+          | true ↦ line_text ks k n (written_value n)
+          | false ↦ written_inside_of n (ks ++ (k ∷ []))
+        ]
         ++ written_inside ss ks
 
     pub written_inside_of : Node → List Key → Text
@@ -243,7 +275,10 @@ module _ (mode : Mode) where
     pub written_lines : Slots → List Key → Text
     written_lines no_slots ks = []
     written_lines (slot k n ss) ks =
-        elim (is_line_node n) [ true ↦ line_text ks k n (written_value n) | false ↦ written_dotted n (ks ++ (k ∷ [])) ]
+        elim (is_line_node n) [
+          | true ↦ line_text ks k n (written_value n)
+          | false ↦ written_dotted n (ks ++ (k ∷ []))
+        ]
         ++ written_lines ss ks
 
     pub written_dotted : Node → List Key → Text
@@ -263,22 +298,30 @@ module _ (mode : Mode) where
   -- what is inside the brackets
   abbrev pub inside_brackets : Decor → Text → Text
   inside_brackets d path =
-      (if holds_newline d then [] else shown_prefix mode [] d) ++ (path ++ (if holds_newline d then [] else shown_suffix mode [] d))
+      (if holds_newline d then [] else shown_prefix mode [] d)
+      ++ (path ++ (if holds_newline d then [] else shown_suffix mode [] d))
 
-  -- a header, the last key of which has this decor, and the path of which has this text; and its newline
+  -- a header, the last key of which has this decor, and the path of which has this text; and its
+  -- newline
   abbrev pub header_parts : Bool → Bool → Decor → Text → TableFields → Text
   header_parts is_first is_element d path f =
       (if holds_newline d then shown_prefix mode [] d else [])
       ++ (shown_prefix mode (header_default is_first) f.decor
-      ++ (opening_brackets is_element ++ (inside_brackets d path ++ (closing_brackets is_element ++ (shown_suffix mode [] f.decor ++ newline)))))
+      ++ (opening_brackets is_element
+      ++ (inside_brackets d path
+      ++ (closing_brackets is_element ++ (shown_suffix mode [] f.decor ++ newline)))))
 
   abbrev pub header_text : Bool → Headed → Text
-  header_text is_first h = header_parts is_first h.is_element (last_leaf h.keys) (path_text (segments mode h.keys)) h.fields
+  header_text is_first h =
+      header_parts is_first h.is_element (last_leaf h.keys)
+      (path_text (segments mode h.keys)) h.fields
 
-  -- the headers of tables, each with the table's lines, where nothing is printed before the first of them
+  -- the headers of tables, each with the table's lines, where nothing is printed before the first
+  -- of them
   abbrev pub headers_text : Bool → List Headed → Text
   headers_text is_first [] = []
-  headers_text is_first (h ∷ hs) = header_text is_first h ++ (written_lines h.slots [] ++ headers_text false hs)
+  headers_text is_first (h ∷ hs) =
+      header_text is_first h ++ (written_lines h.slots [] ++ headers_text false hs)
 
   -- ---- the print
 
@@ -291,9 +334,10 @@ module _ (mode : Mode) where
   written_print t =
       root_prefix mode t
       ++ (root_lines t.root t.slots
-      ++ (headers_text (begins t.root t.slots) (sorted_by by_place (headed_tables t.root t.slots)) ++ (root_suffix mode t ++ shown_raw mode t.trailing)))
+      ++ (headers_text (begins t.root t.slots) (sorted_by by_place (headed_tables t.root t.slots))
+      ++ (root_suffix mode t ++ shown_raw mode t.trailing)))
 
-  -- The print of a tree is the text before its root, the root's lines, the headers in order of place, each with its lines, and the text
-  -- after them.
+  -- The print of a tree is the text before its root, the root's lines, the headers in order of
+  -- place, each with its lines, and the text after them.
   abbrev pub PrintByVisits : Type 0
   PrintByVisits = (t : Tree) → print_in mode false t ≡ written_print t

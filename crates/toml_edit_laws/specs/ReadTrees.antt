@@ -1,5 +1,5 @@
--- The laws of the trees of texts: each text has at most one in each form, what its spans cut makes the owned one, and the spans of
--- keys and scalars cut their spellings.
+-- The laws of the trees of texts: each text has at most one in each form, what its spans cut makes
+-- the owned one, and the spans of keys and scalars cut their spellings.
 use Rattle.std.specs.Prelude.{◌≡◌, true, Option, Some, None}
 use Rattle.std.specs.Str.{IsUtf8}
 use Rattle.toml_edit_model.specs.Mode.{Mode}
@@ -15,7 +15,8 @@ use Rattle.toml_edit_model.specs.OwnedForm.{cut_out, owned_tree, RawFits, IsOver
 
 -- A document has at most one tree in each form.
 abbrev pub OneTreeOf : Type 0
-OneTreeOf = (form : Form) (d : Document) (t u : Tree) → IsTreeOf form d t → IsTreeOf form d u → t ≡ u
+OneTreeOf =
+    (form : Form) (d : Document) (t u : Tree) → IsTreeOf form d t → IsTreeOf form d u → t ≡ u
 
 -- ---- spans of spellings
 
@@ -41,33 +42,42 @@ abbrev mutual
 
   pub HaveCutSpellings : Text → Slots → Type 0
   HaveCutSpellings text no_slots = Unit {0}
-  HaveCutSpellings text (slot k n ss) = IsCutAs text (SpellsKey k.name) k.spelling × HasCutSpellings text n × HaveCutSpellings text ss
+  HaveCutSpellings text (slot k n ss) =
+      IsCutAs text (SpellsKey k.name) k.spelling × HasCutSpellings text n × HaveCutSpellings text ss
 
 -- ---- in each mode
 
 module _ (mode : Mode) where
   -- The tree with spans becomes that with owned texts, by what the spans cut from the text.
   abbrev pub OwnedTrees : Type 0
-  OwnedTrees = (text : Text) (d : Document) → IsCut d text → (t : Tree) → IsTreeOf (spanned_in mode) d t → IsTreeOf (owned_in mode) d (owned_tree text t)
+  OwnedTrees =
+      (text : Text) (d : Document) → IsCut d text → (t : Tree) → IsTreeOf (spanned_in mode) d t
+      → IsTreeOf (owned_in mode) d (owned_tree text t)
 
-  -- Where the text is accepted, the spans lie in it on the boundaries of characters, and what they cut is well made.
+  -- Where the text is accepted, the spans lie in it on the boundaries of characters, and what they
+  -- cut is well made.
   abbrev pub TreesOver : Type 0
-  TreesOver = (text : Text) (d : Document) → IsUtf8 text → AcceptedAs text d → (t : Tree) → IsTreeOf (spanned_in mode) d t → IsOver text t
+  TreesOver =
+      (text : Text) (d : Document) → IsUtf8 text → AcceptedAs text d → (t : Tree)
+      → IsTreeOf (spanned_in mode) d t → IsOver text t
 
   -- The span of each key and each scalar cuts its spelling from the text.
   abbrev pub SpansCutSpellings : Type 0
   SpansCutSpellings =
-      (text : Text) (d : Document) → IsUtf8 text → AcceptedAs text d → (t : Tree) → IsTreeOf (spanned_in mode) d t → HaveCutSpellings text t.slots
+      (text : Text) (d : Document) → IsUtf8 text → AcceptedAs text d → (t : Tree)
+      → IsTreeOf (spanned_in mode) d t → HaveCutSpellings text t.slots
 
 -- ---- the meaning
 
 -- The tree of an accepted document shows what the document means.
 abbrev pub TreesMean : Type 0
 TreesMean =
-    (d : Document) → IsDocument d → is_accepted d ≡ true → (form : Form) (t : Tree) → IsTreeOf form d t → SameFacts (shown_meaning t) (meaning d)
+    (d : Document) → IsDocument d → is_accepted d ≡ true → (form : Form) (t : Tree)
+    → IsTreeOf form d t → SameFacts (shown_meaning t) (meaning d)
 
 -- So does a root that is taken as it is: its slots with other fields and another trailing text.
 abbrev pub TakenRootsMean : Type 0
 TakenRootsMean =
-    (d : Document) → IsDocument d → is_accepted d ≡ true → (form : Form) (t u : Tree) → IsTreeOf form d t → u.slots ≡ t.slots
+    (d : Document) → IsDocument d → is_accepted d ≡ true → (form : Form) (t u : Tree)
+    → IsTreeOf form d t → u.slots ≡ t.slots
     → SameFacts (shown_meaning u) (meaning d)

@@ -10,4 +10,6 @@ use Rattle.toml_edit_laws.specs.AcceptedPrints.{IsFitting}
 module _ (mode : Mode) where
   -- The print of a tree that fits means what the tree shows.
   abbrev pub PrintsMeanWhatIsShown : Type 0
-  PrintsMeanWhatIsShown = (is_open : Bool) (t : Tree) → IsFitting mode t → SameFacts (meaning (document_in mode is_open t)) (shown_meaning t)
+  PrintsMeanWhatIsShown =
+      (is_open : Bool) (t : Tree) → IsFitting mode t
+      → SameFacts (meaning (document_in mode is_open t)) (shown_meaning t)

@@ -12,9 +12,11 @@ use Rattle.toml_edit_model.specs.Tree.{Tree}
 use Rattle.toml_edit_model.specs.TreeOf.{owned_in, IsTreeOf}
 use Rattle.toml_edit_model.specs.Print.{print_in, document_in}
 
--- What a version accepts, TOML 1.1 accepts by the same cut; so its trees are those of the text under 1.1.
+-- What a version accepts, TOML 1.1 accepts by the same cut; so its trees are those of the text
+-- under 1.1.
 abbrev pub LaterAccepts : Type 0
-LaterAccepts = (version : Version) (t : Text) (d : Document) → AcceptedIn version t d → AcceptedAs t d
+LaterAccepts =
+    (version : Version) (t : Text) (d : Document) → AcceptedIn version t d → AcceptedAs t d
 
 -- A statement has a late part exactly where it is late.
 abbrev pub LateHavePlaces : Type 0
@@ -23,7 +25,8 @@ LateHavePlaces = (i : ℕ) (s : Statement) → is_empty (late_places i s) ≡ no
 -- What a version refuses has a fault in its first faulty statement.
 abbrev pub FaultsInVersions : Type 0
 FaultsInVersions =
-    (version : Version) (d : Document) (earlier : List Placed) (s : Placed) → IsFirstFaultyIn version d earlier s
+    (version : Version) (d : Document) (earlier : List Placed) (s : Placed)
+    → IsFirstFaultyIn version d earlier s
     → (f : Fault) × Contains (faults_of version earlier s) f
 
 -- The version refuses the document, and this is one of the faults of its first faulty statement.
@@ -34,10 +37,14 @@ pub record IsRefusedIn (version : Version) (d : Document) (f : Fault) : Type 0 w
 module _ (mode : Mode) where
   -- The normal text of a text that a version accepts is accepted by it.
   abbrev pub NormalTextsStay : Type 0
-  NormalTextsStay = (version : Version) (t : Text) (d : Document) → AcceptedIn version t d → AcceptedIn version (normal_text_in mode d) (normal_in mode d)
+  NormalTextsStay =
+      (version : Version) (t : Text) (d : Document) → AcceptedIn version t d
+      → AcceptedIn version (normal_text_in mode d) (normal_in mode d)
 
   -- So is the print of its tree.
   abbrev pub PrintsStay : Type 0
   PrintsStay =
-      (version : Version) (t : Text) (d : Document) → AcceptedIn version t d → (tree : Tree) → IsTreeOf (owned_in mode) d tree
-      → AcceptedIn version (print_in mode (has_open_end d.statements) tree) (document_in mode (has_open_end d.statements) tree)
+      (version : Version) (t : Text) (d : Document) → AcceptedIn version t d → (tree : Tree)
+      → IsTreeOf (owned_in mode) d tree
+      → AcceptedIn version (print_in mode (has_open_end d.statements) tree)
+      (document_in mode (has_open_end d.statements) tree)

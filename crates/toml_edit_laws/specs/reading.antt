@@ -1,4 +1,5 @@
--- How the parts of a text are read, from left to right: functions on lists of bytes, which the contracts of the code cite.
+-- How the parts of a text are read, from left to right: functions on lists of bytes, which the
+-- contracts of the code cite.
 pub mod Runs
 pub mod Tokens
 pub mod BlockReading

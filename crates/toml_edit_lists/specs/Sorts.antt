@@ -14,11 +14,16 @@ held_lt lt (Some e) None = false
 held_lt lt (Some e) (Some f) = lt e f
 
 -- `after` is `before`, in a stable order by each test by which f returns `Less`
-abbrev pub SortsHeldAs : {F T E : Type 0} → Mut F (Bor E × (Bor E × Unit {0})) Ordering → (T → Option E) → F → List T → List T → Type 0
+abbrev pub SortsHeldAs : {F T E : Type 0} → Mut F (Bor E × (Bor E × Unit {0})) Ordering
+    → (T → Option E) → F → List T → List T → Type 0
 SortsHeldAs {E = E} g held f before after =
-    (lt : E → E → Bool) → ComparesAs g lt f → IsSortOf (λ x y. held_lt lt (held x) (held y)) before after
+    (lt : E → E → Bool) → ComparesAs g lt f
+    → IsSortOf (λ x y. held_lt lt (held x) (held y)) before after
 
 -- and in a stable order by the keys that f returns
-abbrev pub SortsHeldByKey : {F T E K : Type 0} → Mut F (Bor E × Unit {0}) K → (K → K → Ordering) → (T → Option E) → F → List T → List T → Type 0
+abbrev pub SortsHeldByKey : {F T E K : Type 0} → Mut F (Bor E × Unit {0}) K → (K → K → Ordering)
+    → (T → Option E) → F → List T → List T → Type 0
 SortsHeldByKey {E = E} {K = K} g cmp held f before after =
-    (of : E → K) → ComputesKey g of f → IsSortOf (λ x y. held_lt (λ d e. is_lt (cmp (of d) (of e))) (held x) (held y)) before after
+    (of : E → K) → ComputesKey g of f
+    → IsSortOf (λ x y. held_lt (λ d e. is_lt (cmp (of d) (of e))) (held x)
+    (held y)) before after

@@ -92,7 +92,8 @@ pub fn retain<T: Holds<E>, E, F: Fn(&E) -> bool>(items: &mut Vec<T>, keep: F)
 where
     F: Drop,
     requires { F.IsAlwaysCallable keep }
-    ensures { RetainsBy (λ item. SaysOfHeld (FnReturnsAt F.Fn keep) (T.held item)) items.old.items items.new.items }
+    ensures { RetainsBy
+        (λ item. SaysOfHeld (FnReturnsAt F.Fn keep) (T.held item)) items.old.items items.new.items }
 {
     items.retain(
         |item|
@@ -123,7 +124,8 @@ where
     items.sort_by(
         |one: &T, other: &T| -> Ordering
             requires { F.IsAlwaysCallable compare }
-            ensures { (lt : E → E → Bool) → ComparesAs F.FnMut lt compare → is_lt result ≡ held_lt lt (T.held one.now) (T.held other.now) }
+            ensures { (lt : E → E → Bool) → ComparesAs F.FnMut lt compare
+                → is_lt result ≡ held_lt lt (T.held one.now) (T.held other.now) }
         {
             match (one.as_held(), other.as_held()) {
                 (Some(first), Some(second)) => compare(first, second),
@@ -153,7 +155,8 @@ where
         items,
         |one: &E, other: &E| -> Ordering
             requires { F.IsAlwaysCallable key }
-            ensures { (of : E → K) → ComputesKey F.FnMut of key → is_lt result ≡ is_lt (K.cmp (of one.now) (of other.now)) }
+            ensures { (of : E → K) → ComputesKey F.FnMut of key
+                → is_lt result ≡ is_lt (K.cmp (of one.now) (of other.now)) }
         { key(one).cmp(&key(other)) },
     )
 }

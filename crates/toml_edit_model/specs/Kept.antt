@@ -1,4 +1,5 @@
--- The mention that the key of a path is kept from, the rank of a path, and keys spelled and spaced as they are kept (TOML 1.1.0, "Keys").
+-- The mention that the key of a path is kept from, the rank of a path, and keys spelled and spaced
+-- as they are kept (TOML 1.1.0, "Keys").
 use Rattle.std.specs.Prelude.{ℕ, Bool, true, nat_lt, if◌then◌else◌, List, [], ◌∷◌, map, filter, find, Option, Some, None, unwrap_or, option_map}
 use Rattle.std.specs.List.{list_any, position_or_len}
 use Rattle.std.specs.Option.{option_or}
@@ -15,7 +16,8 @@ abbrev pub first_of_list : {A : Type 0} → List A → Option A
 first_of_list [] = None
 first_of_list (a ∷ rest) = Some a
 
--- the mention that a path's kept key is from: that of its own plain header if it has one, else the first
+-- the mention that a path's kept key is from: that of its own plain header if it has one, else the
+-- first
 abbrev pub kept_mention : {S : Type 0} → List (Mention S) → Path → Option (Mention S)
 kept_mention ms p =
     option_or (find (λ m. is_header_role m.role) (mentions_at ms p)) (first_of_list (mentions_at ms p))
@@ -29,7 +31,8 @@ abbrev pub stands_before : {S : Type 0} → (Path → ℕ) → List (Mention S) 
 stands_before rank_of [] later = true
 stands_before rank_of (m ∷ ms) [] = true
 stands_before rank_of (m ∷ ms) (n ∷ ns) =
-    if same_path m.path n.path then stands_before rank_of ms ns else nat_lt (rank_of m.path) (rank_of n.path)
+    if same_path m.path n.path then stands_before rank_of ms ns
+    else nat_lt (rank_of m.path) (rank_of n.path)
 
 -- ---- kept segments
 

@@ -7,8 +7,10 @@ use Rattle.toml_edit_model.specs.Version.{Version, v1_0, v1_1}
 -- the messages for a text that is not in the grammar
 abbrev pub syntax_messages : List Text
 syntax_messages =
-    codes "unexpected character" ∷ codes "expected a key" ∷ codes "expected =" ∷ codes "expected a value" ∷ codes "expected a newline"
-    ∷ codes "unclosed string" ∷ codes "unclosed array" ∷ codes "unclosed inline table" ∷ codes "unclosed header"
+    codes "unexpected character" ∷ codes "expected a key" ∷ codes "expected ="
+    ∷ codes "expected a value" ∷ codes "expected a newline"
+    ∷ codes "unclosed string" ∷ codes "unclosed array" ∷ codes "unclosed inline table"
+    ∷ codes "unclosed header"
     ∷ codes "invalid escape" ∷ codes "invalid number" ∷ codes "invalid date-time"
     ∷ codes "control character" ∷ codes "carriage return without line feed" ∷ []
 
@@ -20,12 +22,14 @@ pub record IsSyntaxFault (f : Fault) : Type 0 where
 -- the kinds of values, as messages name them
 abbrev pub type_names : List Text
 type_names =
-    codes "string" ∷ codes "integer" ∷ codes "float" ∷ codes "boolean" ∷ codes "datetime" ∷ codes "array" ∷ codes "inline table" ∷ []
+    codes "string" ∷ codes "integer" ∷ codes "float" ∷ codes "boolean" ∷ codes "datetime"
+    ∷ codes "array" ∷ codes "inline table" ∷ []
 
 -- the messages of faults of a text that is in the grammar
 abbrev pub fault_messages : List Text
 fault_messages =
-    (duplicate_key ∷ codes "integer number overflowed" ∷ codes "invalid date-time" ∷ recursion_limit ∷ [])
+    (duplicate_key ∷ codes "integer number overflowed" ∷ codes "invalid date-time"
+    ∷ recursion_limit ∷ [])
     ++ map cannot_extend type_names
 
 -- those messages in a version of the grammar

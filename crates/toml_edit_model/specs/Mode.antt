@@ -1,5 +1,6 @@
--- The two ways to treat line endings: `plain` drops each CR outside strings and ends each statement by LF; `exact` keeps the line endings
--- of a text, and whether its last statement has one (TOML 1.1.0, "Newline").
+-- The two ways to treat line endings: `plain` drops each CR outside strings and ends each statement
+-- by LF; `exact` keeps the line endings of a text, and whether its last statement has one (TOML
+-- 1.1.0, "Newline").
 use Rattle.std.specs.Prelude.{Bool, true, false, ◌==◌, if◌then◌else◌, [], ◌∷◌, ◌++◌}
 use Rattle.toml_edit_model.specs.Text.{Text, newline, carriage_return, without_returns}
 
@@ -40,8 +41,8 @@ line_end mode t = if holds_return mode t then but_last t else t
 abbrev pub line_newline : Mode → Text → Text
 line_newline mode t = if holds_return mode t then carriage_return ∷ newline else newline
 
--- The suffix that is read of a statement, from the text before its newline and the newline: in exact mode all of the newline but its LF
--- is the suffix's.
+-- The suffix that is read of a statement, from the text before its newline and the newline: in
+-- exact mode all of the newline but its LF is the suffix's.
 abbrev pub with_return : Mode → Text → Text → Text
 with_return plain t end = t
 with_return exact t end = t ++ but_last end

@@ -12,18 +12,21 @@ is_sorted_by before [] = true
 is_sorted_by before (a ∷ []) = true
 is_sorted_by before (a ∷ b ∷ rest) = before a b && is_sorted_by before (b ∷ rest)
 
--- The second list is the first in an order: its elements, in the order; those that may come before one another stay as they were.
+-- The second list is the first in an order: its elements, in the order; those that may come before
+-- one another stay as they were.
 pub record IsInOrder {A : Type 0} (before : A → A → Bool) (xs ys : List A) : Type 0 where
   pub permutation : IsPermutation xs ys
   pub sorted : is_sorted_by before ys ≡ true
   pub stable : (a : A) → filter (is_level before a) ys ≡ filter (is_level before a) xs
 
--- of every two elements one comes before the other, and what comes before another comes before all that that one does
+-- of every two elements one comes before the other, and what comes before another comes before all
+-- that that one does
 pub record IsAnOrder {A : Type 0} (before : A → A → Bool) : Type 0 where
   pub total : (a b : A) → (before a b ≡ true) ⊎ (before b a ≡ true)
   pub goes_on : (a b c : A) → before a b ≡ true → before b c ≡ true → before a c ≡ true
 
--- What computes the list in order, where `before` is an order: each element goes before the first that it comes before.
+-- What computes the list in order, where `before` is an order: each element goes before the first
+-- that it comes before.
 abbrev pub insert_by : {A : Type 0} → (A → A → Bool) → A → List A → List A
 insert_by before a [] = a ∷ []
 insert_by before a (b ∷ rest) = if before a b then a ∷ b ∷ rest else b ∷ insert_by before a rest

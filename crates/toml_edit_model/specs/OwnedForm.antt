@@ -1,4 +1,5 @@
--- From spans of a text to the texts that they cut: which spans lie in a text, and the tree with these texts.
+-- From spans of a text to the texts that they cut: which spans lie in a text, and the tree with
+-- these texts.
 use Rattle.std.specs.Prelude.{◌≤◌, ℕ, ◌-◌, take, drop, Option, Some, None, option_map}
 use Rattle.std.specs.Str.{IsCharBoundary}
 use Rattle.toml_edit_model.specs.Text.{Text}
@@ -13,7 +14,10 @@ owned_raw source (owned t) = owned t
 owned_raw source (span i j) = owned (cut_out source i j)
 
 abbrev pub owned_decor : Text → Decor → Decor
-owned_decor source d = record { prefix = option_map (owned_raw source) d.prefix; suffix = option_map (owned_raw source) d.suffix }
+owned_decor source d = record {
+  prefix = option_map (owned_raw source) d.prefix;
+  suffix = option_map (owned_raw source) d.suffix;
+}
 
 abbrev pub owned_key : Text → Key → Key
 owned_key source k =
@@ -40,15 +44,18 @@ abbrev pub DecorFits : Text → Decor → Type 0
 DecorFits source d = OptionFits source d.prefix × OptionFits source d.suffix
 
 abbrev pub KeyFits : Text → Key → Type 0
-KeyFits source k = OptionFits source k.spelling × DecorFits source k.leaf × DecorFits source k.dotted
+KeyFits source k =
+    OptionFits source k.spelling × DecorFits source k.leaf × DecorFits source k.dotted
 
 -- each span of the tree does
 abbrev mutual
   pub NodeFits : Text → Node → Type 0
   NodeFits source nothing = Unit {0}
   NodeFits source (leaf s spelling d) = OptionFits source spelling × DecorFits source d
-  NodeFits source (list f xs) = DecorFits source f.decor × RawFits source f.trailing × ItemsFit source xs
-  NodeFits source (inline f ss) = DecorFits source f.decor × RawFits source f.trailing × SlotsFit source ss
+  NodeFits source (list f xs) =
+      DecorFits source f.decor × RawFits source f.trailing × ItemsFit source xs
+  NodeFits source (inline f ss) =
+      DecorFits source f.decor × RawFits source f.trailing × SlotsFit source ss
   NodeFits source (table f ss) = DecorFits source f.decor × SlotsFit source ss
   NodeFits source (tables e xs) = ItemsFit source xs
 
@@ -64,11 +71,20 @@ abbrev mutual
 abbrev mutual
   pub owned_node : Text → Node → Node
   owned_node source nothing = nothing
-  owned_node source (leaf s spelling d) = leaf s (option_map (owned_raw source) spelling) (owned_decor source d)
+  owned_node source (leaf s spelling d) =
+      leaf s (option_map (owned_raw source) spelling) (owned_decor source d)
   owned_node source (list f xs) =
-      list (record f { decor = owned_decor source f.decor; trailing = owned_raw source f.trailing; extent = None }) (owned_items source xs)
+      list (record f {
+        decor = owned_decor source f.decor;
+        trailing = owned_raw source f.trailing;
+        extent = None;
+      }) (owned_items source xs)
   owned_node source (inline f ss) =
-      inline (record f { decor = owned_decor source f.decor; trailing = owned_raw source f.trailing; extent = None }) (owned_slots source ss)
+      inline (record f {
+        decor = owned_decor source f.decor;
+        trailing = owned_raw source f.trailing;
+        extent = None;
+      }) (owned_slots source ss)
   owned_node source (table f ss) = table (owned_fields source f) (owned_slots source ss)
   owned_node source (tables e xs) = tables None (owned_items source xs)
 
@@ -78,13 +94,19 @@ abbrev mutual
 
   pub owned_slots : Text → Slots → Slots
   owned_slots source no_slots = no_slots
-  owned_slots source (slot k n ss) = slot (owned_key source k) (owned_node source n) (owned_slots source ss)
+  owned_slots source (slot k n ss) =
+      slot (owned_key source k) (owned_node source n) (owned_slots source ss)
 
 abbrev pub owned_tree : Text → Tree → Tree
 owned_tree source t =
-    record { root = owned_fields source t.root; slots = owned_slots source t.slots; trailing = owned_raw source t.trailing }
+    record {
+      root = owned_fields source t.root;
+      slots = owned_slots source t.slots;
+      trailing = owned_raw source t.trailing;
+    }
 
--- What the spans of a tree cut from its text makes a tree of owned texts: they lie in it, and the spellings are true.
+-- What the spans of a tree cut from its text makes a tree of owned texts: they lie in it, and the
+-- spellings are true.
 pub record IsOver (source : Text) (t : Tree) : Type 0 where
   pub root : DecorFits source t.root.decor
   pub slots : SlotsFit source t.slots

@@ -1,7 +1,9 @@
--- What a statement says of a path, which roles may meet, and tests of roles (TOML 1.1.0, "Keys", "Table", "Inline Table" and "Array of Tables").
+-- What a statement says of a path, which roles may meet, and tests of roles (TOML 1.1.0, "Keys",
+-- "Table", "Inline Table" and "Array of Tables").
 use Rattle.std.specs.Prelude.{Bool, true, false}
 
--- what a statement says of a path. `through`: a header goes on in the last element of an array there, and says no more.
+-- what a statement says of a path. `through`: a header goes on in the last element of an array
+-- there, and says no more.
 pub data Role : Type 0 where
   dotted_role : Role
   implied_role : Role

@@ -1,4 +1,5 @@
--- Which accepted texts are settled: their lines and pairs in order, spelled by their kept keys (TOML 1.1.0, "Newline" for the ends of lines).
+-- Which accepted texts are settled: their lines and pairs in order, spelled by their kept keys
+-- (TOML 1.1.0, "Newline" for the ends of lines).
 use Rattle.std.specs.Prelude.{◌≡◌, Bool, true, false, not, ◌&&◌, ◌||◌, List, [], ◌∷◌, map, flat_map}
 use Rattle.std.specs.List.{list_all}
 use Rattle.toml_edit_model.specs.Order.{is_sorted_by}
@@ -11,7 +12,9 @@ use Rattle.toml_edit_model.specs.Normal.{pair_before, is_line, line_before, open
 use Rattle.toml_edit_model.specs.Kept.{kept_path}
 
 abbrev pub same_segment : Segment → Segment → Bool
-same_segment s r = (same_text s.before r.before && same_text s.after r.after) && (same_text s.key r.key && same_text s.spelled r.spelled)
+same_segment s r =
+    (same_text s.before r.before && same_text s.after r.after)
+    && (same_text s.key r.key && same_text s.spelled r.spelled)
 
 -- segment for segment
 abbrev pub same_segments : List Segment → List Segment → Bool
@@ -63,28 +66,34 @@ module _ (mode : Mode) where
     pub are_settled_elements : Elements → Bool
     are_settled_elements no_elements = true
     are_settled_elements (element a v es) =
-        (is_shown_text mode a.before && is_shown_text mode a.after) && (is_settled_value v && are_settled_elements es)
+        (is_shown_text mode a.before && is_shown_text mode a.after)
+        && (is_settled_value v && are_settled_elements es)
 
     pub have_settled_values : Pairs → Bool
     have_settled_values no_pairs = true
-    have_settled_values (pair f v ps) = is_shown_frame f && (is_settled_value v && have_settled_values ps)
+    have_settled_values (pair f v ps) =
+        is_shown_frame f && (is_settled_value v && have_settled_values ps)
 
   abbrev pub is_settled_statement : List (Mention Source) → Placed → Statement → Bool
   is_settled_statement ms at (key_line f v end) =
-      (is_shown_frame f && is_settled_value v) && (is_kept ms at.mentions && is_settled_end mode end)
+      (is_shown_frame f && is_settled_value v)
+      && (is_kept ms at.mentions && is_settled_end mode end)
   is_settled_statement ms at (header h end) =
       let own = kept_statement ms at.source.path (header h end) in
-      (is_shown_text mode h.leading && (same_text h.opening (opening_of own) && same_text h.closing (closing_of own)))
+      (is_shown_text mode h.leading
+      && (same_text h.opening (opening_of own) && same_text h.closing (closing_of own)))
       && (is_kept ms at.mentions && is_settled_end mode end)
 
-  -- lines and pairs in order, segments as their kept keys, no U+FEFF; in the plain mode no CR outside strings, and LF at the end
+  -- lines and pairs in order, segments as their kept keys, no U+FEFF; in the plain mode no CR
+  -- outside strings, and LF at the end
   abbrev pub is_settled_in : Document → Bool
   is_settled_in d =
       let places = placed d in
       let mss = map (λ s. s.mentions) places in
       let ms = flat_map (λ m. m) mss in
       (not d.has_mark && is_shown_text mode d.final)
-      && (has_ordered_lines mss places && list_all (λ s. is_settled_statement ms s s.source.statement) places)
+      && (has_ordered_lines mss places
+      && list_all (λ s. is_settled_statement ms s s.source.statement) places)
 
   -- A settled text is an accepted one with a settled cut: `a = 1\na = 2\n` is none.
   abbrev pub IsSettledIn : Text → Document → Type 0

@@ -1,4 +1,5 @@
--- The mentions as one table sees them, and which of them its slots are kept from (TOML 1.1.0, "Keys" and "Table").
+-- The mentions as one table sees them, and which of them its slots are kept from (TOML 1.1.0,
+-- "Keys" and "Table").
 use Rattle.std.specs.Prelude.{Bool, true, false, not, ◌&&◌, ◌||◌, if◌then◌else◌, List, [], ◌∷◌, ◌++◌, map, filter}
 use Rattle.std.specs.List.{list_any}
 use Rattle.toml_edit_model.specs.Text.{is_empty}
@@ -33,7 +34,8 @@ abbrev pub is_single : Path → Bool
 is_single (at_key k ∷ []) = true
 is_single _ = false
 
--- A slot is where its plain header is, else where its key is first mentioned: that mention is the one whose key is kept.
+-- A slot is where its plain header is, else where its key is first mentioned: that mention is the
+-- one whose key is kept.
 abbrev pub is_slot : {S : Type 0} → List (Mention S) → Mention S → List (Mention S) → Bool
 is_slot before m after =
     is_single m.path
@@ -42,7 +44,8 @@ is_slot before m after =
 abbrev pub kept_from : {S : Type 0} → List (Mention S) → List (Mention S) → List (Mention S)
 kept_from before [] = []
 kept_from before (m ∷ ms) =
-    if is_slot before m ms then m ∷ kept_from (before ++ (m ∷ [])) ms else kept_from (before ++ (m ∷ [])) ms
+    if is_slot before m ms then m ∷ kept_from (before ++ (m ∷ [])) ms
+    else kept_from (before ++ (m ∷ [])) ms
 
 -- the slots of a table, by the mentions that their keys are kept from
 abbrev pub kept : {S : Type 0} → List (Mention S) → List (Mention S)

@@ -1,6 +1,7 @@
--- The two versions of the grammar. A part is *late* if TOML 1.1.0 has it and TOML 1.0.0 doesn't: the escapes `\e` and `\xHH` ("String"),
--- a time without seconds ("Offset Date-Time" to "Local Time"), and in an inline table a newline, a comment or a comma after the last pair
--- ("Inline Table").
+-- The two versions of the grammar. A part is *late* if TOML 1.1.0 has it and TOML 1.0.0 doesn't:
+-- the escapes `\e` and `\xHH` ("String"), a time without seconds ("Offset Date-Time" to "Local
+-- Time"), and in an inline table a newline, a comment or a comma after the last pair ("Inline
+-- Table").
 use Rattle.std.specs.Prelude.{ℕ, suc, ◌+◌, ◌-◌, Bool, true, false, not, ◌&&◌, ◌||◌, ◌==◌, if◌then◌else◌, List, [], ◌∷◌, ◌++◌, length, Option, Some, None}
 use Rattle.std.specs.List.{list_any}
 use Rattle.toml_edit_model.specs.Text.{Text, line_feed, carriage_return, quote, hash, backslash}
@@ -22,7 +23,8 @@ is_late_escape c = c == 0x65 || c == 0x78
 abbrev pub has_late_escape : Text → Bool
 has_late_escape [] = false
 has_late_escape (c ∷ []) = false
-has_late_escape (c ∷ d ∷ t) = if c == backslash then is_late_escape d || has_late_escape t else has_late_escape (d ∷ t)
+has_late_escape (c ∷ d ∷ t) =
+    if c == backslash then is_late_escape d || has_late_escape t else has_late_escape (d ∷ t)
 
 -- a string or key that isn't in double quotes has no escapes
 abbrev pub is_late_spelling : Text → Bool
@@ -53,7 +55,8 @@ is_late_byte c = c == line_feed || c == hash
 abbrev pub is_late_trivia : Text → Bool
 is_late_trivia t = list_any is_late_byte t
 
--- An inline table is late by its own trivia, its comma and what is in it; an array by its elements alone.
+-- An inline table is late by its own trivia, its comma and what is in it; an array by its elements
+-- alone.
 abbrev mutual
   pub is_late_value : Value → Bool
   is_late_value (scalar s t) = is_late_scalar s t
@@ -67,7 +70,8 @@ abbrev mutual
   pub are_late_pairs : Pairs → Bool
   are_late_pairs no_pairs = false
   are_late_pairs (pair f v ps) =
-      ((is_late_trivia f.leading || is_late_trivia f.trailing) || is_late_path f.path) || (is_late_value v || are_late_pairs ps)
+      ((is_late_trivia f.leading || is_late_trivia f.trailing) || is_late_path f.path)
+      || (is_late_value v || are_late_pairs ps)
 
 abbrev pub is_late_statement : Statement → Bool
 is_late_statement (key_line f v end) = is_late_path f.path || is_late_value v
@@ -95,7 +99,8 @@ abbrev pub late_escapes : ℕ → Text → List Place
 late_escapes i [] = []
 late_escapes i (c ∷ []) = []
 late_escapes i (c ∷ d ∷ t) =
-    if c == backslash then (if is_late_escape d then (i, escape_size d) ∷ [] else []) ++ late_escapes (i + 2) t
+    if c == backslash then (if is_late_escape d then (i, escape_size d) ∷ [] else [])
+    ++ late_escapes (i + 2) t
     else late_escapes (i + 1) (d ∷ t)
 
 abbrev pub late_spelling : ℕ → Text → List Place
@@ -111,8 +116,9 @@ abbrev pub late_path : ℕ → List Segment → List Place
 late_path i [] = []
 late_path i (s ∷ p) = late_spelling (i + length s.before) s.spelled ++ late_path (next_start i s) p
 
--- Newlines and comments of trivia: a comment goes from `#` up to its newline, and the CR before an LF is the newline's. What is open before a
--- byte: nothing, a comment that began at some byte, or a newline by its CR.
+-- Newlines and comments of trivia: a comment goes from `#` up to its newline, and the CR before an
+-- LF is the newline's. What is open before a byte: nothing, a comment that began at some byte, or a
+-- newline by its CR.
 pub data Reading : Type 0 where
   nothing_yet : Reading
   comment_from : ℕ → Reading
@@ -147,25 +153,30 @@ abbrev mutual
   late_value (array es comma t) i = late_elements es (i + 1)
   late_value (inline_table ps comma t) i =
       late_pairs ps (i + 1)
-      ++ (late_comma comma (i + 1 + length (pairs_text ps)) ++ late_trivia nothing_yet (i + 1 + length (pairs_text ps) + length (comma_text comma)) t)
+      ++ (late_comma comma (i + 1 + length (pairs_text ps))
+      ++ late_trivia nothing_yet (i + 1 + length (pairs_text ps) + length (comma_text comma)) t)
 
   pub late_elements : Elements → ℕ → List Place
   late_elements no_elements i = []
   late_elements (element a v es) i =
-      late_value v (i + length a.before) ++ late_elements es (i + length a.before + length (value_text v) + length a.after + 1)
+      late_value v (i + length a.before)
+      ++ late_elements es (i + length a.before + length (value_text v) + length a.after + 1)
 
   pub late_pairs : Pairs → ℕ → List Place
   late_pairs no_pairs i = []
   late_pairs (pair f v ps) i =
-      let value_at = i + length f.leading + length (path_text f.path) + length f.before_equals + 1 + length f.after_equals in
+      let value_at = i + length f.leading + length (path_text f.path) + length f.before_equals + 1
+      + length f.after_equals in
       late_trivia nothing_yet i f.leading
       ++ (late_path (i + length f.leading) f.path
       ++ (late_value v value_at
-      ++ (late_trivia nothing_yet (value_at + length (value_text v)) f.trailing ++ late_pairs ps (i + length (frame_text f (value_text v)) + 1))))
+      ++ (late_trivia nothing_yet (value_at + length (value_text v)) f.trailing
+      ++ late_pairs ps (i + length (frame_text f (value_text v)) + 1))))
 
 -- the late parts of a statement that begins at this byte
 abbrev pub late_places : ℕ → Statement → List Place
 late_places i (key_line f v end) =
     late_path (i + length f.leading) f.path
-    ++ late_value v (i + length f.leading + length (path_text f.path) + length f.before_equals + 1 + length f.after_equals)
+    ++ late_value v (i + length f.leading + length (path_text f.path) + length f.before_equals + 1
+    + length f.after_equals)
 late_places i (header h end) = late_path (i + path_start (header h end)) h.path

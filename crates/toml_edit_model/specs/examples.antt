@@ -1,4 +1,5 @@
--- Worked examples of the definitions. Nothing of them is cited by a contract: a reader need not believe them.
+-- Worked examples of the definitions. Nothing of them is cited by a contract: a reader need not
+-- believe them.
 pub mod ComputedTree
 pub mod FirstFaults
 pub mod Parts

@@ -10,8 +10,9 @@ use Rattle.toml_edit_error.specs.Report.{Report, SpanIsIn, fault_of}
 abbrev pub IsMessageIn : Version → Text → Type 0
 IsMessageIn version m = Contains syntax_messages m ⊎ Contains (fault_messages_in version) m
 
--- The message is one of those for a text outside the grammar, or one of those of faults in the version. It is about a place of the text,
--- on the boundaries of characters; only that of a limit may be about none.
+-- The message is one of those for a text outside the grammar, or one of those of faults in the
+-- version. It is about a place of the text, on the boundaries of characters; only that of a limit
+-- may be about none.
 pub record IsListedIn (version : Version) (r : Report) : Type 0 where
   pub allowed : IsSyntaxFault (fault_of r) ⊎ Contains (fault_messages_in version) r.message
   pub marks : IsSome r.span ⊎ (r.message ≡ recursion_limit)

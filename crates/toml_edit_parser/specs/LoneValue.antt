@@ -17,7 +17,8 @@ use Rattle.toml_edit_tree.specs.declared.item.Item.{Item}
 use Rattle.toml_edit_tree.specs.declared.value.Value as code
 use Rattle.toml_edit_tree.specs.View.{item_view, value_view}
 
--- The text is one value with white space around it, which is accepted in the version, and the item is the value's.
+-- The text is one value with white space around it, which is accepted in the version, and the item
+-- is the value's.
 pub record IsLoneReadingIn (version : Version) (t : Text) (n : Node) : Type 0 where
   pub value : Value
   pub lone : IsLoneValue t value
@@ -25,20 +26,24 @@ pub record IsLoneReadingIn (version : Version) (t : Text) (n : Node) : Type 0 wh
   pub only : (other : Value) → IsLoneValue t other → other ≡ value
   pub item : IsLoneItem value n
 
--- The report is of the text, with one of the messages that there are, and names what a text may be refused with that was to be one
--- value: if it is one, that isn't accepted in the version; if it is none, what is wrong with its syntax, unless too many brackets are
--- open before that.
+-- The report is of the text, with one of the messages that there are, and names what a text may be
+-- refused with that was to be one value: if it is one, that isn't accepted in the version; if it is
+-- none, what is wrong with its syntax, unless too many brackets are open before that.
 pub record IsLoneRefusalIn (version : Version) (t : Text) (r : Report) : Type 0 where
   pub input : r.input ≡ t
   pub listed : IsListedIn version r
   pub names : MayRefuseValueIn version t (fault_of r)
-  pub syntax : ((v : Value) → IsLoneValue t v → ⊥) → IsSyntaxFault (fault_of r) ⊎ ValueOpensTooMany t
+  pub syntax : ((v : Value) → IsLoneValue t v → ⊥)
+      → IsSyntaxFault (fault_of r) ⊎ ValueOpensTooMany t
   pub refused : (v : Value) → IsLoneValue t v → is_accepted_value_in version v ≡ false
 
--- What reading a lone value returns: a reading of the text; out of memory alone where the text is an accepted value; a report.
-pub record ReadsLoneIn (version : Version) (t : Text) (r : Result code.Value ParseFault) : Type 0 where
+-- What reading a lone value returns: a reading of the text; out of memory alone where the text is
+-- an accepted value; a report.
+pub record ReadsLoneIn (version : Version) (t : Text)
+    (r : Result code.Value ParseFault) : Type 0 where
   pub read : IfOk r (λ v. IsLoneReadingIn version t (value_view v))
-  pub every : (v : Value) → IsLoneValue t v → is_accepted_value_in version v ≡ true → IsOk r ⊎ IsErrOf r ParseFault.Memory
+  pub every : (v : Value) → IsLoneValue t v → is_accepted_value_in version v ≡ true
+      → IsOk r ⊎ IsErrOf r ParseFault.Memory
   pub refused : IfErr r (λ e. IfToml e (IsLoneRefusalIn version t))
 
 -- And in TOML 1.1,
@@ -61,5 +66,6 @@ IsLoneItemReading t n = (is_value_node n ≡ true) × IsLoneReading t n
 
 pub record ReadsLoneItem (t : Text) (r : Result Item ParseFault) : Type 0 where
   pub read : IfOk r (λ x. IsLoneItemReading t (item_view x))
-  pub every : (v : Value) → IsLoneValue t v → is_accepted_value v ≡ true → IsOk r ⊎ IsErrOf r ParseFault.Memory
+  pub every : (v : Value) → IsLoneValue t v → is_accepted_value v ≡ true
+      → IsOk r ⊎ IsErrOf r ParseFault.Memory
   pub refused : IfErr r (λ e. IfToml e (IsLoneRefusal t))

@@ -39,7 +39,12 @@ pub record FrameParts : Type 0 where
   pub after_equals : Span
 
 abbrev pub parts_of : FrameSpans → FrameParts
-parts_of s = record { leading = s.leading; path = s.path.now; before_equals = s.before_equals; after_equals = s.after_equals }
+parts_of s = record {
+  leading = s.leading;
+  path = s.path.now;
+  before_equals = s.before_equals;
+  after_equals = s.after_equals;
+}
 
 -- those of a pair that begins at this byte
 abbrev pub frame_parts : ℕ → Frame → FrameParts
@@ -57,7 +62,9 @@ frame_parts start f =
 abbrev pub key_events : ℕ → Frame → List Event
 key_events start f =
     let key = start + length f.leading in
-    path_events key f.path ++ (event Equals (key + length (path_text f.path) + length f.before_equals) (codes "=") ∷ [])
+    path_events key f.path
+    ++ (event Equals (key + length (path_text f.path) + length f.before_equals) (codes "=")
+    ∷ [])
 
 -- what follows the last key of a path, of a key line or of a header
 abbrev pub ends_path : EventKind → Bool
@@ -76,13 +83,22 @@ between left right = record { start = left.end; end = max left.end right.start }
 -- those of a pair whose path this is, where the sign `=` and the value come after it
 abbrev pub frame_behind : Span → List Event → List Event → Option (FrameParts × List Event)
 frame_behind leading path (sign ∷ value ∷ es) =
-    option_map (λ key. (record { leading = leading; path = path; before_equals = between key.span sign.span; after_equals = between sign.span value.span }, value ∷ es))
+    option_map (λ key. (
+      record {
+        leading = leading;
+        path = path;
+        before_equals = between key.span sign.span;
+        after_equals = between sign.span value.span;
+      },
+      value ∷ es,
+    ))
     (last_or None path)
 frame_behind leading path _ = None
 
 -- the parts of a pair after its leading text, and the events after them
 abbrev pub split_frame : Span → List Event → Option (FrameParts × List Event)
-split_frame leading es = option_and_then (λ at. frame_behind leading (take at es) (drop at es)) (path_end es)
+split_frame leading es =
+    option_and_then (λ at. frame_behind leading (take at es) (drop at es)) (path_end es)
 
 -- ---- a path
 
@@ -91,7 +107,8 @@ abbrev pub first_before : List Segment → Text
 first_before [] = []
 first_before (s ∷ rest) = s.before
 
--- a path as it is read: where the texts around its pair's key are, where the text after the dot before it is, and its events
+-- a path as it is read: where the texts around its pair's key are, where the text after the dot
+-- before it is, and its events
 pub record PathView : Type 0 where
   pub prefix : Span
   pub suffix : Span
@@ -99,11 +116,17 @@ pub record PathView : Type 0 where
   pub events : List Event
 
 abbrev pub path_of : KeyPath → PathView
-path_of p = record { prefix = p.prefix; suffix = p.suffix; before = p.before; events = p.events.now }
+path_of p = record {
+  prefix = p.prefix;
+  suffix = p.suffix;
+  before = p.before;
+  events = p.events.now;
+}
 
 -- the text before a dot, and the path after it
 abbrev pub split_dot : KeyPath → List Event → Option (Span × PathView)
-split_dot p (a ∷ b ∷ es) = Some (a.span, record { prefix = p.prefix; suffix = p.suffix; before = b.span; events = es })
+split_dot p (a ∷ b ∷ es) =
+    Some (a.span, record { prefix = p.prefix; suffix = p.suffix; before = b.span; events = es })
 split_dot p _ = None
 
 -- the decor of a path's last key
@@ -112,12 +135,19 @@ leaf_of p = record { prefix = Some (spanned_raw p.prefix); suffix = Some (spanne
 
 -- a path of this entry, that begins at this byte
 abbrev pub IsPathAt : Entry → ℕ → List Segment → KeyPath → Type 0
-IsPathAt e start p k = (leaf_of k ≡ e.leaf) × (k.before ≡ span_at start (first_before p)) × (k.events.now ≡ path_events start p)
+IsPathAt e start p k =
+    (leaf_of k ≡ e.leaf) × (k.before ≡ span_at start (first_before p))
+    × (k.events.now ≡ path_events start p)
 
 -- a key with this name, that is spelled at the span
 abbrev pub key_with : Text → Span → Decor → Raw → Raw → Key
 key_with name at own before after =
-    record { name = name; spelling = Some (span at.start at.end); leaf = own; dotted = record { prefix = Some before; suffix = Some after } }
+    record {
+      name = name;
+      spelling = Some (span at.start at.end);
+      leaf = own;
+      dotted = record { prefix = Some before; suffix = Some after };
+    }
 
 -- the keys of a path, from one of them on, are spelled, and nothing follows the last
 pub record IsEndOfPath (p : List Segment) : Type 0 where
@@ -129,46 +159,58 @@ pub record IsEndOfPath (p : List Segment) : Type 0 where
 
 -- what is in the way of a pair is named
 abbrev pub NamesClash : Text → Option (Mention Entry × Node) → Report → Type 0
-NamesClash source clash r = (r.input ≡ source) × (c : Mention Entry × Node) × (clash ≡ Some c) × (fault_of r ≡ way_fault c)
+NamesClash source clash r =
+    (r.input ≡ source) × (c : Mention Entry × Node) × (clash ≡ Some c) × (fault_of r ≡ way_fault c)
 
 -- what adding an item at the end of a path does to slots
-abbrev pub AddsEntry : {A : Type 0} → Text → List (Mention Entry) → Node → Slots → Slots → Result A ParseFault → Type 0
+abbrev pub AddsEntry : {A : Type 0} → Text → List (Mention Entry) → Node → Slots → Slots
+    → Result A ParseFault → Type 0
 AddsEntry source ms n old new (Ok _) = add_entry spanned_form ms n old ≡ Some new
 AddsEntry source ms n old new (Err e) = IfToml e (NamesClash source (entry_clash ms old))
 
 -- the item with a change in it, where it is a dotted inline table
 abbrev pub change_inside : (Slots → Option Slots) → Node → Option Node
-change_inside change (inline f inner) = if f.is_dotted then option_map (inline f) (change inner) else None
+change_inside change (inline f inner) =
+    if f.is_dotted then option_map (inline f) (change inner) else None
 change_inside change _ = None
 
 -- what going on below a key does to the item that is there
-abbrev pub AddsInside : {A : Type 0} → Text → Mention Entry → List (Mention Entry) → Node → Node → Node → Result A ParseFault → Type 0
+abbrev pub AddsInside : {A : Type 0} → Text → Mention Entry → List (Mention Entry) → Node → Node
+    → Node → Result A ParseFault → Type 0
 AddsInside source m ms n old new (Ok _) = change_inside (add_entry spanned_form ms n) old ≡ Some new
-AddsInside source m ms n old new (Err e) = IfToml e (NamesClash source (clash_below m (entry_clash ms) (Some old)))
+AddsInside source m ms n old new (Err e) =
+    IfToml e (NamesClash source (clash_below m (entry_clash ms) (Some old)))
 
 -- a mention of a key that goes on, which is spelled at this span
 abbrev pub IsPassed : Span → Mention Entry → Type 0
 IsPassed s m = (m.role ≡ dotted_role) × (s ≡ span_at m.start m.segment.spelled)
 
 -- what adding a slot with this key does
-abbrev pub AddsLast : {A : Type 0} → Text → Span → Key → Node → Slots → Slots → Result A ParseFault → Type 0
+abbrev pub AddsLast : {A : Type 0} → Text → Span → Key → Node → Slots → Slots → Result A ParseFault
+    → Type 0
 AddsLast source s k n old new (Ok _) = add_last old k n (node_at k.name old) ≡ Some new
 AddsLast source s k n old new (Err e) =
-    IfToml e (λ r. (m : Node) × (node_at k.name old ≡ Some m) × (r ≡ record { message = duplicate_key; span = Some (s.start, s.end); input = source }))
+    IfToml e (λ r. (m : Node) × (node_at k.name old ≡ Some m)
+    × (r ≡ record { message = duplicate_key; span = Some (s.start, s.end); input = source }))
 
 -- what adding an item below a new key does
-abbrev pub AddsBelow : {A : Type 0} → Key → Span → List (Mention Entry) → Node → Slots → Slots → Result A ParseFault → Type 0
+abbrev pub AddsBelow : {A : Type 0} → Key → Span → List (Mention Entry) → Node → Slots → Slots
+    → Result A ParseFault → Type 0
 AddsBelow k s ms n old new (Ok _) =
-    option_map (λ inner. with_slot old k (inline (path_fields (Some (s.start, s.end))) inner)) (add_entry spanned_form ms n no_slots) ≡ Some new
+    option_map (λ inner. with_slot old k (inline (path_fields (Some (s.start, s.end))) inner))
+    (add_entry spanned_form ms n no_slots) ≡ Some new
 AddsBelow k s ms n old new (Err e) = IfToml e (λ r. ⊥)
 
 -- what ending a pair with this item returns
-abbrev pub EndsPair : Text → List (Mention Entry) → Node → List Event → Slots → Slots → Result (Bor (List Event)) ParseFault → Type 0
-EndsPair source ms n more old new (Ok r) = (r.now ≡ more) × (add_entry spanned_form ms n old ≡ Some new)
+abbrev pub EndsPair : Text → List (Mention Entry) → Node → List Event → Slots → Slots
+    → Result (Bor (List Event)) ParseFault → Type 0
+EndsPair source ms n more old new (Ok r) =
+    (r.now ≡ more) × (add_entry spanned_form ms n old ≡ Some new)
 EndsPair source ms n more old new (Err e) = IfToml e (NamesClash source (entry_clash ms old))
 
 -- what reading a pair that begins at this byte does to the slots of those before it
-pub record AddsPair (f : Frame) (v : Value) (start level : ℕ) (more : List Event) (old new : Slots) (rest : List Event) : Type 0 where
+pub record AddsPair (f : Frame) (v : Value) (start level : ℕ) (more : List Event) (old new : Slots)
+    (rest : List Event) : Type 0 where
   pub short : long_path f.path ≡ []
   pub faultless : value_faults v (value_at_byte start f) level ≡ []
   pub rest_is : rest ≡ shortened level more
@@ -181,9 +223,11 @@ NamesPair source f v start level old r =
     NamesOne source (long_path f.path ++ value_faults v (value_at_byte start f) level) r
     ⊎ NamesClash source (entry_clash (pair_path spanned_form start f v) old) r
 
-abbrev pub ReadsPair : Text → Frame → Value → ℕ → ℕ → List Event → Slots → Slots → Result (Bor (List Event)) ParseFault → Type 0
+abbrev pub ReadsPair : Text → Frame → Value → ℕ → ℕ → List Event → Slots → Slots
+    → Result (Bor (List Event)) ParseFault → Type 0
 ReadsPair source f v start level more old new (Ok r) = AddsPair f v start level more old new r.now
-ReadsPair source f v start level more old new (Err e) = IfToml e (NamesPair source f v start level old)
+ReadsPair source f v start level more old new (Err e) =
+    IfToml e (NamesPair source f v start level old)
 
 -- ---- all pairs
 
@@ -192,16 +236,20 @@ abbrev pub PairsStand : Text → ℕ → Pairs → Type 0
 PairsStand source start no_pairs = Unit {0}
 PairsStand source start (pair f v ps) = Stands source start (pairs_text (pair f v ps))
 
-pub record ArePairsRead (ps : Pairs) (start level : ℕ) (more : List Event) (ss : Slots) (rest : List Event) : Type 0 where
+pub record ArePairsRead (ps : Pairs) (start level : ℕ) (more : List Event) (ss : Slots)
+    (rest : List Event) : Type 0 where
   pub faultless : pairs_faults ps start level ≡ []
   pub rest_is : rest ≡ shortened level more
-  pub slots : AreEntrySlots spanned_form (entries spanned_form ps start) (kept (entries spanned_form ps start)) ss
+  pub slots : AreEntrySlots spanned_form (entries spanned_form ps start)
+      (kept (entries spanned_form ps start)) ss
   pub agreement : all_agree may_meet_inline (pair_mentions 0 ps) ≡ true
 
-abbrev pub ReadsPairs : Text → Pairs → ℕ → ℕ → List Event → Slots → Result (Bor (List Event)) ParseFault → Type 0
+abbrev pub ReadsPairs : Text → Pairs → ℕ → ℕ → List Event → Slots
+    → Result (Bor (List Event)) ParseFault → Type 0
 ReadsPairs source ps start level more ss (Ok r) = ArePairsRead ps start level more ss r.now
 ReadsPairs source ps start level more ss (Err e) =
-    IfToml e (NamesOne source (pair_clashes [] (pair_mentions start ps) ++ pairs_faults ps start level))
+    IfToml e (NamesOne source
+    (pair_clashes [] (pair_mentions start ps) ++ pairs_faults ps start level))
 
 -- ---- the end
 
@@ -209,15 +257,23 @@ ReadsPairs source ps start level more ss (Err e) =
 abbrev pub inline_of : ℕ → Close → Slots → InlineView
 inline_of start close ss =
     record {
-      fields = record { decor = unset; is_dotted = false; comma = close.comma; trailing = spanned_raw close.inner; extent = Some (start, close.end) };
+      fields = record {
+        decor = unset;
+        is_dotted = false;
+        comma = close.comma;
+        trailing = spanned_raw close.inner;
+        extent = Some (start, close.end);
+      };
       slots = ss;
     }
 
 -- what ending an inline table that opens at this byte returns
-pub record MakesInline (start : ℕ) (close : Close) (ss : Slots) (more : List Event) (n : Node) (rest : List Event) : Type 0 where
+pub record MakesInline (start : ℕ) (close : Close) (ss : Slots) (more : List Event) (n : Node)
+    (rest : List Event) : Type 0 where
   pub rest_is : rest ≡ more
   pub node : n ≡ inline_node (inline_of start close ss)
 
-abbrev pub EndsInline : ℕ → Close → Slots → List Event → Result (code.Value × Bor (List Event)) ParseFault → Type 0
+abbrev pub EndsInline : ℕ → Close → Slots → List Event
+    → Result (code.Value × Bor (List Event)) ParseFault → Type 0
 EndsInline start close ss more (Ok r) = MakesInline start close ss more (value_view r.0) r.1.now
 EndsInline start close ss more (Err e) = IfToml e (λ r. ⊥)

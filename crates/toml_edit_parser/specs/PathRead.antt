@@ -14,23 +14,32 @@ use Rattle.toml_edit_parser.specs.ValueRead.{span_at}
 
 -- a path of these segments that begins at this byte, the last of which has this decor
 abbrev pub IsPathFrom : Decor → ℕ → List Segment → KeyPath → Type 0
-IsPathFrom own start p k = (leaf_of k ≡ own) × (k.before ≡ span_at start (first_before p)) × (k.events.now ≡ path_events start p)
+IsPathFrom own start p k =
+    (leaf_of k ≡ own) × (k.before ≡ span_at start (first_before p))
+    × (k.events.now ≡ path_events start p)
 
 -- the key of a segment that begins at this byte
 abbrev pub segment_key : Decor → ℕ → Segment → Key
 segment_key own start s =
     let at = start + length s.before in
-    record { name = s.key; spelling = Some (spanned_form.raw at s.spelled); leaf = own; dotted = dots_at spanned_form at s }
+    record {
+      name = s.key;
+      spelling = Some (spanned_form.raw at s.spelled);
+      leaf = own;
+      dotted = dots_at spanned_form at s;
+    }
 
 -- the first key and the path after it
 abbrev pub IsKeyBefore : Decor → ℕ → Segment → List Segment → Key → Option KeyPath → Type 0
 IsKeyBefore own start s [] k None = k ≡ segment_key own start s
-IsKeyBefore own start s (r ∷ p) k (Some path) = (k ≡ segment_key unset start s) × IsPathFrom own (next_start start s) (r ∷ p) path
+IsKeyBefore own start s (r ∷ p) k (Some path) =
+    (k ≡ segment_key unset start s) × IsPathFrom own (next_start start s) (r ∷ p) path
 IsKeyBefore own start s _ k _ = ⊥
 
 abbrev pub IsFirstKey : Decor → ℕ → List Segment → PathKey → Type 0
 IsFirstKey own start [] r = ⊥
-IsFirstKey own start (s ∷ p) r = (r.span ≡ span_at (start + length s.before) s.spelled) × IsKeyBefore own start s p r.key r.rest
+IsFirstKey own start (s ∷ p) r =
+    (r.span ≡ span_at (start + length s.before) s.spelled) × IsKeyBefore own start s p r.key r.rest
 
 -- the result of reading it, which fails only if memory runs out
 abbrev pub ReadsKey : Decor → ℕ → List Segment → Result PathKey ParseFault → Type 0

@@ -20,6 +20,8 @@ ReadsName k (Err e) = IfToml e (λ r. ⊥)
 -- the value that was read, or a report of the text that names it as out of range
 abbrev pub ReadsScalar : Text → ℕ → Scalar → Text → Result code.Value ParseFault → Type 0
 ReadsScalar t start s spelling (Ok v) =
-    (value_view v ≡ leaf s (Some (span start (start + length spelling))) unset) × (is_in_range s spelling ≡ true)
+    (value_view v ≡ leaf s (Some (span start (start + length spelling))) unset)
+    × (is_in_range s spelling ≡ true)
 ReadsScalar t start s spelling (Err e) =
-    IfToml e (λ r. (r.input ≡ t) × (is_in_range s spelling ≡ false) × (fault_of r ≡ fault (range_message s) start (length spelling)))
+    IfToml e (λ r. (r.input ≡ t) × (is_in_range s spelling ≡ false)
+    × (fault_of r ≡ fault (range_message s) start (length spelling)))

@@ -24,12 +24,16 @@ use Rattle.toml_edit_parser.specs.ValueRead.{NamesOne, span_at}
 
 -- The statement, which begins at this byte, ends in a newline or with the text.
 abbrev pub IsEnded : Text → ℕ → Statement → Type 0
-IsEnded t start s = IsNewline (newline_after s) ⊎ ((newline_after s ≡ []) × (length t ≡ start + length (statement_text s)))
+IsEnded t start s =
+    IsNewline (newline_after s)
+    ⊎ ((newline_after s ≡ []) × (length t ≡ start + length (statement_text s)))
 
--- The span of the suffix of a statement, from that of the text before its newline: in exact mode, the CR of the newline is the suffix's too.
+-- The span of the suffix of a statement, from that of the text before its newline: in exact mode,
+-- the CR of the newline is the suffix's too.
 abbrev pub suffix_span : Mode → Text → Span → Span
 suffix_span plain t s = s
-suffix_span exact t s = if get_or t s.end 0 == carriage_return then record { start = s.start; end = s.end + 1 } else s
+suffix_span exact t s =
+    if get_or t s.end 0 == carriage_return then record { start = s.start; end = s.end + 1 } else s
 
 -- ---- a key line
 
@@ -60,35 +64,52 @@ header_behind start h more =
 
 module _ (mode : Mode) where
   -- The key line has no fault of its own; this is the item of its value, and this its path.
-  pub record IsLineRead (f : Frame) (v : Value) (end : Text) (start : ℕ) (more : List Event) (n : Node) (path : KeyPath) (rest : List Event) : Type 0 where
+  pub record IsLineRead (f : Frame) (v : Value) (end : Text) (start : ℕ) (more : List Event)
+      (n : Node) (path : KeyPath) (rest : List Event) : Type 0 where
     pub faultless : own_faults start (key_line f v end) ≡ []
-    pub node : IsValueNode (spanned_in mode) v (start + value_start (spanned_in mode) f) f.after_equals (with_return mode f.trailing end) n
-    pub path_is : IsPathFrom (frame_leaf (spanned_in mode) start f) (start + length f.leading) f.path path
+    pub node : IsValueNode (spanned_in mode) v
+        (start + value_start (spanned_in mode) f) f.after_equals (with_return mode f.trailing end) n
+    pub path_is : IsPathFrom (frame_leaf (spanned_in mode) start f)
+        (start + length f.leading) f.path path
     pub rest_is : rest ≡ shortened 0 more
 
-  abbrev pub ReadsLineParts : Text → Frame → Value → Text → ℕ → List Event → Node → Result (KeyPath × Bor (List Event)) ParseFault → Type 0
+  abbrev pub ReadsLineParts : Text → Frame → Value → Text → ℕ → List Event → Node
+      → Result (KeyPath × Bor (List Event)) ParseFault → Type 0
   ReadsLineParts t f v end start more n (Ok r) = IsLineRead f v end start more n r.0 r.1.now
-  ReadsLineParts t f v end start more n (Err e) = IfToml e (NamesOne t (own_faults start (key_line f v end)))
+  ReadsLineParts t f v end start more n (Err e) =
+      IfToml e (NamesOne t (own_faults start (key_line f v end)))
 
   -- Its value has no fault; this is its item, between the text at this span and that text after it.
-  pub record IsLineValue (v : Value) (start : ℕ) (before : Span) (after : Text) (more : List Event) (n : Node) (rest : List Event) : Type 0 where
+  pub record IsLineValue (v : Value) (start : ℕ) (before : Span) (after : Text) (more : List Event)
+      (n : Node) (rest : List Event) : Type 0 where
     pub faultless : value_faults v start 0 ≡ []
-    pub node : (i : ℕ) (b : Text) → start ≡ i + length b → before ≡ span_at i b → IsValueNode (spanned_in mode) v i b after n
+    pub node : (i : ℕ) (b : Text) → start ≡ i + length b → before ≡ span_at i b
+        → IsValueNode (spanned_in mode) v i b after n
     pub rest_is : rest ≡ shortened 0 more
 
-  abbrev pub ReadsLineValue : Text → Value → ℕ → Span → Text → List Event → Node → Result (Bor (List Event)) ParseFault → Type 0
-  ReadsLineValue t v start before after more n (Ok r) = IsLineValue v start before after more n r.now
-  ReadsLineValue t v start before after more n (Err e) = IfToml e (NamesOne t (value_faults v start 0))
+  abbrev pub ReadsLineValue : Text → Value → ℕ → Span → Text → List Event → Node
+      → Result (Bor (List Event)) ParseFault → Type 0
+  ReadsLineValue t v start before after more n (Ok r) =
+      IsLineValue v start before after more n r.now
+  ReadsLineValue t v start before after more n (Err e) =
+      IfToml e (NamesOne t (value_faults v start 0))
 
   -- The path of the header is short, and this; and here its brackets end, and its suffix is.
-  pub record IsHeaderRead (h : Header) (end : Text) (start : ℕ) (more : List Event) (parts : HeaderSpans) (rest : List Event) : Type 0 where
+  pub record IsHeaderRead (h : Header) (end : Text) (start : ℕ) (more : List Event)
+      (parts : HeaderSpans) (rest : List Event) : Type 0 where
     pub short : long_path h.path ≡ []
-    pub path_is : IsPathFrom (header_leaf (spanned_in mode) (start + length h.leading + length (opening_brackets h.is_array)) h)
-        (start + length h.leading + length (opening_brackets h.is_array) + length h.opening) h.path parts.path
+    pub path_is : IsPathFrom
+        (header_leaf (spanned_in mode)
+        (start + length h.leading + length (opening_brackets h.is_array)) h)
+        (start + length h.leading + length (opening_brackets h.is_array)
+        + length h.opening) h.path parts.path
     pub end_is : parts.end ≡ start + length h.leading + length (brackets_text h)
-    pub trailing : parts.trailing ≡ span_at (start + length h.leading + length (brackets_text h)) (with_return mode h.trailing end)
+    pub trailing : parts.trailing
+        ≡ span_at (start + length h.leading + length (brackets_text h))
+        (with_return mode h.trailing end)
     pub rest_is : rest ≡ shortened 0 more
 
-  abbrev pub ReadsHeader : Text → Header → Text → ℕ → List Event → Result (HeaderSpans × Bor (List Event)) ParseFault → Type 0
+  abbrev pub ReadsHeader : Text → Header → Text → ℕ → List Event
+      → Result (HeaderSpans × Bor (List Event)) ParseFault → Type 0
   ReadsHeader t h end start more (Ok r) = IsHeaderRead h end start more r.0 r.1.now
   ReadsHeader t h end start more (Err e) = IfToml e (NamesOne t (long_path h.path))

@@ -75,7 +75,9 @@ is_comma _ = false
 
 -- a closing bracket with what is before it
 abbrev pub split_close : List Event → Option (Close × List Event)
-split_close (a ∷ b ∷ es) = if is_comma a.kind then behind_comma b es else Some (record { comma = false; inner = a.span; end = b.span.end }, es)
+split_close (a ∷ b ∷ es) =
+    if is_comma a.kind then behind_comma b es
+    else Some (record { comma = false; inner = a.span; end = b.span.end }, es)
   where
     behind_comma : Event → List Event → Option (Close × List Event)
     behind_comma b [] = None
@@ -90,50 +92,64 @@ ElementsStand source start (element a v es) = Stands source start (elements_text
 -- ---- results
 
 -- The value has no fault, and the item, put between what is around it, is the value's.
-pub record IsRead (v : Value) (start level : ℕ) (more : List Event) (n : Node) (rest : List Event) : Type 0 where
+pub record IsRead (v : Value) (start level : ℕ) (more : List Event) (n : Node)
+    (rest : List Event) : Type 0 where
   pub faultless : value_faults v start level ≡ []
   pub rest_is : rest ≡ shortened level more
   pub node : (i : ℕ) (before after : Text) → start ≡ i + length before
-      → IsValueNode spanned_form v i before after (with_decor (decor_at spanned_form i before (start + length (value_text v)) after) n)
+      → IsValueNode spanned_form v i before after
+      (with_decor (decor_at spanned_form i before (start + length (value_text v)) after) n)
 
 -- the report is of the text, and names one of these faults
 abbrev pub NamesOne : Text → List Fault → Report → Type 0
 NamesOne source faults r = (r.input ≡ source) × Contains faults (fault_of r)
 
--- what reading this value, which begins at this byte inside so many brackets, returns, where these events follow
-abbrev pub ReadsValue : Text → Value → ℕ → ℕ → List Event → Result (code.Value × Bor (List Event)) ParseFault → Type 0
+-- what reading this value, which begins at this byte inside so many brackets, returns, where these
+-- events follow
+abbrev pub ReadsValue : Text → Value → ℕ → ℕ → List Event
+    → Result (code.Value × Bor (List Event)) ParseFault → Type 0
 ReadsValue source v start level more (Ok r) = IsRead v start level more (value_view r.0) r.1.now
-ReadsValue source v start level more (Err e) = IfToml e (NamesOne source (value_faults v start level))
+ReadsValue source v start level more (Err e) =
+    IfToml e (NamesOne source (value_faults v start level))
 
 -- what reading an element does to the items before it, if the text before it begins at this byte
-pub record AddsElement (a : Around) (v : Value) (start level : ℕ) (more : List Event) (old new : List Item) (rest : List Event) : Type 0 where
+pub record AddsElement (a : Around) (v : Value) (start level : ℕ) (more : List Event)
+    (old new : List Item) (rest : List Event) : Type 0 where
   pub faultless : value_faults v (start + length a.before) level ≡ []
   pub rest_is : rest ≡ shortened level more
   pub added : Item
   pub items : new ≡ old ++ added ∷ []
   pub node : IsValueNode spanned_form v start a.before a.after (item_view added)
 
-abbrev pub ReadsElement : Text → Around → Value → ℕ → ℕ → List Event → List Item → List Item → Result (Bor (List Event)) ParseFault → Type 0
-ReadsElement source a v start level more old new (Ok r) = AddsElement a v start level more old new r.now
-ReadsElement source a v start level more old new (Err e) = IfToml e (NamesOne source (value_faults v (start + length a.before) level))
+abbrev pub ReadsElement : Text → Around → Value → ℕ → ℕ → List Event → List Item → List Item
+    → Result (Bor (List Event)) ParseFault → Type 0
+ReadsElement source a v start level more old new (Ok r) =
+    AddsElement a v start level more old new r.now
+ReadsElement source a v start level more old new (Err e) =
+    IfToml e (NamesOne source (value_faults v (start + length a.before) level))
 
-pub record AreRead (es : Elements) (start level : ℕ) (more : List Event) (items : List Item) (rest : List Event) : Type 0 where
+pub record AreRead (es : Elements) (start level : ℕ) (more : List Event) (items : List Item)
+    (rest : List Event) : Type 0 where
   pub faultless : elements_faults es start level ≡ []
   pub rest_is : rest ≡ shortened level more
   pub nodes : AreElementNodes spanned_form es start (items_view items)
 
-abbrev pub ReadsElements : Text → Elements → ℕ → ℕ → List Event → List Item → Result (Bor (List Event)) ParseFault → Type 0
+abbrev pub ReadsElements : Text → Elements → ℕ → ℕ → List Event → List Item
+    → Result (Bor (List Event)) ParseFault → Type 0
 ReadsElements source es start level more items (Ok r) = AreRead es start level more items r.now
-ReadsElements source es start level more items (Err e) = IfToml e (NamesOne source (elements_faults es start level))
+ReadsElements source es start level more items (Err e) =
+    IfToml e (NamesOne source (elements_faults es start level))
 
 -- what ending an element with this item returns
-pub record PutsElement (n : Node) (more : List Event) (old new : List Item) (rest : List Event) : Type 0 where
+pub record PutsElement (n : Node) (more : List Event) (old new : List Item)
+    (rest : List Event) : Type 0 where
   pub rest_is : rest ≡ more
   pub added : Item
   pub items : new ≡ old ++ added ∷ []
   pub node : item_view added ≡ n
 
-abbrev pub EndsElement : Node → List Event → List Item → List Item → Result (Bor (List Event)) ParseFault → Type 0
+abbrev pub EndsElement : Node → List Event → List Item → List Item
+    → Result (Bor (List Event)) ParseFault → Type 0
 EndsElement n more old new (Ok r) = PutsElement n more old new r.now
 EndsElement n more old new (Err e) = IfToml e (λ r. ⊥)
 
@@ -141,15 +157,22 @@ EndsElement n more old new (Err e) = IfToml e (λ r. ⊥)
 abbrev pub array_of : ℕ → Close → Items → ArrayView
 array_of start close xs =
     record {
-      fields = record { decor = unset; comma = close.comma; trailing = spanned_raw close.inner; extent = Some (start, close.end) };
+      fields = record {
+        decor = unset;
+        comma = close.comma;
+        trailing = spanned_raw close.inner;
+        extent = Some (start, close.end);
+      };
       items = xs;
     }
 
 -- what ending an array that opens at this byte returns
-pub record MakesArray (start : ℕ) (close : Close) (xs : Items) (more : List Event) (n : Node) (rest : List Event) : Type 0 where
+pub record MakesArray (start : ℕ) (close : Close) (xs : Items) (more : List Event) (n : Node)
+    (rest : List Event) : Type 0 where
   pub rest_is : rest ≡ more
   pub node : n ≡ array_node (array_of start close xs)
 
-abbrev pub EndsArray : ℕ → Close → Items → List Event → Result (code.Value × Bor (List Event)) ParseFault → Type 0
+abbrev pub EndsArray : ℕ → Close → Items → List Event
+    → Result (code.Value × Bor (List Event)) ParseFault → Type 0
 EndsArray start close xs more (Ok r) = MakesArray start close xs more (value_view r.0) r.1.now
 EndsArray start close xs more (Err e) = IfToml e (λ r. ⊥)

@@ -117,11 +117,14 @@ impl FromStrWith for Value {
     /// seconds, and in an inline table a newline, a comment or a comma after the last pair (`needs
     /// TOML 1.1`).
     fn from_str_with(alloc: Global, text: &str, options: ParseOptions) -> Result<Value, ParseFault>
-        ensures read { IfOk result (λ v. IsLoneReadingIn (version_of options) text.now (value_view v)) }
+        ensures read { IfOk result
+            (λ v. IsLoneReadingIn (version_of options) text.now (value_view v)) }
         // An accepted value is never refused.
-        ensures every { (v : syntax.Value) → IsLoneValue text.now v → is_accepted_value_in (version_of options) v ≡ true
+        ensures every { (v : syntax.Value) → IsLoneValue text.now v
+            → is_accepted_value_in (version_of options) v ≡ true
             → IsOk result ⊎ IsErrOf result ParseFault.Memory }
-        ensures refused { IfErr result (λ e. IfToml e (IsLoneRefusalIn (version_of options) text.now)) }
+        ensures refused { IfErr result
+            (λ e. IfToml e (IsLoneRefusalIn (version_of options) text.now)) }
     {
         read_lone_text(alloc, text, options.get_version())
     }
@@ -149,7 +152,8 @@ impl FromStr for Item {
 /// Parses the value that the text is but for whitespace around it, in this version of TOML.
 fn read_lone_text(alloc: Global, text: &str, version: Version) -> Result<Value, ParseFault>
     ensures read { IfOk result (λ v. IsLoneReadingIn (grammar version) text.now (value_view v)) }
-    ensures every { (v : syntax.Value) → IsLoneValue text.now v → is_accepted_value_in (grammar version) v ≡ true
+    ensures every { (v : syntax.Value) → IsLoneValue text.now v
+        → is_accepted_value_in (grammar version) v ≡ true
         → IsOk result ⊎ IsErrOf result ParseFault.Memory }
     ensures refused { IfErr result (λ e. IfToml e (IsLoneRefusalIn (grammar version) text.now)) }
 {
@@ -172,9 +176,11 @@ fn refuse_late(
 ) -> Result<(), ParseFault>
     requires cut { AreLoneEvents text.now events.now }
     requires spans { AreIn text.now events.now }
-    ensures passed { (v : syntax.Value) → IsLoneValue text.now v → are_deep events.now ≡ false → IsOk result
+    ensures passed { (v : syntax.Value) → IsLoneValue text.now v → are_deep events.now ≡ false
+        → IsOk result
         → is_value_of (grammar version) v ≡ true }
-    ensures every { (v : syntax.Value) → IsLoneValue text.now v → is_value_of (grammar version) v ≡ true
+    ensures every { (v : syntax.Value) → IsLoneValue text.now v
+        → is_value_of (grammar version) v ≡ true
         → IsOk result ⊎ IsErrOf result ParseFault.Memory }
     ensures refused { IfErr result (λ e. IfToml e (IsLoneRefusalIn (grammar version) text.now)) }
 {

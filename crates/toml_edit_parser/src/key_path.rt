@@ -41,12 +41,16 @@ pub fn next_key<'a>(
     path: KeyPath<'a>,
 ) -> Result<PathKey<'a>, ParseFault>
     requires { AreIn source.now path.events.now }
-    ensures key { (own : Decor) (p : List Segment) (start : ℕ) → IsEndOfPath p → Stands source.now start (path_text p)
+    ensures key { (own : Decor) (p : List Segment) (start : ℕ) → IsEndOfPath p
+        → Stands source.now start (path_text p)
         → IsPathFrom own start p path.entry → ReadsKey own start p result }
     ensures input { IfErr result (λ e. IfToml e (λ r. r.input ≡ source.now)) }
     ensures listed { IfErr result (λ e. IfToml e IsListed) }
     ensures span { IfOk result (λ r. IsSpanOf source.now r.span) }
-    ensures rest { IfOk result (λ r. IfSome r.rest (λ inside. AreIn source.now inside.events.now × (length inside.events.now < length path.entry.events.now))) }
+    ensures rest { IfOk result
+        (λ r. IfSome r.rest
+        (λ inside. AreIn source.now inside.events.now
+        × (length inside.events.now < length path.entry.events.now))) }
 {
     let Some((first, rest)) = split_first(path.events) else {
         return Err(refusal_at_end(alloc, source, "expected a key"));

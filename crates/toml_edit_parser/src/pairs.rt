@@ -76,15 +76,18 @@ pub(crate) fn read_inline<'a>(
     events: &'a [Event],
 ) -> Result<(Value, &'a [Event]), ParseFault>
     requires { AreIn source.now events.now }
-    ensures value { (ps : Pairs) (comma : Bool) (t : Text) (start level : ℕ) (more : List Event) → ArePairs ps
-        → Stands source.now start (value_text (syntax.inline_table ps comma t)) → level < nesting_limit → opening.start ≡ start
+    ensures value { (ps : Pairs) (comma : Bool) (t : Text) (start level : ℕ) (more : List Event)
+        → ArePairs ps
+        → Stands source.now start (value_text (syntax.inline_table ps comma t))
+        → level < nesting_limit → opening.start ≡ start
         → events.now ≡ shortened (suc level) (pairs_events (start + 1) ps
         ++ (close_events InlineTableClose (codes "}") (start + length (value_text (syntax.inline_table ps comma t)) - 1) comma t ++ more))
         → ReadsValue source.now (syntax.inline_table ps comma t) start level more result }
     ensures input { IfErr result (λ e. IfToml e (λ r. r.input ≡ source.now)) }
     ensures listed { IfErr result (λ e. IfToml e IsListed) }
     ensures fits { IfOk result (λ r. NodeFits source.now (value_view r.0)) }
-    ensures rest { IfOk result (λ r. AreIn source.now r.1.now × (length r.1.now < length events.now)) }
+    ensures rest { IfOk result
+        (λ r. AreIn source.now r.1.now × (length r.1.now < length events.now)) }
 {
     let mut slots = Slots::new(alloc);
     let rest = read_pairs(alloc, source, events, &mut slots)?;
@@ -101,7 +104,8 @@ fn read_pairs<'a>(
 ) -> Result<&'a [Event], ParseFault>
     requires spans { AreIn source.now events.now }
     requires first { slots.old ≡ [] }
-    ensures pairs { (ps : Pairs) (start level : ℕ) (more : List Event) → ArePairs ps → PairsStand source.now start ps
+    ensures pairs { (ps : Pairs) (start level : ℕ) (more : List Event) → ArePairs ps
+        → PairsStand source.now start ps
         → level ≤ nesting_limit → split_leading (shortened level more) ≡ None
         → events.now ≡ shortened level (pairs_events start ps ++ more)
         → ReadsPairs source.now ps start level more (slots_view slots.new) result }
@@ -128,14 +132,19 @@ fn read_pair<'a>(
 ) -> Result<&'a [Event], ParseFault>
     requires leading { IsSpanOf source.now leading }
     requires spans { AreIn source.now events.now }
-    ensures pair { (f : Frame) (v : syntax.Value) (start level : ℕ) (more : List Event) → IsFrame IsWholeTrivia f → IsValue v
-        → Stands source.now start (frame_text f (value_text v)) → level ≤ nesting_limit → leading ≡ span_at start f.leading
-        → events.now ≡ spec.key_events start f ++ shortened level (value_events (value_at_byte start f) v
+    ensures pair { (f : Frame) (v : syntax.Value) (start level : ℕ) (more : List Event)
+        → IsFrame IsWholeTrivia f → IsValue v
+        → Stands source.now start (frame_text f (value_text v)) → level ≤ nesting_limit
+        → leading ≡ span_at start f.leading
+        → events.now ≡ spec.key_events start f
+        ++ shortened level (value_events (value_at_byte start f) v
         ++ (event After (value_at_byte start f + length (value_text v)) f.trailing ∷ more))
-        → ReadsPair source.now f v start level more (slots_view slots.old) (slots_view slots.new) result }
+        → ReadsPair source.now f v start level more (slots_view slots.old)
+        (slots_view slots.new) result }
     ensures input { IfErr result (λ e. IfToml e (λ r. r.input ≡ source.now)) }
     ensures listed { IfErr result (λ e. IfToml e IsListed) }
-    ensures fits { SlotsFit source.now (slots_view slots.old) → OnOk result (SlotsFit source.now (slots_view slots.new)) }
+    ensures fits { SlotsFit source.now (slots_view slots.old)
+        → OnOk result (SlotsFit source.now (slots_view slots.new)) }
     ensures rest { IfOk result (λ r. AreIn source.now r.now × (length r.now < length events.now)) }
 {
     let Some((frame, rest)) = split_frame(leading, events) else {
@@ -182,7 +191,8 @@ pub(crate) fn split_frame<'a>(
     leading: Span,
     events: &'a [Event],
 ) -> Option<(FrameSpans<'a>, &'a [Event])>
-    ensures { option_map (λ p. (spec.parts_of p.0, p.1.now)) result ≡ spec.split_frame leading events.now }
+    ensures { option_map (λ p. (spec.parts_of p.0, p.1.now)) result
+        ≡ spec.split_frame leading events.now }
 {
     let (path, signs) = events.split_at(path_end(events)?);
     let last = path.last()?;
@@ -223,15 +233,18 @@ fn end_pair<'a>(
     requires before_equals { IsSpanOf source.now frame.before_equals }
     requires after_equals { IsSpanOf source.now frame.after_equals }
     requires spans { AreIn source.now events.now }
-    ensures pair { (f : Frame) (v : syntax.Value) (start end : ℕ) (more : List Event) → IsFrame IsWholeTrivia f
-        → Stands source.now (start + length f.leading) (path_text f.path) → spec.parts_of frame.entry ≡ spec.frame_parts start f
+    ensures pair { (f : Frame) (v : syntax.Value) (start end : ℕ) (more : List Event)
+        → IsFrame IsWholeTrivia f
+        → Stands source.now (start + length f.leading) (path_text f.path)
+        → spec.parts_of frame.entry ≡ spec.frame_parts start f
         → events.now ≡ event After end f.trailing ∷ more
         → EndsPair source.now (pair_path spanned_form start f v)
         (with_decor (decor_at spanned_form (start + value_start spanned_form f) f.after_equals end f.trailing) (item_view item.old))
         more (slots_view slots.old) (slots_view slots.new) result }
     ensures input { IfErr result (λ e. IfToml e (λ r. r.input ≡ source.now)) }
     ensures listed { IfErr result (λ e. IfToml e IsListed) }
-    ensures fits { NodeFits source.now (item_view item.old) → SlotsFit source.now (slots_view slots.old)
+    ensures fits { NodeFits source.now (item_view item.old)
+        → SlotsFit source.now (slots_view slots.old)
         → OnOk result (SlotsFit source.now (slots_view slots.new)) }
     ensures rest { IfOk result (λ r. AreIn source.now r.now × (length r.now < length events.now)) }
 {
@@ -263,10 +276,13 @@ fn add_entry(
     requires suffix { IsSpanOf source.now path.suffix }
     requires before { IsSpanOf source.now path.before }
     requires path { AreIn source.now path.events.now }
-    ensures entry { (e : Entry) (p : List Segment) (start : ℕ) (above : Path) → IsEndOfPath p → Stands source.now start (path_text p)
+    ensures entry { (e : Entry) (p : List Segment) (start : ℕ) (above : Path) → IsEndOfPath p
+        → Stands source.now start (path_text p)
         → IsPathAt e start p path.entry
-        → AddsEntry source.now (line_mentions e start above p) (item_view item.old) (slots_view slots.old) (slots_view slots.new) result }
-    ensures fits { NodeFits source.now (item_view item.old) → SlotsFit source.now (slots_view slots.old)
+        → AddsEntry source.now (line_mentions e start above p) (item_view item.old)
+        (slots_view slots.old) (slots_view slots.new) result }
+    ensures fits { NodeFits source.now (item_view item.old)
+        → SlotsFit source.now (slots_view slots.old)
         → OnOk result (SlotsFit source.now (slots_view slots.new)) }
     ensures input { IfErr result (λ e. IfToml e (λ r. r.input ≡ source.now)) }
     ensures listed { IfErr result (λ e. IfToml e IsListed) }
@@ -310,10 +326,13 @@ fn add_below(
     requires suffix { IsSpanOf source.now path.suffix }
     requires before { IsSpanOf source.now path.before }
     requires path { AreIn source.now path.events.now }
-    ensures entry { (e : Entry) (p : List Segment) (start : ℕ) (above : Path) → IsEndOfPath p → Stands source.now start (path_text p)
+    ensures entry { (e : Entry) (p : List Segment) (start : ℕ) (above : Path) → IsEndOfPath p
+        → Stands source.now start (path_text p)
         → IsPathAt e start p path.entry
-        → AddsBelow key span (line_mentions e start above p) (item_view item.old) (slots_view slots.old) (slots_view slots.new) result }
-    ensures fits { KeyFits source.now key → NodeFits source.now (item_view item.old) → SlotsFit source.now (slots_view slots.old)
+        → AddsBelow key span (line_mentions e start above p) (item_view item.old)
+        (slots_view slots.old) (slots_view slots.new) result }
+    ensures fits { KeyFits source.now key → NodeFits source.now (item_view item.old)
+        → SlotsFit source.now (slots_view slots.old)
         → OnOk result (SlotsFit source.now (slots_view slots.new)) }
     ensures input { IfErr result (λ e. IfToml e (λ r. r.input ≡ source.now)) }
     ensures listed { IfErr result (λ e. IfToml e IsListed) }
@@ -339,10 +358,13 @@ fn add_inside(
     requires suffix { IsSpanOf source.now path.suffix }
     requires before { IsSpanOf source.now path.before }
     requires path { AreIn source.now path.events.now }
-    ensures entry { (m : Mention Entry) (e : Entry) (p : List Segment) (start : ℕ) (above : Path) → IsPassed key m → IsEndOfPath p
+    ensures entry { (m : Mention Entry) (e : Entry) (p : List Segment) (start : ℕ) (above : Path)
+        → IsPassed key m → IsEndOfPath p
         → Stands source.now start (path_text p) → IsPathAt e start p path.entry
-        → AddsInside source.now m (line_mentions e start above p) (item_view item.old) (item_view holder.old) (item_view holder.new) result }
-    ensures fits { NodeFits source.now (item_view item.old) → NodeFits source.now (item_view holder.old)
+        → AddsInside source.now m (line_mentions e start above p) (item_view item.old)
+        (item_view holder.old) (item_view holder.new) result }
+    ensures fits { NodeFits source.now (item_view item.old)
+        → NodeFits source.now (item_view holder.old)
         → OnOk result (NodeFits source.now (item_view holder.new)) }
     ensures input { IfErr result (λ e. IfToml e (λ r. r.input ≡ source.now)) }
     ensures listed { IfErr result (λ e. IfToml e IsListed) }
@@ -368,10 +390,13 @@ fn add_in_value(
     requires suffix { IsSpanOf source.now path.suffix }
     requires before { IsSpanOf source.now path.before }
     requires path { AreIn source.now path.events.now }
-    ensures entry { (m : Mention Entry) (e : Entry) (p : List Segment) (start : ℕ) (above : Path) → IsPassed key m → IsEndOfPath p
+    ensures entry { (m : Mention Entry) (e : Entry) (p : List Segment) (start : ℕ) (above : Path)
+        → IsPassed key m → IsEndOfPath p
         → Stands source.now start (path_text p) → IsPathAt e start p path.entry
-        → AddsInside source.now m (line_mentions e start above p) (item_view item.old) (value_view holder.old) (value_view holder.new) result }
-    ensures fits { NodeFits source.now (item_view item.old) → NodeFits source.now (value_view holder.old)
+        → AddsInside source.now m (line_mentions e start above p) (item_view item.old)
+        (value_view holder.old) (value_view holder.new) result }
+    ensures fits { NodeFits source.now (item_view item.old)
+        → NodeFits source.now (value_view holder.old)
         → OnOk result (NodeFits source.now (value_view holder.new)) }
     ensures input { IfErr result (λ e. IfToml e (λ r. r.input ≡ source.now)) }
     ensures listed { IfErr result (λ e. IfToml e IsListed) }
@@ -398,10 +423,13 @@ fn add_in_table(
     requires suffix { IsSpanOf source.now path.suffix }
     requires before { IsSpanOf source.now path.before }
     requires path { AreIn source.now path.events.now }
-    ensures entry { (m : Mention Entry) (e : Entry) (p : List Segment) (start : ℕ) (above : Path) → IsPassed key m → IsEndOfPath p
+    ensures entry { (m : Mention Entry) (e : Entry) (p : List Segment) (start : ℕ) (above : Path)
+        → IsPassed key m → IsEndOfPath p
         → Stands source.now start (path_text p) → IsPathAt e start p path.entry
-        → AddsInside source.now m (line_mentions e start above p) (item_view item.old) (inline_node (inline_view table.old)) (inline_node (inline_view table.new)) result }
-    ensures fits { NodeFits source.now (item_view item.old) → NodeFits source.now (inline_node (inline_view table.old))
+        → AddsInside source.now m (line_mentions e start above p) (item_view item.old)
+        (inline_node (inline_view table.old)) (inline_node (inline_view table.new)) result }
+    ensures fits { NodeFits source.now (item_view item.old)
+        → NodeFits source.now (inline_node (inline_view table.old))
         → OnOk result (NodeFits source.now (inline_node (inline_view table.new))) }
     ensures input { IfErr result (λ e. IfToml e (λ r. r.input ≡ source.now)) }
     ensures listed { IfErr result (λ e. IfToml e IsListed) }
@@ -434,7 +462,8 @@ fn extend_message(value: &Value) -> &'static str
 #[inline(always)]
 pub(crate) fn read_name(alloc: Global, source: &str, span: Span) -> Result<String, ParseFault>
     requires { IsSpanOf source.now span }
-    ensures name { (k : Text) → SpellsKey k (cut_out source.now span.start span.end) → ReadsName k result }
+    ensures name { (k : Text) → SpellsKey k (cut_out source.now span.start span.end)
+        → ReadsName k result }
     ensures input { IfErr result (λ e. IfToml e (λ r. r.input ≡ source.now)) }
     ensures listed { IfErr result (λ e. IfToml e IsListed) }
 {
@@ -446,7 +475,8 @@ pub(crate) fn read_name(alloc: Global, source: &str, span: Span) -> Result<Strin
 
 /// Splits off the text before a dot. Returns it with the path after the dot.
 pub(crate) fn split_dot<'a>(path: KeyPath<'a>, events: &'a [Event]) -> Option<(Span, KeyPath<'a>)>
-    ensures { option_map (λ p. (p.0, spec.path_of p.1)) result ≡ spec.split_dot path.entry events.now }
+    ensures { option_map (λ p. (p.0, spec.path_of p.1)) result
+        ≡ spec.split_dot path.entry events.now }
 {
     let (after, behind) = split_first(events)?;
     let (before, events) = split_first(behind)?;
@@ -460,8 +490,11 @@ pub(crate) fn split_dot<'a>(path: KeyPath<'a>, events: &'a [Event]) -> Option<(S
 
 /// Makes the last key of a path, with this name, spelled at the span.
 pub(crate) fn last_key(name: String, span: Span, path: KeyPath<'_>) -> Key
-    ensures key { result ≡ key_with (string_bytes name) span (spec.leaf_of path.entry) (spanned_raw path.entry.before) (owned []) }
-    ensures fits { (t : Text) → IsSpanOf t span → IsSpanOf t path.entry.prefix → IsSpanOf t path.entry.suffix → IsSpanOf t path.entry.before → KeyFits t result }
+    ensures key { result
+        ≡ key_with (string_bytes name) span (spec.leaf_of path.entry)
+        (spanned_raw path.entry.before) (owned []) }
+    ensures fits { (t : Text) → IsSpanOf t span → IsSpanOf t path.entry.prefix
+        → IsSpanOf t path.entry.suffix → IsSpanOf t path.entry.before → KeyFits t result }
 {
     let leaf = Decor::new(raw(path.prefix), raw(path.suffix));
     let dotted = Decor::new(raw(path.before), RawString::default());
@@ -471,8 +504,10 @@ pub(crate) fn last_key(name: String, span: Span, path: KeyPath<'_>) -> Key
 /// Makes a key that a path passes through, with this name, spelled at the span, between these
 /// texts.
 pub(crate) fn passed_key(name: String, span: Span, before: Span, after: Span) -> Key
-    ensures key { result ≡ key_with (string_bytes name) span unset (spanned_raw before) (spanned_raw after) }
-    ensures fits { (t : Text) → IsSpanOf t span → IsSpanOf t before → IsSpanOf t after → KeyFits t result }
+    ensures key { result
+        ≡ key_with (string_bytes name) span unset (spanned_raw before) (spanned_raw after) }
+    ensures fits { (t : Text) → IsSpanOf t span → IsSpanOf t before → IsSpanOf t after
+        → KeyFits t result }
 {
     let dotted = Decor::new(raw(before), raw(after));
     Key::spanned(name, span.start, span.end, Decor::default(), dotted)
@@ -480,14 +515,16 @@ pub(crate) fn passed_key(name: String, span: Span, before: Span, after: Span) ->
 
 /// Makes the item of a key that a path passes through, with these slots below it.
 fn path_item(key: Span, slots: Slots<Item>) -> Item
-    ensures { item_view result ≡ inline (path_fields (Some (key.start, key.end))) (slots_view slots) }
+    ensures { item_view result
+        ≡ inline (path_fields (Some (key.start, key.end))) (slots_view slots) }
 {
     Item::Value(Value::InlineTable(path_table(key, slots)))
 }
 
 /// Makes the dotted inline table of a key that a path passes through.
 fn path_table(key: Span, slots: Slots<Item>) -> InlineTable
-    ensures { inline_view result ≡ record { fields = path_fields (Some (key.start, key.end)); slots = slots_view slots } }
+    ensures { inline_view result
+        ≡ record { fields = path_fields (Some (key.start, key.end)); slots = slots_view slots } }
 {
     InlineTable::below_key(slots, key.start, key.end)
 }
@@ -502,12 +539,15 @@ fn close_inline<'a>(
     events: &'a [Event],
 ) -> Result<(Value, &'a [Event]), ParseFault>
     requires { AreIn source.now events.now }
-    ensures value { (close : Close) (more : List Event) → split_close events.now ≡ Some (close, more)
+    ensures value { (close : Close) (more : List Event)
+        → split_close events.now ≡ Some (close, more)
         → EndsInline opening.start close (slots_view slots) more result }
     ensures input { IfErr result (λ e. IfToml e (λ r. r.input ≡ source.now)) }
     ensures listed { IfErr result (λ e. IfToml e IsListed) }
-    ensures fits { SlotsFit source.now (slots_view slots) → IfOk result (λ r. NodeFits source.now (value_view r.0)) }
-    ensures rest { IfOk result (λ r. AreIn source.now r.1.now × (length r.1.now < length events.now)) }
+    ensures fits { SlotsFit source.now (slots_view slots)
+        → IfOk result (λ r. NodeFits source.now (value_view r.0)) }
+    ensures rest { IfOk result
+        (λ r. AreIn source.now r.1.now × (length r.1.now < length events.now)) }
 {
     let Some((close, rest)) = split_close(events) else {
         return Err(refusal_at_end(alloc, source, "unclosed inline table"));
@@ -517,7 +557,8 @@ fn close_inline<'a>(
 
 /// Makes the value of an inline table.
 fn inline_value(opening: Span, close: Close, slots: Slots<Item>) -> Value
-    ensures { value_view result ≡ inline_node (spec.inline_of opening.start close (slots_view slots)) }
+    ensures { value_view result
+        ≡ inline_node (spec.inline_of opening.start close (slots_view slots)) }
 {
     Value::InlineTable(new_inline(opening, close, slots))
 }

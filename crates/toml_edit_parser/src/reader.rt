@@ -77,9 +77,15 @@ pub fn raw(span: Span) -> RawString
 #[inline(never)]
 pub fn refusal(alloc: Global, source: &str, message: &str, span: Span) -> ParseFault
     requires { IsSpanOf source.now span }
-    ensures report { IfToml result (λ r. r ≡ record { message = message.now; span = Some (span.start, span.end); input = source.now }) }
+    ensures report { IfToml result
+        (λ r. r ≡ record {
+          message = message.now;
+          span = Some (span.start, span.end);
+          input = source.now;
+        }) }
     // It is an error of each version that has the message.
-    ensures listed { (version : Version) → IsMessageIn version message.now → IfToml result (IsListedIn version) }
+    ensures listed { (version : Version) → IsMessageIn version message.now
+        → IfToml result (IsListedIn version) }
 {
     toml_edit_error::refusal(alloc, source, message, Some((span.start, span.end)))
 }
@@ -89,8 +95,10 @@ pub fn refusal(alloc: Global, source: &str, message: &str, span: Span) -> ParseF
 #[cold]
 #[inline(never)]
 pub fn refusal_of_all(alloc: Global, source: &str, message: &str) -> ParseFault
-    ensures report { IfToml result (λ r. r ≡ record { message = message.now; span = None; input = source.now }) }
-    ensures listed { (version : Version) → message.now ≡ recursion_limit → IfToml result (IsListedIn version) }
+    ensures report { IfToml result
+        (λ r. r ≡ record { message = message.now; span = None; input = source.now }) }
+    ensures listed { (version : Version) → message.now ≡ recursion_limit
+        → IfToml result (IsListedIn version) }
 {
     toml_edit_error::refusal(alloc, source, message, None)
 }
@@ -100,8 +108,14 @@ pub fn refusal_of_all(alloc: Global, source: &str, message: &str) -> ParseFault
 #[cold]
 #[inline(never)]
 pub fn refusal_at_end(alloc: Global, source: &str, message: &str) -> ParseFault
-    ensures report { IfToml result (λ r. r ≡ record { message = message.now; span = Some (length source.now, length source.now); input = source.now }) }
-    ensures listed { (version : Version) → IsMessageIn version message.now → IfToml result (IsListedIn version) }
+    ensures report { IfToml result
+        (λ r. r ≡ record {
+          message = message.now;
+          span = Some (length source.now, length source.now);
+          input = source.now;
+        }) }
+    ensures listed { (version : Version) → IsMessageIn version message.now
+        → IfToml result (IsListedIn version) }
 {
     let end = source.len();
     toml_edit_error::refusal(alloc, source, message, Some((end, end)))
@@ -173,7 +187,8 @@ pub(crate) fn split_close(events: &[Event]) -> Option<(Close, &[Event])>
 /// Reads the scalar that is spelled at the span.
 pub(crate) fn read_scalar(alloc: Global, source: &str, span: Span) -> Result<Value, ParseFault>
     requires { IsSpanOf source.now span }
-    ensures value { (s : Scalar) (t : Text) → cut_out source.now span.start span.end ≡ t → span.end ≡ span.start + length t
+    ensures value { (s : Scalar) (t : Text) → cut_out source.now span.start span.end ≡ t
+        → span.end ≡ span.start + length t
         → Spells s t → ReadsScalar source.now span.start s t result }
     ensures input { IfErr result (λ e. IfToml e (λ r. r.input ≡ source.now)) }
     ensures listed { IfErr result (λ e. IfToml e IsListed) }
@@ -194,12 +209,15 @@ pub(crate) fn read_value<'a>(
     events: &'a [Event],
 ) -> Result<(Value, &'a [Event]), ParseFault>
     requires { AreIn source.now events.now }
-    ensures value { (v : syntax.Value) (start level : ℕ) (more : List Event) → IsValue v → Stands source.now start (value_text v)
-        → level ≤ nesting_limit → events.now ≡ shortened level (value_events start v ++ more) → ReadsValue source.now v start level more result }
+    ensures value { (v : syntax.Value) (start level : ℕ) (more : List Event) → IsValue v
+        → Stands source.now start (value_text v)
+        → level ≤ nesting_limit → events.now ≡ shortened level (value_events start v ++ more)
+        → ReadsValue source.now v start level more result }
     ensures input { IfErr result (λ e. IfToml e (λ r. r.input ≡ source.now)) }
     ensures listed { IfErr result (λ e. IfToml e IsListed) }
     ensures fits { IfOk result (λ r. NodeFits source.now (value_view r.0)) }
-    ensures rest { IfOk result (λ r. AreIn source.now r.1.now × (length r.1.now < length events.now)) }
+    ensures rest { IfOk result
+        (λ r. AreIn source.now r.1.now × (length r.1.now < length events.now)) }
 {
     let Some((first, rest)) = split_first(events) else {
         return Err(refusal_at_end(alloc, source, "expected a value"));
@@ -237,15 +255,18 @@ fn read_array<'a>(
     events: &'a [Event],
 ) -> Result<(Value, &'a [Event]), ParseFault>
     requires { AreIn source.now events.now }
-    ensures value { (es : Elements) (comma : Bool) (t : Text) (start level : ℕ) (more : List Event) → AreElements es
-        → Stands source.now start (value_text (syntax.array es comma t)) → level < nesting_limit → opening.start ≡ start
+    ensures value { (es : Elements) (comma : Bool) (t : Text) (start level : ℕ) (more : List Event)
+        → AreElements es
+        → Stands source.now start (value_text (syntax.array es comma t)) → level < nesting_limit
+        → opening.start ≡ start
         → events.now ≡ shortened (suc level) (elements_events (start + 1) es
         ++ (close_events ArrayClose (codes "]") (start + length (value_text (syntax.array es comma t)) - 1) comma t ++ more))
         → ReadsValue source.now (syntax.array es comma t) start level more result }
     ensures input { IfErr result (λ e. IfToml e (λ r. r.input ≡ source.now)) }
     ensures listed { IfErr result (λ e. IfToml e IsListed) }
     ensures fits { IfOk result (λ r. NodeFits source.now (value_view r.0)) }
-    ensures rest { IfOk result (λ r. AreIn source.now r.1.now × (length r.1.now < length events.now)) }
+    ensures rest { IfOk result
+        (λ r. AreIn source.now r.1.now × (length r.1.now < length events.now)) }
 {
     let mut values = Vec::with_capacity(alloc, scalar_count(events))?;
     let rest = read_elements(alloc, source, events, &mut values)?;
@@ -262,7 +283,8 @@ fn read_elements<'a>(
 ) -> Result<&'a [Event], ParseFault>
     requires spans { AreIn source.now events.now }
     requires first { values.old.items ≡ [] }
-    ensures elements { (es : Elements) (start level : ℕ) (more : List Event) → AreElements es → ElementsStand source.now start es
+    ensures elements { (es : Elements) (start level : ℕ) (more : List Event) → AreElements es
+        → ElementsStand source.now start es
         → level ≤ nesting_limit → spec.split_before (shortened level more) ≡ None
         → events.now ≡ shortened level (elements_events start es ++ more)
         → ReadsElements source.now es start level more values.new.items result }
@@ -297,13 +319,18 @@ fn read_scalar_element<'a>(
     requires before { IsSpanOf source.now before }
     requires span { IsSpanOf source.now span }
     requires spans { AreIn source.now events.now }
-    ensures element { (a : Around) (s : Scalar) (t : Text) (start level : ℕ) (more : List Event) → Spells s t
-        → Stands source.now (start + length a.before) t → before ≡ span_at start a.before → span ≡ span_at (start + length a.before) t
-        → events.now ≡ shortened level (event After (start + length a.before + length t) a.after ∷ more)
-        → ReadsElement source.now a (syntax.scalar s t) start level more values.old.items values.new.items result }
+    ensures element { (a : Around) (s : Scalar) (t : Text) (start level : ℕ) (more : List Event)
+        → Spells s t
+        → Stands source.now (start + length a.before) t → before ≡ span_at start a.before
+        → span ≡ span_at (start + length a.before) t
+        → events.now ≡ shortened level
+        (event After (start + length a.before + length t) a.after ∷ more)
+        → ReadsElement source.now a
+        (syntax.scalar s t) start level more values.old.items values.new.items result }
     ensures input { IfErr result (λ e. IfToml e (λ r. r.input ≡ source.now)) }
     ensures listed { IfErr result (λ e. IfToml e IsListed) }
-    ensures fits { ItemsFit source.now (items_view values.old.items) → OnOk result (ItemsFit source.now (items_view values.new.items)) }
+    ensures fits { ItemsFit source.now (items_view values.old.items)
+        → OnOk result (ItemsFit source.now (items_view values.new.items)) }
     ensures rest { IfOk result (λ r. AreIn source.now r.now × (length r.now < length events.now)) }
 {
     let Some((after, rest)) = split_first(events) else {
@@ -339,14 +366,17 @@ fn read_element<'a>(
 ) -> Result<&'a [Event], ParseFault>
     requires before { IsSpanOf source.now before }
     requires spans { AreIn source.now events.now }
-    ensures element { (a : Around) (v : syntax.Value) (start level : ℕ) (more : List Event) → IsValue v
-        → Stands source.now (start + length a.before) (value_text v) → level ≤ nesting_limit → before ≡ span_at start a.before
+    ensures element { (a : Around) (v : syntax.Value) (start level : ℕ) (more : List Event)
+        → IsValue v
+        → Stands source.now (start + length a.before) (value_text v) → level ≤ nesting_limit
+        → before ≡ span_at start a.before
         → events.now ≡ shortened level (value_events (start + length a.before) v
         ++ (event After (start + length a.before + length (value_text v)) a.after ∷ more))
         → ReadsElement source.now a v start level more values.old.items values.new.items result }
     ensures input { IfErr result (λ e. IfToml e (λ r. r.input ≡ source.now)) }
     ensures listed { IfErr result (λ e. IfToml e IsListed) }
-    ensures fits { ItemsFit source.now (items_view values.old.items) → OnOk result (ItemsFit source.now (items_view values.new.items)) }
+    ensures fits { ItemsFit source.now (items_view values.old.items)
+        → OnOk result (ItemsFit source.now (items_view values.new.items)) }
     ensures rest { IfOk result (λ r. AreIn source.now r.now × (length r.now < length events.now)) }
 {
     let (value, rest) = read_value(alloc, source, events)?;
@@ -367,10 +397,12 @@ fn end_element<'a>(
     requires spans { AreIn source.now events.now }
     ensures element { (b c : Text) (start end : ℕ) (more : List Event) → before ≡ span_at start b
         → events.now ≡ event After end c ∷ more
-        → spec.EndsElement (with_decor (decor_at spanned_form start b end c) (value_view value)) more values.old.items values.new.items result }
+        → spec.EndsElement (with_decor (decor_at spanned_form start b end c)
+        (value_view value)) more values.old.items values.new.items result }
     ensures input { IfErr result (λ e. IfToml e (λ r. r.input ≡ source.now)) }
     ensures listed { IfErr result (λ e. IfToml e IsListed) }
-    ensures fits { NodeFits source.now (value_view value) → ItemsFit source.now (items_view values.old.items)
+    ensures fits { NodeFits source.now (value_view value)
+        → ItemsFit source.now (items_view values.old.items)
         → OnOk result (ItemsFit source.now (items_view values.new.items)) }
     ensures rest { IfOk result (λ r. AreIn source.now r.now × (length r.now < length events.now)) }
 {
@@ -399,12 +431,15 @@ fn close_array<'a>(
     events: &'a [Event],
 ) -> Result<(Value, &'a [Event]), ParseFault>
     requires { AreIn source.now events.now }
-    ensures value { (close : Close) (more : List Event) → spec.split_close events.now ≡ Some (close, more)
+    ensures value { (close : Close) (more : List Event)
+        → spec.split_close events.now ≡ Some (close, more)
         → spec.EndsArray opening.start close (items_view values.items) more result }
     ensures input { IfErr result (λ e. IfToml e (λ r. r.input ≡ source.now)) }
     ensures listed { IfErr result (λ e. IfToml e IsListed) }
-    ensures fits { ItemsFit source.now (items_view values.items) → IfOk result (λ r. NodeFits source.now (value_view r.0)) }
-    ensures rest { IfOk result (λ r. AreIn source.now r.1.now × (length r.1.now < length events.now)) }
+    ensures fits { ItemsFit source.now (items_view values.items)
+        → IfOk result (λ r. NodeFits source.now (value_view r.0)) }
+    ensures rest { IfOk result
+        (λ r. AreIn source.now r.1.now × (length r.1.now < length events.now)) }
 {
     let Some((close, rest)) = split_close(events) else {
         return Err(refusal_at_end(alloc, source, "unclosed array"));
@@ -414,7 +449,8 @@ fn close_array<'a>(
 
 /// Makes the value of an array.
 fn array_value(opening: Span, close: Close, values: Vec<Item>) -> Value
-    ensures { value_view result ≡ array_node (spec.array_of opening.start close (items_view values.items)) }
+    ensures { value_view result
+        ≡ array_node (spec.array_of opening.start close (items_view values.items)) }
 {
     Value::Array(new_array(opening, close, values))
 }

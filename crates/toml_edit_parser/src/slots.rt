@@ -35,7 +35,8 @@ pub fn add_last(
 ) -> Result<(), ParseFault>
     requires span { IsSpanOf source.now span }
     ensures last { AddsLast source.now span key (item_view item.old) (slots_view slots.old) (slots_view slots.new) result }
-    ensures fits { KeyFits source.now key → NodeFits source.now (item_view item.old) → SlotsFit source.now (slots_view slots.old)
+    ensures fits { KeyFits source.now key → NodeFits source.now (item_view item.old)
+        → SlotsFit source.now (slots_view slots.old)
         → OnOk result (SlotsFit source.now (slots_view slots.new)) }
     ensures input { IfErr result (λ e. IfToml e (λ r. r.input ≡ source.now)) }
     ensures listed { IfErr result (λ e. IfToml e IsListed) }
@@ -55,7 +56,8 @@ pub fn add_last(
 #[doc(hidden)]
 pub fn push_item(slots: &mut Slots<Item>, key: Key, item: Item) -> Mem<()>
     requires { place key.name slots.old ≡ None }
-    ensures { OnOk result (slots_view slots.new ≡ with_slot (slots_view slots.old) key (item_view item)) }
+    ensures { OnOk result
+        (slots_view slots.new ≡ with_slot (slots_view slots.old) key (item_view item)) }
 {
     slots.push(Slot { key, item })?;
     Ok(())

@@ -43,7 +43,13 @@ pub struct HeaderSpans<'a> {
 /// Makes the path of these events, which begins where the text before it ends, with the text after
 /// it.
 fn path_behind<'a>(prefix: Span, events: &'a [Event], suffix: Span) -> KeyPath<'a>
-    ensures { path_of result ≡ record { prefix = prefix; suffix = suffix; before = record { start = prefix.end; end = prefix.end }; events = events.now } }
+    ensures { path_of result
+        ≡ record {
+          prefix = prefix;
+          suffix = suffix;
+          before = record { start = prefix.end; end = prefix.end };
+          events = events.now;
+        } }
 {
     let start = prefix.end;
     KeyPath {
@@ -67,14 +73,17 @@ pub fn read_key_line<'a>(
 ) -> Result<(KeyPath<'a>, &'a [Event]), ParseFault>
     requires leading { IsSpanOf source.now leading }
     requires spans { AreIn source.now events.now }
-    ensures line { (f : Frame) (v : syntax.Value) (end : Text) (start : ℕ) (more : List Event) → IsFrame IsLineEnd f → IsValue v
-        → Stands source.now start (statement_text (key_line f v end)) → IsEnded source.now start (key_line f v end)
+    ensures line { (f : Frame) (v : syntax.Value) (end : Text) (start : ℕ) (more : List Event)
+        → IsFrame IsLineEnd f → IsValue v
+        → Stands source.now start (statement_text (key_line f v end))
+        → IsEnded source.now start (key_line f v end)
         → leading ≡ span_at start f.leading → events.now ≡ shortened 0 (line_behind start f v more)
         → ReadsLineParts (mode_of mode) source.now f v end start more (item_view item.new) result }
     ensures input { IfErr result (λ e. IfToml e (λ r. r.input ≡ source.now)) }
     ensures listed { IfErr result (λ e. IfToml e IsListed) }
     ensures path { IfOk result (λ r. AreIn source.now r.0.events.now) }
-    ensures rest { IfOk result (λ r. AreIn source.now r.1.now × (length r.1.now < length events.now)) }
+    ensures rest { IfOk result
+        (λ r. AreIn source.now r.1.now × (length r.1.now < length events.now)) }
 {
     let Some((frame, rest)) = split_frame(leading, events) else {
         return Err(refusal_at_end(alloc, source, "expected a key"));
@@ -126,10 +135,14 @@ fn read_line_value<'a>(
     item: &mut Item,
 ) -> Result<&'a [Event], ParseFault>
     requires { AreIn source.now events.now }
-    ensures value { (v : syntax.Value) (start : ℕ) (after suffix : Text) (more : List Event) → IsValue v → Stands source.now start (value_text v)
-        → events.now ≡ shortened 0 (value_events start v ++ (event LineEnd (start + length (value_text v)) after ∷ more))
-        → suffix_span (mode_of mode) source.now (span_at (start + length (value_text v)) after) ≡ span_at (start + length (value_text v)) suffix
-        → ReadsLineValue (mode_of mode) source.now v start before suffix more (item_view item.new) result }
+    ensures value { (v : syntax.Value) (start : ℕ) (after suffix : Text) (more : List Event)
+        → IsValue v → Stands source.now start (value_text v)
+        → events.now ≡ shortened 0
+        (value_events start v ++ (event LineEnd (start + length (value_text v)) after ∷ more))
+        → suffix_span (mode_of mode) source.now (span_at (start + length (value_text v)) after)
+        ≡ span_at (start + length (value_text v)) suffix
+        → ReadsLineValue (mode_of mode) source.now v start before suffix more
+        (item_view item.new) result }
     ensures input { IfErr result (λ e. IfToml e (λ r. r.input ≡ source.now)) }
     ensures listed { IfErr result (λ e. IfToml e IsListed) }
     ensures rest { IfOk result (λ r. AreIn source.now r.now × (length r.now < length events.now)) }
@@ -152,10 +165,14 @@ fn read_line_scalar<'a>(
 ) -> Result<&'a [Event], ParseFault>
     requires span { IsSpanOf source.now span }
     requires spans { AreIn source.now events.now }
-    ensures value { (s : Scalar) (t : Text) (start : ℕ) (after suffix : Text) (more : List Event) → Spells s t → Stands source.now start t
-        → span ≡ span_at start t → events.now ≡ shortened 0 (event LineEnd (start + length t) after ∷ more)
-        → suffix_span (mode_of mode) source.now (span_at (start + length t) after) ≡ span_at (start + length t) suffix
-        → ReadsLineValue (mode_of mode) source.now (syntax.scalar s t) start before suffix more (item_view item.new) result }
+    ensures value { (s : Scalar) (t : Text) (start : ℕ) (after suffix : Text) (more : List Event)
+        → Spells s t → Stands source.now start t
+        → span ≡ span_at start t
+        → events.now ≡ shortened 0 (event LineEnd (start + length t) after ∷ more)
+        → suffix_span (mode_of mode) source.now (span_at (start + length t) after)
+        ≡ span_at (start + length t) suffix
+        → ReadsLineValue (mode_of mode) source.now (syntax.scalar s t) start before suffix more
+        (item_view item.new) result }
     ensures input { IfErr result (λ e. IfToml e (λ r. r.input ≡ source.now)) }
     ensures listed { IfErr result (λ e. IfToml e IsListed) }
     ensures rest { IfOk result (λ r. AreIn source.now r.now × (length r.now < length events.now)) }
@@ -187,10 +204,14 @@ fn read_line_list<'a>(
     item: &mut Item,
 ) -> Result<&'a [Event], ParseFault>
     requires { AreIn source.now events.now }
-    ensures value { (v : syntax.Value) (start : ℕ) (after suffix : Text) (more : List Event) → IsValue v → Stands source.now start (value_text v)
-        → events.now ≡ shortened 0 (value_events start v ++ (event LineEnd (start + length (value_text v)) after ∷ more))
-        → suffix_span (mode_of mode) source.now (span_at (start + length (value_text v)) after) ≡ span_at (start + length (value_text v)) suffix
-        → ReadsLineValue (mode_of mode) source.now v start before suffix more (item_view item.new) result }
+    ensures value { (v : syntax.Value) (start : ℕ) (after suffix : Text) (more : List Event)
+        → IsValue v → Stands source.now start (value_text v)
+        → events.now ≡ shortened 0
+        (value_events start v ++ (event LineEnd (start + length (value_text v)) after ∷ more))
+        → suffix_span (mode_of mode) source.now (span_at (start + length (value_text v)) after)
+        ≡ span_at (start + length (value_text v)) suffix
+        → ReadsLineValue (mode_of mode) source.now v start before suffix more
+        (item_view item.new) result }
     ensures input { IfErr result (λ e. IfToml e (λ r. r.input ≡ source.now)) }
     ensures listed { IfErr result (λ e. IfToml e IsListed) }
     ensures rest { IfOk result (λ r. AreIn source.now r.now × (length r.now < length events.now)) }
@@ -223,12 +244,15 @@ pub fn read_header<'a>(
 ) -> Result<(HeaderSpans<'a>, &'a [Event]), ParseFault>
     requires spans { AreIn source.now events.now }
     ensures header { (h : Header) (end : Text) (start : ℕ) (more : List Event) → IsHeader h
-        → Stands source.now start (statement_text (syntax.header h end)) → IsEnded source.now start (syntax.header h end)
-        → events.now ≡ shortened 0 (header_behind start h more) → ReadsHeader (mode_of mode) source.now h end start more result }
+        → Stands source.now start (statement_text (syntax.header h end))
+        → IsEnded source.now start (syntax.header h end)
+        → events.now ≡ shortened 0 (header_behind start h more)
+        → ReadsHeader (mode_of mode) source.now h end start more result }
     ensures input { IfErr result (λ e. IfToml e (λ r. r.input ≡ source.now)) }
     ensures listed { IfErr result (λ e. IfToml e IsListed) }
     ensures path { IfOk result (λ r. AreIn source.now r.0.path.events.now) }
-    ensures rest { IfOk result (λ r. AreIn source.now r.1.now × (length r.1.now < length events.now)) }
+    ensures rest { IfOk result
+        (λ r. AreIn source.now r.1.now × (length r.1.now < length events.now)) }
 {
     let Some((opening, inside)) = split_first(events) else {
         return Err(refusal_at_end(alloc, source, "expected a key"));

@@ -21,7 +21,8 @@ same_decor a b = same_side a.prefix b.prefix && same_side a.suffix b.suffix
 
 -- their values, their spellings and their decors are equal
 abbrev pub same_formatted : {X : Type 0} → (X → X → Bool) → FormattedView X → FormattedView X → Bool
-same_formatted same a b = same a.value b.value && (same_side a.repr b.repr && same_decor a.decor b.decor)
+same_formatted same a b =
+    same a.value b.value && (same_side a.repr b.repr && same_decor a.decor b.decor)
 
 -- a mark of the kind, and then the text or the two places
 abbrev pub raw_hash_input : Raw → List (List ℕ)
@@ -36,5 +37,6 @@ abbrev pub decor_hash_input : Decor → List (List ℕ)
 decor_hash_input d = side_hash_input d.prefix ++ side_hash_input d.suffix
 
 -- the value, the spelling and the decor
-abbrev pub formatted_hash_input : {X : Type 0} → (X → List (List ℕ)) → FormattedView X → List (List ℕ)
+abbrev pub formatted_hash_input : {X : Type 0} → (X → List (List ℕ)) → FormattedView X
+    → List (List ℕ)
 formatted_hash_input input v = input v.value ++ (side_hash_input v.repr ++ decor_hash_input v.decor)

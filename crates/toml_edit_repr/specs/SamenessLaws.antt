@@ -19,7 +19,8 @@ both true false e = absurd cc
 both false b e = absurd cc
 
 -- a test that passes one with itself, and only that
-module _ {X : Type 0} (same : X → X → Bool) (exact : (a b : X) → same a b ≡ true → a ≡ b) (itself : (a : X) → same a a ≡ true) where
+module _ {X : Type 0} (same : X → X → Bool) (exact : (a b : X) → same a b ≡ true → a ≡ b)
+    (itself : (a : X) → same a a ≡ true) where
   pub decides : (a b : X) → Decides (same a b) (a ≡ b)
   decides a b = (exact a b, λ e. rw e (itself b))
 
@@ -101,29 +102,42 @@ same_decor_partial_equiv = partial_equiv_from_equiv same_decor_equiv
 decor_alike : Alike same_decor decor_hash_input
 decor_alike = same_Alike decor_hash_input same_decor_decides
 
-pub decor_hash_respects : (a b : Decor) → IsTrue (same_decor a b) → decor_hash_input a ≡ decor_hash_input b
+pub decor_hash_respects : (a b : Decor) → IsTrue (same_decor a b)
+    → decor_hash_input a ≡ decor_hash_input b
 decor_hash_respects = decor_alike.fed
 
 -- ---- scalars
 
-pub same_formatted_equiv : {X : Type 0} {same : X → X → Bool} → IsEquivalence same → IsEquivalence (same_formatted same)
+pub same_formatted_equiv : {X : Type 0} {same : X → X → Bool} → IsEquivalence same
+    → IsEquivalence (same_formatted same)
 same_formatted_equiv values =
     and_equiv (on_equiv (λ v. v.value) values)
     (and_equiv (on_equiv (λ v. v.repr) same_side_equiv) (on_equiv (λ v. v.decor) same_decor_equiv))
 
-pub same_formatted_partial_equiv : {X : Type 0} {same : X → X → Bool} → IsPartialEquivalence same → IsPartialEquivalence (same_formatted same)
+pub same_formatted_partial_equiv : {X : Type 0} {same : X → X → Bool} → IsPartialEquivalence same
+    → IsPartialEquivalence (same_formatted same)
 same_formatted_partial_equiv values =
     and_per (on_per (λ v. v.value) values)
-    (and_per (on_per (λ v. v.repr) (partial_equiv_from_equiv same_side_equiv)) (on_per (λ v. v.decor) same_decor_partial_equiv))
+    (and_per (on_per (λ v. v.repr) (partial_equiv_from_equiv same_side_equiv))
+    (on_per (λ v. v.decor) same_decor_partial_equiv))
 
 -- one with an equal value, and the same spelling and decor, is equal
-pub same_formatted-copied : {X : Type 0} (same : X → X → Bool) (a b : FormattedView X) → IsTrue (same a.value b.value) → a.repr ≡ b.repr → a.decor ≡ b.decor → IsTrue (same_formatted same a b)
+pub same_formatted-copied : {X : Type 0} (same : X → X → Bool) (a b : FormattedView X)
+    → IsTrue (same a.value b.value) → a.repr ≡ b.repr → a.decor ≡ b.decor
+    → IsTrue (same_formatted same a b)
 same_formatted-copied same a b values spellings decors =
-    rw (values, ap (λ r. same_side r b.repr) spellings ∙ same_side_itself b.repr, ap (λ d. same_decor d b.decor) decors ∙ same_decor_itself b.decor) refl
+    rw (
+      values,
+      ap (λ r. same_side r b.repr) spellings
+          ∙ same_side_itself b.repr,
+      ap (λ d. same_decor d b.decor) decors
+          ∙ same_decor_itself b.decor,
+    ) refl
 
 pub formatted_hash_respects : {X : Type 0} {same : X → X → Bool} {input : X → List (List ℕ)}
     → ((x y : X) → IsTrue (same x y) → input x ≡ input y)
-    → (a b : FormattedView X) → IsTrue (same_formatted same a b) → formatted_hash_input input a ≡ formatted_hash_input input b
+    → (a b : FormattedView X) → IsTrue (same_formatted same a b)
+    → formatted_hash_input input a ≡ formatted_hash_input input b
 formatted_hash_respects values =
     (and-Alike (on_Alike (λ v. v.value) (record { fed = values }))
     (and-Alike (on_Alike (λ v. v.repr) side_alike) (on_Alike (λ v. v.decor) decor_alike))).fed

@@ -9,4 +9,5 @@ use Rattle.toml_edit_repr.specs.Views.{FormattedView}
 -- its shown spelling between the shown sides of its decor, which are empty by default
 abbrev pub formatted_text : {X : Type 0} → (X → Scalar) → FormattedView X → Text
 formatted_text scalar v =
-    shown_prefix plain [] v.decor ++ (scalar_text (scalar v.value) v.repr ++ shown_suffix plain [] v.decor)
+    shown_prefix plain [] v.decor
+    ++ (scalar_text (scalar v.value) v.repr ++ shown_suffix plain [] v.decor)

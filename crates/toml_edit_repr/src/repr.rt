@@ -161,7 +161,10 @@ impl Model for Decor {
 
     ghost Value = { DecorView };
 
-    ghost view = { λ a. record { prefix = then_some a.has_prefix a.prefix; suffix = then_some a.has_suffix a.suffix } };
+    ghost view = { λ a. record {
+      prefix = then_some a.has_prefix a.prefix;
+      suffix = then_some a.has_suffix a.suffix;
+    } };
 }
 
 impl Decor {
@@ -426,7 +429,8 @@ pub trait ValueRepr: ScalarValue {
     ///
     /// Returns an `AllocError` if out of memory.
     fn to_repr(&self, alloc: Global) -> Mem<Repr>
-        ensures default { IfOk result (λ repr. repr ≡ owned (default_spelling (Self.scalar self.now))) }
+        ensures default { IfOk result
+            (λ repr. repr ≡ owned (default_spelling (Self.scalar self.now))) }
         ensures spelled { ∥ spells (default_spelling (Self.scalar self.now)) self.now ∥₁ };
 
     // A text spells the value if it spells its scalar, in range.
@@ -656,7 +660,8 @@ impl<T: ValueRepr> Formatted<T> {
     ///
     /// Returns an `AllocError` if out of memory.
     pub fn default_repr(&self, alloc: Global) -> Mem<Repr>
-        ensures default { IfOk result (λ repr. repr ≡ owned (default_spelling (T.scalar self.now.value))) }
+        ensures default { IfOk result
+            (λ repr. repr ≡ owned (default_spelling (T.scalar self.now.value))) }
         ensures spelled { ∥ T.spells (default_spelling (T.scalar self.now.value)) self.now.value ∥₁ }
     {
         self.value.to_repr(alloc)
@@ -668,8 +673,10 @@ impl<T: ValueRepr> Formatted<T> {
     ///
     /// Returns an `AllocError` if out of memory. A spelling of the value's own takes none.
     pub fn display_repr(&self, alloc: Global) -> Mem<CowStr<'_>>
-        ensures text { IfOk result (λ text. cow_str_bytes text ≡ scalar_text (T.scalar self.now.value) self.now.repr) }
-        ensures free { IsSome (option_and_then text_of self.now.repr) → IsOkAnd result IsBorrowedStr }
+        ensures text { IfOk result
+            (λ text. cow_str_bytes text ≡ scalar_text (T.scalar self.now.value) self.now.repr) }
+        ensures free { IsSome (option_and_then text_of self.now.repr)
+            → IsOkAnd result IsBorrowedStr }
     {
         match spelling_text(self.as_repr()) {
             Some(text) => Ok(CowStr::Borrowed(text)),
@@ -717,7 +724,8 @@ impl<T: ValueRepr> Formatted<T> {
     pub fn despan(&mut self, alloc: Global, source: &str) -> Mem<()>
         requires spelling { OptionFits source.now self.old.repr }
         requires decor { DecorFits source.now self.old.decor }
-        requires spelled { ∥ HasTrueSpelling (λ t. T.spells t self.old.value) (option_map (owned_raw source.now) self.old.repr) ∥₁ }
+        requires spelled { ∥ HasTrueSpelling (λ t. T.spells t self.old.value)
+            (option_map (owned_raw source.now) self.old.repr) ∥₁ }
         ensures ok { OnOk result (self.new ≡ record {
           value = self.old.value;
           repr = option_map (owned_raw source.now) self.old.repr;

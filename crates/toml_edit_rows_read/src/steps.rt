@@ -67,7 +67,9 @@ pub fn copied<P: Asks<S>, S: Drop>(copy: Mem<S>, words: &[Json], out: &mut Answe
 
 /// Writes each element of a copy that is consumed, in order, if there was memory for it.
 pub fn given_up<T: Told + Drop, U: IntoIterator<Item = T>>(copy: Mem<U>, out: &mut Answer)
-    requires { IfOk copy (λ given. (it : U.IntoIter) → U.into_iter_gives given it → U.IntoIter.can_next it × IsFinite (U.IntoIter.remaining it)) }
+    requires { IfOk copy
+        (λ given. (it : U.IntoIter) → U.into_iter_gives given it
+        → U.IntoIter.can_next it × IsFinite (U.IntoIter.remaining it)) }
 {
     match copy {
         Ok(copy) => {

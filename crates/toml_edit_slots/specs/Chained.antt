@@ -26,13 +26,16 @@ abbrev pub last_in : ℕ → List Text → ℕ → ℕ → ℕ
 last_in n us b zero = 0
 last_in n us b (suc k) = if is_in_chain n us b k then suc k else last_in n us b k
 
--- The places before k are chained, and there is room for the others: each chain begins with its last place, and each place has the one before it in its chain.
+-- The places before k are chained, and there is room for the others: each chain begins with its
+-- last place, and each place has the one before it in its chain.
 pub record IsChainedTo (c : Chains) (us : List Text) (k : ℕ) : Type 0 where
   pub some : 0 < length c.heads.items
   pub long : length c.next.items ≡ length us
-  pub heads : (b : ℕ) → b < length c.heads.items → slice_index c.heads.items b ≡ last_in (length c.heads.items) us b k
+  pub heads : (b : ℕ) → b < length c.heads.items
+      → slice_index c.heads.items b ≡ last_in (length c.heads.items) us b k
   pub next : (i : ℕ) (t : Text) → i < k → slice_get us i ≡ Some t
-      → slice_index c.next.items i ≡ last_in (length c.heads.items) us (spot (length c.heads.items) t) i
+      → slice_index c.next.items i
+      ≡ last_in (length c.heads.items) us (spot (length c.heads.items) t) i
 
 -- all places of these texts are chained
 abbrev pub IsChained : Chains → List Text → Type 0

@@ -7,4 +7,6 @@ use Rattle.toml_edit_key.specs.contracts.key.Key as key
 
 -- a slot is stored as the pair of its fields
 abbrev pub slot_code : {T : Type 0} → Coded T → Coded (Slot T)
-slot_code {T} c = code_by (Key × T) (coded× key.the_row.coded c) (λ s. (s.key, s.item)) (λ p. record { key = p.0; item = p.1 }) (λ _. refl)
+slot_code {T} c =
+    code_by (Key × T) (coded× key.the_row.coded c) (λ s. (s.key, s.item))
+    (λ p. record { key = p.0; item = p.1 }) (λ _. refl)

@@ -46,22 +46,28 @@ IsIndexOf m us = (k : ℕ) (t : Text) → slice_get us k ≡ Some t → place_of
 
 -- the text is noted with the place, and what was noted of others stays
 abbrev pub IsNotedAt : ℕ → Text → Places → Places → Type 0
-IsNotedAt n u old new = (place_of new u ≡ Some n) × ((k : ℕ) (t : Text) → same_text u t ≡ false → place_of old t ≡ Some k → place_of new t ≡ Some k)
+IsNotedAt n u old new =
+    (place_of new u ≡ Some n)
+    × ((k : ℕ) (t : Text) → same_text u t ≡ false → place_of old t ≡ Some k
+    → place_of new t ≡ Some k)
 
 -- the two texts do not share a hash under which both are noted
 abbrev pub AreNotedApart : Places → Text → Text → Type 0
 AreNotedApart m t u = second_hash t ≡ second_hash u → (is_own m t ≡ true) ⊎ (is_own m u ≡ true)
 
--- the text is noted with the place where it was noted before, and nothing changes for those noted apart from it
+-- the text is noted with the place where it was noted before, and nothing changes for those noted
+-- apart from it
 pub record IsSetTo (n : ℕ) (u : Text) (old new : Places) : Type 0 where
   pub place : place_of new u ≡ Some n
   pub own : (t : Text) → is_own new t ≡ is_own old t
-  pub others : (t : Text) → same_text u t ≡ false → AreNotedApart old t u → place_of new t ≡ place_of old t
+  pub others : (t : Text) → same_text u t ≡ false → AreNotedApart old t u
+      → place_of new t ≡ place_of old t
 
 -- a place is noted of each of the texts, whatever it is, and no two share it
 pub record HasTexts (m : Places) (us : List Text) : Type 0 where
   pub noted : (k : ℕ) (t : Text) → slice_get us k ≡ Some t → is_some (place_of m t) ≡ true
-  pub apart : (j k : ℕ) (t u : Text) → slice_get us j ≡ Some t → slice_get us k ≡ Some u → same_text u t ≡ false → AreNotedApart m t u
+  pub apart : (j k : ℕ) (t u : Text) → slice_get us j ≡ Some t → slice_get us k ≡ Some u
+      → same_text u t ≡ false → AreNotedApart m t u
 
 -- the index is that of these texts: by their hashes, in chains or in trees
 abbrev pub IsIndex : Index → List Text → Type 0

@@ -37,7 +37,8 @@ module _ {T : Type 0} where
   -- the slots after `insert`: a present key is reset and keeps its place, a new one goes last
   abbrev pub put : Text → T → List (Slot T) → List (Slot T)
   put t x [] = record { key = new_key t; item = x } ∷ []
-  put t x (s ∷ es) = if is_at t s then record { key = reset_key s.key; item = x } ∷ es else s ∷ put t x es
+  put t x (s ∷ es) =
+      if is_at t s then record { key = reset_key s.key; item = x } ∷ es else s ∷ put t x es
 
   -- the slots after `remove`: the others keep their order
   abbrev pub without : Text → List (Slot T) → List (Slot T)

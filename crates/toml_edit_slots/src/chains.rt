@@ -79,7 +79,8 @@ impl Chains {
     /// Fails only if memory runs out; these then are still the chains of the slots.
     pub(crate) fn push<T>(&mut self, entries: &[Slot<T>], hash: usize) -> Mem<()>
         requires { IsChained self.old (names entries.now) }
-        ensures ok { (t : Text) → hash ≡ hash_of t → OnOk result (IsChained self.new (names entries.now ++ t ∷ [])) }
+        ensures ok { (t : Text) → hash ≡ hash_of t
+            → OnOk result (IsChained self.new (names entries.now ++ t ∷ [])) }
         ensures err { OnErr result (IsChained self.new (names entries.now)) }
     {
         if entries.len() >= self.heads.len() {
@@ -152,7 +153,8 @@ impl Chains {
     fn link(&mut self, at: usize, hash: usize)
         requires some { 0 < length self.old.heads.items }
         requires room { at < length self.old.next.items }
-        ensures { (us : List Text) (t : Text) → slice_get us at ≡ Some t → hash ≡ hash_of t → IsChainedTo self.old us at → IsChainedTo self.new us (at + 1) }
+        ensures { (us : List Text) (t : Text) → slice_get us at ≡ Some t → hash ≡ hash_of t
+            → IsChainedTo self.old us at → IsChainedTo self.new us (at + 1) }
     {
         let spot = spot_in(hash, self.heads.len());
         let before = self.heads[spot];
@@ -165,7 +167,8 @@ impl Chains {
     fn unlink(&mut self, at: usize, hash: usize)
         requires some { 0 < length self.old.heads.items }
         requires room { at < length self.old.next.items }
-        ensures { (us : List Text) (t : Text) → slice_get us at ≡ Some t → hash ≡ hash_of t → IsChainedTo self.old us (at + 1) → IsChainedTo self.new us at }
+        ensures { (us : List Text) (t : Text) → slice_get us at ≡ Some t → hash ≡ hash_of t
+            → IsChainedTo self.old us (at + 1) → IsChainedTo self.new us at }
     {
         let spot = spot_in(hash, self.heads.len());
         let before = self.next[at];

@@ -101,9 +101,11 @@ impl Places {
     /// of each name stays.
     fn note(&mut self, name: &str, at: usize) -> Mem<Option<usize>>
         ensures there { IfOk result (λ there. there ≡ place_of self.old name.now) }
-        ensures new { OnOk result (place_of self.old name.now ≡ None → IsNotedAt at name.now self.old self.new) }
+        ensures new { OnOk result
+            (place_of self.old name.now ≡ None → IsNotedAt at name.now self.old self.new) }
         ensures absent { OnErr result (place_of self.old name.now ≡ None) }
-        ensures present { is_some (place_of self.old name.now) ≡ true → (t : Text) → place_of self.new t ≡ place_of self.old t }
+        ensures present { is_some (place_of self.old name.now) ≡ true → (t : Text)
+            → place_of self.new t ≡ place_of self.old t }
         ensures err { OnErr result ((t : Text) → place_of self.new t ≡ place_of self.old t) }
     {
         if let Some(there) = self.names.get(name) {
@@ -147,8 +149,10 @@ impl Places {
 
     /// Removes what is noted of a name. Allocates nothing.
     pub(crate) fn remove(&mut self, name: &str)
-        ensures own { (t : Text) → same_text name.now t ≡ false → is_own self.new t ≡ is_own self.old t }
-        ensures others { (t : Text) → same_text name.now t ≡ false → AreNotedApart self.old t name.now → place_of self.new t ≡ place_of self.old t }
+        ensures own { (t : Text) → same_text name.now t ≡ false
+            → is_own self.new t ≡ is_own self.old t }
+        ensures others { (t : Text) → same_text name.now t ≡ false
+            → AreNotedApart self.old t name.now → place_of self.new t ≡ place_of self.old t }
     {
         if self.names.remove(name).is_none() {
             let _ = self.hashes.remove(&second_hash(name));

@@ -199,7 +199,9 @@ impl<T> Slots<T> {
     pub fn as_slice(&self) -> &[Slot<T>]
         ensures slots { result.now ≡ self.now }
         // No slot has the name of one before it.
-        ensures apart { (at : ℕ) → ForSome (slice_get self.now at) (λ slot. place slot.key.name (take at self.now) ≡ None) }
+        ensures apart { (at : ℕ)
+            → ForSome (slice_get self.now at)
+            (λ slot. place slot.key.name (take at self.now) ≡ None) }
     {
         self.entries.as_slice()
     }

@@ -8,7 +8,8 @@ use Rattle.toml_edit_stream.specs.declared.streams.ReadFault.TheVariants.{Memory
 abbrev pub AppendsBeginning : Option (List ℕ) → Option (List ℕ) → List ℕ → Type 0
 AppendsBeginning old new bs = (n : ℕ) × (n ≤ length bs) × Appends old new (take n bs)
 
--- whether the input has failed, before a read to the end and after it: the fault is the input's own, or it has none
+-- whether the input has failed, before a read to the end and after it: the fault is the input's
+-- own, or it has none
 abbrev pub ReadFaultLeaves : Bool → Bool → ReadFault → Type 0
 ReadFaultLeaves old new Memory = new ≡ old
 ReadFaultLeaves old new Broken = new ≡ true

@@ -56,7 +56,8 @@ impl Sink for Grown {
     ghost use Rattle.std.specs.Prelude.{string_bytes};
     ghost use Rattle.toml_edit_stream.specs.Sinks.{Grows};
 
-    ghost puts = { λ s text t. Grows s.refused (string_bytes s.text) text t.refused (string_bytes t.text) };
+    ghost puts = { λ s text t. Grows s.refused (string_bytes s.text) text t.refused
+        (string_bytes t.text) };
 
     fn put(&mut self, text: &str) {
         if !self.refused {

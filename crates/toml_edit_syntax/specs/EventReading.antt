@@ -46,35 +46,46 @@ OpenedBy byte None = (b : Brackets) → byte ≢ opening_byte b
 
 -- the end of a list whose closing bracket is at the front of this text, after this text
 abbrev pub close_read : Brackets → ℕ → Bool → Text → Text → List Event
-close_read b whole comma inner t = close_events (closing b) (closing_byte b ∷ []) (whole - length t) comma inner
+close_read b whole comma inner t =
+    close_events (closing b) (closing_byte b ∷ []) (whole - length t) comma inner
 
 -- the segments of a key, after the white space before the first
 abbrev pub path_read : ℕ → ℕ → Text → Text → Reading (List Event)
-path_read n whole before t = seen (λ p _. path_events (whole - length t - length before) p) (reading (segments_at n before t))
+path_read n whole before t =
+    seen (λ p _. path_events (whole - length t - length before) p)
+    (reading (segments_at n before t))
 
 -- the sign `=`, between white space and white space
 abbrev pub equals_read : ℕ → Text → Reading (List Event)
 equals_read whole t =
-    seen (λ e rest. event Equals (whole - length rest - length e.1 - 1) (codes "=") ∷ []) (reading (equals_at t))
+    seen (λ e rest. event Equals (whole - length rest - length e.1 - 1) (codes "=") ∷ [])
+    (reading (equals_at t))
 
 -- a pair up to its value, after its trivia
 abbrev pub frame_read : ℕ → Text → Text → Reading (List Event)
-frame_read whole leading t = seen (λ f _. frame_events (whole - length t - length leading) f) (frame_at leading t)
+frame_read whole leading t =
+    seen (λ f _. frame_events (whole - length t - length leading) f) (frame_at leading t)
 
 -- what is in front of the value of an element or a pair, after its trivia
 abbrev pub head_read : Brackets → ℕ → Text → Text → Reading (List Event)
-head_read brackets.Array whole leading t = got (event Before (whole - length t - length leading) leading ∷ []) t
+head_read brackets.Array whole leading t =
+    got (event Before (whole - length t - length leading) leading ∷ []) t
 head_read brackets.InlineTable whole leading t = frame_read whole leading t
 
 abbrev pub scalar_read : ℕ → Text → Reading (List Event)
 scalar_read whole t = seen (λ v _. value_events (whole - length t) v) (lone_scalar t (scalar_at t))
 
 abbrev pub value_read : ℕ → ℕ → ℕ → Text → Reading (List Event)
-value_read n level whole t = seen (λ v _. value_events (whole - length t) v) (value_from n level (whole - length t) t)
+value_read n level whole t =
+    seen (λ v _. value_events (whole - length t) v) (value_from n level (whole - length t) t)
 
 -- the elements or the pairs after an opening bracket, and the closing bracket
 abbrev pub items_read : Brackets → ℕ → ℕ → ℕ → Bool → Text → Reading (List Event)
 items_read brackets.Array n level whole comma t =
-    seen (λ p rest. elements_events (whole - length t) p.0 ++ close_events ArrayClose (codes "]") (whole - length rest - 1) p.1.0 p.1.1) (elements_at n level (whole - length t) comma t)
+    seen (λ p rest. elements_events (whole - length t) p.0
+    ++ close_events ArrayClose (codes "]") (whole - length rest - 1) p.1.0 p.1.1)
+    (elements_at n level (whole - length t) comma t)
 items_read brackets.InlineTable n level whole comma t =
-    seen (λ p rest. pairs_events (whole - length t) p.0 ++ close_events InlineTableClose (codes "}") (whole - length rest - 1) p.1.0 p.1.1) (pairs_at n level (whole - length t) comma t)
+    seen (λ p rest. pairs_events (whole - length t) p.0
+    ++ close_events InlineTableClose (codes "}") (whole - length rest - 1) p.1.0 p.1.1)
+    (pairs_at n level (whole - length t) comma t)

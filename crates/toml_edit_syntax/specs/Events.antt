@@ -15,7 +15,8 @@ use Rattle.toml_edit_syntax.specs.ValueEvents.{event, path_events, frame_events,
 abbrev pub line_events : ℕ → Frame → Value → List Event
 line_events start f v =
     let value = value_at_byte start f in
-    frame_events start f ++ (value_events value v ++ event LineEnd (value + length (value_text v)) f.trailing ∷ [])
+    frame_events start f
+    ++ (value_events value v ++ event LineEnd (value + length (value_text v)) f.trailing ∷ [])
 
 -- what the opening brackets of a header are, by whether they are two
 abbrev pub header_open : Bool → EventKind
@@ -44,7 +45,8 @@ statement_events start (header h end) = header_events start h
 
 abbrev pub events_from : ℕ → List Statement → List Event
 events_from start [] = []
-events_from start (s ∷ rest) = statement_events start s ++ events_from (start + length (statement_text s)) rest
+events_from start (s ∷ rest) =
+    statement_events start s ++ events_from (start + length (statement_text s)) rest
 
 -- all parts but newlines and a mark at the start, in the order of the text
 abbrev pub events_of : Document → List Event
@@ -69,8 +71,9 @@ has_deep_value (header h end) = false
 abbrev pub is_closing_bracket : ℕ → Bool
 is_closing_bracket c = c == 0x5D || c == 0x7D
 
--- More arrays and inline tables are open in one another, in a front of the text in which nothing is outside the grammar, than may be:
--- closing brackets alone make that front a text of the grammar, with a value that is too deep.
+-- More arrays and inline tables are open in one another, in a front of the text in which nothing is
+-- outside the grammar, than may be: closing brackets alone make that front a text of the grammar,
+-- with a value that is too deep.
 pub record OpensTooMany (t : Text) : Type 0 where
   pub front : Text
   pub behind_it : Text
@@ -81,8 +84,9 @@ pub record OpensTooMany (t : Text) : Type 0 where
   pub cut : IsCut document (front ++ closing)
   pub deep : list_any has_deep_value document.statements ≡ true
 
--- The text's events: of whatever cut it has, they are the parts, up to a bracket that is one too many, which there is exactly where
--- a value is too deep; and it has one, unless there is such a bracket, and the text opens too many then.
+-- The text's events: of whatever cut it has, they are the parts, up to a bracket that is one too
+-- many, which there is exactly where a value is too deep; and it has one, unless there is such a
+-- bracket, and the text opens too many then.
 pub record AreEventsOf (t : Text) (es : List Event) : Type 0 where
   pub every : (d : Document) → IsCut d t → es ≡ shortened 0 (events_of d)
   pub deep : (d : Document) → IsCut d t → are_deep es ≡ list_any has_deep_value d.statements

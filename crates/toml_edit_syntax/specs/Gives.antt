@@ -19,9 +19,11 @@ StopsAs es expected TooDeep = expected ≡ deep es
 abbrev pub IsBefore : Stop → Type 0
 IsBefore stop = (mistake : Mistake) × (left : ℕ) × (stop ≡ Before mistake left)
 
--- The result is the text after what was read, and these are its events; at a bracket that is one too many, those up to there.
+-- The result is the text after what was read, and these are its events; at a bracket that is one
+-- too many, those up to there.
 abbrev pub Leaves : List Event → Result (Bor Text) Stop → Reading (List Event) → Type 0
-Leaves es result expected = MatchResult result (λ rest. expected ≡ got es rest.now) (λ stop. StopsAs es expected stop)
+Leaves es result expected =
+    MatchResult result (λ rest. expected ≡ got es rest.now) (λ stop. StopsAs es expected stop)
 
 -- the events that reading gives were added
 abbrev pub Adds : List Event → List Event → Result (Bor Text) Stop → Reading (List Event) → Type 0

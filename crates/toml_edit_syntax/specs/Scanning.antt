@@ -23,7 +23,11 @@ unfoldable pub scan : Bool → Text → ℕ × Bool
 scan inside [] = (0, inside)
 scan inside (c ∷ cs) =
     let state = turn inside c (first cs) in
-    if is_some state then (suc (scan (unwrap_or state false) cs).0, (scan (unwrap_or state false) cs).1) else (0, inside)
+    if is_some state then (
+      suc
+          (scan (unwrap_or state false) cs).0,
+      (scan (unwrap_or state false) cs).1,
+    ) else (0, inside)
 
 -- after white space and a comment
 unfoldable pub line_end_rest : Text → Text
@@ -55,4 +59,5 @@ opening_at t = if slice_index t 1 == 0x5B then (true, drop 2 t) else (false, dro
 -- after the closing brackets of a header, two of an array's element
 unfoldable pub closing_rest : Bool → Text → Option Text
 closing_rest is_array t =
-    if first t == 0x5D && (not is_array || slice_index t 1 == 0x5D) then Some (if is_array then drop 2 t else drop 1 t) else None
+    if first t == 0x5D && (not is_array || slice_index t 1 == 0x5D)
+    then Some (if is_array then drop 2 t else drop 1 t) else None

@@ -29,20 +29,24 @@ header_end_read whole is_array t =
 
 -- the events of a statement, by what reading gives of it after its trivia
 abbrev pub statement_seen : ℕ → Text → Text → Reading Statement → Reading (List Event)
-statement_seen whole leading t r = seen (λ s _. statement_events (whole - length t - length leading) s) r
+statement_seen whole leading t r =
+    seen (λ s _. statement_events (whole - length t - length leading) s) r
 
 abbrev pub key_line_read : ℕ → Text → Text → Reading (List Event)
-key_line_read whole leading t = statement_seen whole leading t (key_line_at 0 (whole - length t - length leading) leading t)
+key_line_read whole leading t =
+    statement_seen whole leading t (key_line_at 0 (whole - length t - length leading) leading t)
 
 abbrev pub header_read : ℕ → Text → Text → Reading (List Event)
 header_read whole leading t = statement_seen whole leading t (header_at leading t)
 
 abbrev pub statement_read : ℕ → Text → Text → Reading (List Event)
-statement_read whole leading t = statement_seen whole leading t (statement_at 0 (whole - length t - length leading) leading t)
+statement_read whole leading t =
+    statement_seen whole leading t (statement_at 0 (whole - length t - length leading) leading t)
 
 -- fewer than n statements, and the final trivia
 abbrev pub rest_read : ℕ → ℕ → Text → Reading (List Event)
-rest_read n whole t = seen (events_with_final whole (whole - length t)) (statements_at n 0 (whole - length t) t)
+rest_read n whole t =
+    seen (events_with_final whole (whole - length t)) (statements_at n 0 (whole - length t) t)
 
 -- a lone value
 abbrev pub lone_value_read : Text → Reading (List Event)

@@ -11,7 +11,8 @@ use Rattle.toml_edit_syntax.specs.declared.event.Event.{Event}
 abbrev pub event : EventKind → ℕ → Text → Event
 event kind start t = record { kind = kind; span = record { start = start; end = start + length t } }
 
--- the segments of a key that begins at this byte, and the white space on both sides of the dots between them
+-- the segments of a key that begins at this byte, and the white space on both sides of the dots
+-- between them
 abbrev pub path_events : ℕ → List Segment → List Event
 path_events start [] = []
 path_events start (s ∷ []) = event Key (start + length s.before) s.spelled ∷ []
@@ -33,7 +34,8 @@ frame_events start f =
 -- where the value of a pair begins
 abbrev pub value_at_byte : ℕ → Frame → ℕ
 value_at_byte start f =
-    start + length f.leading + length (path_text f.path) + length f.before_equals + 1 + length f.after_equals
+    start + length f.leading + length (path_text f.path) + length f.before_equals + 1
+    + length f.after_equals
 
 -- a comma at the end of a list, where there is one, just before the trailing text
 abbrev pub comma_events : ℕ → Bool → List Event
@@ -42,7 +44,8 @@ comma_events at comma = if comma then event Comma at (codes ",") ∷ [] else []
 -- the end of a list: perhaps a comma, the trailing text, and the bracket, which begins at this byte
 abbrev pub close_events : EventKind → Text → ℕ → Bool → Text → List Event
 close_events kind bracket at comma t =
-    comma_events (at - length t - 1) comma ++ (event Inner (at - length t) t ∷ event kind at bracket ∷ [])
+    comma_events (at - length t - 1) comma
+    ++ (event Inner (at - length t) t ∷ event kind at bracket ∷ [])
 
 -- a value that begins at this byte
 abbrev mutual
@@ -51,11 +54,13 @@ abbrev mutual
   value_events start (array es comma t) =
       event ArrayOpen start (codes "[")
       ∷ elements_events (start + 1) es
-      ++ close_events ArrayClose (codes "]") (start + length (value_text (array es comma t)) - 1) comma t
+      ++ close_events ArrayClose (codes "]")
+      (start + length (value_text (array es comma t)) - 1) comma t
   value_events start (inline_table ps comma t) =
       event InlineTableOpen start (codes "{")
       ∷ pairs_events (start + 1) ps
-      ++ close_events InlineTableClose (codes "}") (start + length (value_text (inline_table ps comma t)) - 1) comma t
+      ++ close_events InlineTableClose (codes "}")
+      (start + length (value_text (inline_table ps comma t)) - 1) comma t
 
   pub elements_events : ℕ → Elements → List Event
   elements_events start no_elements = []
@@ -85,12 +90,14 @@ closes ArrayClose = true
 closes InlineTableClose = true
 closes _ = false
 
--- The events up to the first bracket that is one too many, inside so many, which stands in place of it and of all that follows.
+-- The events up to the first bracket that is one too many, inside so many, which stands in place of
+-- it and of all that follows.
 abbrev pub shortened : ℕ → List Event → List Event
 shortened level [] = []
 shortened level (e ∷ es) =
     if opens e.kind then
-    if level == nesting_limit then record e { kind = TooDeep } ∷ [] else e ∷ shortened (suc level) es
+    if level == nesting_limit then record e { kind = TooDeep } ∷ []
+    else e ∷ shortened (suc level) es
     else if closes e.kind then e ∷ shortened (level - 1) es
     else e ∷ shortened level es
 

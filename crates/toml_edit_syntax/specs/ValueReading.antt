@@ -13,7 +13,8 @@ use Rattle.toml_edit_laws.specs.reading.ScalarReading.{scalar_at}
 use Rattle.toml_edit_syntax.specs.Scanning.{front, scan, equals_at}
 use Rattle.toml_edit_syntax.specs.ValueEvents.{event, frame_events, value_events}
 
--- What is read at the front of a text: a part and the text after it; or the events up to a bracket that is one too many; or none.
+-- What is read at the front of a text: a part and the text after it; or the events up to a bracket
+-- that is one too many; or none.
 pub data Reading (A : Type 0) : Type 0 where
   got : A → Text → Reading A
   deep : List Event → Reading A
@@ -43,7 +44,8 @@ reading (Some p) = got p.0 p.1
 
 -- white space, newlines and comments with their newlines
 unfoldable pub trivia_at : Text → Reading Text
-trivia_at t = if (scan false t).1 then wrong else got (take (scan false t).0 t) (drop (scan false t).0 t)
+trivia_at t =
+    if (scan false t).1 then wrong else got (take (scan false t).0 t) (drop (scan false t).0 t)
 
 -- the segments of a key with at most so many dots, the first of which has this before it
 unfoldable pub segments_at : ℕ → Text → Text → Read (List Segment)
@@ -54,8 +56,17 @@ segments_at (suc n) before t =
     let next = split_while is_blank (drop 1 white.1) in
     let spelled = front t k.1 in
     if first white.1 == 46
-    then option_map (λ p. (record { before = before; key = k.0; spelled = spelled; after = white.0 } ∷ p.0, p.1)) (segments_at n next.0 next.1)
-    else Some (record { before = before; key = k.0; spelled = spelled; after = [] } ∷ [], k.1)) (key_at t)
+    then option_map (λ p. (
+      record {
+        before = before;
+        key = k.0;
+        spelled = spelled;
+        after = white.0;
+      } ∷ p.0,
+      p.1,
+    )) (segments_at n next.0 next.1)
+    else Some (record { before = before; key = k.0; spelled = spelled; after = [] } ∷ [], k.1))
+    (key_at t)
 
 -- a key
 abbrev pub path_at : Text → Read (List Segment)
@@ -80,20 +91,26 @@ frame_at leading t =
 -- what follows an opening bracket inside so many, unless that bracket is one too many
 abbrev pub inside : {A : Type 0} → EventKind → Text → ℕ → ℕ → Reading A → Reading A
 inside kind bracket level at r =
-    if level == nesting_limit then deep (event TooDeep at bracket ∷ []) else behind (event kind at bracket ∷ []) r
+    if level == nesting_limit then deep (event TooDeep at bracket ∷ [])
+    else behind (event kind at bracket ∷ []) r
 
 abbrev pub around : Text → Text → Around
 around before after = record { before = before; after = after }
 
--- Inside so many brackets, at this byte of the text: a value; the elements of an array, and the pairs of an inline table, with the
--- comma that ends them, where one does, and the text before the closing bracket. The comma says that one comes before. The first
--- number bounds the steps.
+-- Inside so many brackets, at this byte of the text: a value; the elements of an array, and the
+-- pairs of an inline table, with the comma that ends them, where one does, and the text before the
+-- closing bracket. The comma says that one comes before. The first number bounds the steps.
 unfoldable mutual
   pub value_from : ℕ → ℕ → ℕ → Text → Reading Value
   value_from zero level at t = wrong
   value_from (suc n) level at t =
-      if first t == 0x5B then inside ArrayOpen (codes "[") level at (changed (λ p. array p.0 p.1.0 p.1.1) (elements_at n (suc level) (at + 1) false (drop 1 t)))
-      else if first t == 0x7B then inside InlineTableOpen (codes "{") level at (changed (λ p. inline_table p.0 p.1.0 p.1.1) (pairs_at n (suc level) (at + 1) false (drop 1 t)))
+      if first t == 0x5B then inside ArrayOpen (codes "[") level at
+      (changed (λ p. array p.0 p.1.0 p.1.1)
+      (elements_at n (suc level) (at + 1) false (drop 1 t)))
+      else if first t == 0x7B
+      then inside InlineTableOpen (codes "{") level at
+      (changed (λ p. inline_table p.0 p.1.0 p.1.1)
+      (pairs_at n (suc level) (at + 1) false (drop 1 t)))
       else lone_scalar t (scalar_at t)
 
   pub elements_at : ℕ → ℕ → ℕ → Bool → Text → Reading (Elements × (Bool × Text))
@@ -101,14 +118,17 @@ unfoldable mutual
   elements_at (suc n) level at comma t =
       follow (trivia_at t) (λ before value.
       if first value == 0x5D then got (no_elements, (comma, before)) (drop 1 value)
-      else behind (event Before at before ∷ []) (follow (value_from n level (at + length before) value) (λ v rest.
+      else behind (event Before at before ∷ [])
+      (follow (value_from n level (at + length before) value) (λ v rest.
       follow (trivia_at rest) (λ after more.
       let start = at + length before in
       let end = start + length (value_text v) in
       if first more == 0x2C
       then behind (value_events start v ++ event After end after ∷ [])
-      (changed (λ p. (element (around before after) v p.0, p.1)) (elements_at n level (end + length after + 1) true (drop 1 more)))
-      else if first more == 0x5D then got (element (around before after) v no_elements, (false, [])) (drop 1 more)
+      (changed (λ p. (element (around before after) v p.0, p.1))
+      (elements_at n level (end + length after + 1) true (drop 1 more)))
+      else if first more == 0x5D
+      then got (element (around before after) v no_elements, (false, [])) (drop 1 more)
       else wrong))))
 
   pub pairs_at : ℕ → ℕ → ℕ → Bool → Text → Reading (Pairs × (Bool × Text))
@@ -123,6 +143,8 @@ unfoldable mutual
       let end = start + length (value_text v) in
       if first more == 0x2C
       then behind (value_events start v ++ event After end after ∷ [])
-      (changed (λ p. (pair (record f { trailing = after }) v p.0, p.1)) (pairs_at n level (end + length after + 1) true (drop 1 more)))
-      else if first more == 0x7D then got (pair (record f { trailing = after }) v no_pairs, (false, [])) (drop 1 more)
+      (changed (λ p. (pair (record f { trailing = after }) v p.0, p.1))
+      (pairs_at n level (end + length after + 1) true (drop 1 more)))
+      else if first more == 0x7D
+      then got (pair (record f { trailing = after }) v no_pairs, (false, [])) (drop 1 more)
       else wrong)))))

@@ -84,7 +84,8 @@ pub(crate) fn part(kind: EventKind, start: usize, end: usize) -> Event
 /// Adds the events of a text that ends a text of `whole` bytes.
 fn parts<'a>(events: &mut Vec<Event>, whole: usize, s: &'a str) -> Result<&'a str, Stop>
     requires { length s.now ≤ whole }
-    ensures { (n : ℕ) → length s.now < n → Adds events.old.items events.new.items result (read.rest_read n whole s.now) }
+    ensures { (n : ℕ) → length s.now < n
+        → Adds events.old.items events.new.items result (read.rest_read n whole s.now) }
 {
     let mut rest = s;
     'statements: loop {
@@ -127,7 +128,8 @@ pub fn events(alloc: Global, source: &str) -> Result<Vec<Event>, SyntaxFault>
     ensures cut { IfOk result (λ es. AreEventsOf source.now es.items) }
     ensures spans { IfOk result (λ es. AllByRecursion (λ e. IsSpanOf source.now e.span) es.items) }
     // A text of the grammar is read, unless out of memory.
-    ensures every { (d : Document) → IsCut d source.now → IsOk result ⊎ IsErrOf result SyntaxFault.Memory }
+    ensures every { (d : Document) → IsCut d source.now
+        → IsOk result ⊎ IsErrOf result SyntaxFault.Memory }
     ensures fault { HasSpanIn source.now result }
 {
     let mut events = Vec::new(alloc);

@@ -63,8 +63,10 @@ pub(crate) fn trivia(s: &str) -> (usize, bool)
 /// Splits off the whitespace before `=` and the whitespace after it.
 #[tactic(auto, unfolding(crate::specs::Scanning::equals_at))]
 pub(crate) fn equals(s: &str) -> Option<((&str, &str), &str)>
-    ensures value { option_map (λ p. ((p.0.0.now, p.0.1.now), p.1.now)) result ≡ spec.equals_at s.now }
-    ensures lens { IfSome result (λ p. length p.0.0.now + 1 + length p.0.1.now + length p.1.now ≡ length s.now) }
+    ensures value { option_map (λ p. ((p.0.0.now, p.0.1.now), p.1.now)) result
+        ≡ spec.equals_at s.now }
+    ensures lens { IfSome result
+        (λ p. length p.0.0.now + 1 + length p.0.1.now + length p.1.now ≡ length s.now) }
 {
     let (before, rest) = split_run(s, Class::Blank);
     if first(rest) != b'=' {

@@ -38,7 +38,8 @@ pub fn lone_events(alloc: Global, text: &str) -> Result<Vec<Event>, SyntaxFault>
     ensures cut { IfOk result (λ es. AreLoneEvents text.now es.items) }
     ensures spans { IfOk result (λ es. AllByRecursion (λ e. IsSpanOf text.now e.span) es.items) }
     // A text that is a value is read, unless out of memory.
-    ensures every { (v : Value) → IsLoneValue text.now v → IsOk result ⊎ IsErrOf result SyntaxFault.Memory }
+    ensures every { (v : Value) → IsLoneValue text.now v
+        → IsOk result ⊎ IsErrOf result SyntaxFault.Memory }
     ensures fault { HasSpanIn text.now result }
 {
     let mut events = Vec::new(alloc);

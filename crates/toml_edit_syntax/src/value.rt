@@ -87,7 +87,8 @@ fn is_solid(byte: u8) -> bool
 /// Splits off trivia. Fails where it stops inside a comment.
 #[tactic(auto, unfolding(crate::specs::ValueReading::trivia_at))]
 fn whole_trivia(s: &str) -> Result<(&str, &str), Stop>
-    ensures value { MatchResult result (λ p. spec.trivia_at s.now ≡ spec.got p.0.now p.1.now) (λ _. spec.trivia_at s.now ≡ spec.wrong) }
+    ensures value { MatchResult result (λ p. spec.trivia_at s.now ≡ spec.got p.0.now p.1.now)
+        (λ _. spec.trivia_at s.now ≡ spec.wrong) }
     ensures before { IfErr result IsBefore }
     ensures lens { IfOk result (λ p. length p.0.now + length p.1.now ≡ length s.now) }
 {
@@ -241,8 +242,10 @@ fn closed<'a>(
     left: usize,
     inner: Result<&'a str, Stop>,
 ) -> Result<&'a str, Stop>
-    ensures leaves { (es : List EventView) (expected : spec.Reading (List EventView)) → Leaves es inner.entry expected → Leaves es result expected }
-    ensures shorter { (n : ℕ) → IfOk inner.entry (λ r. length r.now < n) → IfOk result (λ r. length r.now < n) }
+    ensures leaves { (es : List EventView) (expected : spec.Reading (List EventView))
+        → Leaves es inner.entry expected → Leaves es result expected }
+    ensures shorter { (n : ℕ) → IfOk inner.entry (λ r. length r.now < n)
+        → IfOk result (λ r. length r.now < n) }
 {
     match inner {
         Err(Stop::Before(_, 0)) => Err(Stop::Before(brackets.unclosed(), left)),
@@ -260,7 +263,8 @@ pub(crate) fn value<'a>(
 ) -> Result<&'a str, Stop>
     requires fits { length s.now ≤ whole }
     requires level { level ≤ nesting_limit }
-    ensures adds { (n : ℕ) → 2 * length s.now + 2 ≤ n → Adds events.old.items events.new.items result (read.value_read n level whole s.now) }
+    ensures adds { (n : ℕ) → 2 * length s.now + 2 ≤ n
+        → Adds events.old.items events.new.items result (read.value_read n level whole s.now) }
     ensures shorter { IfOk result (λ r. length r.now < length s.now) }
 {
     let Some(brackets) = Brackets::opened_by(first(s)) else {
@@ -287,7 +291,9 @@ fn items<'a>(
 ) -> Result<&'a str, Stop>
     requires fits { length s.now ≤ whole }
     requires level { level ≤ nesting_limit }
-    ensures adds { (n : ℕ) → 2 * length s.now + 3 ≤ n → Adds events.old.items events.new.items result (read.items_read brackets n level whole false s.now) }
+    ensures adds { (n : ℕ) → 2 * length s.now + 3 ≤ n
+        → Adds events.old.items events.new.items result
+        (read.items_read brackets n level whole false s.now) }
     ensures shorter { IfOk result (λ r. length r.now < length s.now) }
 {
     let mut rest = s;

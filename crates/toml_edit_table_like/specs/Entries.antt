@@ -37,11 +37,15 @@ abbrev pub IsViewOf : (Item → Type 0) → Node → Type 0
 IsViewOf P n = (x : Item) × P x × (n ≡ item_view x)
 
 -- the entry once the item is in its slot
-abbrev pub with_entry_item : {X : Type 0} → (X → List (Slot Item)) → (List (Slot Item) → X → X) → TableLikeEntry X → Item → TableLikeEntry X
-with_entry_item entries with_entries e x = with_table (with_item_put entries with_entries (key_of e.key) x e.table.now) e
+abbrev pub with_entry_item : {X : Type 0} → (X → List (Slot Item)) → (List (Slot Item) → X → X)
+    → TableLikeEntry X → Item → TableLikeEntry X
+with_entry_item entries with_entries e x =
+    with_table (with_item_put entries with_entries (key_of e.key) x e.table.now) e
 
 -- it ends with the final item of the reference in its slot; it stays where none is lent
-abbrev pub EntryLends : (R : RattleType) → (R.Denot → List (Slot Item)) → (List (Slot Item) → R.Denot → R.Denot) → {E : Type 0} → MutBor (TableLikeEntry R.Denot)
+abbrev pub EntryLends : (R : RattleType) → (R.Denot → List (Slot Item))
+    → (List (Slot Item) → R.Denot → R.Denot) → {E : Type 0} → MutBor (TableLikeEntry R.Denot)
     → Result (MutBor Item) E → Fml
 EntryLends R entries with_entries o r =
-    follows_if (lent.the_row (record { mir = named 1; lft = [] }) R) item_row o.ghost_name (name_if_ok (λ x. x.ghost_name) r) (with_entry_item entries with_entries o.now) o.now
+    follows_if (lent.the_row (record { mir = named 1; lft = [] }) R) item_row o.ghost_name
+    (name_if_ok (λ x. x.ghost_name) r) (with_entry_item entries with_entries o.now) o.now

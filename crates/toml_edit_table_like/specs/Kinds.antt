@@ -67,19 +67,24 @@ inline_takes es t = refl
 same_fields : (t : Table) (es : List (Slot Item)) → fields_view (table_holding es t) ≡ fields_view t
 same_fields t es = search (rules, the_lemmas)
 
-same_inline_fields : (t : InlineTable) (es : List (Slot Item)) → inline_fields (holding es t) ≡ inline_fields t
+same_inline_fields : (t : InlineTable) (es : List (Slot Item))
+    → inline_fields (holding es t) ≡ inline_fields t
 same_inline_fields t es = search (rules, the_lemmas)
 
-pub table_keeps : (es : List (Slot Item)) (t : Table) → table_beside (table_holding es t) ≡ table_beside t
+pub table_keeps : (es : List (Slot Item)) (t : Table)
+    → table_beside (table_holding es t) ≡ table_beside t
 table_keeps es t = ap (λ f. table f no_slots) (same_fields t es)
 
-pub inline_keeps : (es : List (Slot Item)) (t : InlineTable) → inline_beside (holding es t) ≡ inline_beside t
+pub inline_keeps : (es : List (Slot Item)) (t : InlineTable)
+    → inline_beside (holding es t) ≡ inline_beside t
 inline_keeps es t = ap (λ f. inline f no_slots) (same_inline_fields t es)
 
-pub table_again : (es fs : List (Slot Item)) (t : Table) → table_holding es (table_holding fs t) ≡ table_holding es t
+pub table_again : (es fs : List (Slot Item)) (t : Table)
+    → table_holding es (table_holding fs t) ≡ table_holding es t
 table_again es fs t = refl
 
-pub inline_again : (es fs : List (Slot Item)) (t : InlineTable) → holding es (holding fs t) ≡ holding es t
+pub inline_again : (es fs : List (Slot Item)) (t : InlineTable)
+    → holding es (holding fs t) ≡ holding es t
 inline_again es fs t = refl
 
 pub table_stays : (t : Table) → table_holding (table_entries t) t ≡ t

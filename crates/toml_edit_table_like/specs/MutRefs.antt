@@ -1,4 +1,5 @@
--- A table of either kind that an item holds, lent by the item: what it is made of, and the item that is left.
+-- A table of either kind that an item holds, lent by the item: what it is made of, and the item
+-- that is left.
 use mathlib.Core.Bool.{Bool-set}
 use mathlib.Core.HLevel.{Σ_prop_path}
 use Rattle.std.specs.Prelude.{◌≡◌, true, List, [], Option, None, Some, is_some, option_map}
@@ -41,7 +42,8 @@ mut_beside r = beside_in r.item.now
 abbrev pub mut_entries : TableRefMut → List (Slot Item)
 mut_entries r = unwrap_or (entries_in r.item.now) []
 
-pub still : (es : List (Slot Item)) (o : Option (List (Slot Item))) → is_some (option_map (λ _. es) o) ≡ is_some o
+pub still : (es : List (Slot Item)) (o : Option (List (Slot Item)))
+    → is_some (option_map (λ _. es) o) ≡ is_some o
 still es (Some fs) = refl
 still es None = refl
 
@@ -68,11 +70,13 @@ same-ref r q e =
     let p : u ≡ v = Σ_prop_path (λ b. Bool-set (is_some (entries_in b.now)) true) e in
     ap of_pair p
 
-shown-or : (o : Option (List (Slot Item))) → unwrap_or (option_map shown o) [] ≡ shown (unwrap_or o [])
+shown-or : (o : Option (List (Slot Item)))
+    → unwrap_or (option_map shown o) [] ≡ shown (unwrap_or o [])
 shown-or (Some es) = refl
 shown-or None = refl
 
-took-or : (es : List (Slot Item)) (o : Option (List (Slot Item))) → is_some o ≡ true → unwrap_or (option_map (λ _. es) o) [] ≡ es
+took-or : (es : List (Slot Item)) (o : Option (List (Slot Item))) → is_some o ≡ true
+    → unwrap_or (option_map (λ _. es) o) [] ≡ es
 took-or es (Some fs) e = refl
 took-or es None e = absurd cc
 
@@ -80,18 +84,22 @@ pub mut_shows : (r : TableRefMut) → mut_slots r ≡ shown (mut_entries r)
 mut_shows r = ap (λ o. unwrap_or o []) (seen-in r.item.now) ∙ shown-or (entries_in r.item.now)
 
 pub mut_takes : (es : List (Slot Item)) (r : TableRefMut) → mut_entries (mut_with es r) ≡ es
-mut_takes es r = ap (λ o. unwrap_or o []) (took-in es r.item.now) ∙ took-or es (entries_in r.item.now) r.is_table
+mut_takes es r =
+    ap (λ o. unwrap_or o []) (took-in es r.item.now) ∙ took-or es (entries_in r.item.now) r.is_table
 
-pub mut_keeps : (es : List (Slot Item)) (r : TableRefMut) → mut_beside (mut_with es r) ≡ mut_beside r
+pub mut_keeps : (es : List (Slot Item)) (r : TableRefMut)
+    → mut_beside (mut_with es r) ≡ mut_beside r
 mut_keeps es r = keeps-in es r.item.now
 
-pub mut_again : (es fs : List (Slot Item)) (r : TableRefMut) → mut_with es (mut_with fs r) ≡ mut_with es r
+pub mut_again : (es fs : List (Slot Item)) (r : TableRefMut)
+    → mut_with es (mut_with fs r) ≡ mut_with es r
 mut_again es fs r = same-ref _ _ (ap (λ x. record r.item { now = x }) (again-in es fs r.item.now))
 
 pub mut_stays : (r : TableRefMut) → mut_with (mut_entries r) r ≡ r
 mut_stays r = same-ref _ _ (ap (λ x. record r.item { now = x }) (stays-in r.item.now))
 
-pub mut_roots : (es : List (Slot Item)) (r : TableRefMut) → mut_origin (mut_with es r) ≡ mut_origin r
+pub mut_roots : (es : List (Slot Item)) (r : TableRefMut)
+    → mut_origin (mut_with es r) ≡ mut_origin r
 mut_roots es r = refl
 
 -- ---- loans
@@ -101,7 +109,8 @@ abbrev pub LendsOwnSlots : MutBor Item → MutBor (List (Slot Item)) → Fml
 LendsOwnSlots s r = Lends item_row (slots_row item_row) s r (λ es. with_entries_in es s.now)
 
 abbrev pub LendsValueSlots : MutBor Value → MutBor (List (Slot Item)) → Fml
-LendsValueSlots s r = Lends value_row (slots_row item_row) s r (λ es. value_with es s.now (out-Value s.now))
+LendsValueSlots s r =
+    Lends value_row (slots_row item_row) s r (λ es. value_with es s.now (out-Value s.now))
 
 -- it stays where it is no table
 abbrev pub RestsIfOther : (R : RattleType) → MutBor R.Denot → Option TableRefMut → Fml

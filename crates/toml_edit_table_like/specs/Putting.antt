@@ -11,12 +11,19 @@ use Rattle.toml_edit_tree.specs.declared.item.Item.{Item}
 
 -- the slots with the item in the slot of the key, or in a new one
 abbrev pub item_put : Key → Item → List (Slot Item) → List (Slot Item)
-item_put k x es = option_map_or (λ at. with_item at x es) (place k.name es) (es ++ record { key = k; item = x } ∷ [])
+item_put k x es =
+    option_map_or (λ at. with_item at x es) (place k.name es)
+    (es ++ record { key = k; item = x } ∷ [])
 
 -- the table with those, by its slots and by what it is with others
-abbrev pub with_item_put : {X : Type 0} → (X → List (Slot Item)) → (List (Slot Item) → X → X) → Key → Item → X → X
+abbrev pub with_item_put : {X : Type 0} → (X → List (Slot Item)) → (List (Slot Item) → X → X) → Key
+    → Item → X → X
 with_item_put entries with_entries k x t = with_entries (item_put k x (entries t)) t
 
--- it ends with the final item of r in the slot of the key, which may be new; it stays where none is lent
-abbrev pub LendsPut : (R : RattleType) → (R.Denot → List (Slot Item)) → (List (Slot Item) → R.Denot → R.Denot) → {E : Type 0} → MutBor R.Denot → Key → Result (MutBor Item) E → Fml
-LendsPut R entries with_entries s k r = LendsIfOk R item_row s r (λ w. with_item_put entries with_entries k w s.now) s.now
+-- it ends with the final item of r in the slot of the key, which may be new; it stays where none is
+-- lent
+abbrev pub LendsPut : (R : RattleType) → (R.Denot → List (Slot Item))
+    → (List (Slot Item) → R.Denot → R.Denot) → {E : Type 0} → MutBor R.Denot → Key
+    → Result (MutBor Item) E → Fml
+LendsPut R entries with_entries s k r =
+    LendsIfOk R item_row s r (λ w. with_item_put entries with_entries k w s.now) s.now

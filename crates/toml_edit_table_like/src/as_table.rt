@@ -56,7 +56,8 @@ pub trait AsTableLike {
         ensures same_item { IfSome result (λ t. (mut_item t).ghost_name ≡ self.entry.ghost_name) }
         ensures table { option_map mut_node result ≡ table_like_in (node self.old) }
         // The slots and what is beside them determine the item.
-        ensures whole { (t : TableRefMut) → mut_node t ≡ on_slots (λ _. mut_slots t) (mut_beside t) };
+        ensures whole { (t : TableRefMut)
+            → mut_node t ≡ on_slots (λ _. mut_slots t) (mut_beside t) };
 
     /// Returns `true` if the item is a table or an inline table.
     fn is_table_like(&self) -> bool

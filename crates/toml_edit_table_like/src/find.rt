@@ -40,7 +40,8 @@ pub(crate) fn filled_slot<'a>(slots: &'a Slots<Item>, key: &str) -> Option<(&'a 
 
 /// Finds the slot of the key, unless it is a placeholder.
 pub(crate) fn filled_place(slots: &Slots<Item>, key: &str) -> Option<usize>
-    ensures held { option_map item_view (option_and_then (slice_get (items_of slots.now)) result) ≡ get key.now (shown slots.now) }
+    ensures held { option_map item_view (option_and_then (slice_get (items_of slots.now)) result)
+        ≡ get key.now (shown slots.now) }
     ensures place { IfSome result (λ at. place key.now slots.now ≡ Some at) }
     ensures within { IfSome result (λ at. at < length slots.now) }
     ensures apart { AreApart (shown slots.now) }

@@ -59,9 +59,11 @@ pub trait HasSlots {
     /// Other slots replace these, and change nothing else.
     ghost takes: { (es : List (code.Slot Item)) (t : Self) → entries (with_entries es t) ≡ es };
 
-    ghost keeps: { (es : List (code.Slot Item)) (t : Self) → beside (with_entries es t) ≡ beside t };
+    ghost keeps: { (es : List (code.Slot Item)) (t : Self)
+        → beside (with_entries es t) ≡ beside t };
 
-    ghost again: { (es fs : List (code.Slot Item)) (t : Self) → with_entries es (with_entries fs t) ≡ with_entries es t };
+    ghost again: { (es fs : List (code.Slot Item)) (t : Self)
+        → with_entries es (with_entries fs t) ≡ with_entries es t };
 
     ghost stays: { (t : Self) → with_entries (entries t) t ≡ t };
 
@@ -69,7 +71,8 @@ pub trait HasSlots {
     /// it.
     ghost origin: { Self → Option GName };
 
-    ghost holds: { (es : List (code.Slot Item)) (t : Self) → origin (with_entries es t) ≡ origin t };
+    ghost holds: { (es : List (code.Slot Item)) (t : Self)
+        → origin (with_entries es t) ≡ origin t };
 
     /// Returns the slots.
     fn as_slots(&self) -> &Slots<Item>
@@ -94,7 +97,8 @@ pub trait HasSlots {
     fn key_at_mut(&mut self, at: usize) -> KeyMut<'_>
         requires { at < length (entries self.old) }
         ensures* writes_back { sem 𝓛 (LendsKeyAt Self.row entries with_entries self.entry at result) }
-        ensures key { option_map (λ slot. slot.key) (slice_get (entries self.old) at) ≡ Some (key_of result) }
+        ensures key { option_map (λ slot. slot.key) (slice_get (entries self.old) at)
+            ≡ Some (key_of result) }
     {
         let slots = self.as_slots_mut();
         slots.key_mut(at)
@@ -105,7 +109,8 @@ pub trait HasSlots {
     fn leaf_decor_at_mut(&mut self, at: usize) -> &mut Decor
         requires { at < length (entries self.old) }
         ensures* writes_back { sem 𝓛 (LendsLeafAt Self.row entries with_entries self.entry at result) }
-        ensures decor { option_map (λ slot. slot.key.leaf) (slice_get (entries self.old) at) ≡ Some result.now }
+        ensures decor { option_map (λ slot. slot.key.leaf) (slice_get (entries self.old) at)
+            ≡ Some result.now }
     {
         let slots = self.as_slots_mut();
         slots.leaf_decor_mut(at)
@@ -116,7 +121,8 @@ pub trait HasSlots {
     fn dotted_decor_at_mut(&mut self, at: usize) -> &mut Decor
         requires { at < length (entries self.old) }
         ensures* writes_back { sem 𝓛 (LendsDottedAt Self.row entries with_entries self.entry at result) }
-        ensures decor { option_map (λ slot. slot.key.dotted) (slice_get (entries self.old) at) ≡ Some result.now }
+        ensures decor { option_map (λ slot. slot.key.dotted) (slice_get (entries self.old) at)
+            ≡ Some result.now }
     {
         let slots = self.as_slots_mut();
         slots.dotted_decor_mut(at)
@@ -139,7 +145,9 @@ pub trait HasSlots {
     /// Returns the number of the slot of `key`, or `None` if the key is missing or has a
     /// placeholder.
     fn filled_place_of(&self, key: &str) -> Option<usize>
-        ensures item { option_map item_view (option_and_then (slice_get (items_of (entries self.now))) result) ≡ get key.now (slots_of self.now) }
+        ensures item { option_map item_view
+            (option_and_then (slice_get (items_of (entries self.now))) result)
+            ≡ get key.now (slots_of self.now) }
         ensures there { IfSome result (λ at. place_seen key.now (slots_of self.now) ≡ Some at) }
         ensures within { IfSome result (λ at. at < length (entries self.now)) }
     {

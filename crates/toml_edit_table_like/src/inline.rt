@@ -19,8 +19,11 @@ pub(crate) fn insert_item(
     item: Item,
 ) -> Result<Option<Item>, NoMemory<Item>>
     requires { is_item (item_view item) ≡ true }
-    ensures old { IfOk result (λ old. option_map item_view old ≡ old_value key.now (inline_slots_of table.old)) }
-    ensures slots { OnOk result (inline_slots_of table.new ≡ inserted key.now (made_value (item_view item)) (inline_slots_of table.old)) }
+    ensures old { IfOk result
+        (λ old. option_map item_view old ≡ old_value key.now (inline_slots_of table.old)) }
+    ensures slots { OnOk result
+        (inline_slots_of table.new
+        ≡ inserted key.now (made_value (item_view item)) (inline_slots_of table.old)) }
     ensures present { IsTrue (has_slot key.now (inline_slots_of table.old)) → IsOk result }
     ensures fields { inline_fields table.new ≡ inline_fields table.old }
     ensures back { IfErr result (λ refused. refused.0 ≡ item) }

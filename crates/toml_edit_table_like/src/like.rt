@@ -104,10 +104,15 @@ pub trait AnyTable: HasSlots {
     /// [`entry`](Self::entry).
     fn get_mut(&mut self, key: &str) -> Option<&mut Item>
         ensures* writes_back { sem 𝓛 (LendsUnder Self.row Self.entries Self.with_entries self.entry key.now result) }
-        ensures item { option_map (λ x. item_view x.now) result ≡ get key.now (Self.slots_of self.old) }
+        ensures item { option_map (λ x. item_view x.now) result
+            ≡ get key.now (Self.slots_of self.old) }
         // What the table is after a write through the reference.
-        ensures leaves { (w : Item) → Self.slots_of (with_item_under Self.entries Self.with_entries key.now w self.old) ≡ changed key.now (with_item (item_view w)) (Self.slots_of self.old) }
-        ensures keeps { (w : Item) → Self.beside (with_item_under Self.entries Self.with_entries key.now w self.old) ≡ Self.beside self.old }
+        ensures leaves { (w : Item)
+            → Self.slots_of (with_item_under Self.entries Self.with_entries key.now w self.old)
+            ≡ changed key.now (with_item (item_view w)) (Self.slots_of self.old) }
+        ensures keeps { (w : Item)
+            → Self.beside (with_item_under Self.entries Self.with_entries key.now w self.old)
+            ≡ Self.beside self.old }
     {
         match filled_place(self.as_slots(), key) {
             Some(at) => Some(self.item_at_mut(at)),
@@ -158,7 +163,9 @@ pub trait AnyTable: HasSlots {
     /// Returns `true` if `key` has an item: in a table any but a placeholder, in an inline table a
     /// value.
     fn contains_key(&self, key: &str) -> bool
-        ensures found { result ≡ like_contains_key (differences_of (Self.beside self.now)) key.now (Self.slots_of self.now) }
+        ensures found { result
+            ≡ like_contains_key (differences_of (Self.beside self.now)) key.now
+            (Self.slots_of self.now) }
         // Then `get` finds it.
         ensures there { IsTrue result → IsSome (get key.now (Self.slots_of self.now)) };
 
@@ -172,7 +179,9 @@ pub trait AnyTable: HasSlots {
     ///
     /// Returns an `AllocError` if out of memory.
     fn get_values(&self, alloc: Global) -> Mem<Vec<(Vec<&Key>, &Value)>>
-        ensures { IfOk result (λ lines. values_read lines.items ≡ like_get_values (differences_of (Self.beside self.now)) (Self.slots_of self.now)) };
+        ensures { IfOk result
+            (λ lines. values_read lines.items
+            ≡ like_get_values (differences_of (Self.beside self.now)) (Self.slots_of self.now)) };
 
     /// Returns `true` if the table is written by dotted keys (TOML, "Keys").
     fn is_dotted(&self) -> bool
@@ -201,8 +210,13 @@ pub trait AnyTable: HasSlots {
     /// Returns a [`NoMemory`] with `item` if out of memory. Replacing never fails.
     fn insert(&mut self, key: &str, item: Item) -> Result<Option<Item>, NoMemory<Item>>
         requires { (differences_of (Self.beside self.old)).insertion.takes (item_view item) ≡ true }
-        ensures old { IfOk result (λ old. option_map item_view old ≡ like_old (differences_of (Self.beside self.old)) key.now (Self.slots_of self.old)) }
-        ensures slots { OnOk result (Self.slots_of self.new ≡ like_inserted (differences_of (Self.beside self.old)) key.now (item_view item) (Self.slots_of self.old)) }
+        ensures old { IfOk result
+            (λ old. option_map item_view old
+            ≡ like_old (differences_of (Self.beside self.old)) key.now (Self.slots_of self.old)) }
+        ensures slots { OnOk result
+            (Self.slots_of self.new
+            ≡ like_inserted (differences_of (Self.beside self.old)) key.now (item_view item)
+            (Self.slots_of self.old)) }
         ensures present { IsTrue (has_slot key.now (Self.slots_of self.old)) → IsOk result }
         ensures beside { Self.beside self.new ≡ Self.beside self.old }
         ensures origin { Self.origin self.new ≡ Self.origin self.old }
@@ -222,11 +236,18 @@ pub trait AnyTable: HasSlots {
     /// Returns a [`NoMemory`] with `item` if out of memory. An existing key takes no memory.
     fn or_insert(&mut self, key: &str, item: Item) -> Result<&mut Item, NoMemory<Item>>
         ensures* writes_back { sem 𝓛 (LendsPut Self.row Self.entries Self.with_entries self.entry (new_key key.now) result) }
-        ensures item { IfOk result (λ lent. item_view lent.now ≡ unwrap_or (lookup key.now (Self.slots_of self.old)) (item_view item)) }
+        ensures item { IfOk result
+            (λ lent. item_view lent.now
+            ≡ unwrap_or (lookup key.now (Self.slots_of self.old)) (item_view item)) }
         // What the table is after a write through the reference.
-        ensures leaves { (w : Item) → Self.slots_of (with_item_put Self.entries Self.with_entries (new_key key.now) w self.old)
-            ≡ put (with_item (item_view w)) (record { key = new_key key.now; item = item_view w }) (Self.slots_of self.old) }
-        ensures keeps { (w : Item) → Self.beside (with_item_put Self.entries Self.with_entries (new_key key.now) w self.old) ≡ Self.beside self.old }
+        ensures leaves { (w : Item)
+            → Self.slots_of (with_item_put Self.entries Self.with_entries
+            (new_key key.now) w self.old)
+            ≡ put (with_item (item_view w)) (record { key = new_key key.now; item = item_view w })
+            (Self.slots_of self.old) }
+        ensures keeps { (w : Item)
+            → Self.beside (with_item_put Self.entries Self.with_entries
+            (new_key key.now) w self.old) ≡ Self.beside self.old }
         ensures present { IsTrue (has_slot key.now (Self.slots_of self.old)) → IsOk result }
         ensures back { IfErr result (λ refused. refused.0 ≡ item) }
     {
@@ -247,11 +268,17 @@ pub trait AnyTable: HasSlots {
     /// Returns a [`NoMemory`] with `item` if out of memory. An existing key takes no memory.
     fn or_insert_format(&mut self, key: &Key, item: Item) -> Result<&mut Item, NoMemory<Item>>
         ensures* writes_back { sem 𝓛 (LendsPut Self.row Self.entries Self.with_entries self.entry key.now result) }
-        ensures item { IfOk result (λ lent. item_view lent.now ≡ unwrap_or (lookup key.now.name (Self.slots_of self.old)) (item_view item)) }
+        ensures item { IfOk result
+            (λ lent. item_view lent.now
+            ≡ unwrap_or (lookup key.now.name (Self.slots_of self.old)) (item_view item)) }
         // What the table is after a write through the reference.
-        ensures leaves { (w : Item) → Self.slots_of (with_item_put Self.entries Self.with_entries key.now w self.old)
-            ≡ put (with_item (item_view w)) (record { key = key.now; item = item_view w }) (Self.slots_of self.old) }
-        ensures keeps { (w : Item) → Self.beside (with_item_put Self.entries Self.with_entries key.now w self.old) ≡ Self.beside self.old }
+        ensures leaves { (w : Item)
+            → Self.slots_of (with_item_put Self.entries Self.with_entries key.now w self.old)
+            ≡ put (with_item (item_view w)) (record { key = key.now; item = item_view w })
+            (Self.slots_of self.old) }
+        ensures keeps { (w : Item)
+            → Self.beside (with_item_put Self.entries Self.with_entries key.now w self.old)
+            ≡ Self.beside self.old }
         ensures present { IsTrue (has_slot key.now.name (Self.slots_of self.old)) → IsOk result }
         ensures back { IfErr result (λ refused. refused.0 ≡ item) }
     {
@@ -297,7 +324,8 @@ pub trait AnyTable: HasSlots {
     /// inline table is made a value. A placeholder is removed as well, and returned as
     /// `Some(Item::None)` by a table and as `None` by an inline table.
     fn remove(&mut self, key: &str) -> Option<Item>
-        ensures item { option_map item_view result ≡ like_old (differences_of (Self.beside self.old)) key.now (Self.slots_of self.old) }
+        ensures item { option_map item_view result
+            ≡ like_old (differences_of (Self.beside self.old)) key.now (Self.slots_of self.old) }
         ensures slots { Self.slots_of self.new ≡ without key.now (Self.slots_of self.old) }
         ensures beside { Self.beside self.new ≡ Self.beside self.old }
         ensures origin { Self.origin self.new ≡ Self.origin self.old };
@@ -332,7 +360,10 @@ pub trait AnyTable: HasSlots {
         ensures reorders { IsDeepReorder (differences_of (Self.beside self.old)).enters (Self.slots_of self.old) (Self.slots_of self.new) }
         ensures sorted { OnOk result (LikeSorted (differences_of (Self.beside self.old)) (Self.slots_of self.old) (Self.slots_of self.new)) }
         // The order of names is a lawful one, so exactly one list is in order.
-        ensures in_order { OnOk result (Self.slots_of self.new ≡ sorted_slots (differences_of (Self.beside self.old)).enters (slots_from (Self.slots_of self.old))) }
+        ensures in_order { OnOk result
+            (Self.slots_of self.new
+            ≡ sorted_slots (differences_of (Self.beside self.old)).enters
+            (slots_from (Self.slots_of self.old))) }
         ensures beside { Self.beside self.new ≡ Self.beside self.old }
         ensures origin { Self.origin self.new ≡ Self.origin self.old };
 }
@@ -361,10 +392,13 @@ pub trait TableLike: AnyTable {
     /// placeholders too, use [`slot_mut`](Self::slot_mut).
     fn get_key_value_mut(&mut self, key: &str) -> Option<TableLikeSlot<'_, Self>>
         ensures* absent { sem 𝓛 (RestsIfAbsent Self.row self.entry result) }
-        ensures same_table { IfSome result (λ slot. (slot_ref slot).ghost_name ≡ self.entry.ghost_name) }
+        ensures same_table { IfSome result
+            (λ slot. (slot_ref slot).ghost_name ≡ self.entry.ghost_name) }
         ensures slot { IfSome result (λ slot. IsSlotOf self.old slot) }
-        ensures item { option_and_then (λ slot. option_map item_view (slot_item slot)) result ≡ get key.now (Self.slots_of self.old) }
-        ensures place { IfSome result (λ slot. place key.now (Self.slots_of self.old) ≡ Some (slot_place slot)) };
+        ensures item { option_and_then (λ slot. option_map item_view (slot_item slot)) result
+            ≡ get key.now (Self.slots_of self.old) }
+        ensures place { IfSome result
+            (λ slot. place key.now (Self.slots_of self.old) ≡ Some (slot_place slot)) };
 
     /// Returns a [`KeyMut`] of the key of this name, or `None` if it is missing. A key with a
     /// placeholder is returned too.
@@ -383,7 +417,8 @@ pub trait TableLike: AnyTable {
     /// Returns the slot of `key`, a placeholder too, or `None` if the key is missing.
     fn slot_mut(&mut self, key: &str) -> Option<TableLikeSlot<'_, Self>>
         ensures* absent { sem 𝓛 (RestsIfAbsent Self.row self.entry result) }
-        ensures same_table { IfSome result (λ slot. (slot_ref slot).ghost_name ≡ self.entry.ghost_name) }
+        ensures same_table { IfSome result
+            (λ slot. (slot_ref slot).ghost_name ≡ self.entry.ghost_name) }
         ensures slot { IfSome result (λ slot. IsSlotOf self.old slot) }
         ensures place { option_map slot_place result ≡ place key.now (Self.slots_of self.old) };
 
@@ -393,9 +428,11 @@ pub trait TableLike: AnyTable {
     /// In a loop over numbers it takes the place of an `iter_mut`.
     fn key_value_at_mut(&mut self, at: usize) -> Option<TableLikeSlot<'_, Self>>
         ensures* absent { sem 𝓛 (RestsIfAbsent Self.row self.entry result) }
-        ensures same_table { IfSome result (λ slot. (slot_ref slot).ghost_name ≡ self.entry.ghost_name) }
+        ensures same_table { IfSome result
+            (λ slot. (slot_ref slot).ghost_name ≡ self.entry.ghost_name) }
         ensures slot { IfSome result (λ slot. IsSlotOf self.old slot) }
-        ensures place { option_map slot_place result ≡ if nat_lt at (length (Self.slots_of self.old)) then Some at else None };
+        ensures place { option_map slot_place result
+            ≡ if nat_lt at (length (Self.slots_of self.old)) then Some at else None };
 }
 
 impl AnyTable for Table {

@@ -20,10 +20,14 @@ pub(crate) fn place_for(
     item: Item,
 ) -> Result<usize, NoMemory<Item>>
     ensures within { IfOk result (λ at. at < length slots.new) }
-    ensures item { IfOk result (λ at. option_map item_view (slice_get (items_of slots.new) at) ≡ Some (unwrap_or (lookup key.now (shown slots.old)) (item_view item))) }
-    ensures rest { IfOk result (λ at. (w : Item) → with_item at w slots.new ≡ item_put (new_key key.now) w slots.old) }
+    ensures item { IfOk result
+        (λ at. option_map item_view (slice_get (items_of slots.new) at)
+        ≡ Some (unwrap_or (lookup key.now (shown slots.old)) (item_view item))) }
+    ensures rest { IfOk result
+        (λ at. (w : Item) → with_item at w slots.new ≡ item_put (new_key key.now) w slots.old) }
     ensures leaves { (w : Item) → shown (item_put (new_key key.now) w slots.old)
-        ≡ put (with_item_seen (item_view w)) (record { key = new_key key.now; item = item_view w }) (shown slots.old) }
+        ≡ put (with_item_seen (item_view w)) (record { key = new_key key.now; item = item_view w })
+        (shown slots.old) }
     ensures present { IsTrue (has_slot key.now (shown slots.old)) → IsOk result }
     ensures back { IfErr result (λ refused. refused.0 ≡ item) }
     ensures err { OnErr result (slots.new ≡ slots.old) }
@@ -54,10 +58,14 @@ pub(crate) fn place_for_key(
     item: Item,
 ) -> Result<usize, NoMemory<Item>>
     ensures within { IfOk result (λ at. at < length slots.new) }
-    ensures item { IfOk result (λ at. option_map item_view (slice_get (items_of slots.new) at) ≡ Some (unwrap_or (lookup key.now.name (shown slots.old)) (item_view item))) }
-    ensures rest { IfOk result (λ at. (w : Item) → with_item at w slots.new ≡ item_put key.now w slots.old) }
+    ensures item { IfOk result
+        (λ at. option_map item_view (slice_get (items_of slots.new) at)
+        ≡ Some (unwrap_or (lookup key.now.name (shown slots.old)) (item_view item))) }
+    ensures rest { IfOk result
+        (λ at. (w : Item) → with_item at w slots.new ≡ item_put key.now w slots.old) }
     ensures leaves { (w : Item) → shown (item_put key.now w slots.old)
-        ≡ put (with_item_seen (item_view w)) (record { key = key.now; item = item_view w }) (shown slots.old) }
+        ≡ put (with_item_seen (item_view w)) (record { key = key.now; item = item_view w })
+        (shown slots.old) }
     ensures present { IsTrue (has_slot key.now.name (shown slots.old)) → IsOk result }
     ensures back { IfErr result (λ refused. refused.0 ≡ item) }
     ensures err { OnErr result (slots.new ≡ slots.old) }

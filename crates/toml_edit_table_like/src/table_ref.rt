@@ -117,7 +117,8 @@ impl<'a> TableRef<'a> {
     /// Returns `true` if `key` has an item: in a table any but a placeholder, in an inline table a
     /// value.
     pub fn contains_key(&self, key: &str) -> bool
-        ensures found { result ≡ like_contains_key (differences_of (ref_node self.now)) key.now (ref_slots self.now) }
+        ensures found { result
+            ≡ like_contains_key (differences_of (ref_node self.now)) key.now (ref_slots self.now) }
         // Then `get` finds it.
         ensures there { IsTrue result → IsSome (get key.now (ref_slots self.now)) }
     {
@@ -137,7 +138,9 @@ impl<'a> TableRef<'a> {
     ///
     /// Returns an `AllocError` if out of memory.
     pub fn get_values(&self, alloc: Global) -> Mem<Vec<(Vec<&'a Key>, &'a Value)>>
-        ensures { IfOk result (λ lines. values_read lines.items ≡ like_get_values (differences_of (ref_node self.now)) (ref_slots self.now)) }
+        ensures { IfOk result
+            (λ lines. values_read lines.items
+            ≡ like_get_values (differences_of (ref_node self.now)) (ref_slots self.now)) }
     {
         match *self {
             TableRef::Table(table) => Table::get_values(table, alloc),

@@ -123,7 +123,8 @@ fn opening(s: &str) -> Option<(Form, &str)>
 /// whitespace and newlines.
 #[tactic(auto, unfolding(toml_edit_laws::specs::reading::BlockReading::escaped_at))]
 fn escaped(s: &str) -> Option<(Option<char>, &str)>
-    ensures value { option_map (λ p. (pieces.escaped_text p.0, p.1.now)) result ≡ spec.escaped_at s.now }
+    ensures value { option_map (λ p. (pieces.escaped_text p.0, p.1.now)) result
+        ≡ spec.escaped_at s.now }
     ensures within { IfSome result (λ p. length p.1.now ≤ length s.now) }
 {
     let len = gap_len(s);
@@ -136,7 +137,9 @@ fn escaped(s: &str) -> Option<(Option<char>, &str)>
 
 /// Splits off the next piece of a string of this form, or returns `None` if no string goes on so.
 fn next_piece(form: Form, s: &str) -> Option<(Piece<'_>, &str)>
-    ensures piece { (n : ℕ) → length s.now < n → MatchOption result (pieces.form_at form n s.now ≡ None) (λ p. pieces.ReadsPiece form (pieces.form_at form n s.now) p.0 p.1.now) }
+    ensures piece { (n : ℕ) → length s.now < n
+        → MatchOption result (pieces.form_at form n s.now ≡ None)
+        (λ p. pieces.ReadsPiece form (pieces.form_at form n s.now) p.0 p.1.now) }
     ensures within { IfSome result (λ p. length p.1.now < length s.now) }
 {
     let (own, rest) = split_run(s, class(form));

@@ -32,7 +32,8 @@ pub enum Scalar {
 /// out of memory.
 pub fn decode_key(alloc: Global, text: &str) -> Result<Option<String>, AllocError>
     ensures found { IfOk result (λ o. IfSome o (λ s. SpellsKey (string_bytes s) text.now)) }
-    ensures only { IfOk result (λ o. (k : Text) → SpellsKey k text.now → IsSomeAnd o (λ s. k ≡ string_bytes s)) }
+    ensures only { IfOk result
+        (λ o. (k : Text) → SpellsKey k text.now → IsSomeAnd o (λ s. k ≡ string_bytes s)) }
 {
     read_key(alloc, text)
 }
@@ -56,7 +57,8 @@ pub fn decode_integer(text: &str) -> Option<i64>
     ensures found { IfSome result (λ z. IsSpelling text.now (scalars.integer z)) }
     // What the text spells is that integer; if there is none, it is no integer, or out of range.
     ensures only { (s : scalars.Scalar) → Spells s text.now
-        → MatchOption result ((z : ℤ) → s ≡ scalars.integer z → is_in_range s text.now ≡ false) (λ z. s ≡ scalars.integer z) }
+        → MatchOption result ((z : ℤ) → s ≡ scalars.integer z → is_in_range s text.now ≡ false)
+        (λ z. s ≡ scalars.integer z) }
 {
     number::decode_integer(text.as_bytes())
 }
@@ -80,7 +82,9 @@ fn read_key(alloc: Global, text: &str) -> Result<Option<String>, AllocError>
 /// Decodes a text that is a scalar.
 #[tactic(auto, unfolding(toml_edit_laws::specs::reading::ScalarReading::scalar_at))]
 fn read_scalar(alloc: Global, text: &str) -> Result<Option<Scalar>, AllocError>
-    ensures { IfOk result (λ o. option_map scalar_view o ≡ spec.ranged text.now (spec.whole (scalar.scalar_at text.now))) }
+    ensures { IfOk result
+        (λ o. option_map scalar_view o
+        ≡ spec.ranged text.now (spec.whole (scalar.scalar_at text.now))) }
 {
     if is_word(first(text)) {
         return read_word(alloc, text);
@@ -99,7 +103,8 @@ fn read_scalar(alloc: Global, text: &str) -> Result<Option<Scalar>, AllocError>
 /// Decodes a word that is a boolean, a number, a date or a time, if it is in range.
 #[tactic(auto, unfolding(toml_edit_laws::specs::reading::ScalarReading::word_scalar))]
 fn read_word(alloc: Global, word: &str) -> Result<Option<Scalar>, AllocError>
-    ensures { IfOk result (λ o. option_map scalar_view o ≡ spec.ranged word.now (scalar.word_scalar word.now)) }
+    ensures { IfOk result
+        (λ o. option_map scalar_view o ≡ spec.ranged word.now (scalar.word_scalar word.now)) }
 {
     if word == "true" {
         Ok(Some(Scalar::Boolean(true)))

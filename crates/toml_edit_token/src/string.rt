@@ -21,7 +21,8 @@ pub(crate) fn literal(s: &str) -> Option<(&str, &str)>
 
 /// Returns the text after a basic string whose opening quote is just before `s`.
 fn after_basic(s: &str) -> Option<&str>
-    ensures rest { (n : ℕ) → length s.now < n → option_map (λ r. r.now) result ≡ option_map (λ p. p.1) (spec.basic_at n s.now) }
+    ensures rest { (n : ℕ) → length s.now < n
+        → option_map (λ r. r.now) result ≡ option_map (λ p. p.1) (spec.basic_at n s.now) }
     ensures within { IfSome result (λ r. length r.now ≤ length s.now) }
 {
     let mut rest = s;
@@ -127,7 +128,9 @@ pub(crate) fn after_string(s: &str) -> Option<&str>
 /// Returns what a basic string means that ends the text, and whose opening quote is just before
 /// `s`.
 fn decode_basic(alloc: Global, s: &str) -> Result<Option<String>, AllocError>
-    ensures { IfOk result (λ o. (n : ℕ) → length s.now < n → option_map string_bytes o ≡ spec.whole (spec.basic_at n s.now)) }
+    ensures { IfOk result
+        (λ o. (n : ℕ) → length s.now < n
+        → option_map string_bytes o ≡ spec.whole (spec.basic_at n s.now)) }
 {
     // No escape means more bytes than it takes.
     let mut value = String::with_capacity(alloc, s.len())?;

@@ -16,9 +16,11 @@ use toml_edit_datetime::{is_datetime, is_float};
 /// Returns the text after the simple key at the front, or `None` if there is none. A bare key goes
 /// as far as its bytes do. (TOML, "Keys".)
 pub fn after_key(s: &str) -> Option<&str>
-    ensures found { IfSome result (λ rest. (k spelled : Text) × SpellsKey k spelled × (s.now ≡ spelled ++ rest.now)) }
+    ensures found { IfSome result
+        (λ rest. (k spelled : Text) × SpellsKey k spelled × (s.now ≡ spelled ++ rest.now)) }
     // Each key that is there and ends where keys do is that one.
-    ensures only { (k spelled rest : Text) → SpellsKey k spelled → spec.ends_key rest ≡ true → s.now ≡ spelled ++ rest
+    ensures only { (k spelled rest : Text) → SpellsKey k spelled → spec.ends_key rest ≡ true
+        → s.now ≡ spelled ++ rest
         → option_map (λ r. r.now) result ≡ Some rest }
     ensures rest { option_map (λ r. r.now) result ≡ option_map (λ p. p.1) (spec.key_at s.now) }
     ensures within { IfSome result (λ r. length r.now ≤ length s.now) }
@@ -88,9 +90,12 @@ pub(crate) fn opens_block(s: &str) -> bool
 /// Returns the text after the scalar at the front, or `None` if there is none. A word goes as far
 /// as its bytes do. (TOML, "String" to "Local Time".)
 pub fn after_scalar(s: &str) -> Option<&str>
-    ensures found { IfSome result (λ rest. (x : Scalar) × (spelled : Text) × Spells x spelled × (s.now ≡ spelled ++ rest.now)) }
+    ensures found { IfSome result
+        (λ rest. (x : Scalar) × (spelled : Text) × Spells x spelled
+        × (s.now ≡ spelled ++ rest.now)) }
     // Each scalar that is there and ends where scalars do is that one.
-    ensures only { (x : Scalar) (spelled rest : Text) → Spells x spelled → scalar.ends_scalar rest ≡ true → s.now ≡ spelled ++ rest
+    ensures only { (x : Scalar) (spelled rest : Text) → Spells x spelled
+        → scalar.ends_scalar rest ≡ true → s.now ≡ spelled ++ rest
         → option_map (λ r. r.now) result ≡ Some rest }
     ensures rest { option_map (λ r. r.now) result ≡ option_map (λ p. p.1) (scalar.scalar_at s.now) }
     ensures within { IfSome result (λ r. length r.now ≤ length s.now) }

@@ -1,4 +1,5 @@
--- What the calls of a value or an item return: its kind, what it holds, and the value with another decor.
+-- What the calls of a value or an item return: its kind, what it holds, and the value with another
+-- decor.
 use Rattle.std.specs.Prelude.{ℕ, ℤ, Bool, codes, Option, None, Some, option_and_then}
 use Rattle.std.specs.declared.ops.Range.{Range}
 use Rattle.toml_edit_model.specs.Text.{Text}
@@ -56,7 +57,8 @@ of_date d = record { date = Some d; time = None; offset = None }
 abbrev pub of_time : Time → Datetime
 of_time t = record { date = None; time = Some t; offset = None }
 
--- where a scalar's spelling is in the source, if it is a span, and where an array or inline table is
+-- where a scalar's spelling is in the source, if it is a span, and where an array or inline table
+-- is
 abbrev pub span_in : Node → Option (Range ℕ)
 span_in (leaf s spelling d) = option_and_then range_of spelling
 span_in (list f xs) = range_in f.extent

@@ -1,4 +1,5 @@
--- Arrays, inline tables, tables and arrays of tables as contracts see them, and what their calls return.
+-- Arrays, inline tables, tables and arrays of tables as contracts see them, and what their calls
+-- return.
 use Rattle.std.specs.Prelude.{ℕ, ℤ, Bool, false, List, [], ◌∷◌, Option, Some, None, if◌then◌else◌}
 use Rattle.std.specs.declared.ops.Range.{Range}
 use Rattle.toml_edit_model.specs.Tree.{Raw, Decor, Key, Extent, unset, ArrayFields, InlineFields, TableFields, Node, list, inline, table, tables, Items, Slots, no_slots, slot, is_value_node}
@@ -55,7 +56,15 @@ array_with_trailing trailing a = record a { fields = record a.fields { trailing 
 -- an array that was read, from this byte of its source up to that one
 abbrev pub spanned_array : Bool → Raw → ℕ → ℕ → Items → ArrayView
 spanned_array comma trailing start end xs =
-    record { fields = record { decor = unset; comma = comma; trailing = trailing; extent = Some (start, end) }; items = xs }
+    record {
+      fields = record {
+        decor = unset;
+        comma = comma;
+        trailing = trailing;
+        extent = Some (start, end);
+      };
+      items = xs;
+    }
 
 -- ---- inline tables
 
@@ -73,16 +82,29 @@ inline_with_dotted dotted t = record t { fields = record t.fields { is_dotted = 
 abbrev pub spanned_inline : Bool → Raw → ℕ → ℕ → Slots → InlineView
 spanned_inline comma trailing start end ss =
     record {
-      fields = record { decor = unset; is_dotted = false; comma = comma; trailing = trailing; extent = Some (start, end) };
+      fields = record {
+        decor = unset;
+        is_dotted = false;
+        comma = comma;
+        trailing = trailing;
+        extent = Some (start, end);
+      };
       slots = ss;
     }
 
 -- ---- tables
 
--- what is kept of a header: its decor, its place among the headers, and its brackets, from this byte of the source up to that one
+-- what is kept of a header: its decor, its place among the headers, and its brackets, from this
+-- byte of the source up to that one
 abbrev pub headed : Decor → ℤ → ℕ → ℕ → TableFields
 headed decor position start end =
-    record { decor = decor; is_implicit = false; is_dotted = false; position = Some position; extent = Some (start, end) }
+    record {
+      decor = decor;
+      is_implicit = false;
+      is_dotted = false;
+      position = Some position;
+      extent = Some (start, end);
+    }
 
 -- the table with another role, or another place among the headers
 abbrev pub table_with_implicit : Bool → TableView → TableView

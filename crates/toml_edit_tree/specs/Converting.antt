@@ -1,4 +1,5 @@
--- The parts of conversions: each item made a value, a container of those slots in its new form, and what may be a table.
+-- The parts of conversions: each item made a value, a container of those slots in its new form, and
+-- what may be a table.
 use Rattle.std.specs.Prelude.{Bool, not, ◌||◌}
 use Rattle.toml_edit_model.specs.Tree.{Node, list, inline, table, tables, Items, no_items, item, Slots, no_slots, slot, is_value_node}
 use Rattle.toml_edit_model.specs.Lists.{slot_list, slots_from, item_list, items_from, is_inline_node}
@@ -27,7 +28,8 @@ inside_made (table f ss) = table f (each_slot_made ss)
 inside_made (tables e xs) = tables e (each_made xs)
 inside_made n = n
 
--- a table as the inline table of its slots, and an array of tables as the array of its own, as `fmt` leaves them
+-- a table as the inline table of its slots, and an array of tables as the array of its own, as
+-- `fmt` leaves them
 abbrev pub in_new_form : Node → Node
 in_new_form (table f ss) = inline new_inline (formatted_slots ss)
 in_new_form (tables e xs) = list new_array (formatted_elements xs)

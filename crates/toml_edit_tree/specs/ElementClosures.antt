@@ -9,10 +9,12 @@ use Rattle.toml_edit_tree.specs.declared.table.Table.{Table}
 use Rattle.toml_edit_tree.specs.declared.value.Value.{Value}
 
 -- some call of f at a value that is seen as n, or at a table, returned b
-abbrev pub SaysOfValue : {F : Type 0} → Shared F (Bor Value × Unit {0}) Bool → F → Node → Bool → Type 0
+abbrev pub SaysOfValue : {F : Type 0} → Shared F (Bor Value × Unit {0}) Bool → F → Node → Bool
+    → Type 0
 SaysOfValue g f n b = (v : Value) × (value_view v ≡ n) × FnReturnsAt g f v b
 
-abbrev pub SaysOfTable : {F : Type 0} → Shared F (Bor Table × Unit {0}) Bool → F → Node → Bool → Type 0
+abbrev pub SaysOfTable : {F : Type 0} → Shared F (Bor Table × Unit {0}) Bool → F → Node → Bool
+    → Type 0
 SaysOfTable g f n b = (t : Table) × (table_node (table_view t) ≡ n) × FnReturnsAt g f t b
 
 -- ---- at items, of which a closure is shown those that pass a test

@@ -26,11 +26,14 @@ table_owned t = table_node (table_view t)
 
 -- an array with more values at its end
 abbrev pub AddsValues : Array → List Value → Array → Type 0
-AddsValues old vs new = (items_of new ≡ items_of old ++ map value_view vs) × (array_fields new ≡ array_fields old)
+AddsValues old vs new =
+    (items_of new ≡ items_of old ++ map value_view vs) × (array_fields new ≡ array_fields old)
 
 -- an array of tables with more tables
 abbrev pub AddsTables : ArrayOfTables → List Table → ArrayOfTables → Type 0
-AddsTables old ts new = (tables_of new ≡ tables_of old ++ map (λ t. table_node (table_view t)) ts) × (extent_of new ≡ extent_of old)
+AddsTables old ts new =
+    (tables_of new ≡ tables_of old ++ map (λ t. table_node (table_view t)) ts)
+    × (extent_of new ≡ extent_of old)
 
 -- a new array of these values, and a new array of these tables
 abbrev pub HasValues : List Value → Array → Type 0

@@ -1,4 +1,5 @@
--- What an index finds in an item, what `index_or_insert` makes of one, and what is lent of its slots.
+-- What an index finds in an item, what `index_or_insert` makes of one, and what is lent of its
+-- slots.
 use Rattle.std.specs.Prelude.{List, [], ◌∷◌, ◌++◌, Option, None, Some, Result, option_and_then, option_map}
 use Rattle.std.specs.Option.{option_map_or}
 use Rattle.std.specs.Borrow.{Fml, LendsIf, LendsIfOk, MutBor}
@@ -50,19 +51,23 @@ written_under t x n = option_map (with_indexed (text t) x) (index_or_inserted t 
 
 -- the slots with the item in the slot of the key, or in a new one
 abbrev pub slots_put : Text → Item → List (Slot Item) → List (Slot Item)
-slots_put k x es = option_map_or (λ at. with_item at x es) (place k es) (es ++ record { key = new_key k; item = x } ∷ [])
+slots_put k x es =
+    option_map_or (λ at. with_item at x es) (place k es)
+    (es ++ record { key = new_key k; item = x } ∷ [])
 
 abbrev pub item_put : Text → Item → Table → Table
 item_put k x t = record t { slots = slots_put k x (out-Table t).slots }
 
--- it ends with the final item of r in the slot of the key, which may be new; it stays where none is lent
+-- it ends with the final item of r in the slot of the key, which may be new; it stays where none is
+-- lent
 abbrev pub LendsMade : {E : Type 0} → MutBor Table → Text → Result (MutBor Item) E → Fml
 LendsMade s k r = LendsIfOk table_row item_row s r (λ w. item_put k w s.now) s.now
 
 -- ---- of an item
 
 -- the slots of a value that is an inline table, and of an item that is a table or an inline table
-abbrev pub value_slots_open : Value-F Item Value Array ArrayOfTables InlineTable Table → Option (List (Slot Item))
+abbrev pub value_slots_open : Value-F Item Value Array ArrayOfTables InlineTable Table
+    → Option (List (Slot Item))
 value_slots_open (Value-F.InlineTable t) = Some (out-InlineTable t).items
 value_slots_open (Value-F.String f) = None
 value_slots_open (Value-F.Integer f) = None
@@ -74,7 +79,8 @@ value_slots_open (Value-F.Array a) = None
 abbrev pub value_slots : Value → Option (List (Slot Item))
 value_slots v = value_slots_open (out-Value v)
 
-abbrev pub slots_open : Item-F Item Value Array ArrayOfTables InlineTable Table → Option (List (Slot Item))
+abbrev pub slots_open : Item-F Item Value Array ArrayOfTables InlineTable Table
+    → Option (List (Slot Item))
 slots_open (Item-F.Table t) = Some (out-Table t).slots
 slots_open (Item-F.Value v) = value_slots v
 slots_open Item-F.None = None
@@ -84,7 +90,8 @@ abbrev pub slots_held : Item → Option (List (Slot Item))
 slots_held x = slots_open (out-Item x)
 
 -- a value, and an item, with other slots, where it is a table or an inline table
-abbrev pub value_holding : Value-F Item Value Array ArrayOfTables InlineTable Table → List (Slot Item) → Value → Value
+abbrev pub value_holding : Value-F Item Value Array ArrayOfTables InlineTable Table
+    → List (Slot Item) → Value → Value
 value_holding (Value-F.InlineTable t) es v = values.InlineTable (holding es t)
 value_holding (Value-F.String f) es v = v
 value_holding (Value-F.Integer f) es v = v
@@ -96,7 +103,8 @@ value_holding (Value-F.Array a) es v = v
 abbrev pub value_with_slots : List (Slot Item) → Value → Value
 value_with_slots es v = value_holding (out-Value v) es v
 
-abbrev pub item_holding : Item-F Item Value Array ArrayOfTables InlineTable Table → List (Slot Item) → Item → Item
+abbrev pub item_holding : Item-F Item Value Array ArrayOfTables InlineTable Table
+    → List (Slot Item) → Item → Item
 item_holding (Item-F.Table t) es x = items.Table (table_holding es t)
 item_holding (Item-F.Value v) es x = items.Value (value_with_slots es v)
 item_holding Item-F.None es x = x
@@ -107,7 +115,8 @@ with_slots es x = item_holding (out-Item x) es x
 
 -- they end with the final slots of r, where some are lent
 abbrev pub LendsValueSlots : MutBor Value → Option (MutBor (List (Slot Item))) → Fml
-LendsValueSlots s r = LendsIf value_row (slots_row item_row) s r (λ w. value_with_slots w s.now) s.now
+LendsValueSlots s r =
+    LendsIf value_row (slots_row item_row) s r (λ w. value_with_slots w s.now) s.now
 
 abbrev pub LendsSlotsIn : MutBor Item → Option (MutBor (List (Slot Item))) → Fml
 LendsSlotsIn s r = LendsIf item_row (slots_row item_row) s r (λ w. with_slots w s.now) s.now

@@ -40,7 +40,8 @@ inline_value (Occupied o) = value_at o.at (out-InlineTable o.table.now).items
 inline_value (Vacant v) = None
 
 abbrev pub inline_key : InlineEntry → Option Key
-inline_key (Occupied o) = option_map (λ s. s.key) (slice_get (out-InlineTable o.table.now).items o.at)
+inline_key (Occupied o) =
+    option_map (λ s. s.key) (slice_get (out-InlineTable o.table.now).items o.at)
 inline_key (Vacant v) = Some v.key
 
 -- its place among the slots
@@ -51,15 +52,18 @@ inline_place (Vacant v) = length (out-InlineTable v.table.now).items
 -- the slots, and the inline table, with the value as that of the entry
 abbrev pub values_with : InlineEntry → Value → List (Slot Item)
 values_with (Occupied o) x = with_item o.at (items.Value x) (out-InlineTable o.table.now).items
-values_with (Vacant v) x = (out-InlineTable v.table.now).items ++ record { key = v.key; item = items.Value x } ∷ []
+values_with (Vacant v) x =
+    (out-InlineTable v.table.now).items ++ record { key = v.key; item = items.Value x } ∷ []
 
 abbrev pub inline_with : InlineEntry → Value → InlineTable
 inline_with e x = record (inline_ref e).now { items = values_with e x }
 
 -- the slots that this leaves, as the inline table shows them
 abbrev pub inline_slots_left : InlineEntry → Node → List (model.Slot Node)
-inline_slots_left (Occupied o) n = model.changed_at o.at (model.with_item n) (inline_slots_of o.table.now)
-inline_slots_left (Vacant v) n = inline_slots_of v.table.now ++ record { key = v.key; item = n } ∷ []
+inline_slots_left (Occupied o) n =
+    model.changed_at o.at (model.with_item n) (inline_slots_of o.table.now)
+inline_slots_left (Vacant v) n =
+    inline_slots_of v.table.now ++ record { key = v.key; item = n } ∷ []
 
 -- the entry, with another value in its slot, or with its key changed
 abbrev pub with_entry_value : InlineOccupiedEntry → Value → InlineOccupiedEntry
@@ -76,37 +80,57 @@ with_inline_entry_key o h = record {
   held = has-on_key h (out-InlineTable o.table.now).items o.at ∙ o.held;
 }
 
--- An entry of this inline table for the key, once what is there is made a value: what is there by its name, and what a value leaves
--- there. A present key stays as it is.
+-- An entry of this inline table for the key, once what is there is made a value: what is there by
+-- its name, and what a value leaves there. A present key stays as it is.
 pub record IsInlineEntryOf (t : InlineTable) (k : Key) (e : InlineEntry) : Type 0 where
   pub slots : inline_slots_of (inline_ref e).now ≡ entered k.name (inline_slots_of t)
   pub fields : inline_fields (inline_ref e).now ≡ inline_fields t
-  pub value : option_map value_view (inline_value e) ≡ model.lookup k.name (inline_slots_of (inline_ref e).now)
+  pub value : option_map value_view (inline_value e)
+      ≡ model.lookup k.name (inline_slots_of (inline_ref e).now)
   pub key : inline_key e ≡ Some (unwrap_or (model.lookup_key k.name (inline_slots_of t)) k)
-  pub leaves : (x : Value) → inline_slots_of (inline_with e x) ≡ model.put (model.with_item (value_view x)) (record { key = k; item = value_view x }) (inline_slots_of t)
+  pub leaves : (x : Value)
+      → inline_slots_of (inline_with e x)
+      ≡ model.put (model.with_item (value_view x)) (record { key = k; item = value_view x })
+      (inline_slots_of t)
   pub keeps : (x : Value) → inline_fields (inline_with e x) ≡ inline_fields t
 
 -- the inline table ends with the final value of the reference
 abbrev pub InlineLends : InlineEntry → MutBor Value → Fml
-InlineLends e r = follows inline_row value_row (inline_ref e).ghost_name r.ghost_name (inline_with e)
+InlineLends e r =
+    follows inline_row value_row (inline_ref e).ghost_name r.ghost_name (inline_with e)
 
 -- it ends so where a value is lent; it stays where it isn't
 abbrev pub InlineLendsOk : {E : Type 0} → InlineEntry → Result (MutBor Value) E → Fml
-InlineLendsOk e r = follows_if inline_row value_row (inline_ref e).ghost_name (name_if_ok (λ x. x.ghost_name) r) (inline_with e) (inline_ref e).now
+InlineLendsOk e r =
+    follows_if inline_row value_row (inline_ref e).ghost_name (name_if_ok (λ x. x.ghost_name) r)
+    (inline_with e) (inline_ref e).now
 
 -- the inline table stays where there is no entry
 abbrev pub InlineRestsIfRefused : {E : Type 0} → MutBor InlineTable → Result InlineEntry E → Fml
-InlineRestsIfRefused s r = RestsIfErr inline_row s (λ e. (inline_ref e).ghost_name) r (λ n. n ≡ s.now)
+InlineRestsIfRefused s r =
+    RestsIfErr inline_row s (λ e. (inline_ref e).ghost_name) r (λ n. n ≡ s.now)
 
--- the entry ends with the final value of the reference in its slot, or with the final decor as one of its key's
+-- the entry ends with the final value of the reference in its slot, or with the final decor as one
+-- of its key's
 abbrev pub InlineOccupiedLends : MutBor InlineOccupiedEntry → MutBor Value → Fml
-InlineOccupiedLends o r = follows (occupied.the_row (record { mir = named 1; lft = [] })) value_row o.ghost_name r.ghost_name (with_entry_value o.now)
+InlineOccupiedLends o r =
+    follows (occupied.the_row
+    (record { mir = named 1; lft = [] })) value_row o.ghost_name r.ghost_name
+    (with_entry_value o.now)
 
 abbrev pub InlineOccupiedLendsKey : MutBor InlineOccupiedEntry → KeyMut → Fml
-InlineOccupiedLendsKey o r = follows (occupied.the_row (record { mir = named 1; lft = [] })) parts_row o.ghost_name (lent_parts r).ghost_name (λ w. with_inline_entry_key o.now (with_parts w))
+InlineOccupiedLendsKey o r =
+    follows (occupied.the_row (record { mir = named 1; lft = [] })) parts_row o.ghost_name
+    (lent_parts r).ghost_name (λ w. with_inline_entry_key o.now (with_parts w))
 
 abbrev pub InlineOccupiedLendsLeaf : MutBor InlineOccupiedEntry → MutBor Decor → Fml
-InlineOccupiedLendsLeaf o r = follows (occupied.the_row (record { mir = named 1; lft = [] })) decor_row o.ghost_name r.ghost_name (λ w. with_inline_entry_key o.now (λ k. record k { leaf = w }))
+InlineOccupiedLendsLeaf o r =
+    follows (occupied.the_row
+    (record { mir = named 1; lft = [] })) decor_row o.ghost_name r.ghost_name
+    (λ w. with_inline_entry_key o.now (λ k. record k { leaf = w }))
 
 abbrev pub InlineOccupiedLendsDotted : MutBor InlineOccupiedEntry → MutBor Decor → Fml
-InlineOccupiedLendsDotted o r = follows (occupied.the_row (record { mir = named 1; lft = [] })) decor_row o.ghost_name r.ghost_name (λ w. with_inline_entry_key o.now (λ k. record k { dotted = w }))
+InlineOccupiedLendsDotted o r =
+    follows (occupied.the_row
+    (record { mir = named 1; lft = [] })) decor_row o.ghost_name r.ghost_name
+    (λ w. with_inline_entry_key o.now (λ k. record k { dotted = w }))

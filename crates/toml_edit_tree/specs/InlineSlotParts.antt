@@ -41,14 +41,18 @@ abbrev pub with_slot_item : InlineSlotMut → Item → InlineSlotMut
 with_slot_item o x = record {
   table = record o.table { now = with_inline_item o.at x o.table.now };
   at = o.at;
-  within = subst (λ n. o.at < n) (sym (length-with_item (out-InlineTable o.table.now).items o.at x)) o.within;
+  within =
+      subst (λ n. o.at < n)
+      (sym (length-with_item (out-InlineTable o.table.now).items o.at x)) o.within;
 }
 
 abbrev pub with_slot_key : InlineSlotMut → (Key → Key) → InlineSlotMut
 with_slot_key o h = record {
   table = record o.table { now = with_inline_key o.at h o.table.now };
   at = o.at;
-  within = subst (λ n. o.at < n) (sym (length-on_key h (out-InlineTable o.table.now).items o.at)) o.within;
+  within =
+      subst (λ n. o.at < n)
+      (sym (length-on_key h (out-InlineTable o.table.now).items o.at)) o.within;
 }
 
 -- the inline table ends with the final item of r in the slot at the place
@@ -59,15 +63,24 @@ LendsInlineItemAt s at r = Lends inline_row item_row s r (λ w. with_inline_item
 abbrev pub SlotRestsIfAbsent : MutBor InlineTable → Option InlineSlotMut → Fml
 SlotRestsIfAbsent s r = RestsIfNone inline_row s (λ o. (slot_ref o).ghost_name) r (λ n. n ≡ s.now)
 
--- the slot ends with the final item of the reference, with the final parts of its key, or with the final decor as one of its key's
+-- the slot ends with the final item of the reference, with the final parts of its key, or with the
+-- final decor as one of its key's
 abbrev pub SlotLends : MutBor InlineSlotMut → MutBor Item → Fml
-SlotLends o r = follows (lent.the_row (record { mir = named 1; lft = [] })) item_row o.ghost_name r.ghost_name (with_slot_item o.now)
+SlotLends o r =
+    follows (lent.the_row (record { mir = named 1; lft = [] })) item_row o.ghost_name r.ghost_name
+    (with_slot_item o.now)
 
 abbrev pub SlotLendsKey : MutBor InlineSlotMut → KeyMut → Fml
-SlotLendsKey o r = follows (lent.the_row (record { mir = named 1; lft = [] })) parts_row o.ghost_name (lent_parts r).ghost_name (λ w. with_slot_key o.now (with_parts w))
+SlotLendsKey o r =
+    follows (lent.the_row (record { mir = named 1; lft = [] })) parts_row o.ghost_name
+    (lent_parts r).ghost_name (λ w. with_slot_key o.now (with_parts w))
 
 abbrev pub SlotLendsLeaf : MutBor InlineSlotMut → MutBor Decor → Fml
-SlotLendsLeaf o r = follows (lent.the_row (record { mir = named 1; lft = [] })) decor_row o.ghost_name r.ghost_name (λ w. with_slot_key o.now (λ k. record k { leaf = w }))
+SlotLendsLeaf o r =
+    follows (lent.the_row (record { mir = named 1; lft = [] })) decor_row o.ghost_name r.ghost_name
+    (λ w. with_slot_key o.now (λ k. record k { leaf = w }))
 
 abbrev pub SlotLendsDotted : MutBor InlineSlotMut → MutBor Decor → Fml
-SlotLendsDotted o r = follows (lent.the_row (record { mir = named 1; lft = [] })) decor_row o.ghost_name r.ghost_name (λ w. with_slot_key o.now (λ k. record k { dotted = w }))
+SlotLendsDotted o r =
+    follows (lent.the_row (record { mir = named 1; lft = [] })) decor_row o.ghost_name r.ghost_name
+    (λ w. with_slot_key o.now (λ k. record k { dotted = w }))

@@ -22,19 +22,22 @@ has_value_at at es = is_some (value_at at es)
 -- another item in the slot at a place: what was there made a value, and d in place of a placeholder
 abbrev pub MakesValueAt : Node → ℕ → List (Slot Item) → List (Slot Item) → Type 0
 MakesValueAt d at es fs =
-    (w : Item) × (fs ≡ with_item at w es) × (is_some (value_held w) ≡ true) × IfSome (slice_get (items_of es) at) (λ x. item_view w ≡ made_value_or d (item_view x))
+    (w : Item) × (fs ≡ with_item at w es) × (is_some (value_held w) ≡ true)
+    × IfSome (slice_get (items_of es) at) (λ x. item_view w ≡ made_value_or d (item_view x))
 
 -- ---- a slot that holds a value does so with another one, and with another key
 
 pub held-Value : (v : Value) → value_held (items.Value v) ≡ Some v
 held-Value v = ap value_open (outs-Value v)
 
-pub has-with_item : (es : List (Slot Item)) (i : ℕ) (v : Value) → has_value_at i es ≡ true → has_value_at i (with_item i (items.Value v) es) ≡ true
+pub has-with_item : (es : List (Slot Item)) (i : ℕ) (v : Value) → has_value_at i es ≡ true
+    → has_value_at i (with_item i (items.Value v) es) ≡ true
 has-with_item [] i v h = h
 has-with_item (s ∷ es) zero v h = ap is_some (held-Value v)
 has-with_item (s ∷ es) (suc i) v h = has-with_item es i v h
 
-pub has-on_key : (h : Key → Key) (es : List (Slot Item)) (i : ℕ) → has_value_at i (on_key i h es) ≡ has_value_at i es
+pub has-on_key : (h : Key → Key) (es : List (Slot Item)) (i : ℕ)
+    → has_value_at i (on_key i h es) ≡ has_value_at i es
 has-on_key h [] i = refl
 has-on_key h (s ∷ es) zero = refl
 has-on_key h (s ∷ es) (suc i) = has-on_key h es i

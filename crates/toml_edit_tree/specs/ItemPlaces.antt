@@ -52,10 +52,12 @@ table_in_at i a = option_and_then table_held (slice_get (out-ArrayOfTables a).va
 
 -- they end with the final value, or table, of r in the slot at the place, where one is lent
 abbrev pub LendsValueAt : MutBor Array → ℕ → Option (MutBor Value) → Fml
-LendsValueAt s i r = LendsIf array_row value_row s r (λ w. with_slot_at i (items.Value w) s.now) s.now
+LendsValueAt s i r =
+    LendsIf array_row value_row s r (λ w. with_slot_at i (items.Value w) s.now) s.now
 
 abbrev pub LendsTableAt : MutBor ArrayOfTables → ℕ → Option (MutBor Table) → Fml
-LendsTableAt s i r = LendsIf tables_row table_row s r (λ w. with_element_at i (items.Table w) s.now) s.now
+LendsTableAt s i r =
+    LendsIf tables_row table_row s r (λ w. with_element_at i (items.Table w) s.now) s.now
 
 -- they end so, where the place has one
 abbrev pub LendsValueIn : MutBor Array → ℕ → MutBor Value → Fml

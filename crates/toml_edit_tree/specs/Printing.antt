@@ -49,44 +49,61 @@ module _ (mode : Mode) where
   abbrev pub dotted_keys : Bool → List Key → Text
   dotted_keys is_first [] = []
   dotted_keys is_first (k ∷ ks) =
-      (if is_first then [] else dot_prefix mode k) ++ (key_text k ++ (dot_suffix mode k ++ (codes "." ++ dotted_keys false ks)))
+      (if is_first then [] else dot_prefix mode k)
+      ++ (key_text k ++ (dot_suffix mode k ++ (codes "." ++ dotted_keys false ks)))
 
   -- the key of a line or a pair, after these keys, with its decor and the `=`
   abbrev pub key_part : Text → List Key → Key → Text
   key_part default ks k =
-      shown_prefix mode default k.leaf ++ (dotted_keys true ks ++ (before_key ks k ++ (key_text k ++ (shown_suffix mode one_space k.leaf ++ codes "="))))
+      shown_prefix mode default k.leaf
+      ++ (dotted_keys true ks
+      ++ (before_key ks k ++ (key_text k ++ (shown_suffix mode one_space k.leaf ++ codes "="))))
 
   -- a line or a pair up to the end of its value
   abbrev pub pair_start : Text → List Key → Key → Node → Text
-  pair_start default ks k n = key_part default ks k ++ (shown_prefix mode one_space (node_decor n) ++ node_text n)
+  pair_start default ks k n =
+      key_part default ks k ++ (shown_prefix mode one_space (node_decor n) ++ node_text n)
 
   -- ---- arrays
 
   -- an element with its decor, and the comma before it
   abbrev pub element_text : Bool → Node → Text
   element_text is_first n =
-      comma_before is_first ++ (shown_prefix mode (element_default is_first) (node_decor n) ++ (node_text n ++ shown_suffix mode [] (node_decor n)))
+      comma_before is_first
+      ++ (shown_prefix mode (element_default is_first) (node_decor n)
+      ++ (node_text n ++ shown_suffix mode [] (node_decor n)))
 
   -- the elements, and the comma that ends them
   abbrev pub items_text : Bool → Bool → Items → Text
   items_text comma is_first no_items = last_comma comma is_first
   items_text comma is_first (item n xs) =
-      if is_value_node n then element_text is_first n ++ items_text comma false xs else items_text comma is_first xs
+      if is_value_node n then element_text is_first n ++ items_text comma false xs
+      else items_text comma is_first xs
 
   -- ---- inline tables and lines
 
   -- the lines of an item with these keys
   abbrev pub lines_of_item : Node → List Key → List Line
-  lines_of_item n ks = elim (is_line_node n) [ true ↦ line_of ks n (value_of mode n) | false ↦ lines_inside mode n ks ]
+  lines_of_item n ks =
+      elim (is_line_node n) [
+        | true ↦ line_of ks n (value_of mode n)
+        | false ↦ lines_inside mode n ks
+      ]
 
   -- the lines of an item of a table, with these keys
   abbrev pub lines_in_table : Node → List Key → List Line
-  lines_in_table n ks = elim (is_line_node n) [ true ↦ line_of ks n (value_of mode n) | false ↦ dotted_lines mode n ks ]
+  lines_in_table n ks =
+      elim (is_line_node n) [
+        | true ↦ line_of ks n (value_of mode n)
+        | false ↦ dotted_lines mode n ks
+      ]
 
   -- a line or a pair up to the end of its value
   abbrev pub line_start : Text → Line → Text
   line_start default l =
-      shown_prefix mode default (last_leaf l.keys) ++ (path_text (segments mode l.keys) ++ (shown_suffix mode one_space (last_leaf l.keys) ++ (codes "=" ++
+      shown_prefix mode default (last_leaf l.keys)
+      ++ (path_text (segments mode l.keys)
+      ++ (shown_suffix mode one_space (last_leaf l.keys) ++ (codes "=" ++
       (shown_prefix mode one_space (node_decor l.item) ++ value_text l.value))))
 
   -- what is between a pair of this decor, if there is one, and the next
@@ -102,7 +119,8 @@ module _ (mode : Mode) where
   -- the pairs after one of this decor, up to the end of the last value
   abbrev pub pairs_shown : Option Decor → List Line → Text
   pairs_shown before [] = []
-  pairs_shown before (l ∷ ls) = between_pairs before ++ (line_start one_space l ++ pairs_shown (Some (node_decor l.item)) ls)
+  pairs_shown before (l ∷ ls) =
+      between_pairs before ++ (line_start one_space l ++ pairs_shown (Some (node_decor l.item)) ls)
 
   abbrev pub lines_text : List Line → Text
   lines_text ls = joined (map (λ l. statement_text (line_statement mode l)) ls)

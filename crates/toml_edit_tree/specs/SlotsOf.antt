@@ -34,14 +34,19 @@ slot_taken p = record { key = p.0; item = item_view p.1 }
 
 -- what is left of a slot by `fmt`
 abbrev pub formatted_slot : Slot Node → Slot Node
-formatted_slot s = if is_value_node s.item then record { key = cleared_key s.key; item = with_decor unset s.item } else s
+formatted_slot s =
+    if is_value_node s.item then record { key = cleared_key s.key; item = with_decor unset s.item }
+    else s
 
 -- pairs came into the table, and nothing else of it changed
 abbrev pub AddsSlots : Table → List (Key × Item) → Table → Type 0
-AddsSlots old ps new = (slots_of new ≡ extended (map slot_taken ps) (slots_of old)) × (fields_view new ≡ fields_view old)
+AddsSlots old ps new =
+    (slots_of new ≡ extended (map slot_taken ps) (slots_of old))
+    × (fields_view new ≡ fields_view old)
 
 -- some call of f at the slot's name, and at an item that is seen as its item, returned b
-abbrev pub SaysOfItem : {F : Type 0} → Shared F (Bor Text × (Bor Item × Unit {0})) Bool → F → Slot Node → Bool → Type 0
+abbrev pub SaysOfItem : {F : Type 0} → Shared F (Bor Text × (Bor Item × Unit {0})) Bool → F
+    → Slot Node → Bool → Type 0
 SaysOfItem g f s b = (x : Item) × (item_view x ≡ s.item) × FnReturnsAtTwo g f s.key.name x b
 
 -- what an iterator over all slots has left, and a pair that it gave

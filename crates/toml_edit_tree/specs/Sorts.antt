@@ -20,40 +20,71 @@ items_seen es = map (slot_seen item_view) es
 -- ---- closures that compare two slots, by their keys and what is under them
 
 -- each call of f at two slots returns `Less` just where lt holds of them
-abbrev pub ComparesItems : {F : Type 0} → Mut F (Bor Key × (Bor Item × (Bor Key × (Bor Item × Unit {0})))) Ordering → (Slot Node → Slot Node → Bool) → F → Type 0
+abbrev pub ComparesItems : {F : Type 0}
+    → Mut F (Bor Key × (Bor Item × (Bor Key × (Bor Item × Unit {0})))) Ordering
+    → (Slot Node → Slot Node → Bool) → F → Type 0
 ComparesItems g lt =
-    AlwaysReturns g (λ a r. is_lt r ≡ lt (record { key = a.0.now; item = item_view a.1.0.now }) (record { key = a.1.1.0.now; item = item_view a.1.1.1.0.now }))
+    AlwaysReturns g (λ a r. is_lt r
+    ≡ lt (record { key = a.0.now; item = item_view a.1.0.now })
+    (record { key = a.1.1.0.now; item = item_view a.1.1.1.0.now }))
 
-abbrev pub ComparesPairs : {F : Type 0} → Mut F (Bor Key × (Bor Value × (Bor Key × (Bor Value × Unit {0})))) Ordering → (Slot Node → Slot Node → Bool) → F → Type 0
+abbrev pub ComparesPairs : {F : Type 0}
+    → Mut F (Bor Key × (Bor Value × (Bor Key × (Bor Value × Unit {0})))) Ordering
+    → (Slot Node → Slot Node → Bool) → F → Type 0
 ComparesPairs g lt =
-    AlwaysReturns g (λ a r. is_lt r ≡ lt (record { key = a.0.now; item = value_view a.1.0.now }) (record { key = a.1.1.0.now; item = value_view a.1.1.1.0.now }))
+    AlwaysReturns g (λ a r. is_lt r
+    ≡ lt (record { key = a.0.now; item = value_view a.1.0.now })
+    (record { key = a.1.1.0.now; item = value_view a.1.1.1.0.now }))
 
 -- ---- sorts by each test by which f returns `Less`
 
 -- of the slots of a table, with those of the dotted tables inside
-abbrev pub SortsTableAs : {F : Type 0} → Mut F (Bor Key × (Bor Item × (Bor Key × (Bor Item × Unit {0})))) Ordering → F → List (Slot Node) → List (Slot Node) → Type 0
-SortsTableAs g f before after = (lt : Slot Node → Slot Node → Bool) → ComparesItems g lt f → IsSortOfTable lt before after
+abbrev pub SortsTableAs : {F : Type 0}
+    → Mut F (Bor Key × (Bor Item × (Bor Key × (Bor Item × Unit {0})))) Ordering → F
+    → List (Slot Node) → List (Slot Node) → Type 0
+SortsTableAs g f before after =
+    (lt : Slot Node → Slot Node → Bool) → ComparesItems g lt f → IsSortOfTable lt before after
 
 -- of the slots of an inline table, with those of the dotted inline tables inside
-abbrev pub SortsInlineAs : {F : Type 0} → Mut F (Bor Key × (Bor Value × (Bor Key × (Bor Value × Unit {0})))) Ordering → F → List (Slot Node) → List (Slot Node) → Type 0
-SortsInlineAs g f before after = (lt : Slot Node → Slot Node → Bool) → ComparesPairs g lt f → IsSortOfInline lt before after
+abbrev pub SortsInlineAs : {F : Type 0}
+    → Mut F (Bor Key × (Bor Value × (Bor Key × (Bor Value × Unit {0})))) Ordering → F
+    → List (Slot Node) → List (Slot Node) → Type 0
+SortsInlineAs g f before after =
+    (lt : Slot Node → Slot Node → Bool) → ComparesPairs g lt f → IsSortOfInline lt before after
 
 -- of slots, with those inside that it enters; of an item that it may enter; and of slots alone
-abbrev pub SortsDeeplyAs : {F : Type 0} → (Node → Bool) → Mut F (Bor Key × (Bor Item × (Bor Key × (Bor Item × Unit {0})))) Ordering → F → List (Slot Node) → List (Slot Node) → Type 0
-SortsDeeplyAs enters g f before after = (lt : Slot Node → Slot Node → Bool) → ComparesItems g lt f → IsDeepSort enters lt before after
+abbrev pub SortsDeeplyAs : {F : Type 0} → (Node → Bool)
+    → Mut F (Bor Key × (Bor Item × (Bor Key × (Bor Item × Unit {0})))) Ordering → F
+    → List (Slot Node) → List (Slot Node) → Type 0
+SortsDeeplyAs enters g f before after =
+    (lt : Slot Node → Slot Node → Bool) → ComparesItems g lt f → IsDeepSort enters lt before after
 
-abbrev pub SortsItemAs : {F : Type 0} → (Node → Bool) → Mut F (Bor Key × (Bor Item × (Bor Key × (Bor Item × Unit {0})))) Ordering → F → Node → Node → Type 0
-SortsItemAs enters g f before after = (lt : Slot Node → Slot Node → Bool) → ComparesItems g lt f → ReordersItem enters (IsSortOf lt) before after
+abbrev pub SortsItemAs : {F : Type 0} → (Node → Bool)
+    → Mut F (Bor Key × (Bor Item × (Bor Key × (Bor Item × Unit {0})))) Ordering → F → Node → Node
+    → Type 0
+SortsItemAs enters g f before after =
+    (lt : Slot Node → Slot Node → Bool) → ComparesItems g lt f
+    → ReordersItem enters (IsSortOf lt) before after
 
-abbrev pub SortsItemsAs : {F : Type 0} → Mut F (Bor Key × (Bor Item × (Bor Key × (Bor Item × Unit {0})))) Ordering → F → List (Slot Node) → List (Slot Node) → Type 0
-SortsItemsAs g f before after = (lt : Slot Node → Slot Node → Bool) → ComparesItems g lt f → IsSortOf lt before after
+abbrev pub SortsItemsAs : {F : Type 0}
+    → Mut F (Bor Key × (Bor Item × (Bor Key × (Bor Item × Unit {0})))) Ordering → F
+    → List (Slot Node) → List (Slot Node) → Type 0
+SortsItemsAs g f before after =
+    (lt : Slot Node → Slot Node → Bool) → ComparesItems g lt f → IsSortOf lt before after
 
 -- ---- one result for two slots
 
 -- where f compares by lt, it is as lt has it
-abbrev pub AnswersItems : {F : Type 0} → Mut F (Bor Key × (Bor Item × (Bor Key × (Bor Item × Unit {0})))) Ordering → F → Slot Node → Slot Node → Ordering → Type 0
-AnswersItems g f s r answer = (lt : Slot Node → Slot Node → Bool) → ComparesItems g lt f → is_lt answer ≡ lt s r
+abbrev pub AnswersItems : {F : Type 0}
+    → Mut F (Bor Key × (Bor Item × (Bor Key × (Bor Item × Unit {0})))) Ordering → F → Slot Node
+    → Slot Node → Ordering → Type 0
+AnswersItems g f s r answer =
+    (lt : Slot Node → Slot Node → Bool) → ComparesItems g lt f → is_lt answer ≡ lt s r
 
 -- and where a slot has no value, that comes first
-abbrev pub AnswersPairs : {F : Type 0} → Mut F (Bor Key × (Bor Value × (Bor Key × (Bor Value × Unit {0})))) Ordering → F → Slot Node → Slot Node → Ordering → Type 0
-AnswersPairs g f s r answer = (lt : Slot Node → Slot Node → Bool) → ComparesPairs g lt f → is_lt answer ≡ others_first (λ t. is_value_node t.item) lt s r
+abbrev pub AnswersPairs : {F : Type 0}
+    → Mut F (Bor Key × (Bor Value × (Bor Key × (Bor Value × Unit {0})))) Ordering → F → Slot Node
+    → Slot Node → Ordering → Type 0
+AnswersPairs g f s r answer =
+    (lt : Slot Node → Slot Node → Bool) → ComparesPairs g lt f
+    → is_lt answer ≡ others_first (λ t. is_value_node t.item) lt s r

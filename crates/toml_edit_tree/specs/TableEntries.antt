@@ -62,22 +62,28 @@ abbrev pub with_entry_item : OccupiedEntry → Item → OccupiedEntry
 with_entry_item o x = record {
   table = record o.table { now = with_item_at o.at x o.table.now };
   at = o.at;
-  within = subst (λ n. o.at < n) (sym (length-with_item (out-Table o.table.now).slots o.at x)) o.within;
+  within =
+      subst (λ n. o.at < n) (sym (length-with_item (out-Table o.table.now).slots o.at x)) o.within;
 }
 
 abbrev pub with_entry_key : OccupiedEntry → (Key → Key) → OccupiedEntry
 with_entry_key o h = record {
   table = record o.table { now = with_key_at o.at h o.table.now };
   at = o.at;
-  within = subst (λ n. o.at < n) (sym (length-on_key h (out-Table o.table.now).slots o.at)) o.within;
+  within =
+      subst (λ n. o.at < n) (sym (length-on_key h (out-Table o.table.now).slots o.at)) o.within;
 }
 
--- An entry of this table for the key: what is there by its name, and what an item leaves there. A present key stays as it is.
+-- An entry of this table for the key: what is there by its name, and what an item leaves there. A
+-- present key stays as it is.
 pub record IsEntryOf (t : Table) (k : Key) (e : Entry) : Type 0 where
   pub table : (entry_ref e).now ≡ t
   pub item : option_map item_view (entry_item e) ≡ model.lookup k.name (slots_of t)
   pub key : entry_key e ≡ Some (unwrap_or (model.lookup_key k.name (slots_of t)) k)
-  pub leaves : (x : Item) → slots_of (table_with e x) ≡ model.put (model.with_item (item_view x)) (record { key = k; item = item_view x }) (slots_of t)
+  pub leaves : (x : Item)
+      → slots_of (table_with e x)
+      ≡ model.put (model.with_item (item_view x)) (record { key = k; item = item_view x })
+      (slots_of t)
   pub keeps : (x : Item) → fields_view (table_with e x) ≡ fields_view t
 
 -- the table ends with the final item of the reference
@@ -86,7 +92,9 @@ EntryLends e r = follows table_row item_row (entry_ref e).ghost_name r.ghost_nam
 
 -- it ends so where an item is lent; it stays where it isn't
 abbrev pub EntryLendsOk : {E : Type 0} → Entry → Result (MutBor Item) E → Fml
-EntryLendsOk e r = follows_if table_row item_row (entry_ref e).ghost_name (name_if_ok (λ x. x.ghost_name) r) (table_with e) (entry_ref e).now
+EntryLendsOk e r =
+    follows_if table_row item_row (entry_ref e).ghost_name (name_if_ok (λ x. x.ghost_name) r)
+    (table_with e) (entry_ref e).now
 
 -- the table stays where there is no entry
 abbrev pub RestsIfRefused : {E : Type 0} → MutBor Table → Result Entry E → Fml
@@ -95,15 +103,26 @@ RestsIfRefused s r = RestsIfErr table_row s (λ e. (entry_ref e).ghost_name) r (
 abbrev pub RestsIfAbsent : MutBor Table → Option OccupiedEntry → Fml
 RestsIfAbsent s r = RestsIfNone table_row s (λ o. o.table.ghost_name) r (λ n. n ≡ s.now)
 
--- the entry ends with the final item of the reference in its slot, or with the final decor as one of its key's
+-- the entry ends with the final item of the reference in its slot, or with the final decor as one
+-- of its key's
 abbrev pub OccupiedLends : MutBor OccupiedEntry → MutBor Item → Fml
-OccupiedLends o r = follows (occupied.the_row (record { mir = named 1; lft = [] })) item_row o.ghost_name r.ghost_name (with_entry_item o.now)
+OccupiedLends o r =
+    follows (occupied.the_row
+    (record { mir = named 1; lft = [] })) item_row o.ghost_name r.ghost_name (with_entry_item o.now)
 
 abbrev pub OccupiedLendsKey : MutBor OccupiedEntry → KeyMut → Fml
-OccupiedLendsKey o r = follows (occupied.the_row (record { mir = named 1; lft = [] })) parts_row o.ghost_name (lent_parts r).ghost_name (λ w. with_entry_key o.now (with_parts w))
+OccupiedLendsKey o r =
+    follows (occupied.the_row (record { mir = named 1; lft = [] })) parts_row o.ghost_name
+    (lent_parts r).ghost_name (λ w. with_entry_key o.now (with_parts w))
 
 abbrev pub OccupiedLendsLeaf : MutBor OccupiedEntry → MutBor Decor → Fml
-OccupiedLendsLeaf o r = follows (occupied.the_row (record { mir = named 1; lft = [] })) decor_row o.ghost_name r.ghost_name (λ w. with_entry_key o.now (λ k. record k { leaf = w }))
+OccupiedLendsLeaf o r =
+    follows (occupied.the_row
+    (record { mir = named 1; lft = [] })) decor_row o.ghost_name r.ghost_name
+    (λ w. with_entry_key o.now (λ k. record k { leaf = w }))
 
 abbrev pub OccupiedLendsDotted : MutBor OccupiedEntry → MutBor Decor → Fml
-OccupiedLendsDotted o r = follows (occupied.the_row (record { mir = named 1; lft = [] })) decor_row o.ghost_name r.ghost_name (λ w. with_entry_key o.now (λ k. record k { dotted = w }))
+OccupiedLendsDotted o r =
+    follows (occupied.the_row
+    (record { mir = named 1; lft = [] })) decor_row o.ghost_name r.ghost_name
+    (λ w. with_entry_key o.now (λ k. record k { dotted = w }))

@@ -15,12 +15,21 @@ use Rattle.toml_edit_tree.specs.contracts.item.Item.{the_row as item_row}
 use Rattle.toml_edit_tree.specs.contracts.table.Table.{the_row as table_row}
 
 abbrev pub new_table : TableFields
-new_table = record { decor = unset; is_implicit = false; is_dotted = false; position = None; extent = None }
+new_table = record {
+  decor = unset;
+  is_implicit = false;
+  is_dotted = false;
+  position = None;
+  extent = None;
+}
 
 -- the table with another item in the slot of a key
 abbrev pub with_item_under : Text → Item → Table → Table
 with_item_under k x t =
-    record t { slots = option_map_or (λ at. with_item at x (out-Table t).slots) (place k (out-Table t).slots) (out-Table t).slots }
+    record t {
+      slots = option_map_or (λ at. with_item at x (out-Table t).slots)
+          (place k (out-Table t).slots) (out-Table t).slots;
+    }
 
 -- the table ends with the final item of r in the slot of the key, where an item is lent
 abbrev pub LendsHeld : MutBor Table → Text → Option (MutBor Item) → Fml
@@ -35,14 +44,19 @@ with_key_at at h t = record t { slots = on_key at h (out-Table t).slots }
 
 -- the table ends with the final parts of r in the key at the place
 abbrev pub LendsKeyAt : MutBor Table → ℕ → KeyMut → Fml
-LendsKeyAt s at r = follows table_row parts_row s.ghost_name (lent_parts r).ghost_name (λ w. with_key_at at (with_parts w) s.now)
+LendsKeyAt s at r =
+    follows table_row parts_row s.ghost_name (lent_parts r).ghost_name
+    (λ w. with_key_at at (with_parts w) s.now)
 
--- the table ends with the final item of r in the slot at the place, or with the final decor as one of the key's there
+-- the table ends with the final item of r in the slot at the place, or with the final decor as one
+-- of the key's there
 abbrev pub LendsItemAt : MutBor Table → ℕ → MutBor Item → Fml
 LendsItemAt s at r = Lends table_row item_row s r (λ w. with_item_at at w s.now)
 
 abbrev pub LendsLeafAt : MutBor Table → ℕ → MutBor Decor → Fml
-LendsLeafAt s at r = Lends table_row decor_row s r (λ w. with_key_at at (λ k. record k { leaf = w }) s.now)
+LendsLeafAt s at r =
+    Lends table_row decor_row s r (λ w. with_key_at at (λ k. record k { leaf = w }) s.now)
 
 abbrev pub LendsDottedAt : MutBor Table → ℕ → MutBor Decor → Fml
-LendsDottedAt s at r = Lends table_row decor_row s r (λ w. with_key_at at (λ k. record k { dotted = w }) s.now)
+LendsDottedAt s at r =
+    Lends table_row decor_row s r (λ w. with_key_at at (λ k. record k { dotted = w }) s.now)

@@ -35,24 +35,43 @@ value_step (Value-F.InlineTable t) = inline_node t
 abbrev pub array_step : Array-F Node Node ArrayView TablesView InlineView TableView → ArrayView
 array_step a =
     record {
-      fields = record { decor = a.decor; comma = a.trailing_comma; trailing = a.trailing; extent = a.span };
+      fields = record {
+        decor = a.decor;
+        comma = a.trailing_comma;
+        trailing = a.trailing;
+        extent = a.span;
+      };
       items = items_from a.values.items;
     }
 
-abbrev pub inline_step : InlineTable-F Node Node ArrayView TablesView InlineView TableView → InlineView
+abbrev pub inline_step : InlineTable-F Node Node ArrayView TablesView InlineView TableView
+    → InlineView
 inline_step t =
     record {
-      fields = record { decor = t.decor; is_dotted = t.dotted; comma = t.trailing_comma; trailing = t.trailing; extent = then_some t.is_read t.span };
+      fields = record {
+        decor = t.decor;
+        is_dotted = t.dotted;
+        comma = t.trailing_comma;
+        trailing = t.trailing;
+        extent = then_some t.is_read t.span;
+      };
       slots = tree_slots t.items;
     }
 
-abbrev pub tables_step : ArrayOfTables-F Node Node ArrayView TablesView InlineView TableView → TablesView
+abbrev pub tables_step : ArrayOfTables-F Node Node ArrayView TablesView InlineView TableView
+    → TablesView
 tables_step a = record { extent = a.span; items = items_from a.values.items }
 
 abbrev pub table_step : Table-F Node Node ArrayView TablesView InlineView TableView → TableView
 table_step t =
     record {
-      fields = record { decor = t.decor; is_implicit = t.implicit; is_dotted = t.dotted; position = t.position; extent = t.span };
+      fields = record {
+        decor = t.decor;
+        is_implicit = t.implicit;
+        is_dotted = t.dotted;
+        position = t.position;
+        extent = t.span;
+      };
       slots = tree_slots t.slots;
     }
 
@@ -88,4 +107,8 @@ abbrev pub table_slots : Table → Slots
 table_slots t = (table_view t).slots
 
 abbrev pub tree_view : Table → Raw → Tree
-tree_view root trailing = record { root = fields_view root; slots = table_slots root; trailing = trailing }
+tree_view root trailing = record {
+  root = fields_view root;
+  slots = table_slots root;
+  trailing = trailing;
+}

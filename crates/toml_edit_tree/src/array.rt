@@ -111,8 +111,11 @@ impl Array {
     ///
     /// Returns an `AllocError` if out of memory.
     pub fn from_iter<U: IntoIterator<Item = Value>>(alloc: Global, values: U) -> Mem<Array>
-        requires { (it : U.IntoIter) → U.into_iter_gives values it → U.IntoIter.can_next it × IsFinite (U.IntoIter.remaining it) }
-        ensures { IfOk result (λ array. (it : U.IntoIter) × (vs : List Value) × U.into_iter_gives values it × Drains U.IntoIter.next_gives it vs × HasValues vs array) }
+        requires { (it : U.IntoIter) → U.into_iter_gives values it
+            → U.IntoIter.can_next it × IsFinite (U.IntoIter.remaining it) }
+        ensures { IfOk result
+            (λ array. (it : U.IntoIter) × (vs : List Value) × U.into_iter_gives values it
+            × Drains U.IntoIter.next_gives it vs × HasValues vs array) }
     {
         let mut array = Array::new(alloc);
         match array.extend(values) {
@@ -131,7 +134,8 @@ impl Array {
         start: usize,
         end: usize,
     ) -> Array
-        ensures { array_view result ≡ spanned_array trailing_comma trailing start end (items_view values.items) }
+        ensures { array_view result
+            ≡ spanned_array trailing_comma trailing start end (items_view values.items) }
     {
         Array {
             values,
@@ -350,10 +354,14 @@ impl Array {
     /// From `clear_suffix` of the guide, docs/GUIDE.md.
     pub fn get_mut(&mut self, at: usize) -> Option<&mut Value>
         ensures* writes_back { sem 𝓛 (LendsValueAt self.entry at result) }
-        ensures value { option_map (λ value. value_view value.now) result ≡ value_at at (items_of self.old) }
+        ensures value { option_map (λ value. value_view value.now) result
+            ≡ value_at at (items_of self.old) }
         // What the array is after a write through the reference.
-        ensures leaves { (w : Value) → items_of (with_value_at at w self.old) ≡ written_at at (value_view w) (items_of self.old) }
-        ensures keeps { (w : Value) → array_fields (with_value_at at w self.old) ≡ array_fields self.old }
+        ensures leaves { (w : Value)
+            → items_of (with_value_at at w self.old)
+            ≡ written_at at (value_view w) (items_of self.old) }
+        ensures keeps { (w : Value)
+            → array_fields (with_value_at at w self.old) ≡ array_fields self.old }
     {
         if self.holds_value(at) {
             Some(self.value_in_mut(at))
@@ -386,7 +394,8 @@ impl Array {
     #[doc(hidden)]
     pub fn slot_at_mut(&mut self, at: usize) -> Option<&mut Item>
         ensures* writes_back { sem 𝓛 (LendsArraySlot self.entry at result) }
-        ensures item { option_map (λ item. item_view item.now) result ≡ slice_get (items_of self.old) at }
+        ensures item { option_map (λ item. item_view item.now) result
+            ≡ slice_get (items_of self.old) at }
     {
         if at < self.values.len() {
             Some(self.slot_in_mut(at))
@@ -422,7 +431,8 @@ impl Array {
     ///
     /// From `add_dependency` of the guide, docs/GUIDE.md.
     pub fn push(&mut self, value: Value) -> Result<(), NoMemory<Value>>
-        ensures items { OnOk result (items_of self.new ≡ pushed (value_view value) (items_of self.old)) }
+        ensures items { OnOk result
+            (items_of self.new ≡ pushed (value_view value) (items_of self.old)) }
         ensures fields { array_fields self.new ≡ array_fields self.old }
         ensures err { OnErr result (array_view self.new ≡ array_view self.old) }
         ensures back { IfErr result (λ refused. refused.0 ≡ value) }
@@ -445,7 +455,8 @@ impl Array {
     ///
     /// From `move_value` of the guide, docs/GUIDE.md.
     pub fn push_formatted(&mut self, value: Value) -> Result<(), NoMemory<Value>>
-        ensures items { OnOk result (items_of self.new ≡ pushed (value_view value) (items_of self.old)) }
+        ensures items { OnOk result
+            (items_of self.new ≡ pushed (value_view value) (items_of self.old)) }
         ensures fields { array_fields self.new ≡ array_fields self.old }
         ensures err { OnErr result (array_view self.new ≡ array_view self.old) }
         ensures back { IfErr result (λ refused. refused.0 ≡ value) }
@@ -474,7 +485,8 @@ impl Array {
     /// From `insert_or_push` of the guide, docs/GUIDE.md.
     pub fn insert(&mut self, at: usize, value: Value) -> Result<(), NoMemory<Value>>
         requires { at ≤ length (items_of self.old) }
-        ensures items { OnOk result (items_of self.new ≡ inserted_at at (value_view value) (items_of self.old)) }
+        ensures items { OnOk result
+            (items_of self.new ≡ inserted_at at (value_view value) (items_of self.old)) }
         ensures fields { array_fields self.new ≡ array_fields self.old }
         ensures err { OnErr result (array_view self.new ≡ array_view self.old) }
         ensures back { IfErr result (λ refused. refused.0 ≡ value) }
@@ -502,7 +514,8 @@ impl Array {
     /// From `put_formatted` of the guide, docs/GUIDE.md.
     pub fn insert_formatted(&mut self, at: usize, value: Value) -> Result<(), NoMemory<Value>>
         requires { at ≤ length (items_of self.old) }
-        ensures items { OnOk result (items_of self.new ≡ inserted_at at (value_view value) (items_of self.old)) }
+        ensures items { OnOk result
+            (items_of self.new ≡ inserted_at at (value_view value) (items_of self.old)) }
         ensures fields { array_fields self.new ≡ array_fields self.old }
         ensures err { OnErr result (array_view self.new ≡ array_view self.old) }
         ensures back { IfErr result (λ refused. refused.0 ≡ value) }
@@ -532,8 +545,10 @@ impl Array {
     /// From `replace_or_push` of the guide, docs/GUIDE.md.
     pub fn replace(&mut self, at: usize, value: Value) -> Result<Value, NoMemory<Value>>
         requires { IsSome (value_at at (items_of self.old)) }
-        ensures value { IfOk result (λ old. Some (value_view old) ≡ value_at at (items_of self.old)) }
-        ensures items { OnOk result (items_of self.new ≡ replaced_at at (value_view value) (items_of self.old)) }
+        ensures value { IfOk result
+            (λ old. Some (value_view old) ≡ value_at at (items_of self.old)) }
+        ensures items { OnOk result
+            (items_of self.new ≡ replaced_at at (value_view value) (items_of self.old)) }
         ensures fields { array_fields self.new ≡ array_fields self.old }
         ensures err { OnErr result (array_view self.new ≡ array_view self.old) }
         ensures back { IfErr result (λ refused. refused.0 ≡ value) }
@@ -547,7 +562,8 @@ impl Array {
     /// Copies the decor of the value at the index.
     fn copied_decor(&self, at: usize) -> Mem<Decor>
         requires { IsSome (value_at at (items_of self.now)) }
-        ensures { IfOk result (λ decor. Some decor ≡ option_map node_decor (value_at at (items_of self.now))) }
+        ensures { IfOk result
+            (λ decor. Some decor ≡ option_map node_decor (value_at at (items_of self.now))) }
     {
         let alloc = *self.values.allocator();
         match self.get(at) {
@@ -683,7 +699,8 @@ impl Array {
     /// and the others are dropped.
     #[tactic(auto, using(crate::proofs::ElementLaws::value_last))]
     pub fn extend<U: IntoIterator<Item = Value>>(&mut self, values: U) -> Mem<()>
-        requires { (it : U.IntoIter) → U.into_iter_gives values it → U.IntoIter.can_next it × IsFinite (U.IntoIter.remaining it) }
+        requires { (it : U.IntoIter) → U.into_iter_gives values it
+            → U.IntoIter.can_next it × IsFinite (U.IntoIter.remaining it) }
         ensures { ExtendsWithItems U.into_iter_gives U.IntoIter.next_gives AddsValues values self.old self.new result }
     {
         for value in values {
@@ -766,7 +783,9 @@ fn format_items(items: &mut Vec<Item>)
 
 /// Sets the decor of one item, and returns whether the next value is still the first.
 fn format_item(item: &mut Item, alloc: Global, is_first: bool) -> bool
-    ensures { (others : List Node) → formatted_from is_first (item_view item.old ∷ others) ≡ item_view item.new ∷ formatted_from result others }
+    ensures { (others : List Node)
+        → formatted_from is_first (item_view item.old ∷ others)
+        ≡ item_view item.new ∷ formatted_from result others }
 {
     if !item.is_value() {
         return is_first;

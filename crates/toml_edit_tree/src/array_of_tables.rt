@@ -91,8 +91,11 @@ impl ArrayOfTables {
     ///
     /// Returns an `AllocError` if out of memory.
     pub fn from_iter<U: IntoIterator<Item = Table>>(alloc: Global, tables: U) -> Mem<ArrayOfTables>
-        requires { (it : U.IntoIter) → U.into_iter_gives tables it → U.IntoIter.can_next it × IsFinite (U.IntoIter.remaining it) }
-        ensures { IfOk result (λ array. (it : U.IntoIter) × (ts : List Table) × U.into_iter_gives tables it × Drains U.IntoIter.next_gives it ts × HasTables ts array) }
+        requires { (it : U.IntoIter) → U.into_iter_gives tables it
+            → U.IntoIter.can_next it × IsFinite (U.IntoIter.remaining it) }
+        ensures { IfOk result
+            (λ array. (it : U.IntoIter) × (ts : List Table) × U.into_iter_gives tables it
+            × Drains U.IntoIter.next_gives it ts × HasTables ts array) }
     {
         let mut array = ArrayOfTables::new(alloc);
         match array.extend(tables) {
@@ -179,7 +182,8 @@ impl ArrayOfTables {
 
     /// Returns the table at index `at`, or `None` past the end and where the slot holds none.
     pub fn get(&self, at: usize) -> Option<&Table>
-        ensures { option_map (λ table. table_node (table_view table.now)) result ≡ table_at at (tables_of self.now) }
+        ensures { option_map (λ table. table_node (table_view table.now)) result
+            ≡ table_at at (tables_of self.now) }
     {
         toml_edit_lists::get(self.values.as_slice(), at)
     }
@@ -188,9 +192,12 @@ impl ArrayOfTables {
     /// slot holds none.
     pub fn get_mut(&mut self, at: usize) -> Option<&mut Table>
         ensures* writes_back { sem 𝓛 (LendsTableAt self.entry at result) }
-        ensures table { option_map (λ table. table_node (table_view table.now)) result ≡ table_at at (tables_of self.old) }
+        ensures table { option_map (λ table. table_node (table_view table.now)) result
+            ≡ table_at at (tables_of self.old) }
         // What the array of tables is after a write through the reference.
-        ensures leaves { (w : Table) → tables_of (with_table_at at w self.old) ≡ written_at at (table_node (table_view w)) (tables_of self.old) }
+        ensures leaves { (w : Table)
+            → tables_of (with_table_at at w self.old)
+            ≡ written_at at (table_node (table_view w)) (tables_of self.old) }
         ensures keeps { (w : Table) → extent_of (with_table_at at w self.old) ≡ extent_of self.old }
     {
         if self.holds_table(at) {
@@ -224,7 +231,8 @@ impl ArrayOfTables {
     #[doc(hidden)]
     pub fn slot_at_mut(&mut self, at: usize) -> Option<&mut Item>
         ensures* writes_back { sem 𝓛 (LendsTablesSlot self.entry at result) }
-        ensures item { option_map (λ item. item_view item.now) result ≡ slice_get (tables_of self.old) at }
+        ensures item { option_map (λ item. item_view item.now) result
+            ≡ slice_get (tables_of self.old) at }
     {
         if at < self.values.len() {
             Some(self.slot_in_mut(at))
@@ -261,7 +269,8 @@ impl ArrayOfTables {
     ///
     /// From `push_element` of the guide, docs/GUIDE.md.
     pub fn push(&mut self, table: Table) -> Result<(), NoMemory<Table>>
-        ensures items { OnOk result (tables_of self.new ≡ pushed (table_node (table_view table)) (tables_of self.old)) }
+        ensures items { OnOk result
+            (tables_of self.new ≡ pushed (table_node (table_view table)) (tables_of self.old)) }
         ensures extent { extent_of self.new ≡ extent_of self.old }
         ensures err { OnErr result (tables_view self.new ≡ tables_view self.old) }
         ensures back { IfErr result (λ refused. refused.0 ≡ table) }
@@ -280,7 +289,9 @@ impl ArrayOfTables {
     /// Returns a [`NoMemory`] with `table` if out of memory.
     pub fn insert(&mut self, at: usize, table: Table) -> Result<(), NoMemory<Table>>
         requires { at ≤ length (tables_of self.old) }
-        ensures items { OnOk result (tables_of self.new ≡ inserted_at at (table_node (table_view table)) (tables_of self.old)) }
+        ensures items { OnOk result
+            (tables_of self.new
+            ≡ inserted_at at (table_node (table_view table)) (tables_of self.old)) }
         ensures extent { extent_of self.new ≡ extent_of self.old }
         ensures err { OnErr result (tables_view self.new ≡ tables_view self.old) }
         ensures back { IfErr result (λ refused. refused.0 ≡ table) }
@@ -304,7 +315,8 @@ impl ArrayOfTables {
     pub fn replace(&mut self, at: usize, table: Table) -> Table
         requires { IsSome (table_at at (tables_of self.old)) }
         ensures table { Some (table_node (table_view result)) ≡ table_at at (tables_of self.old) }
-        ensures items { tables_of self.new ≡ written_at at (table_node (table_view table)) (tables_of self.old) }
+        ensures items { tables_of self.new
+            ≡ written_at at (table_node (table_view table)) (tables_of self.old) }
         ensures extent { extent_of self.new ≡ extent_of self.old }
     {
         replace_table(&mut self.values, at, table)
@@ -344,7 +356,8 @@ impl ArrayOfTables {
     /// and the others are dropped.
     #[tactic(auto, using(crate::proofs::ElementLaws::table_last))]
     pub fn extend<U: IntoIterator<Item = Table>>(&mut self, tables: U) -> Mem<()>
-        requires { (it : U.IntoIter) → U.into_iter_gives tables it → U.IntoIter.can_next it × IsFinite (U.IntoIter.remaining it) }
+        requires { (it : U.IntoIter) → U.into_iter_gives tables it
+            → U.IntoIter.can_next it × IsFinite (U.IntoIter.remaining it) }
         ensures { ExtendsWithItems U.into_iter_gives U.IntoIter.next_gives AddsTables tables self.old self.new result }
     {
         for table in tables {
@@ -393,7 +406,8 @@ where
 
 /// Adds an item at the end.
 fn push_element(items: &mut Vec<Item>, element: Item) -> Mem<()>
-    ensures { OnOk result (items_view items.new.items ≡ with_item (items_view items.old.items) (item_view element)) }
+    ensures { OnOk result
+        (items_view items.new.items ≡ with_item (items_view items.old.items) (item_view element)) }
 {
     items.push(element)?;
     Ok(())

@@ -57,7 +57,8 @@ impl Item {
     ///
     /// Returns the item, unchanged, if it is neither a table nor an inline table.
     pub fn into_table(self) -> Result<Table, Item>
-        ensures ok { IfOk result (λ table. into_table (item_view self) ≡ Some (table_node (table_view table))) }
+        ensures ok { IfOk result
+            (λ table. into_table (item_view self) ≡ Some (table_node (table_view table))) }
         ensures err { IfErr result (λ item. (into_table (item_view self) ≡ None) × (item ≡ self)) }
     {
         match self {
@@ -80,7 +81,8 @@ impl Item {
     ///
     /// Returns the item, unchanged, if it is anything else.
     pub fn into_array_of_tables(self) -> Result<ArrayOfTables, Item>
-        ensures ok { IfOk result (λ tables. into_tables (item_view self) ≡ Some (tables_node (tables_view tables))) }
+        ensures ok { IfOk result
+            (λ tables. into_tables (item_view self) ≡ Some (tables_node (tables_view tables))) }
         ensures err { IfErr result (λ item. (into_tables (item_view self) ≡ None) × (item ≡ self)) }
     {
         match self {
@@ -168,7 +170,8 @@ fn make_inside_table(table: &mut Table)
 /// Makes each item in an array of tables a value.
 #[cycle(convert)]
 fn make_inside_tables(tables: &mut ArrayOfTables)
-    ensures { tables_node (tables_view tables.new) ≡ inside_made (tables_node (tables_view tables.old)) }
+    ensures { tables_node (tables_view tables.new)
+        ≡ inside_made (tables_node (tables_view tables.old)) }
 {
     make_items(&mut tables.values);
 }
@@ -218,7 +221,8 @@ fn renewed(item: Item) -> Item
 
 /// Makes a new inline table of these slots, formatted.
 fn inline_of(slots: Slots<Item>) -> InlineTable
-    ensures { inline_node (inline_view result) ≡ inline new_inline (formatted_slots (slots_view slots)) }
+    ensures { inline_node (inline_view result)
+        ≡ inline new_inline (formatted_slots (slots_view slots)) }
 {
     let mut items = slots;
     format_slots(&mut items);
@@ -235,7 +239,8 @@ fn inline_of(slots: Slots<Item>) -> InlineTable
 
 /// Makes a new array of these items, formatted.
 fn array_of(items: Vec<Item>) -> Array
-    ensures { array_node (array_view result) ≡ list new_array (formatted_elements (items_view items.items)) }
+    ensures { array_node (array_view result)
+        ≡ list new_array (formatted_elements (items_view items.items)) }
 {
     let mut array = bare_array(items);
     array.fmt();
@@ -273,8 +278,11 @@ fn table_of(slots: Slots<Item>) -> Table
 
 /// Converts an array into an array of tables, or returns it where that can't be.
 fn array_as_tables(array: Array) -> Result<ArrayOfTables, Array>
-    ensures ok { IfOk result (λ tables. into_tables (array_node (array_view array)) ≡ Some (tables_node (tables_view tables))) }
-    ensures err { IfErr result (λ back. (into_tables (array_node (array_view array)) ≡ None) × (back ≡ array)) }
+    ensures ok { IfOk result
+        (λ tables. into_tables (array_node (array_view array))
+        ≡ Some (tables_node (tables_view tables))) }
+    ensures err { IfErr result
+        (λ back. (into_tables (array_node (array_view array)) ≡ None) × (back ≡ array)) }
 {
     if can_be_tables(array.values.as_slice()) {
         Ok(tables_of_items(array.into_values()))
@@ -307,7 +315,8 @@ fn can_be_table(item: &Item) -> bool
 
 /// Makes a new array of tables of these items, with each inline table made a table.
 fn tables_of_items(items: Vec<Item>) -> ArrayOfTables
-    ensures { tables_view result ≡ record { extent = None; items = tables_made (items_view items.items) } }
+    ensures { tables_view result
+        ≡ record { extent = None; items = tables_made (items_view items.items) } }
 {
     let mut values = items;
     make_tables(&mut values);

@@ -56,7 +56,9 @@ pub(crate) fn despan_value(value: &mut Value, alloc: Global, source: &str) -> Me
 fn despan_array(array: &mut Array, alloc: Global, source: &str) -> Mem<()>
     requires fits { NodeFits source.now (array_node (array_view array.old)) }
     requires spelled { ∥ IsWellMade (owned_node source.now (array_node (array_view array.old))) ∥₁ }
-    ensures { OnOk result (array_node (array_view array.new) ≡ owned_node source.now (array_node (array_view array.old))) }
+    ensures { OnOk result
+        (array_node (array_view array.new)
+        ≡ owned_node source.now (array_node (array_view array.old))) }
 {
     despan_items(&mut array.values, alloc, source)?;
     array.decor.despan(alloc, source)?;
@@ -70,7 +72,9 @@ fn despan_array(array: &mut Array, alloc: Global, source: &str) -> Mem<()>
 fn despan_inline(table: &mut InlineTable, alloc: Global, source: &str) -> Mem<()>
     requires fits { NodeFits source.now (inline_node (inline_view table.old)) }
     requires spelled { ∥ IsWellMade (owned_node source.now (inline_node (inline_view table.old))) ∥₁ }
-    ensures { OnOk result (inline_node (inline_view table.new) ≡ owned_node source.now (inline_node (inline_view table.old))) }
+    ensures { OnOk result
+        (inline_node (inline_view table.new)
+        ≡ owned_node source.now (inline_node (inline_view table.old))) }
 {
     despan_slots(&mut table.items, alloc, source)?;
     table.decor.despan(alloc, source)?;
@@ -84,7 +88,9 @@ fn despan_inline(table: &mut InlineTable, alloc: Global, source: &str) -> Mem<()
 pub(crate) fn despan_table(table: &mut Table, alloc: Global, source: &str) -> Mem<()>
     requires fits { NodeFits source.now (table_node (table_view table.old)) }
     requires spelled { ∥ IsWellMade (owned_node source.now (table_node (table_view table.old))) ∥₁ }
-    ensures { OnOk result (table_node (table_view table.new) ≡ owned_node source.now (table_node (table_view table.old))) }
+    ensures { OnOk result
+        (table_node (table_view table.new)
+        ≡ owned_node source.now (table_node (table_view table.old))) }
 {
     despan_slots(&mut table.slots, alloc, source)?;
     table.decor.despan(alloc, source)?;
@@ -97,7 +103,9 @@ pub(crate) fn despan_table(table: &mut Table, alloc: Global, source: &str) -> Me
 fn despan_tables(tables: &mut ArrayOfTables, alloc: Global, source: &str) -> Mem<()>
     requires fits { NodeFits source.now (tables_node (tables_view tables.old)) }
     requires spelled { ∥ IsWellMade (owned_node source.now (tables_node (tables_view tables.old))) ∥₁ }
-    ensures { OnOk result (tables_node (tables_view tables.new) ≡ owned_node source.now (tables_node (tables_view tables.old))) }
+    ensures { OnOk result
+        (tables_node (tables_view tables.new)
+        ≡ owned_node source.now (tables_node (tables_view tables.old))) }
 {
     despan_items(&mut tables.values, alloc, source)?;
     tables.span = None;
@@ -109,7 +117,8 @@ fn despan_tables(tables: &mut ArrayOfTables, alloc: Global, source: &str) -> Mem
 fn despan_items(items: &mut Vec<Item>, alloc: Global, source: &str) -> Mem<()>
     requires fits { ItemsFit source.now (items_view items.old.items) }
     requires spelled { ∥ ItemsAreWellMade (owned_items source.now (items_view items.old.items)) ∥₁ }
-    ensures { OnOk result (items_view items.new.items ≡ owned_items source.now (items_view items.old.items)) }
+    ensures { OnOk result
+        (items_view items.new.items ≡ owned_items source.now (items_view items.old.items)) }
 {
     for at in 0..items.len() {
         despan_item(&mut items[at], alloc, source)?;

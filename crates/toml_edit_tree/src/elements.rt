@@ -89,7 +89,8 @@ pub(crate) fn take_table(items: &mut Vec<Item>, at: usize) -> Table
 pub(crate) fn replace_value(items: &mut Vec<Item>, at: usize, value: Value) -> Value
     requires { IsSome (value_at at (listed items.old.items)) }
     ensures value { Some (value_view result) ≡ value_at at (listed items.old.items) }
-    ensures items { listed items.new.items ≡ written_at at (value_view value) (listed items.old.items) }
+    ensures items { listed items.new.items
+        ≡ written_at at (value_view value) (listed items.old.items) }
 {
     toml_edit_lists::replace(items, at, value)
 }
@@ -98,14 +99,16 @@ pub(crate) fn replace_value(items: &mut Vec<Item>, at: usize, value: Value) -> V
 pub(crate) fn replace_table(items: &mut Vec<Item>, at: usize, table: Table) -> Table
     requires { IsSome (table_at at (listed items.old.items)) }
     ensures table { Some (table_node (table_view result)) ≡ table_at at (listed items.old.items) }
-    ensures items { listed items.new.items ≡ written_at at (table_node (table_view table)) (listed items.old.items) }
+    ensures items { listed items.new.items
+        ≡ written_at at (table_node (table_view table)) (listed items.old.items) }
 {
     toml_edit_lists::replace(items, at, table)
 }
 
 /// Adds a value at the end.
 pub(crate) fn push_value(items: &mut Vec<Item>, value: Value) -> Result<(), NoMemory<Value>>
-    ensures items { OnOk result (listed items.new.items ≡ pushed (value_view value) (listed items.old.items)) }
+    ensures items { OnOk result
+        (listed items.new.items ≡ pushed (value_view value) (listed items.old.items)) }
     ensures err { OnErr result (items_view items.new.items ≡ items_view items.old.items) }
     ensures back { IfErr result (λ refused. refused.0 ≡ value) }
 {
@@ -117,7 +120,8 @@ pub(crate) fn push_value(items: &mut Vec<Item>, value: Value) -> Result<(), NoMe
 
 /// Adds a table at the end.
 pub(crate) fn push_table(items: &mut Vec<Item>, table: Table) -> Result<(), NoMemory<Table>>
-    ensures items { OnOk result (listed items.new.items ≡ pushed (table_node (table_view table)) (listed items.old.items)) }
+    ensures items { OnOk result
+        (listed items.new.items ≡ pushed (table_node (table_view table)) (listed items.old.items)) }
     ensures err { OnErr result (items_view items.new.items ≡ items_view items.old.items) }
     ensures back { IfErr result (λ refused. refused.0 ≡ table) }
 {
@@ -134,7 +138,8 @@ pub(crate) fn insert_value(
     value: Value,
 ) -> Result<(), NoMemory<Value>>
     requires { at ≤ length (listed items.old.items) }
-    ensures items { OnOk result (listed items.new.items ≡ inserted_at at (value_view value) (listed items.old.items)) }
+    ensures items { OnOk result
+        (listed items.new.items ≡ inserted_at at (value_view value) (listed items.old.items)) }
     ensures err { OnErr result (items_view items.new.items ≡ items_view items.old.items) }
     ensures back { IfErr result (λ refused. refused.0 ≡ value) }
 {
@@ -151,7 +156,9 @@ pub(crate) fn insert_table(
     table: Table,
 ) -> Result<(), NoMemory<Table>>
     requires { at ≤ length (listed items.old.items) }
-    ensures items { OnOk result (listed items.new.items ≡ inserted_at at (table_node (table_view table)) (listed items.old.items)) }
+    ensures items { OnOk result
+        (listed items.new.items
+        ≡ inserted_at at (table_node (table_view table)) (listed items.old.items)) }
     ensures err { OnErr result (items_view items.new.items ≡ items_view items.old.items) }
     ensures back { IfErr result (λ refused. refused.0 ≡ table) }
 {

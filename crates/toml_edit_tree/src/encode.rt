@@ -395,7 +395,8 @@ fn put_pairs<'p, 'a, S: Sink>(
     before: Option<&'a Decor>,
 ) -> Option<&'a Decor>
     ensures last { option_copied result
-        ≡ last_shown (option_copied before.entry) (inside_lines (mode_of mode) (slots_view slots.now) (keys_on path.now)) }
+        ≡ last_shown (option_copied before.entry)
+        (inside_lines (mode_of mode) (slots_view slots.now) (keys_on path.now)) }
     ensures text { WritesInCalls S.puts out.old
         (pairs_shown (mode_of mode) (option_copied before.entry) (inside_lines (mode_of mode) (slots_view slots.now) (keys_on path.now))) out.new }
 {
@@ -418,7 +419,8 @@ fn put_item_pairs<'p, 'a, S: Sink>(
     before: Option<&'a Decor>,
 ) -> Option<&'a Decor>
     ensures last { option_copied result
-        ≡ last_shown (option_copied before.entry) (lines_of_item (mode_of mode) (item_view item.now) (keys_on path.now ++ (key.now ∷ []))) }
+        ≡ last_shown (option_copied before.entry)
+        (lines_of_item (mode_of mode) (item_view item.now) (keys_on path.now ++ (key.now ∷ []))) }
     ensures text { WritesInCalls S.puts out.old
         (pairs_shown (mode_of mode) (option_copied before.entry) (lines_of_item (mode_of mode) (item_view item.now) (keys_on path.now ++ (key.now ∷ [])))) out.new }
 {
@@ -441,7 +443,8 @@ fn put_value_pairs<'p, 'a, S: Sink>(
     before: Option<&'a Decor>,
 ) -> Option<&'a Decor>
     ensures last { option_copied result
-        ≡ last_shown (option_copied before.entry) (lines_of_item (mode_of mode) (value_view value.now) (keys_on path.now ++ (key.now ∷ []))) }
+        ≡ last_shown (option_copied before.entry)
+        (lines_of_item (mode_of mode) (value_view value.now) (keys_on path.now ++ (key.now ∷ []))) }
     ensures text { WritesInCalls S.puts out.old
         (pairs_shown (mode_of mode) (option_copied before.entry) (lines_of_item (mode_of mode) (value_view value.now) (keys_on path.now ++ (key.now ∷ [])))) out.new }
 {

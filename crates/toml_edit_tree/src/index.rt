@@ -102,13 +102,15 @@ pub trait Index: Drop {
     ///
     /// A number finds placeholders too, and a text doesn't. Call it as [`Item::get`].
     fn index<'v>(&self, item: &'v Item) -> Option<&'v Item>
-        ensures { option_map (λ x. item_view x.now) result ≡ indexing.indexed (stands_for self.now) (item_view item.now) };
+        ensures { option_map (λ x. item_view x.now) result
+            ≡ indexing.indexed (stands_for self.now) (item_view item.now) };
 
     /// Returns a mutable reference to the item that the index finds, or `None`.
     ///
     /// Call it as [`Item::get_mut`].
     fn index_mut<'v>(&self, item: &'v mut Item) -> Option<&'v mut Item>
-        ensures { option_map (λ x. item_view x.now) result ≡ indexing.indexed (stands_for self.now) (item_view item.old) };
+        ensures { option_map (λ x. item_view x.now) result
+            ≡ indexing.indexed (stands_for self.now) (item_view item.old) };
 }
 
 impl Index for usize {
@@ -163,9 +165,11 @@ impl Index for &String {
 impl<I: Index> ops::Index<I> for Item {
     type Output = Item;
 
-    ghost can_index = { λ item index. IsSome (indexing.indexed (I.stands_for index) (item_view item)) };
+    ghost can_index = { λ item index. IsSome
+        (indexing.indexed (I.stands_for index) (item_view item)) };
 
-    ghost index_gives = { λ item index found. indexing.indexed (I.stands_for index) (item_view item) ≡ Some (item_view found) };
+    ghost index_gives = { λ item index found. indexing.indexed (I.stands_for index)
+        (item_view item) ≡ Some (item_view found) };
 
     fn index(&self, index: I) -> &Item {
         self.get(index).unwrap()
@@ -178,7 +182,8 @@ impl ops::Index<&str> for Table {
 
     ghost can_index = { λ table key. IsSome (get key.now (slots_of table)) };
 
-    ghost index_gives = { λ table key found. get key.now (slots_of table) ≡ Some (item_view found) };
+    ghost index_gives = { λ table key found. get key.now (slots_of table)
+        ≡ Some (item_view found) };
 
     fn index(&self, key: &str) -> &Item {
         self.get(key).unwrap()
@@ -191,7 +196,8 @@ impl ops::Index<&str> for InlineTable {
 
     ghost can_index = { λ table key. IsSome (get_value key.now (inline_slots_of table)) };
 
-    ghost index_gives = { λ table key found. get_value key.now (inline_slots_of table) ≡ Some (value_view found) };
+    ghost index_gives = { λ table key found. get_value key.now (inline_slots_of table)
+        ≡ Some (value_view found) };
 
     fn index(&self, key: &str) -> &Value {
         self.get(key).unwrap()
@@ -219,7 +225,8 @@ pub(crate) fn filled_item<'s>(slots: &'s Slots<Item>, key: &str) -> Option<&'s I
 
 /// Finds the slot of the key, unless it is a placeholder.
 pub(crate) fn filled_place(slots: &Slots<Item>, key: &str) -> Option<usize>
-    ensures held { option_map item_view (option_and_then (slice_get (items_of slots.now)) result) ≡ get key.now (shown_slots slots.now) }
+    ensures held { option_map item_view (option_and_then (slice_get (items_of slots.now)) result)
+        ≡ get key.now (shown_slots slots.now) }
     ensures within { IfSome result (λ at. at < length slots.now) }
 {
     let entries = slots.as_slice();
@@ -234,12 +241,17 @@ pub(crate) fn filled_place(slots: &Slots<Item>, key: &str) -> Option<usize>
 /// Finds the slot of the key, after adding a placeholder at the end if the key is missing.
 pub(crate) fn place_under(slots: &mut Slots<Item>, key: &str) -> Mem<usize>
     ensures within { IfOk result (λ at. at < length slots.new) }
-    ensures made { OnOk result (shown_slots slots.new ≡ with_place key.now (shown_slots slots.old)) }
+    ensures made { OnOk result
+        (shown_slots slots.new ≡ with_place key.now (shown_slots slots.old)) }
     ensures place { IfOk result (λ at. place key.now (shown_slots slots.new) ≡ Some at) }
-    ensures item { IfOk result (λ at. option_map item_view (slice_get (items_of slots.new) at) ≡ lookup key.now (with_place key.now (shown_slots slots.old))) }
-    ensures rest { IfOk result (λ at. (w : Item) → with_item at w slots.new ≡ slots_put key.now w slots.old) }
+    ensures item { IfOk result
+        (λ at. option_map item_view (slice_get (items_of slots.new) at)
+        ≡ lookup key.now (with_place key.now (shown_slots slots.old))) }
+    ensures rest { IfOk result
+        (λ at. (w : Item) → with_item at w slots.new ≡ slots_put key.now w slots.old) }
     ensures leaves { (w : Item) → shown_slots (slots_put key.now w slots.old)
-        ≡ changed key.now (with_item_seen (item_view w)) (with_place key.now (shown_slots slots.old)) }
+        ≡ changed key.now (with_item_seen (item_view w))
+        (with_place key.now (shown_slots slots.old)) }
     ensures present { IsTrue (has_slot key.now (shown_slots slots.old)) → IsOk result }
     ensures err { OnErr result (slots.new ≡ slots.old) }
 {

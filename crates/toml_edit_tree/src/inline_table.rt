@@ -139,9 +139,13 @@ impl InlineTable {
         alloc: Global,
         pairs: U,
     ) -> Mem<InlineTable>
-        requires { (it : U.IntoIter) → U.into_iter_gives pairs it → U.IntoIter.can_next it × IsFinite (U.IntoIter.remaining it) }
-        ensures { IfOk result (λ table. (it : U.IntoIter) × (ps : List (Key × Value)) × U.into_iter_gives pairs it × Drains U.IntoIter.next_gives it ps
-            × (inline_slots_of table ≡ extended (map value_taken ps) []) × (inline_fields table ≡ new_inline)) }
+        requires { (it : U.IntoIter) → U.into_iter_gives pairs it
+            → U.IntoIter.can_next it × IsFinite (U.IntoIter.remaining it) }
+        ensures { IfOk result
+            (λ table. (it : U.IntoIter) × (ps : List (Key × Value)) × U.into_iter_gives pairs it
+            × Drains U.IntoIter.next_gives it ps
+            × (inline_slots_of table ≡ extended (map value_taken ps) [])
+            × (inline_fields table ≡ new_inline)) }
     {
         let mut table = InlineTable::new(alloc);
         match table.extend(pairs) {
@@ -160,7 +164,8 @@ impl InlineTable {
         start: usize,
         end: usize,
     ) -> InlineTable
-        ensures { inline_view result ≡ spanned_inline trailing_comma trailing start end (slots_view items) }
+        ensures { inline_view result
+            ≡ spanned_inline trailing_comma trailing start end (slots_view items) }
     {
         InlineTable {
             items,
@@ -177,7 +182,8 @@ impl InlineTable {
     /// `end` of the source.
     #[doc(hidden)]
     pub fn below_key(items: Slots<Item>, start: usize, end: usize) -> InlineTable
-        ensures { inline_view result ≡ record { fields = path_fields (Some (start, end)); slots = slots_view items } }
+        ensures { inline_view result
+            ≡ record { fields = path_fields (Some (start, end)); slots = slots_view items } }
     {
         InlineTable {
             items,
@@ -253,7 +259,9 @@ impl InlineTable {
         ensures reorders { IsDeepReorder is_dotted_inline (inline_slots_of self.old) (inline_slots_of self.new) }
         ensures sorted { OnOk result (IsDeepSort is_dotted_inline name_lt (inline_slots_of self.old) (inline_slots_of self.new)) }
         // The order of names is a lawful one, so exactly one list is in order.
-        ensures in_order { OnOk result (inline_slots_of self.new ≡ sorted_slots is_dotted_inline (slots_from (inline_slots_of self.old))) }
+        ensures in_order { OnOk result
+            (inline_slots_of self.new
+            ≡ sorted_slots is_dotted_inline (slots_from (inline_slots_of self.old))) }
         ensures fields { inline_fields self.new ≡ inline_fields self.old }
     {
         sort_slots(
@@ -431,7 +439,8 @@ impl InlineTable {
     ///
     /// For items of any kind use [`get_key_value`](Self::get_key_value).
     pub fn get(&self, key: &str) -> Option<&Value>
-        ensures { option_map (λ v. value_view v.now) result ≡ get_value key.now (inline_slots_of self.now) }
+        ensures { option_map (λ v. value_view v.now) result
+            ≡ get_value key.now (inline_slots_of self.now) }
     {
         let (_, item) = self.items.get_key_value(key)?;
         item.as_value()
@@ -445,10 +454,14 @@ impl InlineTable {
     /// or [`entry`](Self::entry).
     pub fn get_mut(&mut self, key: &str) -> Option<&mut Value>
         ensures* writes_back { sem 𝓛 (LendsValueUnder self.entry key.now result) }
-        ensures value { option_map (λ v. value_view v.now) result ≡ get_value key.now (inline_slots_of self.old) }
+        ensures value { option_map (λ v. value_view v.now) result
+            ≡ get_value key.now (inline_slots_of self.old) }
         // What the inline table is after a write through the reference.
-        ensures leaves { (w : Value) → inline_slots_of (with_value_under key.now w self.old) ≡ changed key.now (with_item (value_view w)) (inline_slots_of self.old) }
-        ensures keeps { (w : Value) → inline_fields (with_value_under key.now w self.old) ≡ inline_fields self.old }
+        ensures leaves { (w : Value)
+            → inline_slots_of (with_value_under key.now w self.old)
+            ≡ changed key.now (with_item (value_view w)) (inline_slots_of self.old) }
+        ensures keeps { (w : Value)
+            → inline_fields (with_value_under key.now w self.old) ≡ inline_fields self.old }
     {
         match self.value_place(key) {
             Some(at) => Some(self.value_at_mut(at)),
@@ -495,7 +508,8 @@ impl InlineTable {
     fn held_place(&self, key: &str) -> Option<usize>
         ensures held { option_map item_view (option_and_then (slice_get (items_of (out-InlineTable self.now).items)) result)
             ≡ get key.now (inline_slots_of self.now) }
-        ensures place { IfSome result (λ at. place key.now (out-InlineTable self.now).items ≡ Some at) }
+        ensures place { IfSome result
+            (λ at. place key.now (out-InlineTable self.now).items ≡ Some at) }
         ensures within { IfSome result (λ at. at < length (out-InlineTable self.now).items) }
     {
         let entries = self.items.as_slice();
@@ -509,10 +523,13 @@ impl InlineTable {
 
     /// Finds the slot of the key, if it holds a value.
     fn value_place(&self, key: &str) -> Option<usize>
-        ensures value { option_map value_view (option_and_then (λ at. value_at at (out-InlineTable self.now).items) result)
+        ensures value { option_map value_view
+            (option_and_then (λ at. value_at at (out-InlineTable self.now).items) result)
             ≡ get_value key.now (inline_slots_of self.now) }
-        ensures place { IfSome result (λ at. place key.now (out-InlineTable self.now).items ≡ Some at) }
-        ensures held { IfSome result (λ at. has_value_at at (out-InlineTable self.now).items ≡ true) }
+        ensures place { IfSome result
+            (λ at. place key.now (out-InlineTable self.now).items ≡ Some at) }
+        ensures held { IfSome result
+            (λ at. has_value_at at (out-InlineTable self.now).items ≡ true) }
         ensures apart { AreApart (inline_slots_of self.now) }
     {
         let entries = self.items.as_slice();
@@ -536,11 +553,16 @@ impl InlineTable {
     /// Returns a [`NoMemory`] with `value` if out of memory. An existing key takes no memory.
     pub fn get_or_insert(&mut self, key: &str, value: Value) -> Result<&mut Value, NoMemory<Value>>
         ensures* writes_back { sem 𝓛 (LendsPut self.entry key.now result) }
-        ensures value { IfOk result (λ lent. Some (value_view lent.now) ≡ lookup key.now (or_inserted_value key.now (value_view value) (inline_slots_of self.old))) }
+        ensures value { IfOk result
+            (λ lent. Some (value_view lent.now)
+            ≡ lookup key.now (or_inserted_value key.now (value_view value)
+            (inline_slots_of self.old))) }
         // What the inline table is after a write through the reference.
         ensures leaves { (w : Value) → inline_slots_of (value_put key.now w self.old)
-            ≡ put (with_item (value_view w)) (record { key = new_key key.now; item = value_view w }) (inline_slots_of self.old) }
-        ensures keeps { (w : Value) → inline_fields (value_put key.now w self.old) ≡ inline_fields self.old }
+            ≡ put (with_item (value_view w))
+            (record { key = new_key key.now; item = value_view w }) (inline_slots_of self.old) }
+        ensures keeps { (w : Value)
+            → inline_fields (value_put key.now w self.old) ≡ inline_fields self.old }
         ensures present { IsTrue (has_slot key.now (inline_slots_of self.old)) → IsOk result }
         ensures back { IfErr result (λ refused. refused.0 ≡ value) }
     {
@@ -553,11 +575,15 @@ impl InlineTable {
     /// Finds or adds the slot of the key, and sees to it that it holds a value.
     fn place_for(&mut self, key: &str, value: Value) -> Result<usize, NoMemory<Value>>
         ensures held { IfOk result (λ at. has_value_at at (out-InlineTable self.new).items ≡ true) }
-        ensures value { IfOk result (λ at. option_map value_view (value_at at (out-InlineTable self.new).items)
-            ≡ lookup key.now (or_inserted_value key.now (value_view value) (inline_slots_of self.old))) }
-        ensures rest { IfOk result (λ at. (w : Value) → with_value_at at w self.new ≡ value_put key.now w self.old) }
+        ensures value { IfOk result
+            (λ at. option_map value_view (value_at at (out-InlineTable self.new).items)
+            ≡ lookup key.now (or_inserted_value key.now (value_view value)
+            (inline_slots_of self.old))) }
+        ensures rest { IfOk result
+            (λ at. (w : Value) → with_value_at at w self.new ≡ value_put key.now w self.old) }
         ensures leaves { (w : Value) → inline_slots_of (value_put key.now w self.old)
-            ≡ put (with_item (value_view w)) (record { key = new_key key.now; item = value_view w }) (inline_slots_of self.old) }
+            ≡ put (with_item (value_view w))
+            (record { key = new_key key.now; item = value_view w }) (inline_slots_of self.old) }
         ensures present { IsTrue (has_slot key.now (inline_slots_of self.old)) → IsOk result }
         ensures back { IfErr result (λ refused. refused.0 ≡ value) }
         ensures err { OnErr result (self.new ≡ self.old) }
@@ -613,8 +639,11 @@ impl InlineTable {
     ///
     /// From `add_dependency` of the guide, docs/GUIDE.md.
     pub fn insert(&mut self, key: &str, value: Value) -> Result<Option<Value>, NoMemory<Value>>
-        ensures old { IfOk result (λ old. option_map value_view old ≡ old_value key.now (inline_slots_of self.old)) }
-        ensures slots { OnOk result (inline_slots_of self.new ≡ inserted key.now (value_view value) (inline_slots_of self.old)) }
+        ensures old { IfOk result
+            (λ old. option_map value_view old ≡ old_value key.now (inline_slots_of self.old)) }
+        ensures slots { OnOk result
+            (inline_slots_of self.new
+            ≡ inserted key.now (value_view value) (inline_slots_of self.old)) }
         ensures present { IsTrue (has_slot key.now (inline_slots_of self.old)) → IsOk result }
         ensures fields { inline_fields self.new ≡ inline_fields self.old }
         ensures back { IfErr result (λ refused. refused.0 ≡ value) }
@@ -642,8 +671,11 @@ impl InlineTable {
         key: &Key,
         value: Value,
     ) -> Result<Option<Value>, NoMemory<Value>>
-        ensures old { IfOk result (λ old. option_map value_view old ≡ old_value key.now.name (inline_slots_of self.old)) }
-        ensures slots { OnOk result (inline_slots_of self.new ≡ inserted_formatted key.now (value_view value) (inline_slots_of self.old)) }
+        ensures old { IfOk result
+            (λ old. option_map value_view old ≡ old_value key.now.name (inline_slots_of self.old)) }
+        ensures slots { OnOk result
+            (inline_slots_of self.new
+            ≡ inserted_formatted key.now (value_view value) (inline_slots_of self.old)) }
         ensures fields { inline_fields self.new ≡ inline_fields self.old }
         ensures back { IfErr result (λ refused. refused.0 ≡ value) }
         ensures err { OnErr result (self.new ≡ self.old) }
@@ -660,7 +692,8 @@ impl InlineTable {
     /// The other slots keep their order. An item that is no value is made one, as by
     /// [`Item::into_value`]. A placeholder is removed as well, and `None` returned.
     pub fn remove(&mut self, key: &str) -> Option<Value>
-        ensures value { option_map value_view result ≡ old_value key.now (inline_slots_of self.old) }
+        ensures value { option_map value_view result
+            ≡ old_value key.now (inline_slots_of self.old) }
         ensures slots { inline_slots_of self.new ≡ without key.now (inline_slots_of self.old) }
         ensures fields { inline_fields self.new ≡ inline_fields self.old }
     {
@@ -709,7 +742,8 @@ impl InlineTable {
     /// inserted before, and the others are dropped.
     #[tactic(auto, using(crate::proofs::InlineLaws::extended_last))]
     pub fn extend<U: IntoIterator<Item = (Key, Value)>>(&mut self, pairs: U) -> Mem<()>
-        requires { (it : U.IntoIter) → U.into_iter_gives pairs it → U.IntoIter.can_next it × IsFinite (U.IntoIter.remaining it) }
+        requires { (it : U.IntoIter) → U.into_iter_gives pairs it
+            → U.IntoIter.can_next it × IsFinite (U.IntoIter.remaining it) }
         ensures { ExtendsWithItems U.into_iter_gives U.IntoIter.next_gives AddsValues pairs self.old self.new result }
     {
         for (key, value) in pairs {
@@ -720,7 +754,10 @@ impl InlineTable {
 
     /// Inserts one pair as `extend` does, and drops it if out of memory.
     fn extend_one(&mut self, key: Key, value: Value) -> Mem<()>
-        ensures slots { OnOk result (inline_slots_of self.new ≡ put (with_item (value_view value)) (value_taken (key, value)) (inline_slots_of self.old)) }
+        ensures slots { OnOk result
+            (inline_slots_of self.new
+            ≡ put (with_item (value_view value)) (value_taken (key, value))
+            (inline_slots_of self.old)) }
         ensures fields { inline_fields self.new ≡ inline_fields self.old }
         ensures err { OnErr result (self.new ≡ self.old) }
     {

@@ -112,7 +112,8 @@ impl Item {
     ///
     /// From `integer_at` of the guide, docs/GUIDE.md.
     pub fn get<I: Index>(&self, index: I) -> Option<&Item>
-        ensures { option_map (λ x. item_view x.now) result ≡ indexed (I.stands_for index) (item_view self.now) }
+        ensures { option_map (λ x. item_view x.now) result
+            ≡ indexed (I.stands_for index) (item_view self.now) }
     {
         index.index(self)
     }
@@ -123,7 +124,8 @@ impl Item {
     /// item is after a write through the reference. Where a proof needs that, take the table by
     /// [`as_table_mut`](Self::as_table_mut) and call [`Table::get_mut`](crate::Table::get_mut).
     pub fn get_mut<I: Index>(&mut self, index: I) -> Option<&mut Item>
-        ensures { option_map (λ x. item_view x.now) result ≡ indexed (I.stands_for index) (item_view self.old) }
+        ensures { option_map (λ x. item_view x.now) result
+            ≡ indexed (I.stands_for index) (item_view self.old) }
     {
         index.index_mut(self)
     }
@@ -142,8 +144,11 @@ impl Item {
     /// Returns [`IndexFault::WrongKind`] if this item is neither a table, an inline table nor a
     /// placeholder. Returns [`IndexFault::Memory`] if out of memory, at a new key.
     pub fn index_or_insert(&mut self, alloc: Global, key: &str) -> Result<&mut Item, IndexFault>
-        ensures item { IfOk result (λ lent. lent_under key.now (item_view self.old) ≡ Some (item_view lent.now)) }
-        ensures kind { IfErr result (λ fault. (fault ≡ WrongKind) ↔ (index_or_inserted key.now (item_view self.old) ≡ None)) }
+        ensures item { IfOk result
+            (λ lent. lent_under key.now (item_view self.old) ≡ Some (item_view lent.now)) }
+        ensures kind { IfErr result
+            (λ fault. (fault ≡ WrongKind)
+            ↔ (index_or_inserted key.now (item_view self.old) ≡ None)) }
         ensures present { IsSome (item_under key.now (item_view self.old)) → IsOk result }
     {
         match self.make_place(alloc, key) {
@@ -162,9 +167,13 @@ impl Item {
     /// Those of `index_or_insert`.
     #[doc(hidden)]
     pub fn make_place(&mut self, alloc: Global, key: &str) -> Result<usize, IndexFault>
-        ensures made { OnOk result (index_or_inserted key.now (item_view self.old) ≡ Some (item_view self.new)) }
-        ensures place { IfOk result (λ at. option_and_then (place key.now) (slots_in (item_view self.new)) ≡ Some at) }
-        ensures kind { IfErr result (λ fault. (fault ≡ WrongKind) ↔ (index_or_inserted key.now (item_view self.old) ≡ None)) }
+        ensures made { OnOk result
+            (index_or_inserted key.now (item_view self.old) ≡ Some (item_view self.new)) }
+        ensures place { IfOk result
+            (λ at. option_and_then (place key.now) (slots_in (item_view self.new)) ≡ Some at) }
+        ensures kind { IfErr result
+            (λ fault. (fault ≡ WrongKind)
+            ↔ (index_or_inserted key.now (item_view self.old) ≡ None)) }
         ensures present { IsSome (item_under key.now (item_view self.old)) → IsOk result }
         ensures err { OnErr result (self.new ≡ self.old) }
     {
@@ -188,7 +197,8 @@ impl Item {
     fn make_inline(&mut self, alloc: Global, key: &str) -> Mem<usize>
         requires { item_view self.old ≡ nothing }
         ensures made { OnOk result (index_or_inserted key.now nothing ≡ Some (item_view self.new)) }
-        ensures place { IfOk result (λ at. option_and_then (place key.now) (slots_in (item_view self.new)) ≡ Some at) }
+        ensures place { IfOk result
+            (λ at. option_and_then (place key.now) (slots_in (item_view self.new)) ≡ Some at) }
         ensures err { OnErr result (self.new ≡ self.old) }
     {
         let mut table = InlineTable::new(alloc);
@@ -220,9 +230,12 @@ impl Item {
     #[doc(hidden)]
     pub fn as_slots_mut(&mut self) -> Option<&mut Slots<Item>>
         ensures* writes_back { sem 𝓛 (LendsSlotsIn self.entry result) }
-        ensures slots { option_map (λ es. shown_slots es.now) result ≡ slots_in (item_view self.old) }
+        ensures slots { option_map (λ es. shown_slots es.now) result
+            ≡ slots_in (item_view self.old) }
         // Writing other slots replaces these alone, and writing them back changes nothing.
-        ensures others { (es : List (Slot Item)) → item_view (with_slots es self.old) ≡ on_slots (λ _. shown_slots es) (item_view self.old) }
+        ensures others { (es : List (Slot Item))
+            → item_view (with_slots es self.old)
+            ≡ on_slots (λ _. shown_slots es) (item_view self.old) }
         ensures own { IfSome result (λ es. with_slots es.now self.old ≡ self.old) }
     {
         self.own_slots_mut()
@@ -253,7 +266,8 @@ impl Item {
 
     /// Returns slot `at` of an array or an array of tables, a placeholder too.
     pub(crate) fn slot_at(&self, at: usize) -> Option<&Item>
-        ensures { option_map (λ x. item_view x.now) result ≡ indexed (number at) (item_view self.now) }
+        ensures { option_map (λ x. item_view x.now) result
+            ≡ indexed (number at) (item_view self.now) }
     {
         match self.as_items() {
             Some(items) => item_at(items, at),
@@ -264,7 +278,8 @@ impl Item {
     /// Returns a mutable reference to slot `at` of an array or an array of tables, a placeholder
     /// too.
     pub(crate) fn slot_at_mut(&mut self, at: usize) -> Option<&mut Item>
-        ensures { option_map (λ x. item_view x.now) result ≡ indexed (number at) (item_view self.old) }
+        ensures { option_map (λ x. item_view x.now) result
+            ≡ indexed (number at) (item_view self.old) }
     {
         match self {
             Item::Value(Value::Array(array)) => array.slot_at_mut(at),
@@ -275,7 +290,8 @@ impl Item {
 
     /// Returns the item under the key of a table or an inline table, unless it is a placeholder.
     pub(crate) fn item_under(&self, key: &str) -> Option<&Item>
-        ensures { option_map (λ x. item_view x.now) result ≡ indexed (text key.now) (item_view self.now) }
+        ensures { option_map (λ x. item_view x.now) result
+            ≡ indexed (text key.now) (item_view self.now) }
     {
         match self.as_slots() {
             Some(slots) => filled_item(slots, key),
@@ -285,7 +301,8 @@ impl Item {
 
     /// Returns a mutable reference to the item under the key, unless it is a placeholder.
     pub(crate) fn item_under_mut(&mut self, key: &str) -> Option<&mut Item>
-        ensures { option_map (λ x. item_view x.now) result ≡ indexed (text key.now) (item_view self.old) }
+        ensures { option_map (λ x. item_view x.now) result
+            ≡ indexed (text key.now) (item_view self.old) }
     {
         match self.as_slots_mut() {
             Some(slots) => match filled_place(slots, key) {
@@ -440,7 +457,8 @@ impl Item {
     /// Returns a mutable reference to the array of tables, or `None` for any other item.
     pub fn as_array_of_tables_mut(&mut self) -> Option<&mut ArrayOfTables>
         ensures* writes_back { sem 𝓛 (LendsTables self.entry result) }
-        ensures tables { option_map (λ a. tables_view a.now) result ≡ tables_in (item_view self.old) }
+        ensures tables { option_map (λ a. tables_view a.now) result
+            ≡ tables_in (item_view self.old) }
     {
         match self {
             Item::ArrayOfTables(lent) => Some(lent),
@@ -612,7 +630,8 @@ impl Item {
     /// Returns a mutable reference to the inline table, or `None` for any other item.
     pub fn as_inline_table_mut(&mut self) -> Option<&mut InlineTable>
         ensures* writes_back { sem 𝓛 (LendsInlineIn self.entry result) }
-        ensures table { option_map (λ t. inline_view t.now) result ≡ inline_in (item_view self.old) }
+        ensures table { option_map (λ t. inline_view t.now) result
+            ≡ inline_in (item_view self.old) }
     {
         match self {
             Item::Value(value) => value.as_inline_table_mut(),

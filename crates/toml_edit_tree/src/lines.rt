@@ -29,7 +29,8 @@ impl Table {
     ///
     /// Returns an `AllocError` if out of memory.
     pub fn get_values(&self, alloc: Global) -> Mem<Vec<(Vec<&Key>, &Value)>>
-        ensures { IfOk result (λ lines. values_read lines.items ≡ table_values (slots_of self.now)) }
+        ensures { IfOk result
+            (λ lines. values_read lines.items ≡ table_values (slots_of self.now)) }
     {
         let mut lines = Vec::new(alloc);
         add_lines(alloc, &self.slots, &Path::Root, &mut lines)?;
@@ -48,7 +49,8 @@ impl InlineTable {
     ///
     /// Returns an `AllocError` if out of memory.
     pub fn get_values(&self, alloc: Global) -> Mem<Vec<(Vec<&Key>, &Value)>>
-        ensures { IfOk result (λ lines. values_read lines.items ≡ inline_values (inline_slots_of self.now)) }
+        ensures { IfOk result
+            (λ lines. values_read lines.items ≡ inline_values (inline_slots_of self.now)) }
     {
         let mut lines = Vec::new(alloc);
         add_inside_lines(alloc, &self.items, &Path::Root, &mut lines)?;
@@ -65,7 +67,8 @@ fn add_lines<'p, 'a>(
     lines: &mut Vec<(Vec<&'a Key>, &'a Value)>,
 ) -> Mem<()>
     ensures { OnOk result (values_read lines.new.items
-        ≡ values_read lines.old.items ++ map line_value (table_lines plain (slots_view slots.now) (keys_on path.now))) }
+        ≡ values_read lines.old.items
+        ++ map line_value (table_lines plain (slots_view slots.now) (keys_on path.now))) }
 {
     let entries = slots.as_slice();
     'slots: for slot in entries {
@@ -85,7 +88,9 @@ fn add_item_lines<'p, 'a>(
     lines: &mut Vec<(Vec<&'a Key>, &'a Value)>,
 ) -> Mem<()>
     ensures { OnOk result (values_read lines.new.items
-        ≡ values_read lines.old.items ++ map line_value (lines_in_table plain (item_view item.now) (keys_on path.now ++ (key.now ∷ [])))) }
+        ≡ values_read lines.old.items
+        ++ map line_value (lines_in_table plain (item_view item.now)
+        (keys_on path.now ++ (key.now ∷ [])))) }
 {
     match item {
         Item::Value(value) => add_value_lines(alloc, value, key, path, lines),
@@ -109,7 +114,8 @@ fn add_inside_lines<'p, 'a>(
     lines: &mut Vec<(Vec<&'a Key>, &'a Value)>,
 ) -> Mem<()>
     ensures { OnOk result (values_read lines.new.items
-        ≡ values_read lines.old.items ++ map line_value (inside_lines plain (slots_view slots.now) (keys_on path.now))) }
+        ≡ values_read lines.old.items
+        ++ map line_value (inside_lines plain (slots_view slots.now) (keys_on path.now))) }
 {
     let entries = slots.as_slice();
     'slots: for slot in entries {
@@ -128,7 +134,9 @@ fn add_inside_item<'p, 'a>(
     lines: &mut Vec<(Vec<&'a Key>, &'a Value)>,
 ) -> Mem<()>
     ensures { OnOk result (values_read lines.new.items
-        ≡ values_read lines.old.items ++ map line_value (lines_of_item plain (item_view item.now) (keys_on path.now ++ (key.now ∷ [])))) }
+        ≡ values_read lines.old.items
+        ++ map line_value (lines_of_item plain (item_view item.now)
+        (keys_on path.now ++ (key.now ∷ [])))) }
 {
     match item {
         Item::Value(value) => add_value_lines(alloc, value, key, path, lines),
@@ -147,7 +155,9 @@ fn add_value_lines<'p, 'a>(
     lines: &mut Vec<(Vec<&'a Key>, &'a Value)>,
 ) -> Mem<()>
     ensures { OnOk result (values_read lines.new.items
-        ≡ values_read lines.old.items ++ map line_value (lines_of_item plain (value_view value.now) (keys_on path.now ++ (key.now ∷ [])))) }
+        ≡ values_read lines.old.items
+        ++ map line_value (lines_of_item plain (value_view value.now)
+        (keys_on path.now ++ (key.now ∷ [])))) }
 {
     match value {
         Value::InlineTable(table) => {
@@ -170,7 +180,8 @@ fn add_line<'a>(
     lines: &mut Vec<(Vec<&'a Key>, &'a Value)>,
 ) -> Mem<()>
     ensures { OnOk result (values_read lines.new.items
-        ≡ values_read lines.old.items ++ ((keys_on path.now ++ (key.now ∷ []), value_view value.now) ∷ [])) }
+        ≡ values_read lines.old.items
+        ++ ((keys_on path.now ++ (key.now ∷ []), value_view value.now) ∷ [])) }
 {
     let mut keys = Vec::new(alloc);
     push_keys(path, &mut keys)?;
@@ -181,7 +192,8 @@ fn add_line<'a>(
 
 /// Adds the keys of a path, from the outermost in.
 fn push_keys<'a>(path: &Path<'_, 'a>, keys: &mut Vec<&'a Key>) -> Mem<()>
-    ensures { OnOk result (keys_read keys.new.items ≡ keys_read keys.old.items ++ keys_on path.now) }
+    ensures { OnOk result
+        (keys_read keys.new.items ≡ keys_read keys.old.items ++ keys_on path.now) }
 {
     match path {
         Path::Root => Ok(()),

@@ -46,7 +46,8 @@ fn order_item(item: &mut Item) -> Mem<()>
 /// Sorts the slots of a table and of those below it.
 #[cycle(order)]
 fn order_table(table: &mut Table) -> Mem<()>
-    ensures { OnOk result (table_node (table_view table.new) ≡ node_by_place (table_node (table_view table.old))) }
+    ensures { OnOk result
+        (table_node (table_view table.new) ≡ node_by_place (table_node (table_view table.old))) }
 {
     put_in_order(&mut table.slots)
 }
@@ -54,7 +55,9 @@ fn order_table(table: &mut Table) -> Mem<()>
 /// Sorts the slots of each table of an array of tables, and of those below.
 #[cycle(order)]
 fn order_tables(tables: &mut ArrayOfTables) -> Mem<()>
-    ensures { OnOk result (tables_node (tables_view tables.new) ≡ node_by_place (tables_node (tables_view tables.old))) }
+    ensures { OnOk result
+        (tables_node (tables_view tables.new)
+        ≡ node_by_place (tables_node (tables_view tables.old))) }
 {
     order_items(&mut tables.values)
 }
@@ -62,7 +65,8 @@ fn order_tables(tables: &mut ArrayOfTables) -> Mem<()>
 /// Sorts the slots of each item that is or has tables.
 #[cycle(order)]
 fn order_items(items: &mut Vec<Item>) -> Mem<()>
-    ensures { OnOk result (items_view items.new.items ≡ items_by_place (items_view items.old.items)) }
+    ensures { OnOk result
+        (items_view items.new.items ≡ items_by_place (items_view items.old.items)) }
 {
     for at in 0..items.len() {
         order_item(&mut items[at])?;

@@ -30,7 +30,8 @@ impl Table {
         ensures reorders { IsDeepReorder is_dotted_table (slots_of self.old) (slots_of self.new) }
         ensures sorted { OnOk result (IsDeepSort is_dotted_table name_lt (slots_of self.old) (slots_of self.new)) }
         // The order of names is a lawful one, so exactly one list is in order.
-        ensures in_order { OnOk result (slots_of self.new ≡ sorted_slots is_dotted_table (slots_from (slots_of self.old))) }
+        ensures in_order { OnOk result
+            (slots_of self.new ≡ sorted_slots is_dotted_table (slots_from (slots_of self.old))) }
         ensures fields { fields_view self.new ≡ fields_view self.old }
     {
         sort_slots(

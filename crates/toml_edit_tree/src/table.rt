@@ -117,9 +117,16 @@ impl Table {
     ///
     /// Returns an `AllocError` if out of memory.
     pub fn from_iter<U: IntoIterator<Item = (Key, Item)>>(alloc: Global, pairs: U) -> Mem<Table>
-        requires { (it : U.IntoIter) → U.into_iter_gives pairs it → U.IntoIter.can_next it × IsFinite (U.IntoIter.remaining it) }
-        ensures { IfOk result (λ table. (it : U.IntoIter) × (xs : List (Key × Item)) × U.into_iter_gives pairs it × Drains U.IntoIter.next_gives it xs
-            × (table_view table ≡ record { fields = new_table; slots = slots_from (extended (map slot_taken xs) []) })) }
+        requires { (it : U.IntoIter) → U.into_iter_gives pairs it
+            → U.IntoIter.can_next it × IsFinite (U.IntoIter.remaining it) }
+        ensures { IfOk result
+            (λ table. (it : U.IntoIter) × (xs : List (Key × Item)) × U.into_iter_gives pairs it
+            × Drains U.IntoIter.next_gives it xs
+            × (table_view table
+            ≡ record {
+              fields = new_table;
+              slots = slots_from (extended (map slot_taken xs) []);
+            })) }
     {
         Ok(Table::of_slots(Slots::from_iter(alloc, pairs)?))
     }
@@ -158,7 +165,11 @@ impl Table {
     /// the last. The key spans the bytes from `start` to `end` of the source.
     #[doc(hidden)]
     pub fn passed(slots: Slots<Item>, dotted: bool, start: usize, end: usize) -> Table
-        ensures { table_view result ≡ record { fields = made_by_path spanned_form dotted (Some (start, end)); slots = slots_view slots } }
+        ensures { table_view result
+            ≡ record {
+              fields = made_by_path spanned_form dotted (Some (start, end));
+              slots = slots_view slots;
+            } }
     {
         Table {
             slots,
@@ -180,7 +191,8 @@ impl Table {
         start: usize,
         end: usize,
     ) -> Table
-        ensures { table_view result ≡ record { fields = headed decor position start end; slots = slots_view slots } }
+        ensures { table_view result
+            ≡ record { fields = headed decor position start end; slots = slots_view slots } }
     {
         Table {
             slots,
@@ -347,8 +359,10 @@ impl Table {
         requires decor { DecorFits source.now (fields_view self.old).decor }
         requires slots { SlotsFit source.now (table_slots self.old) }
         requires spelled { ∥ SlotsAreWellMade (owned_slots source.now (table_slots self.old)) ∥₁ }
-        ensures fields { OnOk result (fields_view self.new ≡ owned_fields source.now (fields_view self.old)) }
-        ensures slots { OnOk result (table_slots self.new ≡ owned_slots source.now (table_slots self.old)) }
+        ensures fields { OnOk result
+            (fields_view self.new ≡ owned_fields source.now (fields_view self.old)) }
+        ensures slots { OnOk result
+            (table_slots self.new ≡ owned_slots source.now (table_slots self.old)) }
     {
         despan_table(self, alloc, source)
     }
@@ -461,8 +475,11 @@ impl Table {
         ensures* writes_back { sem 𝓛 (LendsHeld self.entry key.now result) }
         ensures item { option_map (λ x. item_view x.now) result ≡ get key.now (slots_of self.old) }
         // What the table is after a write through the reference.
-        ensures leaves { (w : Item) → slots_of (with_item_under key.now w self.old) ≡ changed key.now (with_item (item_view w)) (slots_of self.old) }
-        ensures keeps { (w : Item) → fields_view (with_item_under key.now w self.old) ≡ fields_view self.old }
+        ensures leaves { (w : Item)
+            → slots_of (with_item_under key.now w self.old)
+            ≡ changed key.now (with_item (item_view w)) (slots_of self.old) }
+        ensures keeps { (w : Item)
+            → fields_view (with_item_under key.now w self.old) ≡ fields_view self.old }
     {
         match self.held_place(key) {
             Some(at) => Some(self.slots.item_mut(at)),
@@ -570,7 +587,9 @@ impl Table {
     /// Returns the item under the key, a placeholder too.
     fn item_under(&self, key: &str) -> Option<&Item>
         // The item passes a test exactly if a slot of this key does.
-        ensures { (test : Node → Bool) → option_map_or (λ x. test (item_view x.now)) result false ≡ has_slot key.now (those test (slots_of self.now)) }
+        ensures { (test : Node → Bool)
+            → option_map_or (λ x. test (item_view x.now)) result false
+            ≡ has_slot key.now (those test (slots_of self.now)) }
     {
         let (_, item) = self.slots.get_key_value(key)?;
         Some(item)
@@ -588,9 +607,12 @@ impl Table {
     /// Returns [`IndexFault::Memory`] if out of memory, at a new key alone, and no other fault.
     pub fn index_or_insert(&mut self, _alloc: Global, key: &str) -> Result<&mut Item, IndexFault>
         ensures* writes_back { sem 𝓛 (LendsMade self.entry key.now result) }
-        ensures item { IfOk result (λ lent. lent_under key.now (table_node (table_view self.old)) ≡ Some (item_view lent.now)) }
+        ensures item { IfOk result
+            (λ lent. lent_under key.now (table_node (table_view self.old))
+            ≡ Some (item_view lent.now)) }
         // What the table is after a write through the reference.
-        ensures leaves { (w : Item) → written_under key.now (item_view w) (table_node (table_view self.old))
+        ensures leaves { (w : Item)
+            → written_under key.now (item_view w) (table_node (table_view self.old))
             ≡ Some (table_node (table_view (item_put key.now w self.old))) }
         ensures present { IsTrue (has_slot key.now (slots_of self.old)) → IsOk result }
         ensures fault { IfErr result (λ fault. fault ≡ Memory) }
@@ -622,8 +644,10 @@ impl Table {
     ///
     /// From `add_table` of the guide, docs/GUIDE.md.
     pub fn insert(&mut self, key: &str, item: Item) -> Result<Option<Item>, NoMemory<Item>>
-        ensures old { IfOk result (λ old. option_map item_view old ≡ lookup key.now (slots_of self.old)) }
-        ensures slots { OnOk result (slots_of self.new ≡ inserted key.now (item_view item) (slots_of self.old)) }
+        ensures old { IfOk result
+            (λ old. option_map item_view old ≡ lookup key.now (slots_of self.old)) }
+        ensures slots { OnOk result
+            (slots_of self.new ≡ inserted key.now (item_view item) (slots_of self.old)) }
         ensures present { IsTrue (has_slot key.now (slots_of self.old)) → IsOk result }
         ensures fields { fields_view self.new ≡ fields_view self.old }
         ensures back { IfErr result (λ refused. refused.0 ≡ item) }
@@ -657,8 +681,10 @@ impl Table {
         key: &Key,
         item: Item,
     ) -> Result<Option<Item>, NoMemory<Item>>
-        ensures old { IfOk result (λ old. option_map item_view old ≡ lookup key.now.name (slots_of self.old)) }
-        ensures slots { OnOk result (slots_of self.new ≡ inserted_formatted key.now (item_view item) (slots_of self.old)) }
+        ensures old { IfOk result
+            (λ old. option_map item_view old ≡ lookup key.now.name (slots_of self.old)) }
+        ensures slots { OnOk result
+            (slots_of self.new ≡ inserted_formatted key.now (item_view item) (slots_of self.old)) }
         ensures fields { fields_view self.new ≡ fields_view self.old }
         ensures back { IfErr result (λ refused. refused.0 ≡ item) }
         ensures err { OnErr result (self.new ≡ self.old) }
@@ -726,7 +752,8 @@ impl Table {
     /// Returns an `AllocError` if out of memory. The table keeps the pairs that were inserted
     /// before, and the others are dropped.
     pub fn extend<U: IntoIterator<Item = (Key, Item)>>(&mut self, pairs: U) -> Mem<()>
-        requires { (it : U.IntoIter) → U.into_iter_gives pairs it → U.IntoIter.can_next it × IsFinite (U.IntoIter.remaining it) }
+        requires { (it : U.IntoIter) → U.into_iter_gives pairs it
+            → U.IntoIter.can_next it × IsFinite (U.IntoIter.remaining it) }
         ensures { ExtendsWithItems U.into_iter_gives U.IntoIter.next_gives AddsSlots pairs self.old self.new result }
     {
         self.slots.extend(pairs)

@@ -97,8 +97,11 @@ impl Value {
     ///
     /// Returns an `AllocError` if out of memory.
     pub fn from_iter<U: IntoIterator<Item = Value>>(alloc: Global, values: U) -> Mem<Value>
-        requires { (it : U.IntoIter) → U.into_iter_gives values it → U.IntoIter.can_next it × IsFinite (U.IntoIter.remaining it) }
-        ensures { IfOk result (λ value. (it : U.IntoIter) × (vs : List Value) × U.into_iter_gives values it × Drains U.IntoIter.next_gives it vs
+        requires { (it : U.IntoIter) → U.into_iter_gives values it
+            → U.IntoIter.can_next it × IsFinite (U.IntoIter.remaining it) }
+        ensures { IfOk result
+            (λ value. (it : U.IntoIter) × (vs : List Value) × U.into_iter_gives values it
+            × Drains U.IntoIter.next_gives it vs
             × (value_view value ≡ list new_array (items_from (map value_view vs)))) }
     {
         match Array::from_iter(alloc, values) {
@@ -116,9 +119,13 @@ impl Value {
     ///
     /// Returns an `AllocError` if out of memory.
     pub fn from_pairs<U: IntoIterator<Item = (Key, Value)>>(alloc: Global, pairs: U) -> Mem<Value>
-        requires { (it : U.IntoIter) → U.into_iter_gives pairs it → U.IntoIter.can_next it × IsFinite (U.IntoIter.remaining it) }
-        ensures { IfOk result (λ value. (it : U.IntoIter) × (ps : List (Key × Value)) × U.into_iter_gives pairs it × Drains U.IntoIter.next_gives it ps
-            × (value_view value ≡ inline new_inline (slots_from (extended (map value_taken ps) [])))) }
+        requires { (it : U.IntoIter) → U.into_iter_gives pairs it
+            → U.IntoIter.can_next it × IsFinite (U.IntoIter.remaining it) }
+        ensures { IfOk result
+            (λ value. (it : U.IntoIter) × (ps : List (Key × Value)) × U.into_iter_gives pairs it
+            × Drains U.IntoIter.next_gives it ps
+            × (value_view value
+            ≡ inline new_inline (slots_from (extended (map value_taken ps) [])))) }
     {
         match InlineTable::from_iter(alloc, pairs) {
             Ok(table) => Ok(Value::InlineTable(table)),
@@ -309,7 +316,8 @@ impl Value {
     /// Returns a mutable reference to the inline table, or `None` for any other value.
     pub fn as_inline_table_mut(&mut self) -> Option<&mut InlineTable>
         ensures* writes_back { sem 𝓛 (LendsInline self.entry result) }
-        ensures table { option_map (λ t. inline_view t.now) result ≡ inline_in (value_view self.old) }
+        ensures table { option_map (λ t. inline_view t.now) result
+            ≡ inline_in (value_view self.old) }
     {
         match self {
             Value::InlineTable(lent) => Some(lent),
@@ -411,7 +419,8 @@ impl Value {
 
     /// Sets both sides of the decor.
     pub(crate) fn surround(&mut self, prefix: RawString, suffix: RawString)
-        ensures { value_view self.new ≡ with_decor (both_sides prefix suffix) (value_view self.old) }
+        ensures { value_view self.new
+            ≡ with_decor (both_sides prefix suffix) (value_view self.old) }
     {
         *self.decor_mut() = Decor::new(prefix, suffix);
     }

@@ -21,7 +21,8 @@ AreIn t es = AllByRecursion (λ e. IsSpanOf t e.span) es
 abbrev pub NamesLate : List Place → Span → Type 0
 NamesLate places s = Contains places (s.start, s.end - s.start)
 
--- What is before these events is an inline table's own: the next pair, or the closing bracket, is one's.
+-- What is before these events is an inline table's own: the next pair, or the closing bracket, is
+-- one's.
 abbrev pub is_in_inline_table : List Event → Bool
 is_in_inline_table [] = false
 is_in_inline_table (e ∷ es) = of_kind e.kind (is_in_inline_table es)
@@ -33,7 +34,8 @@ is_in_inline_table (e ∷ es) = of_kind e.kind (is_in_inline_table es)
     of_kind Inner behind = behind
     of_kind _ behind = false
 
--- the late part of an event of this kind and this text, that begins at this byte, by whether it is an inline table's own
+-- the late part of an event of this kind and this text, that begins at this byte, by whether it is
+-- an inline table's own
 abbrev pub late_in_kind : EventKind → Span → Text → Bool → Option Span
 late_in_kind Key s t own = late_escape s.start t
 late_in_kind Scalar s t own = late_in_scalar s.start t
@@ -45,7 +47,8 @@ late_in_kind _ s t own = None
 
 -- the late part of an event, before these events
 abbrev pub late_in_event : Text → Event → List Event → Option Span
-late_in_event source e es = late_in_kind e.kind e.span (cut_out source e.span.start e.span.end) (is_in_inline_table es)
+late_in_event source e es =
+    late_in_kind e.kind e.span (cut_out source e.span.start e.span.end) (is_in_inline_table es)
 
 abbrev pub is_line_end : EventKind → Bool
 is_line_end LineEnd = true
@@ -55,4 +58,5 @@ is_line_end _ = false
 abbrev pub late_in_events : Text → List Event → Option Span
 late_in_events source [] = None
 late_in_events source (e ∷ es) =
-    if is_line_end e.kind then None else option_or (late_in_event source e es) (late_in_events source es)
+    if is_line_end e.kind then None
+    else option_or (late_in_event source e es) (late_in_events source es)

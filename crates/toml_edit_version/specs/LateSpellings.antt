@@ -27,14 +27,16 @@ abbrev pub first_escape : ℕ → Text → Option Span
 first_escape i [] = None
 first_escape i (c ∷ []) = None
 first_escape i (c ∷ d ∷ t) =
-    if c == backslash then option_or (escape_at i (d ∷ t)) (first_escape (i + 2) t) else first_escape (i + 1) (d ∷ t)
+    if c == backslash then option_or (escape_at i (d ∷ t)) (first_escape (i + 2) t)
+    else first_escape (i + 1) (d ∷ t)
 
 -- the first one of a string or a key
 abbrev pub late_escape : ℕ → Text → Option Span
 late_escape i [] = None
 late_escape i (c ∷ t) = if c == quote then first_escape (i + 1) t else None
 
--- After the hour and the minute there is no `:`. A time alone has a `:` at its third byte, and one after a date begins at its twelfth.
+-- After the hour and the minute there is no `:`. A time alone has a `:` at its third byte, and one
+-- after a date begins at its twelfth.
 abbrev pub clock_at : Text → ℕ
 clock_at t = if slice_index t 2 == 0x3A then 0 else 11
 
@@ -44,4 +46,5 @@ lacks_seconds t = nat_lt (clock_at t) (length t) && not (slice_index t (clock_at
 -- the first late part of a scalar
 abbrev pub late_in_scalar : ℕ → Text → Option Span
 late_in_scalar i t =
-    if is_some (datetime_of t) then (if lacks_seconds t then Some (span_from i (length t)) else None) else late_escape i t
+    if is_some (datetime_of t)
+    then (if lacks_seconds t then Some (span_from i (length t)) else None) else late_escape i t

@@ -38,16 +38,22 @@ fn late_in_events(source: &str, events: &[Event]) -> Option<Span>
 /// the events are cut short at a bracket that is one too many, only what is before it counts.
 pub fn late_part_of_statement(source: &str, events: &[Event]) -> Option<Span>
     requires { AreIn source.now events.now }
-    ensures found { (s : Statement) (start : ℕ) (more : List Event) → IsStatement (λ end. Unit {0}) s
-        → Stands source.now start (statement_text s) → events.now ≡ shortened 0 (statement_events start s ++ more)
+    ensures found { (s : Statement) (start : ℕ) (more : List Event)
+        → IsStatement (λ end. Unit {0}) s
+        → Stands source.now start (statement_text s)
+        → events.now ≡ shortened 0 (statement_events start s ++ more)
         → IfSome result (NamesLate (late_places start s)) }
     ensures none { (s : Statement) (start : ℕ) (more : List Event) → IsStatement (λ end. Unit {0}) s
-        → Stands source.now start (statement_text s) → events.now ≡ shortened 0 (statement_events start s ++ more)
+        → Stands source.now start (statement_text s)
+        → events.now ≡ shortened 0 (statement_events start s ++ more)
         → has_deep_value s ≡ false → IsNone result → late_places start s ≡ [] }
     // So it is if the events show that none of the statement's is cut off.
-    ensures none_whole { (s : Statement) (start : ℕ) (more : List Event) → IsStatement (λ end. Unit {0}) s
-        → Stands source.now start (statement_text s) → events.now ≡ shortened 0 (statement_events start s ++ more)
-        → are_deep (shortened 0 (statement_events start s)) ≡ false → IsNone result → late_places start s ≡ [] }
+    ensures none_whole { (s : Statement) (start : ℕ) (more : List Event)
+        → IsStatement (λ end. Unit {0}) s
+        → Stands source.now start (statement_text s)
+        → events.now ≡ shortened 0 (statement_events start s ++ more)
+        → are_deep (shortened 0 (statement_events start s)) ≡ false → IsNone result
+        → late_places start s ≡ [] }
     ensures span { IfSome result (λ span. IsSpanOf source.now span) }
 {
     match events {
@@ -63,9 +69,11 @@ pub fn late_part_of_statement(source: &str, events: &[Event]) -> Option<Span>
 pub fn late_part_of_value(source: &str, events: &[Event]) -> Option<Span>
     requires { AreIn source.now events.now }
     ensures found { (v : Value) (start : ℕ) → IsValue v → Stands source.now start (value_text v)
-        → events.now ≡ shortened 0 (value_events start v) → IfSome result (NamesLate (late_value v start)) }
+        → events.now ≡ shortened 0 (value_events start v)
+        → IfSome result (NamesLate (late_value v start)) }
     ensures none { (v : Value) (start : ℕ) → IsValue v → Stands source.now start (value_text v)
-        → events.now ≡ shortened 0 (value_events start v) → are_deep events.now ≡ false → IsNone result → late_value v start ≡ [] }
+        → events.now ≡ shortened 0 (value_events start v) → are_deep events.now ≡ false
+        → IsNone result → late_value v start ≡ [] }
     ensures span { IfSome result (λ span. IsSpanOf source.now span) }
 {
     late_in_events(source, events)

@@ -30,8 +30,11 @@ impl DocumentMut {
     /// Returns [`IndexFault::Memory`] if out of memory, at a new key alone, and no other fault.
     pub fn index_or_insert(&mut self, alloc: Global, key: &str) -> Result<&mut Item, IndexFault>
         ensures* writes_back { sem 𝓛 (LendsUnder self.entry key.now result) }
-        ensures item { IfOk result (λ lent. lent_under key.now (root_node (tree_owned self.old)) ≡ Some (item_view lent.now)) }
-        ensures present { IsSome (item_under key.now (root_node (tree_owned self.old))) → IsOk result }
+        ensures item { IfOk result
+            (λ lent. lent_under key.now (root_node (tree_owned self.old))
+            ≡ Some (item_view lent.now)) }
+        ensures present { IsSome (item_under key.now (root_node (tree_owned self.old)))
+            → IsOk result }
         ensures fault { IfErr result (λ fault. fault ≡ Memory) }
     {
         self.as_table_mut().index_or_insert(alloc, key)
@@ -43,9 +46,11 @@ impl DocumentMut {
 impl ops::Index<&str> for DocumentMut {
     type Output = Item;
 
-    ghost can_index = { λ document key. IsSome (get key.now (slot_list (tree_owned document).slots)) };
+    ghost can_index = { λ document key. IsSome
+        (get key.now (slot_list (tree_owned document).slots)) };
 
-    ghost index_gives = { λ document key found. get key.now (slot_list (tree_owned document).slots) ≡ Some (item_view found) };
+    ghost index_gives = { λ document key found. get key.now (slot_list (tree_owned document).slots)
+        ≡ Some (item_view found) };
 
     fn index(&self, key: &str) -> &Item {
         let root = self.as_table();

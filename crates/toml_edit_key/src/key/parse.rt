@@ -31,9 +31,12 @@ impl Key {
     /// The span, in bytes, marks the first character that does not belong there, or the quote of a
     /// string that does not end. `ParseFault::Memory` if out of memory.
     pub fn from_str(alloc: Global, text: &str) -> Result<Key, ParseFault>
-        ensures key { IfOk result (λ key. SpellsKey key.name text.now × (key ≡ lone_key key.name text.now)) }
-        ensures every { (k : Text) → SpellsKey k text.now → GivesValue (λ key. key) result (lone_key k text.now) }
-        ensures refused { IfErr result (λ e. IfToml e (λ r. MayRefuseKey (fault_of r) × (r.input ≡ text.now))) }
+        ensures key { IfOk result
+            (λ key. SpellsKey key.name text.now × (key ≡ lone_key key.name text.now)) }
+        ensures every { (k : Text) → SpellsKey k text.now
+            → GivesValue (λ key. key) result (lone_key k text.now) }
+        ensures refused { IfErr result
+            (λ e. IfToml e (λ r. MayRefuseKey (fault_of r) × (r.input ≡ text.now))) }
     {
         match decode_key(alloc, text)? {
             Some(name) => Ok(spelled_key(alloc, name, text)?),
@@ -56,11 +59,14 @@ impl Key {
     /// of memory.
     pub fn parse(alloc: Global, text: &str) -> Result<Vec<Key>, ParseFault>
         ensures keys { IfOk result (λ keys. AreLoneKeys text.now keys.items) }
-        ensures every { (before : Text) (p : List Segment) (after : Text) → IsLonePath text.now before p after
+        ensures every { (before : Text) (p : List Segment) (after : Text)
+            → IsLonePath text.now before p after
             → GivesValue (λ keys. keys.items) result (lone_keys before p after) }
-        ensures long { (before : Text) (p : List Segment) (after : Text) → IsLongPath text.now before p after
+        ensures long { (before : Text) (p : List Segment) (after : Text)
+            → IsLongPath text.now before p after
             → MatchResult result (λ _. ⊥) (λ e. IfToml e (λ r. r ≡ limit_fault text.now)) }
-        ensures refused { IfErr result (λ e. IfToml e (λ r. MayRefusePath text.now (fault_of r) × (r.input ≡ text.now))) }
+        ensures refused { IfErr result
+            (λ e. IfToml e (λ r. MayRefusePath text.now (fault_of r) × (r.input ≡ text.now))) }
     {
         read_path(alloc, text)
     }
@@ -156,8 +162,11 @@ fn before_rest<'t>(text: &'t str, rest: &str) -> &'t str
 ///
 /// Returns an `AllocError` if out of memory.
 fn read_part(alloc: Global, text: &str) -> Mem<Option<(Part<'_>, &str)>>
-    ensures read { IfOk result (λ o. option_map (λ p. ((string_bytes p.0.name, p.0.spelled.now), p.1.now)) o ≡ spec.front_key text.now) }
-    ensures spelled { IfOk result (λ o. IfSome o (λ p. SpellsKey (string_bytes p.0.name) p.0.spelled.now)) }
+    ensures read { IfOk result
+        (λ o. option_map (λ p. ((string_bytes p.0.name, p.0.spelled.now), p.1.now)) o
+        ≡ spec.front_key text.now) }
+    ensures spelled { IfOk result
+        (λ o. IfSome o (λ p. SpellsKey (string_bytes p.0.name) p.0.spelled.now)) }
     ensures within { IfOk result (λ o. IfSome o (λ p. length p.1.now < length text.now)) }
 {
     let Some(rest) = after_key(text) else {
@@ -228,7 +237,8 @@ fn push_last(
     last: &str,
 ) -> Mem<()>
     requires { ∥ SpellsKey (string_bytes part.name) part.spelled.now ∥₁ }
-    ensures { OnOk result (keys.new.items ≡ keys.old.items ++ (path_key (spec.outer first.now last.now)
+    ensures { OnOk result
+        (keys.new.items ≡ keys.old.items ++ (path_key (spec.outer first.now last.now)
         (spec.segment before.now (string_bytes part.entry.name, part.entry.spelled.now) []) ∷ [])) }
 {
     let leaf = outer_decor(alloc, first, last)?;
@@ -237,7 +247,8 @@ fn push_last(
 
 /// Parses a path of at most [`NESTING_LIMIT`] segments.
 fn read_path(alloc: Global, text: &str) -> Result<Vec<Key>, ParseFault>
-    ensures keys { IfOk result (λ keys. (spec.lone_at text.now ≡ Some keys.items) × (length keys.items ≤ nesting_limit)) }
+    ensures keys { IfOk result
+        (λ keys. (spec.lone_at text.now ≡ Some keys.items) × (length keys.items ≤ nesting_limit)) }
     ensures refused { IfErr result (λ e. IfToml e (IsPathFault text.now)) }
 {
     let (before, start) = split_run(text, Class::Blank);

@@ -38,17 +38,27 @@ tree d = tree_of owned_form d
 
 -- the document's print, and what `set` and `remove` of it write, or `get` of it
 abbrev sets : Document → Text → List Text → Node → Text → Bool
-sets d before path v after = same_text (print (tree d)) before && writes after (set_at path v (tree d))
+sets d before path v after =
+    same_text (print (tree d)) before && writes after (set_at path v (tree d))
 
 abbrev removes : Document → Text → List Text → Text → Bool
-removes d before path after = same_text (print (tree d)) before && writes after (remove_at path (tree d))
+removes d before path after =
+    same_text (print (tree d)) before && writes after (remove_at path (tree d))
 
 abbrev gets : Document → Text → List Text → Text → Bool
 gets d before path text = same_text (print (tree d)) before && shows text (get_text path (tree d))
 
 -- `[k]` with trivia before it
 abbrev head_after : Text → List Segment → Statement
-head_after before p = header (record { leading = before; is_array = false; opening = []; path = p; closing = []; trailing = [] }) newline
+head_after before p =
+    header (record {
+      leading = before;
+      is_array = false;
+      opening = [];
+      path = p;
+      closing = [];
+      trailing = [];
+    }) newline
 
 abbrev empty : Document
 empty = document []
@@ -74,55 +84,72 @@ ky = codes "y"
 -- ---- values, and a new path
 
 abbrev inline_one : Document
-inline_one = document (commented [] a (inline_table (pair_of (codes " ") (b ∷ []) one_value (codes " ") no_pairs) false []) (codes " # c") ∷ [])
+inline_one =
+    document (commented [] a
+    (inline_table (pair_of (codes " ") (b ∷ []) one_value (codes " ") no_pairs) false [])
+    (codes " # c") ∷ [])
 
-set_inside_value : sets inline_one (codes "a = { b = 1 } # c\n") (ka ∷ kb ∷ []) (plain_int 2) (codes "a = { b = 2 } # c\n") ≡ true
+set_inside_value : sets inline_one (codes "a = { b = 1 } # c\n") (ka ∷ kb ∷ []) (plain_int 2)
+    (codes "a = { b = 2 } # c\n") ≡ true
 unfolding digits print
 set_inside_value = refl
 
-set_new_path : sets empty [] (ka ∷ kb ∷ kc ∷ []) (plain_int 1) (codes "a = { b = { c = 1 } }\n") ≡ true
+set_new_path : sets empty [] (ka ∷ kb ∷ kc ∷ []) (plain_int 1) (codes "a = { b = { c = 1 } }\n")
+    ≡ true
 unfolding digits print
 set_new_path = refl
 
 -- ---- lines, and elements
 
-remove_commented_line : removes three_lines (codes "# one\na = 1\n\n# two\nb = 2 # x\nc = 3\n") (kb ∷ []) (codes "# one\na = 1\nc = 3\n") ≡ true
+remove_commented_line : removes three_lines (codes "# one\na = 1\n\n# two\nb = 2 # x\nc = 3\n")
+    (kb ∷ []) (codes "# one\na = 1\nc = 3\n") ≡ true
 unfolding digits print
 remove_commented_line = refl
 
 abbrev two_elements : Document
 two_elements =
     document (line (a ∷ []) (array (element (record { before = []; after = [] }) one_value
-    (element (record { before = codes " "; after = codes " " }) (scalar (string (codes "x")) (codes "'x'")) no_elements)) false []) ∷ [])
+    (element (record { before = codes " "; after = codes " " })
+    (scalar (string (codes "x")) (codes "'x'")) no_elements)) false []) ∷ [])
 
-get_element : gets two_elements (codes "a = [1, 'x' ]\n") (ka ∷ codes "1" ∷ []) (codes "'x'\n") ≡ true
+get_element : gets two_elements (codes "a = [1, 'x' ]\n") (ka ∷ codes "1" ∷ []) (codes "'x'\n")
+    ≡ true
 unfolding digits print
 get_element = refl
 
 -- ---- tables
 
 abbrev two_tables : Document
-two_tables = document (head false (a ∷ []) ∷ line (x ∷ []) one_value ∷ head_after (codes "\n") (b ∷ []) ∷ [])
+two_tables =
+    document (head false (a ∷ []) ∷ line (x ∷ []) one_value ∷ head_after (codes "\n") (b ∷ []) ∷ [])
 
-set_in_table : sets two_tables (codes "[a]\nx = 1\n\n[b]\n") (ka ∷ ky ∷ []) (plain_int 2) (codes "[a]\nx = 1\ny = 2\n\n[b]\n") ≡ true
+set_in_table : sets two_tables (codes "[a]\nx = 1\n\n[b]\n") (ka ∷ ky ∷ []) (plain_int 2)
+    (codes "[a]\nx = 1\ny = 2\n\n[b]\n") ≡ true
 unfolding digits print
 set_in_table = refl
 
-remove_in_table : removes two_tables (codes "[a]\nx = 1\n\n[b]\n") (ka ∷ kx ∷ []) (codes "[a]\n\n[b]\n") ≡ true
+remove_in_table : removes two_tables (codes "[a]\nx = 1\n\n[b]\n") (ka ∷ kx ∷ [])
+    (codes "[a]\n\n[b]\n") ≡ true
 unfolding digits print
 remove_in_table = refl
 
 abbrev split_table : Document
-split_table = document (head false (a ∷ []) ∷ line (x ∷ []) one_value ∷ head_after (codes "# c\n") (b ∷ []) ∷ head false (a ∷ c ∷ []) ∷ [])
+split_table =
+    document (head false (a ∷ []) ∷ line (x ∷ []) one_value ∷ head_after (codes "# c\n") (b ∷ [])
+    ∷ head false (a ∷ c ∷ []) ∷ [])
 
-remove_table : removes split_table (codes "[a]\nx = 1\n# c\n[b]\n[a.c]\n") (ka ∷ []) (codes "# c\n[b]\n") ≡ true
+remove_table : removes split_table (codes "[a]\nx = 1\n# c\n[b]\n[a.c]\n") (ka ∷ [])
+    (codes "# c\n[b]\n") ≡ true
 unfolding digits print
 remove_table = refl
 
 abbrev two_in_array : Document
-two_in_array = document (head true (a ∷ []) ∷ line (x ∷ []) one_value ∷ head true (a ∷ []) ∷ line (x ∷ []) two_value ∷ [])
+two_in_array =
+    document (head true (a ∷ []) ∷ line (x ∷ []) one_value ∷ head true (a ∷ [])
+    ∷ line (x ∷ []) two_value ∷ [])
 
-remove_element : removes two_in_array (codes "[[a]]\nx = 1\n[[a]]\nx = 2\n") (ka ∷ codes "0" ∷ []) (codes "[[a]]\nx = 2\n") ≡ true
+remove_element : removes two_in_array (codes "[[a]]\nx = 1\n[[a]]\nx = 2\n") (ka ∷ codes "0" ∷ [])
+    (codes "[[a]]\nx = 2\n") ≡ true
 unfolding digits print
 remove_element = refl
 
@@ -134,7 +161,9 @@ unfolding digits print
 get_array = refl
 
 abbrev one_table : Document
-one_table = document (head false (record { before = []; key = kt; spelled = kt; after = [] } ∷ []) ∷ commented [] x one_value (codes " # c") ∷ [])
+one_table =
+    document (head false (record { before = []; key = kt; spelled = kt; after = [] } ∷ [])
+    ∷ commented [] x one_value (codes " # c") ∷ [])
 
 get_table : gets one_table (codes "[t]\nx = 1 # c\n") (kt ∷ []) (codes "x = 1 # c\n") ≡ true
 unfolding digits print
@@ -184,6 +213,7 @@ keeps (done u) = list_all keeps_limits (statements_of plain u)
 keeps (refused r) = false
 
 -- 80 brackets of a value, and an inline table around them, are too many; by themselves they aren't
-limits : all_true (not (keeps (set_at (ka ∷ kb ∷ []) (nested 79) (tree empty))) ∷ keeps (set_at (ka ∷ []) (nested 79) (tree empty)) ∷ []) ≡ true
+limits : all_true (not (keeps (set_at (ka ∷ kb ∷ []) (nested 79) (tree empty)))
+    ∷ keeps (set_at (ka ∷ []) (nested 79) (tree empty)) ∷ []) ≡ true
 unfolding digits print
 limits = refl

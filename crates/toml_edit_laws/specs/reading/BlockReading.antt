@@ -62,15 +62,16 @@ basic_part_at t =
 
 -- ---- the string
 
--- A string after its opening and the newline there, in at most n parts. Of three to five quotes the last three close it, and of
--- more the third to fifth.
+-- A string after its opening and the newline there, in at most n parts. Of three to five quotes the
+-- last three close it, and of more the third to fifth.
 unfoldable pub parts_at : (Text → Read Text) → ℕ → ℕ → Text → Read Text
 parts_at part_at c zero t = None
 parts_at part_at c (suc n) t =
     let run = run_of c t in
     if nat_le 3 run then Some (take (min run 5 - 3) t, drop (min run 5) t)
     else if nat_lt 0 run then prepend (take run t) (parts_at part_at c n (drop run t))
-    else if nat_lt 0 (newline_len t) then prepend (take (newline_len t) t) (parts_at part_at c n (drop (newline_len t) t))
+    else if nat_lt 0 (newline_len t)
+    then prepend (take (newline_len t) t) (parts_at part_at c n (drop (newline_len t) t))
     else option_and_then (λ p. prepend p.0 (parts_at part_at c n p.1)) (part_at t)
 
 -- what follows the opening quotes and a newline there

@@ -1,4 +1,5 @@
--- Reading a date-time, in range or not: each function reads a part from the front of a text, and gives it with the rest.
+-- Reading a date-time, in range or not: each function reads a part from the front of a text, and
+-- gives it with the rest.
 use Rattle.std.specs.Prelude.{ℕ, ◌+◌, ◌-◌, ◌*◌, Bool, true, false, ◌&&◌, ◌||◌, ◌==◌, nat_lt, if◌then◌else◌, ℤ, pos, neg_ℤ, [], ◌∷◌, take, drop, slice_index, Option, Some, None, option_map, option_and_then}
 use Rattle.std.specs.List.{prefix_len}
 use Rattle.std.specs.Char.{is_ascii_digit}
@@ -35,13 +36,15 @@ after_byte byte (c ∷ rest) = if c == byte then Some rest else None
 -- a part after its mark, where the text begins with the mark
 abbrev pub optional : ℕ → (Text → Read ℕ) → Text → Read (Option ℕ)
 optional mark read text =
-    if slice_index text 0 == mark then option_map (λ p. (Some p.0, p.1)) (read (drop 1 text)) else Some (None, text)
+    if slice_index text 0 == mark then option_map (λ p. (Some p.0, p.1)) (read (drop 1 text))
+    else Some (None, text)
 
 -- ---- fields
 
 -- two digits
 unfoldable pub two_at : Text → Read ℕ
-two_at (a ∷ b ∷ rest) = if is_ascii_digit a && is_ascii_digit b then Some (10 * (a - 48) + (b - 48), rest) else None
+two_at (a ∷ b ∷ rest) =
+    if is_ascii_digit a && is_ascii_digit b then Some (10 * (a - 48) + (b - 48), rest) else None
 two_at _ = None
 
 -- `YYYY-MM-DD`
@@ -71,7 +74,8 @@ unfoldable pub seconds_at : Text → Read (Option ℕ × Option ℕ)
 seconds_at text =
     if slice_index text 0 == 0x3A
     then two_at (drop 1 text) >>= (λ second.
-    option_map (λ fraction. ((Some second.0, fraction.0), fraction.1)) (optional 0x2E fraction_at second.1))
+    option_map (λ fraction. ((Some second.0, fraction.0), fraction.1))
+    (optional 0x2E fraction_at second.1))
     else Some ((None, None), text)
 
 -- a time of day
@@ -79,11 +83,22 @@ unfoldable pub time_at : Text → Read Time
 time_at text = do
   clock ← clock_at text
   more ← seconds_at clock.1
-  Some (record { hour = clock.0.0; minute = clock.0.1; second = more.0.0; nanosecond = more.0.1 }, more.1)
+  Some (
+    record {
+      hour = clock.0.0;
+      minute = clock.0.1;
+      second = more.0.0;
+      nanosecond = more.0.1;
+    },
+    more.1,
+  )
 
 -- an offset of so many minutes, written by these hours and minutes
 abbrev pub shift_parts : ℤ → ℕ → ℕ → OffsetParts
-shift_parts all hours minutes = record { offset = shift all; is_real = nat_lt hours 24 && nat_lt minutes 60 }
+shift_parts all hours minutes = record {
+  offset = shift all;
+  is_real = nat_lt hours 24 && nat_lt minutes 60;
+}
 
 -- `Z` or `z`
 abbrev pub is_zulu : ℕ → Bool
@@ -94,8 +109,10 @@ unfoldable pub offset_at : Text → Read OffsetParts
 offset_at [] = None
 offset_at (c ∷ rest) =
     if is_zulu c then Some (record { offset = zulu; is_real = true }, rest)
-    else if c == 0x2B then option_map (λ p. (shift_parts (pos (60 * p.0.0 + p.0.1)) p.0.0 p.0.1, p.1)) (clock_at rest)
-    else if c == 0x2D then option_map (λ p. (shift_parts (neg_ℤ (pos (60 * p.0.0 + p.0.1))) p.0.0 p.0.1, p.1)) (clock_at rest)
+    else if c == 0x2B then option_map
+    (λ p. (shift_parts (pos (60 * p.0.0 + p.0.1)) p.0.0 p.0.1, p.1)) (clock_at rest)
+    else if c == 0x2D then option_map
+    (λ p. (shift_parts (neg_ℤ (pos (60 * p.0.0 + p.0.1))) p.0.0 p.0.1, p.1)) (clock_at rest)
     else None
 
 -- ---- whole texts
@@ -104,7 +121,8 @@ offset_at (c ∷ rest) =
 abbrev pub after_time : Date → Time → Text → Option Parts
 after_time date time [] = Some (record { date = Some date; time = Some time; offset = None })
 after_time date time (c ∷ rest) =
-    option_map (λ o. record { date = Some date; time = Some time; offset = Some o }) (whole (offset_at (c ∷ rest)))
+    option_map (λ o. record { date = Some date; time = Some time; offset = Some o })
+    (whole (offset_at (c ∷ rest)))
 
 -- what follows a date: nothing, or a time
 unfoldable pub after_date : Date → Text → Option Parts
@@ -116,7 +134,8 @@ after_date date (c ∷ rest) =
 unfoldable pub parts_of : Text → Option Parts
 parts_of text =
     if slice_index text 2 == 0x3A
-    then option_map (λ t. record { date = None; time = Some t; offset = None }) (whole (time_at text))
+    then option_map (λ t. record { date = None; time = Some t; offset = None })
+    (whole (time_at text))
     else date_at text >>= (λ date. after_date date.0 date.1)
 
 -- ---- what was read
@@ -134,7 +153,8 @@ datetime_of text = option_map parts_datetime (parts_of text)
 
 -- the date-time that a text spells and that is in range
 unfoldable pub ranged_of : Text → Option Datetime
-ranged_of text = option_and_then (λ d. if is_in_range (datetime d) text then Some d else None) (datetime_of text)
+ranged_of text =
+    option_and_then (λ d. if is_in_range (datetime d) text then Some d else None) (datetime_of text)
 
 -- the parts are those of a date and a time that exist
 abbrev pub are_real : Parts → Bool
@@ -146,5 +166,6 @@ are_real p =
 abbrev pub starts_datetime : Text → Bool
 starts_datetime (a ∷ b ∷ c ∷ d ∷ e ∷ rest) =
     (is_ascii_digit a && is_ascii_digit b)
-    && (((is_ascii_digit c && is_ascii_digit d) && e == 0x2D) || ((c == 0x3A && is_ascii_digit d) && is_ascii_digit e))
+    && (((is_ascii_digit c && is_ascii_digit d) && e == 0x2D)
+    || ((c == 0x3A && is_ascii_digit d) && is_ascii_digit e))
 starts_datetime _ = false

@@ -13,7 +13,9 @@ use Rattle.toml_edit_laws.specs.reading.Tokens.{string_at, integer_of}
 
 -- `#`, LF, CR, `,`, `]` or `}`
 abbrev pub is_stop : ℕ → Bool
-is_stop c = ((c == hash || c == line_feed) || (c == carriage_return || c == 0x2C)) || (c == 0x5D || c == 0x7D)
+is_stop c =
+    ((c == hash || c == line_feed) || (c == carriage_return || c == 0x2C))
+    || (c == 0x5D || c == 0x7D)
 
 -- after spaces and tabs the text ends, or goes on with such a byte
 abbrev pub ends_scalar : Text → Bool
@@ -48,5 +50,6 @@ word_scalar t =
 -- a word that is read whole, or a string
 unfoldable pub scalar_at : Text → Read Scalar
 scalar_at t =
-    if is_word_byte (first t) then option_map (λ s. (s, drop (word_len t) t)) (word_scalar (take (word_len t) t))
+    if is_word_byte (first t)
+    then option_map (λ s. (s, drop (word_len t) t)) (word_scalar (take (word_len t) t))
     else option_map (λ p. (string p.0, p.1)) (if opens_block t then block_at t else string_at t)

@@ -22,13 +22,15 @@ literal_at t =
 
 -- the number that hexadecimal digits write
 abbrev pub hex_value : Text → Option ℕ
-hex_value digits = if list_all (λ d. is_digit d 16) digits then Some (digits_value 16 digits) else None
+hex_value digits =
+    if list_all (λ d. is_digit d 16) digits then Some (digits_value 16 digits) else None
 
 -- n hexadecimal digits that write a character
 unfoldable pub hex_at : ℕ → Text → Read ℕ
 hex_at n t =
     let digits = take n t in
-    if (nat_le n (length t) && list_all (λ d. is_digit d 16) digits) && is_scalar_value (digits_value 16 digits)
+    if (nat_le n (length t) && list_all (λ d. is_digit d 16) digits)
+    && is_scalar_value (digits_value 16 digits)
     then Some (digits_value 16 digits, drop n t) else None
 
 -- an escape after its backslash
@@ -47,7 +49,9 @@ basic_at zero t = None
 basic_at (suc n) t =
     if is_plain (first t) then prepend (first t ∷ []) (basic_at n (drop 1 t))
     else if first t == quote then Some ([], drop 1 t)
-    else if first t == backslash then option_and_then (λ e. prepend (encode_utf8 e.0) (basic_at n e.1)) (escape_at (drop 1 t))
+    else if first t == backslash
+    then option_and_then (λ e. prepend (encode_utf8 e.0) (basic_at n e.1))
+    (escape_at (drop 1 t))
     else None
 
 -- a string of one line

@@ -7,8 +7,10 @@ use Rattle.toml_edit_model.specs.examples.Parts.{all_true}
 
 abbrev positions : List Bool
 positions =
-    is_at [] 0 0 0 ∷ is_at (codes "Hello") 0 0 0 ∷ is_at (codes "Hello") 4 0 4 ∷ is_at (codes "Hello") 5 0 5
-    ∷ is_at (codes "Hello\nWorld\n") 2 0 2 ∷ is_at (codes "Hello\nWorld\n") 5 0 5 ∷ is_at (codes "Hello\nWorld\n") 6 1 0 ∷ is_at (codes "Hello\nWorld\n") 8 1 2
+    is_at [] 0 0 0 ∷ is_at (codes "Hello") 0 0 0 ∷ is_at (codes "Hello") 4 0 4
+    ∷ is_at (codes "Hello") 5 0 5
+    ∷ is_at (codes "Hello\nWorld\n") 2 0 2 ∷ is_at (codes "Hello\nWorld\n") 5 0 5
+    ∷ is_at (codes "Hello\nWorld\n") 6 1 0 ∷ is_at (codes "Hello\nWorld\n") 8 1 2
     ∷ []
   where
     is_at : Text → ℕ → ℕ → ℕ → Bool
@@ -23,28 +25,35 @@ unfolding digits
 excerpt_twice = refl
 
 -- `"é" = 1` twice
-excerpt_of_characters : excerpt (codes "\"" ++ (0xC3 ∷ 0xA9 ∷ codes "\" = 1\n\"" ++ (0xC3 ∷ 0xA9 ∷ codes "\" = 2\n"))) (Some (9, 13)) (codes "duplicate key")
-    ≡ codes "TOML parse error at line 2, column 1\n  |\n2 | \"" ++ (0xC3 ∷ 0xA9 ∷ codes "\" = 2\n  | ^^^\nduplicate key\n")
+excerpt_of_characters : excerpt
+    (codes "\"" ++ (0xC3 ∷ 0xA9 ∷ codes "\" = 1\n\"" ++ (0xC3 ∷ 0xA9 ∷ codes "\" = 2\n")))
+    (Some (9, 13)) (codes "duplicate key")
+    ≡ codes "TOML parse error at line 2, column 1\n  |\n2 | \""
+    ++ (0xC3 ∷ 0xA9 ∷ codes "\" = 2\n  | ^^^\nduplicate key\n")
 unfolding digits
 excerpt_of_characters = refl
 
-excerpt_line_10 : excerpt (codes "\n\n\n\n\n\n\n\n\nd = 2023-02-29\n") (Some (13, 23)) (codes "invalid date-time")
+excerpt_line_10 : excerpt (codes "\n\n\n\n\n\n\n\n\nd = 2023-02-29\n") (Some (13, 23))
+    (codes "invalid date-time")
     ≡ codes "TOML parse error at line 10, column 5\n   |\n10 | d = 2023-02-29\n   |     ^^^^^^^^^^\ninvalid date-time\n"
 unfolding digits
 excerpt_line_10 = refl
 
 -- `a=1`, `[a.b]`: the mark is under the second byte
-excerpt_extended : excerpt (codes "a=1\n[a.b]\n") (Some (5, 6)) (codes "cannot extend value of type integer with a dotted key")
+excerpt_extended : excerpt (codes "a=1\n[a.b]\n") (Some (5, 6))
+    (codes "cannot extend value of type integer with a dotted key")
     ≡ codes "TOML parse error at line 2, column 2\n  |\n2 | [a.b]\n  |  ^\ncannot extend value of type integer with a dotted key\n"
 unfolding digits
 excerpt_extended = refl
 
-excerpt_in_element : excerpt (codes "[[x.a]]\n[x]\na.b.k = 1\n") (Some (12, 13)) (codes "duplicate key")
+excerpt_in_element : excerpt (codes "[[x.a]]\n[x]\na.b.k = 1\n") (Some (12, 13))
+    (codes "duplicate key")
     ≡ codes "TOML parse error at line 3, column 1\n  |\n3 | a.b.k = 1\n  | ^\nduplicate key\n"
 unfolding digits
 excerpt_in_element = refl
 
-excerpt_overflow : excerpt (codes "x = 9223372036854775808\n") (Some (4, 23)) (codes "integer number overflowed")
+excerpt_overflow : excerpt (codes "x = 9223372036854775808\n") (Some (4, 23))
+    (codes "integer number overflowed")
     ≡ codes "TOML parse error at line 1, column 5\n  |\n1 | x = 9223372036854775808\n  |     ^^^^^^^^^^^^^^^^^^^\ninteger number overflowed\n"
 unfolding digits
 excerpt_overflow = refl
@@ -55,16 +64,20 @@ unfolding digits
 excerpt_day = refl
 
 -- columns count characters: `"é" = 2023-02-29`
-excerpt_behind_character : excerpt (codes "\"" ++ (0xC3 ∷ 0xA9 ∷ codes "\" = 2023-02-29\n")) (Some (7, 17)) (codes "invalid date-time")
-    ≡ codes "TOML parse error at line 1, column 7\n  |\n1 | \"" ++ (0xC3 ∷ 0xA9 ∷ codes "\" = 2023-02-29\n  |       ^^^^^^^^^^\ninvalid date-time\n")
+excerpt_behind_character : excerpt (codes "\"" ++ (0xC3 ∷ 0xA9 ∷ codes "\" = 2023-02-29\n"))
+    (Some (7, 17)) (codes "invalid date-time")
+    ≡ codes "TOML parse error at line 1, column 7\n  |\n1 | \""
+    ++ (0xC3 ∷ 0xA9 ∷ codes "\" = 2023-02-29\n  |       ^^^^^^^^^^\ninvalid date-time\n")
 unfolding digits
 excerpt_behind_character = refl
 
 -- without a span there is the message alone
-excerpt_without_span : excerpt (codes "a = 1\n") None (codes "recursion limit") ≡ codes "recursion limit\n"
+excerpt_without_span : excerpt (codes "a = 1\n") None (codes "recursion limit")
+    ≡ codes "recursion limit\n"
 excerpt_without_span = refl
 
--- at the end of the text, after its last LF; a mark is never wider than its line, and a CR before LF stays
+-- at the end of the text, after its last LF; a mark is never wider than its line, and a CR before
+-- LF stays
 excerpt_at_the_end : excerpt (codes "a = [\n") (Some (6, 6)) (codes "unclosed array")
     ≡ codes "TOML parse error at line 1, column 7\n  |\n1 | a = [\n  |       ^\nunclosed array\n"
 unfolding digits

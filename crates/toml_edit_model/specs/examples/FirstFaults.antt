@@ -1,4 +1,5 @@
--- The first faulty statement and its faults, computed for examples: contracts speak of IsFirstFaulty and IsFirstFault.
+-- The first faulty statement and its faults, computed for examples: contracts speak of
+-- IsFirstFaulty and IsFirstFault.
 use Rattle.std.specs.Prelude.{ℕ, zero, suc, Bool, not, ◌&&◌, if◌then◌else◌, List, [], ◌∷◌, length, take, drop}
 use Rattle.toml_edit_model.specs.Syntax.{Document}
 use Rattle.toml_edit_model.specs.Version.{Version}
@@ -8,7 +9,8 @@ use Rattle.toml_edit_model.specs.Faults.{Fault, faults_of}
 
 -- so many statements are right, and one more are not
 abbrev pub are_right_up_to : Version → List Placed → ℕ → Bool
-are_right_up_to version places n = are_right_in version (take n places) && not (are_right_in version (take (suc n) places))
+are_right_up_to version places n =
+    are_right_in version (take n places) && not (are_right_in version (take (suc n) places))
 
 -- the faults of the statement after so many
 abbrev pub faults_behind : Version → List Placed → ℕ → List Fault
@@ -22,7 +24,8 @@ faults_behind version places n = of_first (drop n places)
 abbrev pub first_faults_from : Version → List Placed → ℕ → ℕ → List Fault
 first_faults_from version places n zero = []
 first_faults_from version places n (suc more) =
-    if are_right_up_to version places n then faults_behind version places n else first_faults_from version places (suc n) more
+    if are_right_up_to version places n then faults_behind version places n
+    else first_faults_from version places (suc n) more
 
 abbrev pub first_faults_of : Version → Document → List Fault
 first_faults_of version d = first_faults_from version (placed d) 0 (length (placed d))

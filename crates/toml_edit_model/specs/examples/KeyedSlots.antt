@@ -1,4 +1,5 @@
--- Worked calls on lists of keyed slots: of any item, of a table, of an inline table, through `TableLike`.
+-- Worked calls on lists of keyed slots: of any item, of a table, of an inline table, through
+-- `TableLike`.
 use Rattle.std.specs.Prelude.{◌≡◌, refl, ℕ, ◌==◌, true, false, List, [], ◌∷◌, ◌++◌, length, map, slice_get, codes, Some, None}
 use Rattle.toml_edit_model.specs.Text.{Text, one}
 use Rattle.toml_edit_model.specs.Tree.{owned, Key, Node, nothing, inline, table, tables, no_items, no_slots, slot}
@@ -16,7 +17,10 @@ use Rattle.toml_edit_model.specs.examples.Parts.{plain_int, owned_decor, table_a
 
 -- a key with a spelling and a decor, and one as calls make it
 abbrev kept : Text → Key
-kept t = record (new_key t) { spelling = Some (owned (codes "'" ++ t ++ codes "'")); leaf = owned_decor (codes "# x\n") [] }
+kept t = record (new_key t) {
+  spelling = Some (owned (codes "'" ++ t ++ codes "'"));
+  leaf = owned_decor (codes "# x\n") [];
+}
 
 abbrev at : {T : Type 0} → Key → T → Slot T
 at k x = record { key = k; item = x }
@@ -55,7 +59,8 @@ insert_present = refl
 insert_new : inserted c 3 two ≡ two ++ one (at (new_key c) 3)
 insert_new = refl
 
-insert_formatted_present : inserted_formatted (cleared_key (kept b)) 3 two ≡ at (kept a) 1 ∷ at (cleared_key (kept b)) 3 ∷ []
+insert_formatted_present : inserted_formatted (cleared_key (kept b)) 3 two
+    ≡ at (kept a) 1 ∷ at (cleared_key (kept b)) 3 ∷ []
 insert_formatted_present = refl
 
 insert_formatted_new : inserted_formatted (kept c) 3 two ≡ two ++ one (at (kept c) 3)
@@ -79,7 +84,8 @@ written_at_place : changed_at 0 (with_item 7) two ≡ at (kept a) 7 ∷ at (kept
 written_at_place = refl
 
 -- present keys stay, with the last item given; new ones go last
-extend_both : extended (at (new_key b) 5 ∷ at (new_key c) 6 ∷ at (new_key b) 7 ∷ []) two ≡ at (kept a) 1 ∷ at (kept b) 7 ∷ at (new_key c) 6 ∷ []
+extend_both : extended (at (new_key b) 5 ∷ at (new_key c) 6 ∷ at (new_key b) 7 ∷ []) two
+    ≡ at (kept a) 1 ∷ at (kept b) 7 ∷ at (new_key c) 6 ∷ []
 extend_both = refl
 
 removed : without a two ≡ one (at (kept b) 2)
@@ -98,7 +104,9 @@ abbrev some_table : Node
 some_table = table_at None (slot (new_key a) (plain_int 1) no_slots)
 
 abbrev of_each : List (Slot Node)
-of_each = at (kept a) (plain_int 1) ∷ at (kept b) nothing ∷ at (new_key c) some_table ∷ at (new_key (codes "d")) (tables None no_items) ∷ []
+of_each =
+    at (kept a) (plain_int 1) ∷ at (kept b) nothing ∷ at (new_key c) some_table
+    ∷ at (new_key (codes "d")) (tables None no_items) ∷ []
 
 get_item : get a of_each ≡ Some (plain_int 1)
 get_item = refl
@@ -119,8 +127,10 @@ slot_of_placeholder = refl
 past_the_end : slice_get of_each 4 ≡ None
 past_the_end = refl
 
-contained : contains_key a of_each ∷ contains_key b of_each ∷ contains_value a of_each ∷ contains_value c of_each ∷ contains_table c of_each
-    ∷ contains_table (codes "d") of_each ∷ contains_tables (codes "d") of_each ∷ contains_tables c of_each ∷ []
+contained : contains_key a of_each ∷ contains_key b of_each ∷ contains_value a of_each
+    ∷ contains_value c of_each ∷ contains_table c of_each
+    ∷ contains_table (codes "d") of_each ∷ contains_tables (codes "d") of_each
+    ∷ contains_tables c of_each ∷ []
     ≡ true ∷ false ∷ true ∷ false ∷ true ∷ false ∷ true ∷ false ∷ []
 contained = refl
 
@@ -149,7 +159,9 @@ place_there : with_place b of_each ≡ of_each
 place_there = refl
 
 -- `fmt`: spellings stay, and so does what holds no value
-formatted_values : formatted of_each ≡ at (cleared_key (kept a)) (plain_int 1) ∷ at (kept b) nothing ∷ at (new_key c) some_table ∷ at (new_key (codes "d")) (tables None no_items) ∷ []
+formatted_values : formatted of_each
+    ≡ at (cleared_key (kept a)) (plain_int 1) ∷ at (kept b) nothing ∷ at (new_key c) some_table
+    ∷ at (new_key (codes "d")) (tables None no_items) ∷ []
 formatted_values = refl
 
 -- ---- slots of an inline table
@@ -189,7 +201,8 @@ placeholder_filled = refl
 table_converted : get_value c (or_inserted_value c (plain_int 9) of_each) ≡ Some made_inline
 table_converted = refl
 
-value_added : or_inserted_value (codes "e") (plain_int 9) of_each ≡ of_each ++ one (at (new_key (codes "e")) (plain_int 9))
+value_added : or_inserted_value (codes "e") (plain_int 9) of_each
+    ≡ of_each ++ one (at (new_key (codes "e")) (plain_int 9))
 value_added = refl
 
 -- an entry makes its slot a value, and a placeholder an empty inline table
@@ -197,14 +210,17 @@ entered_table : get_value c (entered c of_each) ≡ Some made_inline
 entered_table = refl
 
 entered_placeholder : entered b of_each
-    ≡ at (kept a) (plain_int 1) ∷ at (kept b) (inline new_inline no_slots) ∷ at (new_key c) some_table ∷ at (new_key (codes "d")) (tables None no_items) ∷ []
+    ≡ at (kept a) (plain_int 1) ∷ at (kept b) (inline new_inline no_slots)
+    ∷ at (new_key c) some_table ∷ at (new_key (codes "d")) (tables None no_items) ∷ []
 entered_placeholder = refl
 
 -- an occupied entry's `or_insert` leaves that, its `insert` writes, its `remove` closes up
-entered_or_insert : get_value b (or_inserted (new_key b) (plain_int 9) (entered b of_each)) ≡ Some (inline new_inline no_slots)
+entered_or_insert : get_value b (or_inserted (new_key b) (plain_int 9) (entered b of_each))
+    ≡ Some (inline new_inline no_slots)
 entered_or_insert = refl
 
-entered_insert : get_value c (changed c (with_item (plain_int 9)) (entered c of_each)) ≡ Some (plain_int 9)
+entered_insert : get_value c (changed c (with_item (plain_int 9)) (entered c of_each))
+    ≡ Some (plain_int 9)
 entered_insert = refl
 
 entered_remove : names (without c (entered c of_each)) ≡ a ∷ b ∷ codes "d" ∷ []
@@ -217,10 +233,12 @@ values_retained = refl
 -- ---- the four differences
 
 -- insertion
-like_table_stores : like_inserted of_table b some_table (one (at (kept b) nothing)) ≡ one (at (new_key b) some_table)
+like_table_stores : like_inserted of_table b some_table (one (at (kept b) nothing))
+    ≡ one (at (new_key b) some_table)
 like_table_stores = refl
 
-like_inline_stores : like_inserted of_inline_table b some_table (one (at (kept b) nothing)) ≡ one (at (new_key b) made_inline)
+like_inline_stores : like_inserted of_inline_table b some_table (one (at (kept b) nothing))
+    ≡ one (at (new_key b) made_inline)
 like_inline_stores = refl
 
 like_table_answers : like_old of_table b of_each ≡ Some nothing
@@ -246,16 +264,25 @@ like_contains_value = refl
 like_table_lines : map (λ v. map (λ k. k.name) v.0) (like_get_values of_table of_each) ≡ one (one a)
 like_table_lines = refl
 
-like_inline_lines : map (λ v. map (λ k. k.name) v.0) (like_get_values of_inline_table of_each) ≡ one a ∷ (c ∷ a ∷ []) ∷ []
+like_inline_lines : map (λ v. map (λ k. k.name) v.0) (like_get_values of_inline_table of_each)
+    ≡ one a ∷ (c ∷ a ∷ []) ∷ []
 like_inline_lines = refl
 
 -- `sort_values` enters dotted tables, or dotted inline tables
 abbrev dotted_table : Node
-dotted_table = table (record { decor = owned_decor [] []; is_implicit = true; is_dotted = true; position = None; extent = None }) no_slots
+dotted_table =
+    table (record {
+      decor = owned_decor [] [];
+      is_implicit = true;
+      is_dotted = true;
+      position = None;
+      extent = None;
+    }) no_slots
 
 abbrev dotted_inline : Node
 dotted_inline = inline (record new_inline { is_dotted = true }) no_slots
 
-like_entered : of_table.enters dotted_table ∷ of_table.enters dotted_inline ∷ of_inline_table.enters dotted_table ∷ of_inline_table.enters dotted_inline ∷ []
+like_entered : of_table.enters dotted_table ∷ of_table.enters dotted_inline
+    ∷ of_inline_table.enters dotted_table ∷ of_inline_table.enters dotted_inline ∷ []
     ≡ true ∷ false ∷ false ∷ true ∷ []
 like_entered = refl

@@ -1,4 +1,5 @@
--- Worked refusals by the relations that contracts cite: the first faulty statement with those before it, and a fault of it.
+-- Worked refusals by the relations that contracts cite: the first faulty statement with those
+-- before it, and a fault of it.
 use Rattle.std.specs.Prelude.{◌≡◌, refl, ℕ, zero, suc, false, [], ◌∷◌, codes, Some, None}
 use Rattle.std.specs.List.{AllByRecursion}
 use Rattle.std.proofs.Common.{lit<, inl, inr}
@@ -31,7 +32,8 @@ abbrev second : Statement → Statement → Placed
 second s r = in_place (context_after (start_context (doc s r)) s) r
 
 -- `a = 1`, `a = 2`
-twice : IsFirstFault (doc (line (a ∷ []) one_value) (line (a ∷ []) two_value)) (at (codes "duplicate key") 6 7)
+twice : IsFirstFault (doc (line (a ∷ []) one_value) (line (a ∷ []) two_value))
+    (at (codes "duplicate key") 6 7)
 twice =
     record {
       earlier = first (line (a ∷ []) one_value) (line (a ∷ []) two_value) ∷ [];
@@ -41,7 +43,8 @@ twice =
     }
 
 -- `a = 1`, `[a.b]`
-extended : IsFirstFault (doc (line (a ∷ []) one_value) (head false (a ∷ b ∷ []))) (at (codes "cannot extend value of type integer with a dotted key") 7 8)
+extended : IsFirstFault (doc (line (a ∷ []) one_value) (head false (a ∷ b ∷ [])))
+    (at (codes "cannot extend value of type integer with a dotted key") 7 8)
 extended =
     record {
       earlier = first (line (a ∷ []) one_value) (head false (a ∷ b ∷ [])) ∷ [];
@@ -54,12 +57,18 @@ extended =
 abbrev overflows : Statement
 overflows = line (x ∷ []) (int 9223372036854775808 (codes "9223372036854775808"))
 
-overflowed : IsFirstFault (doc overflows (line (x ∷ []) one_value)) (at (codes "integer number overflowed") 4 23)
+overflowed : IsFirstFault (doc overflows (line (x ∷ []) one_value))
+    (at (codes "integer number overflowed") 4 23)
 overflowed =
     record {
       earlier = [];
       statement = first overflows (line (x ∷ []) one_value);
-      first = record { later = second overflows (line (x ∷ []) one_value) ∷ []; split = refl; right = refl; faulty = refl };
+      first = record {
+        later = second overflows (line (x ∷ []) one_value) ∷ [];
+        split = refl;
+        right = refl;
+        faulty = refl;
+      };
       stands = (0, lit< tt, refl);
     }
 
@@ -74,7 +83,8 @@ spaced_copies zero = tt
 spaced_copies (suc n) = ((refl, refl), spaced_copies n)
 
 -- of 81 segments: the limit is named, with no span
-long_path : MayRefusePath (dotted_text 80) (record { message = codes "recursion limit"; span = None })
+long_path : MayRefusePath (dotted_text 80)
+    (record { message = codes "recursion limit"; span = None })
 long_path =
     inl (
       refl,
@@ -100,7 +110,9 @@ no_path = inr (record { message = (1, lit< tt, refl); span = refl })
 -- ---- messages
 
 all_messages : syntax_messages
-    ≡ codes "unexpected character" ∷ codes "expected a key" ∷ codes "expected =" ∷ codes "expected a value" ∷ codes "expected a newline" ∷ codes "unclosed string"
-    ∷ codes "unclosed array" ∷ codes "unclosed inline table" ∷ codes "unclosed header" ∷ codes "invalid escape" ∷ codes "invalid number" ∷ codes "invalid date-time"
+    ≡ codes "unexpected character" ∷ codes "expected a key" ∷ codes "expected ="
+    ∷ codes "expected a value" ∷ codes "expected a newline" ∷ codes "unclosed string"
+    ∷ codes "unclosed array" ∷ codes "unclosed inline table" ∷ codes "unclosed header"
+    ∷ codes "invalid escape" ∷ codes "invalid number" ∷ codes "invalid date-time"
     ∷ codes "control character" ∷ codes "carriage return without line feed" ∷ []
 all_messages = refl

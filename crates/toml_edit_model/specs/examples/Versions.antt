@@ -12,11 +12,13 @@ use Rattle.toml_edit_model.specs.examples.Parts.{spelled_as, line, document, a, 
 
 -- the document joins to the text; it is accepted, and so under 1.0
 abbrev in_both : Document → Text → List Bool
-in_both doc text = same_text (document_text doc) text ∷ is_accepted doc ∷ is_accepted_in v1_0 doc ∷ []
+in_both doc text =
+    same_text (document_text doc) text ∷ is_accepted doc ∷ is_accepted_in v1_0 doc ∷ []
 
 -- the document joins to the text; it is accepted, but not under 1.0
 abbrev in_1_1_alone : Document → Text → List Bool
-in_1_1_alone doc text = same_text (document_text doc) text ∷ is_accepted doc ∷ not (is_accepted_in v1_0 doc) ∷ []
+in_1_1_alone doc text =
+    same_text (document_text doc) text ∷ is_accepted doc ∷ not (is_accepted_in v1_0 doc) ∷ []
 
 abbrev all_three : List Bool
 all_three = true ∷ true ∷ true ∷ []
@@ -40,7 +42,8 @@ escape_e = refl
 escape_e_at : faults_in_1_0 (a_string (0x1B ∷ []) (codes "\"\\e\"")) ≡ late_at 5 7 ∷ []
 escape_e_at = refl
 
-escape_x : in_1_1_alone (a_string (codes "A") (codes "\"\\x41\"")) (codes "a = \"\\x41\"\n") ≡ all_three
+escape_x : in_1_1_alone (a_string (codes "A") (codes "\"\\x41\"")) (codes "a = \"\\x41\"\n")
+    ≡ all_three
 unfolding is_accepted
 escape_x = refl
 
@@ -57,12 +60,14 @@ key = refl
 key_at : faults_in_1_0 key_x ≡ late_at 1 5 ∷ []
 key_at = refl
 
-escape_u : in_both (a_string (codes "A") (codes "\"\\u0041\"")) (codes "a = \"\\u0041\"\n") ≡ all_three
+escape_u : in_both (a_string (codes "A") (codes "\"\\u0041\"")) (codes "a = \"\\u0041\"\n")
+    ≡ all_three
 unfolding is_accepted
 escape_u = refl
 
 -- an escaped backslash before `e`, and the two bytes in single quotes, are no escapes
-backslash_e : in_both (a_string (codes "\\e") (codes "\"\\\\e\"")) (codes "a = \"\\\\e\"\n") ≡ all_three
+backslash_e : in_both (a_string (codes "\\e") (codes "\"\\\\e\"")) (codes "a = \"\\\\e\"\n")
+    ≡ all_three
 unfolding is_accepted
 backslash_e = refl
 
@@ -72,7 +77,9 @@ literal_e = refl
 
 -- a key twice, and in that statement an escape too: the error may name either
 abbrev twice : Document
-twice = document (line (a ∷ []) one_value ∷ line (a ∷ []) (scalar (string (0x1B ∷ [])) (codes "\"\\e\"")) ∷ [])
+twice =
+    document (line (a ∷ []) one_value
+    ∷ line (a ∷ []) (scalar (string (0x1B ∷ [])) (codes "\"\\e\"")) ∷ [])
 
 twice_is : same_text (document_text twice) (codes "a = 1\na = \"\\e\"\n") ≡ true
 twice_is = refl
@@ -83,7 +90,12 @@ twice_at = refl
 -- ---- times
 
 abbrev no_seconds : Value
-no_seconds = scalar (datetime (record { date = None; time = Some (record { hour = 7; minute = 32; second = None; nanosecond = None }); offset = None })) (codes "07:32")
+no_seconds =
+    scalar (datetime (record {
+      date = None;
+      time = Some (record { hour = 7; minute = 32; second = None; nanosecond = None });
+      offset = None;
+    })) (codes "07:32")
 
 time : in_1_1_alone (document (line (d ∷ []) no_seconds ∷ [])) (codes "d = 07:32\n") ≡ all_three
 unfolding is_accepted
@@ -93,7 +105,8 @@ time_at : faults_in_1_0 (document (line (d ∷ []) no_seconds ∷ [])) ≡ late_
 time_at = refl
 
 -- a value alone in its text
-lone_time : is_accepted_value no_seconds ∷ is_accepted_value_in v1_0 no_seconds ∷ [] ≡ true ∷ false ∷ []
+lone_time : is_accepted_value no_seconds ∷ is_accepted_value_in v1_0 no_seconds ∷ []
+    ≡ true ∷ false ∷ []
 lone_time = refl
 
 lone_time_at : map (λ f. (f.message, f.span)) (lone_faults_of v1_0 0 no_seconds) ≡ late_at 0 5 ∷ []
@@ -135,17 +148,24 @@ comment_at : faults_in_1_0 with_comment ≡ late_at 6 9 ∷ late_at 9 10 ∷ []
 comment_at = refl
 
 -- `{\na = 1,}` alone in its text
-lone_table_at : map (λ f. (f.message, f.span)) (lone_faults_of v1_0 0 (inline_table (pair_of newline (a ∷ []) one_value [] no_pairs) true [])) ≡ late_at 1 2 ∷ late_at 7 8 ∷ []
+lone_table_at : map (λ f. (f.message, f.span))
+    (lone_faults_of v1_0 0 (inline_table (pair_of newline (a ∷ []) one_value [] no_pairs) true []))
+    ≡ late_at 1 2 ∷ late_at 7 8 ∷ []
 lone_table_at = refl
 
 -- a newline of CR LF is marked whole
-return_at : faults_in_1_0 (t_is (inline_table no_pairs false (codes " # c\r\n"))) ≡ late_at 6 9 ∷ late_at 9 11 ∷ []
+return_at : faults_in_1_0 (t_is (inline_table no_pairs false (codes " # c\r\n")))
+    ≡ late_at 6 9 ∷ late_at 9 11 ∷ []
 return_at = refl
 
 -- trivia and the comma of an array inside an inline table are the array's
 abbrev array_inside : Document
 array_inside =
-    t_is (inline_table (pair_of [] (a ∷ []) (array (element (record { before = newline; after = [] }) one_value no_elements) true newline) [] no_pairs) false [])
+    t_is (inline_table (pair_of [] (a ∷ [])
+    (array (element (record {
+      before = newline;
+      after = [];
+    }) one_value no_elements) true newline) [] no_pairs) false [])
 
 array_inside_is : in_both array_inside (codes "t = {a = [\n1,\n]}\n") ≡ all_three
 unfolding is_accepted

@@ -1,5 +1,5 @@
--- Worked texts, each whole: its cut by the parts that the grammar asks for, what is computed of it, and its tree by hand, with
--- spans and with texts of its own.
+-- Worked texts, each whole: its cut by the parts that the grammar asks for, what is computed of it,
+-- and its tree by hand, with spans and with texts of its own.
 use Rattle.std.specs.Prelude.{◌≡◌, refl, true, false, [], ◌∷◌, ◌++◌, codes, None, Some}
 use Rattle.std.specs.Fmt.{digits}
 use Rattle.std.proofs.Common.{lit<, inl, inr}
@@ -21,77 +21,138 @@ use Rattle.toml_edit_model.specs.examples.TreesOfTexts.{none, decor, last, inner
 use Rattle.toml_edit_model.specs.Settled.{is_settled}
 use Rattle.toml_edit_model.specs.OwnedForm.{owned_tree}
 
--- a tree with spans is of the text with this cut, and the texts that these cut make the tree with texts
+-- a tree with spans is of the text with this cut, and the texts that these cut make the tree with
+-- texts
 abbrev pub HasTree : Document → Text → Tree → Type 0
 HasTree doc text t = IsTreeOf spanned_form doc t × IsTreeOf owned_form doc (owned_tree text t)
 
 -- ---- keys
 
--- `[a. b.c]`, `[a]`, `b.x = 1`: `b` is kept from the first header, and its space stays in that header
+-- `[a. b.c]`, `[a]`, `b.x = 1`: `b` is kept from the first header, and its space stays in that
+-- header
 abbrev pub spaced_header : Document
-spaced_header = document (head false (a ∷ record b { before = codes " " } ∷ c ∷ []) ∷ head false (a ∷ []) ∷ line (b ∷ x ∷ []) one_value ∷ [])
+spaced_header =
+    document (head false (a ∷ record b { before = codes " " } ∷ c ∷ []) ∷ head false (a ∷ [])
+    ∷ line (b ∷ x ∷ []) one_value ∷ [])
 
 pub cuts_spaced_header : IsCut spaced_header (codes "[a. b.c]\n[a]\nb.x = 1\n")
 cuts_spaced_header =
     cut spaced_header.statements (
       head_is false _ (
-        record { begins = refl; ends = refl; spelled = (is_bare (codes "a") refl refl, (is_bare (codes "b") refl refl, (is_bare (codes "c") refl refl, tt))) },
+        record {
+          begins = refl;
+          ends = refl;
+          spelled = (
+            is_bare (codes "a") refl refl,
+            (
+              is_bare
+                  (codes "b") refl refl,
+              (is_bare (codes "c") refl refl, tt),
+            ),
+          );
+        },
         ((refl, refl), ((refl, refl), ((refl, refl), tt))),
       ),
-      (head_is false _ a_is, ((frame_is _ (bare_keys (codes "b") (codes "x") refl refl refl refl), one_is, lf_end), tt)),
+      (
+        head_is false _ a_is,
+        (
+          (
+            frame_is _
+                (bare_keys (codes "b") (codes "x") refl refl refl refl),
+            one_is,
+            lf_end,
+          ),
+          tt,
+        ),
+      ),
     )
 
-reads_spaced_header : reads spaced_header (codes "[a. b.c]\n[a]\nb.x = 1\n") (codes "[a. b.c]\n[a]\nb.x = 1\n") ≡ all_hold
+reads_spaced_header : reads spaced_header (codes "[a. b.c]\n[a]\nb.x = 1\n")
+    (codes "[a. b.c]\n[a]\nb.x = 1\n") ≡ all_hold
 unfolding print normal normal_text is_settled meaning shown_meaning is_accepted
 reads_spaced_header = refl
 
 pub tree_spaced_header : HasTree spaced_header (codes "[a. b.c]\n[a]\nb.x = 1\n")
-    (spanned_tree (slot (last (codes "a") (span 10 11) none none) (table (by_header 2 (Some (9, 12)))
-    (slot (record (inner (codes "b") (span 4 5)) { dotted = decor (span 3 4) none }) (table (by_path true (Some (4, 5)))
+    (spanned_tree (slot (last (codes "a") (span 10 11) none none)
+    (table (by_header 2 (Some (9, 12)))
+    (slot (record (inner (codes "b") (span 4 5)) { dotted = decor (span 3 4) none })
+    (table (by_path true (Some (4, 5)))
     (slot (last (codes "c") (span 6 7) none none) (table (by_header 1 (Some (0, 8))) no_slots)
-    (slot (last (codes "x") (span 15 16) none (span 16 17)) (number 1 (span 19 20) (span 18 19) none) no_slots))) no_slots)) no_slots) none)
+    (slot (last (codes "x") (span 15 16) none (span 16 17))
+    (number 1 (span 19 20) (span 18 19) none) no_slots))) no_slots)) no_slots) none)
 tree_spaced_header = (
-  record { root = refl; slots = (refl, (tt, refl, (refl, (tt, refl, (refl, (tt, refl, tt), (refl, (refl, (refl, refl, refl)), tt))), tt)), tt); trailing = refl },
-  record { root = refl; slots = (refl, (tt, refl, (refl, (tt, refl, (refl, (tt, refl, tt), (refl, (refl, (refl, refl, refl)), tt))), tt)), tt); trailing = refl },
+  record {
+    root = refl;
+    slots = (refl, (tt, refl, (refl, (tt, refl, (refl, (tt, refl, tt), (refl, (refl, (refl, refl, refl)), tt))), tt)), tt);
+    trailing = refl;
+  },
+  record {
+    root = refl;
+    slots = (refl, (tt, refl, (refl, (tt, refl, (refl, (tt, refl, tt), (refl, (refl, (refl, refl, refl)), tt))), tt)), tt);
+    trailing = refl;
+  },
 )
 
 -- `"a".b = 1`, `a.c = 2`
 abbrev pub quoted_first : Document
-quoted_first = document (line (spelled_as (codes "a") (codes "\"a\"") ∷ b ∷ []) one_value ∷ line (a ∷ c ∷ []) two_value ∷ [])
+quoted_first =
+    document (line (spelled_as (codes "a") (codes "\"a\"") ∷ b ∷ []) one_value
+    ∷ line (a ∷ c ∷ []) two_value ∷ [])
 
 pub cuts_quoted_first : IsCut quoted_first (codes "\"a\".b = 1\na.c = 2\n")
 cuts_quoted_first =
     cut quoted_first.statements (
       (
-        frame_is _ (two_keys (codes "a") (codes "\"a\"") (codes "b") (codes "b") (inr (inl (plain 0x61 ∷ [], (refl, tt), refl, refl))) (is_bare (codes "b") refl refl)),
+        frame_is _ (two_keys (codes "a") (codes "\"a\"") (codes "b") (codes "b")
+            (inr (inl (plain 0x61 ∷ [], (refl, tt), refl, refl))) (is_bare (codes "b") refl refl)),
         one_is,
         lf_end,
       ),
       ((frame_is _ (bare_keys (codes "a") (codes "c") refl refl refl refl), two_is, lf_end), tt),
     )
 
-reads_quoted_first : reads quoted_first (codes "\"a\".b = 1\na.c = 2\n") (codes "\"a\".b = 1\n\"a\".c = 2\n") ≡ all_hold
+reads_quoted_first : reads quoted_first (codes "\"a\".b = 1\na.c = 2\n")
+    (codes "\"a\".b = 1\n\"a\".c = 2\n") ≡ all_hold
 unfolding print normal normal_text is_settled meaning shown_meaning is_accepted
 reads_quoted_first = refl
 
 pub tree_quoted_first : HasTree quoted_first (codes "\"a\".b = 1\na.c = 2\n")
     (spanned_tree (slot (inner (codes "a") (span 0 3)) (table (by_path true (Some (0, 3)))
     (slot (last (codes "b") (span 4 5) none (span 5 6)) (number 1 (span 8 9) (span 7 8) none)
-    (slot (last (codes "c") (span 12 13) none (span 13 14)) (number 2 (span 16 17) (span 15 16) none) no_slots))) no_slots) none)
+    (slot (last (codes "c") (span 12 13) none (span 13 14))
+    (number 2 (span 16 17) (span 15 16) none) no_slots))) no_slots) none)
 tree_quoted_first = (
-  record { root = refl; slots = (refl, (tt, refl, (refl, (refl, (refl, refl, refl)), (refl, (refl, (refl, refl, refl)), tt))), tt); trailing = refl },
-  record { root = refl; slots = (refl, (tt, refl, (refl, (refl, (refl, refl, refl)), (refl, (refl, (refl, refl, refl)), tt))), tt); trailing = refl },
+  record {
+    root = refl;
+    slots = (refl, (tt, refl, (refl, (refl, (refl, refl, refl)), (refl, (refl, (refl, refl, refl)), tt))), tt);
+    trailing = refl;
+  },
+  record {
+    root = refl;
+    slots = (refl, (tt, refl, (refl, (refl, (refl, refl, refl)), (refl, (refl, (refl, refl, refl)), tt))), tt);
+    trailing = refl;
+  },
 )
 
 -- `[a.x]`, `[b]`, `[a.y]`
 pub tree_apart : HasTree apart (codes "[a.x]\n[b]\n[a.y]\n")
     (spanned_tree (slot (inner (codes "a") (span 1 2)) (table (by_path false (Some (1, 2)))
     (slot (last (codes "x") (span 3 4) none none) (table (by_header 1 (Some (0, 5))) no_slots)
-    (slot (last (codes "y") (span 13 14) none none) (table (by_header 3 (Some (10, 15))) no_slots) no_slots)))
-    (slot (last (codes "b") (span 7 8) none none) (table (by_header 2 (Some (6, 9))) no_slots) no_slots)) none)
+    (slot (last (codes "y") (span 13 14) none none)
+    (table (by_header 3 (Some (10, 15))) no_slots) no_slots)))
+    (slot (last (codes "b") (span 7 8) none none)
+    (table (by_header 2 (Some (6, 9))) no_slots) no_slots)) none)
 tree_apart = (
-  record { root = refl; slots = (refl, (tt, refl, (refl, (tt, refl, tt), (refl, (tt, refl, tt), tt))), (refl, (tt, refl, tt), tt)); trailing = refl },
-  record { root = refl; slots = (refl, (tt, refl, (refl, (tt, refl, tt), (refl, (tt, refl, tt), tt))), (refl, (tt, refl, tt), tt)); trailing = refl },
+  record {
+    root = refl;
+    slots = (refl, (tt, refl, (refl, (tt, refl, tt), (refl, (tt, refl, tt), tt))), (refl, (tt, refl, tt), tt));
+    trailing = refl;
+  },
+  record {
+    root = refl;
+    slots = (refl, (tt, refl, (refl, (tt, refl, tt), (refl, (tt, refl, tt), tt))), (refl, (tt, refl, tt), tt));
+    trailing = refl;
+  },
 )
 
 -- ---- arrays of tables
@@ -99,30 +160,61 @@ tree_apart = (
 -- `[[ a ]]`, `[[a]]`: both are printed with the spaces of the first
 abbrev pub spaced_first : Document
 spaced_first =
-    document (header (record { leading = []; is_array = true; opening = codes " "; path = a ∷ []; closing = codes " "; trailing = [] }) newline ∷ head true (a ∷ []) ∷ [])
+    document (header (record {
+      leading = [];
+      is_array = true;
+      opening = codes " ";
+      path = a ∷ [];
+      closing = codes " ";
+      trailing = [];
+    }) newline ∷ head true (a ∷ []) ∷ [])
 
 pub cuts_spaced_first : IsCut spaced_first (codes "[[ a ]]\n[[a]]\n")
 cuts_spaced_first =
     cut spaced_first.statements (
-      ((record { leading = empty_trivia; segments = a_is.1; opening = refl; closing = refl; trailing = empty_end }, a_is.0), lf_end),
+      (
+        (
+          record {
+            leading = empty_trivia;
+            segments = a_is.1;
+            opening = refl;
+            closing = refl;
+            trailing = empty_end;
+          },
+          a_is.0,
+        ),
+        lf_end,
+      ),
       (head_is true _ a_is, tt),
     )
 
-reads_spaced_first : reads spaced_first (codes "[[ a ]]\n[[a]]\n") (codes "[[ a ]]\n[[ a ]]\n") ≡ all_hold
+reads_spaced_first : reads spaced_first (codes "[[ a ]]\n[[a]]\n") (codes "[[ a ]]\n[[ a ]]\n")
+    ≡ all_hold
 unfolding print normal normal_text is_settled meaning shown_meaning is_accepted
 reads_spaced_first = refl
 
 pub tree_spaced_first : HasTree spaced_first (codes "[[ a ]]\n[[a]]\n")
     (spanned_tree (slot (last (codes "a") (span 3 4) (span 2 3) (span 4 5)) (tables (Some (0, 13))
-    (item (table (by_header 1 (Some (0, 7))) no_slots) (item (table (by_header 2 (Some (8, 13))) no_slots) no_items))) no_slots) none)
+    (item (table (by_header 1 (Some (0, 7))) no_slots)
+    (item (table (by_header 2 (Some (8, 13))) no_slots) no_items))) no_slots) none)
 tree_spaced_first = (
-  record { root = refl; slots = (refl, (refl, refl, (refl, tt, (refl, tt, tt))), tt); trailing = refl },
-  record { root = refl; slots = (refl, (refl, refl, (refl, tt, (refl, tt, tt))), tt); trailing = refl },
+  record {
+    root = refl;
+    slots = (refl, (refl, refl, (refl, tt, (refl, tt, tt))), tt);
+    trailing = refl;
+  },
+  record {
+    root = refl;
+    slots = (refl, (refl, refl, (refl, tt, (refl, tt, tt))), tt);
+    trailing = refl;
+  },
 )
 
 -- `[[a]]`, `x = 1`, `[[a]]`, `x = 2`: each line is of its element
 abbrev pub two_blocks : Document
-two_blocks = document (head true (a ∷ []) ∷ line (x ∷ []) one_value ∷ head true (a ∷ []) ∷ line (x ∷ []) two_value ∷ [])
+two_blocks =
+    document (head true (a ∷ []) ∷ line (x ∷ []) one_value ∷ head true (a ∷ [])
+    ∷ line (x ∷ []) two_value ∷ [])
 
 pub cuts_two_blocks : IsCut two_blocks (codes "[[a]]\nx = 1\n[[a]]\nx = 2\n")
 cuts_two_blocks =
@@ -134,41 +226,82 @@ cuts_two_blocks =
     x_is : IsKey (x ∷ [])
     x_is = bare_key (codes "x") refl refl
 
-reads_two_blocks : reads two_blocks (codes "[[a]]\nx = 1\n[[a]]\nx = 2\n") (codes "[[a]]\nx = 1\n[[a]]\nx = 2\n") ≡ all_hold
+reads_two_blocks : reads two_blocks (codes "[[a]]\nx = 1\n[[a]]\nx = 2\n")
+    (codes "[[a]]\nx = 1\n[[a]]\nx = 2\n") ≡ all_hold
 unfolding print normal normal_text is_settled meaning shown_meaning is_accepted
 reads_two_blocks = refl
 
 pub tree_two_blocks : HasTree two_blocks (codes "[[a]]\nx = 1\n[[a]]\nx = 2\n")
     (spanned_tree (slot (last (codes "a") (span 2 3) none none) (tables (Some (0, 17))
-    (item (table (by_header 1 (Some (0, 5))) (slot (last (codes "x") (span 6 7) none (span 7 8)) (number 1 (span 10 11) (span 9 10) none) no_slots))
-    (item (table (by_header 2 (Some (12, 17))) (slot (last (codes "x") (span 18 19) none (span 19 20)) (number 2 (span 22 23) (span 21 22) none) no_slots))
+    (item (table (by_header 1 (Some (0, 5)))
+    (slot (last (codes "x") (span 6 7) none (span 7 8))
+    (number 1 (span 10 11) (span 9 10) none) no_slots))
+    (item (table (by_header 2 (Some (12, 17)))
+    (slot (last (codes "x") (span 18 19) none (span 19 20))
+    (number 2 (span 22 23) (span 21 22) none) no_slots))
     no_items))) no_slots) none)
 tree_two_blocks = (
-  record { root = refl; slots = (refl, (refl, refl, (refl, (refl, (refl, (refl, refl, refl)), tt), (refl, (refl, (refl, (refl, refl, refl)), tt), tt))), tt); trailing = refl },
-  record { root = refl; slots = (refl, (refl, refl, (refl, (refl, (refl, (refl, refl, refl)), tt), (refl, (refl, (refl, (refl, refl, refl)), tt), tt))), tt); trailing = refl },
+  record {
+    root = refl;
+    slots = (refl, (refl, refl, (refl, (refl, (refl, (refl, refl, refl)), tt), (refl, (refl, (refl, (refl, refl, refl)), tt), tt))), tt);
+    trailing = refl;
+  },
+  record {
+    root = refl;
+    slots = (refl, (refl, refl, (refl, (refl, (refl, (refl, refl, refl)), tt), (refl, (refl, (refl, (refl, refl, refl)), tt), tt))), tt);
+    trailing = refl;
+  },
 )
 
 -- `[[a]]`, `[[a.b]]`, `[[a]]`, `[[a.b]]`, `x = 1`: a new array in each element
 abbrev pub arrays_in_elements : Document
 arrays_in_elements =
-    document (head true (a ∷ []) ∷ head true (a ∷ b ∷ []) ∷ head true (a ∷ []) ∷ head true (a ∷ b ∷ []) ∷ line (x ∷ []) one_value ∷ [])
+    document (head true (a ∷ []) ∷ head true (a ∷ b ∷ []) ∷ head true (a ∷ [])
+    ∷ head true (a ∷ b ∷ []) ∷ line (x ∷ []) one_value ∷ [])
 
-pub cuts_arrays_in_elements : IsCut arrays_in_elements (codes "[[a]]\n[[a.b]]\n[[a]]\n[[a.b]]\nx = 1\n")
+pub cuts_arrays_in_elements : IsCut arrays_in_elements
+    (codes "[[a]]\n[[a.b]]\n[[a]]\n[[a.b]]\nx = 1\n")
 cuts_arrays_in_elements =
     cut arrays_in_elements.statements (
       head_is true _ a_is,
-      (head_is true _ ab_is, (head_is true _ a_is, (head_is true _ ab_is, ((frame_is _ (bare_key (codes "x") refl refl), one_is, lf_end), tt)))),
+      (
+        head_is true _ ab_is,
+        (
+          head_is true _ a_is,
+          (
+            head_is true _ ab_is,
+            (
+              (
+                frame_is _
+                    (bare_key (codes "x") refl refl),
+                one_is,
+                lf_end,
+              ),
+              tt,
+            ),
+          ),
+        ),
+      ),
     )
 
-reads_arrays_in_elements : reads arrays_in_elements (codes "[[a]]\n[[a.b]]\n[[a]]\n[[a.b]]\nx = 1\n") (codes "[[a]]\n[[a.b]]\n[[a]]\n[[a.b]]\nx = 1\n") ≡ all_hold
+reads_arrays_in_elements : reads arrays_in_elements
+    (codes "[[a]]\n[[a.b]]\n[[a]]\n[[a.b]]\nx = 1\n")
+    (codes "[[a]]\n[[a.b]]\n[[a]]\n[[a.b]]\nx = 1\n") ≡ all_hold
 unfolding print normal normal_text is_settled meaning shown_meaning is_accepted
 reads_arrays_in_elements = refl
 
-pub tree_arrays_in_elements : HasTree arrays_in_elements (codes "[[a]]\n[[a.b]]\n[[a]]\n[[a.b]]\nx = 1\n")
+pub tree_arrays_in_elements : HasTree arrays_in_elements
+    (codes "[[a]]\n[[a.b]]\n[[a]]\n[[a.b]]\nx = 1\n")
     (spanned_tree (slot (last (codes "a") (span 2 3) none none) (tables (Some (0, 19))
-    (item (table (by_header 1 (Some (0, 5))) (slot (last (codes "b") (span 10 11) none none) (tables (Some (6, 13)) (item (table (by_header 2 (Some (6, 13))) no_slots) no_items)) no_slots))
-    (item (table (by_header 3 (Some (14, 19))) (slot (last (codes "b") (span 24 25) none none) (tables (Some (20, 27)) (item (table (by_header 4 (Some (20, 27)))
-    (slot (last (codes "x") (span 28 29) none (span 29 30)) (number 1 (span 32 33) (span 31 32) none) no_slots)) no_items)) no_slots))
+    (item (table (by_header 1 (Some (0, 5)))
+    (slot (last (codes "b") (span 10 11) none none)
+    (tables (Some (6, 13))
+    (item (table (by_header 2 (Some (6, 13))) no_slots) no_items)) no_slots))
+    (item (table (by_header 3 (Some (14, 19)))
+    (slot (last (codes "b") (span 24 25) none none)
+    (tables (Some (20, 27)) (item (table (by_header 4 (Some (20, 27)))
+    (slot (last (codes "x") (span 28 29) none (span 29 30))
+    (number 1 (span 32 33) (span 31 32) none) no_slots)) no_items)) no_slots))
     no_items))) no_slots) none)
 tree_arrays_in_elements = (
   record {
@@ -197,15 +330,29 @@ unfolding print normal normal_text is_settled meaning shown_meaning is_accepted
 reads_mark_alone = refl
 
 pub tree_mark_alone : HasTree mark_alone byte_order_mark (spanned_tree no_slots none)
-tree_mark_alone = (record { root = refl; slots = tt; trailing = refl }, record { root = refl; slots = tt; trailing = refl })
+tree_mark_alone = (
+  record { root = refl; slots = tt; trailing = refl },
+  record {
+    root = refl;
+    slots = tt;
+    trailing = refl;
+  },
+)
 
 -- in a string and in a comment: `a = "`, U+FEFF, `" # `, U+FEFF
 abbrev marks_inside_text : Text
-marks_inside_text = codes "a = \"" ++ (byte_order_mark ++ (codes "\" # " ++ (byte_order_mark ++ newline)))
+marks_inside_text =
+    codes "a = \"" ++ (byte_order_mark ++ (codes "\" # " ++ (byte_order_mark ++ newline)))
 
 abbrev pub marks_inside : Document
 marks_inside =
-    document (key_line (record { leading = []; path = a ∷ []; before_equals = codes " "; after_equals = codes " "; trailing = codes " # " ++ byte_order_mark })
+    document (key_line (record {
+      leading = [];
+      path = a ∷ [];
+      before_equals = codes " ";
+      after_equals = codes " ";
+      trailing = codes " # " ++ byte_order_mark;
+    })
     (scalar (string byte_order_mark) (codes "\"" ++ (byte_order_mark ++ codes "\""))) newline ∷ [])
 
 pub cuts_marks_inside : IsCut marks_inside marks_inside_text
@@ -218,11 +365,24 @@ cuts_marks_inside =
             segments = a_is.1;
             before_equals = refl;
             after_equals = refl;
-            trailing = (codes " ", codes "# " ++ byte_order_mark, refl, inr (codes " " ++ byte_order_mark, refl, refl), refl);
+            trailing = (
+              codes " ",
+              codes "# "
+                  ++ byte_order_mark,
+              refl,
+              inr (codes " " ++ byte_order_mark, refl, refl),
+              refl,
+            );
           },
           a_is.0,
         ),
-        inl (inl (plain 0xEF ∷ plain 0xBB ∷ plain 0xBF ∷ [], (refl, (refl, (refl, tt))), refl, refl)),
+        inl (inl (
+          plain 0xEF ∷ plain 0xBB ∷ plain 0xBF
+              ∷ [],
+          (refl, (refl, (refl, tt))),
+          refl,
+          refl,
+        )),
         lf_end,
       ),
       tt,
@@ -233,7 +393,9 @@ unfolding print normal normal_text is_settled meaning shown_meaning is_accepted
 reads_marks_inside = refl
 
 pub tree_marks_inside : HasTree marks_inside marks_inside_text
-    (spanned_tree (slot (last (codes "a") (span 0 1) none (span 1 2)) (leaf (string byte_order_mark) (Some (span 4 9)) (decor (span 3 4) (span 9 15))) no_slots) none)
+    (spanned_tree (slot (last (codes "a") (span 0 1) none (span 1 2))
+    (leaf (string byte_order_mark) (Some (span 4 9))
+    (decor (span 3 4) (span 9 15))) no_slots) none)
 tree_marks_inside = (
   record { root = refl; slots = (refl, (refl, (refl, refl, refl)), tt); trailing = refl },
   record { root = refl; slots = (refl, (refl, (refl, refl, refl)), tt); trailing = refl },
@@ -243,11 +405,19 @@ tree_marks_inside = (
 
 -- the empty text
 pub tree_empty : HasTree empty [] (spanned_tree no_slots none)
-tree_empty = (record { root = refl; slots = tt; trailing = refl }, record { root = refl; slots = tt; trailing = refl })
+tree_empty = (
+  record { root = refl; slots = tt; trailing = refl },
+  record {
+    root = refl;
+    slots = tt;
+    trailing = refl;
+  },
+)
 
 -- `a = 1` at the end of the text
 pub tree_open_end : HasTree open_end (codes "a = 1")
-    (spanned_tree (slot (last (codes "a") (span 0 1) none (span 1 2)) (number 1 (span 4 5) (span 3 4) none) no_slots) none)
+    (spanned_tree (slot (last (codes "a") (span 0 1) none (span 1 2))
+    (number 1 (span 4 5) (span 3 4) none) no_slots) none)
 tree_open_end = (
   record { root = refl; slots = (refl, (refl, (refl, refl, refl)), tt); trailing = refl },
   record { root = refl; slots = (refl, (refl, (refl, refl, refl)), tt); trailing = refl },
@@ -256,7 +426,13 @@ tree_open_end = (
 -- `'k' = 'v' # c` at the end of the text
 abbrev pub quoted_line : Document
 quoted_line =
-    document (key_line (record { leading = []; path = spelled_as (codes "k") (codes "'k'") ∷ []; before_equals = codes " "; after_equals = codes " "; trailing = codes " # c" })
+    document (key_line (record {
+      leading = [];
+      path = spelled_as (codes "k") (codes "'k'") ∷ [];
+      before_equals = codes " ";
+      after_equals = codes " ";
+      trailing = codes " # c";
+    })
     (scalar (string (codes "v")) (codes "'v'")) [] ∷ [])
 
 pub cuts_quoted_line : IsCut quoted_line (codes "'k' = 'v' # c")
@@ -286,7 +462,8 @@ unfolding print normal normal_text is_settled meaning shown_meaning is_accepted
 reads_quoted_line = refl
 
 pub tree_quoted_line : HasTree quoted_line (codes "'k' = 'v' # c")
-    (spanned_tree (slot (last (codes "k") (span 0 3) none (span 3 4)) (leaf (string (codes "v")) (Some (span 6 9)) (decor (span 5 6) (span 9 13))) no_slots) none)
+    (spanned_tree (slot (last (codes "k") (span 0 3) none (span 3 4))
+    (leaf (string (codes "v")) (Some (span 6 9)) (decor (span 5 6) (span 9 13))) no_slots) none)
 tree_quoted_line = (
   record { root = refl; slots = (refl, (refl, (refl, refl, refl)), tt); trailing = refl },
   record { root = refl; slots = (refl, (refl, (refl, refl, refl)), tt); trailing = refl },
@@ -295,12 +472,31 @@ tree_quoted_line = (
 -- `a=1`, `[b]`
 abbrev pub tight : Document
 tight =
-    document (key_line (record { leading = []; path = a ∷ []; before_equals = []; after_equals = []; trailing = [] }) one_value newline ∷ head false (b ∷ []) ∷ [])
+    document (key_line (record {
+      leading = [];
+      path = a ∷ [];
+      before_equals = [];
+      after_equals = [];
+      trailing = [];
+    }) one_value newline ∷ head false (b ∷ []) ∷ [])
 
 pub cuts_tight : IsCut tight (codes "a=1\n[b]\n")
 cuts_tight =
     cut tight.statements (
-      ((record { leading = empty_trivia; segments = a_is.1; before_equals = refl; after_equals = refl; trailing = empty_end }, a_is.0), one_is, lf_end),
+      (
+        (
+          record {
+            leading = empty_trivia;
+            segments = a_is.1;
+            before_equals = refl;
+            after_equals = refl;
+            trailing = empty_end;
+          },
+          a_is.0,
+        ),
+        one_is,
+        lf_end,
+      ),
       (head_is false _ (bare_key (codes "b") refl refl), tt),
     )
 
@@ -311,26 +507,45 @@ reads_tight = refl
 abbrev pub tight_spans : Tree
 tight_spans =
     spanned_tree (slot (last (codes "a") (span 0 1) none none) (number 1 (span 2 3) none none)
-    (slot (last (codes "b") (span 5 6) none none) (table (by_header 1 (Some (4, 7))) no_slots) no_slots)) none
+    (slot (last (codes "b") (span 5 6) none none)
+    (table (by_header 1 (Some (4, 7))) no_slots) no_slots)) none
 
 pub tree_tight : HasTree tight (codes "a=1\n[b]\n") tight_spans
 tree_tight = (
-  record { root = refl; slots = (refl, (refl, (refl, refl, refl)), (refl, (tt, refl, tt), tt)); trailing = refl },
-  record { root = refl; slots = (refl, (refl, (refl, refl, refl)), (refl, (tt, refl, tt), tt)); trailing = refl },
+  record {
+    root = refl;
+    slots = (refl, (refl, (refl, refl, refl)), (refl, (tt, refl, tt), tt));
+    trailing = refl;
+  },
+  record {
+    root = refl;
+    slots = (refl, (refl, (refl, refl, refl)), (refl, (tt, refl, tt), tt));
+    trailing = refl;
+  },
 )
 
 -- ---- values
 
 -- seven quotes: a string of several lines that is one quote
 abbrev pub seven_quotes : Document
-seven_quotes = document (line (bare (codes "s") ∷ []) (scalar (string (codes "\"")) (codes "\"\"\"\"\"\"\"")) ∷ [])
+seven_quotes =
+    document (line (bare (codes "s") ∷ []) (scalar (string (codes "\"")) (codes "\"\"\"\"\"\"\""))
+    ∷ [])
 
 pub cuts_seven_quotes : IsCut seven_quotes (codes "s = \"\"\"\"\"\"\"\n")
 cuts_seven_quotes =
-    cut seven_quotes.statements
-    ((frame_is _ (bare_key (codes "s") refl refl), inr (inl (None, quotes one_quote ∷ [], (tt, tt), refl, λ _. refl, refl, refl)), lf_end), tt)
+    cut seven_quotes.statements (
+      (
+        frame_is _ (bare_key (codes "s") refl refl),
+        inr
+            (inl (None, quotes one_quote ∷ [], (tt, tt), refl, λ _. refl, refl, refl)),
+        lf_end,
+      ),
+      tt,
+    )
 
-reads_seven_quotes : reads seven_quotes (codes "s = \"\"\"\"\"\"\"\n") (codes "s = \"\"\"\"\"\"\"\n") ≡ all_hold
+reads_seven_quotes : reads seven_quotes (codes "s = \"\"\"\"\"\"\"\n")
+    (codes "s = \"\"\"\"\"\"\"\n") ≡ all_hold
 unfolding print normal normal_text is_settled meaning shown_meaning is_accepted
 reads_seven_quotes = refl
 
@@ -345,7 +560,8 @@ leap_second =
 
 pub cuts_leap_second : IsCut leap_second (codes "t = 23:59:60\n")
 cuts_leap_second =
-    cut leap_second.statements ((frame_is _ t_is, (lit< tt, lit< tt, codes ":60", (lit< tt, [], refl, refl), refl), lf_end), tt)
+    cut leap_second.statements
+    ((frame_is _ t_is, (lit< tt, lit< tt, codes ":60", (lit< tt, [], refl, refl), refl), lf_end), tt)
 
 reads_leap_second : reads leap_second (codes "t = 23:59:60\n") (codes "t = 23:59:60\n") ≡ all_hold
 unfolding print normal normal_text is_settled meaning shown_meaning is_accepted
@@ -381,14 +597,21 @@ cuts_leap_day =
       tt,
     )
 
-reads_leap_day : reads leap_day (codes "d = 2024-02-29 07:32\n") (codes "d = 2024-02-29 07:32\n") ≡ all_hold
+reads_leap_day : reads leap_day (codes "d = 2024-02-29 07:32\n") (codes "d = 2024-02-29 07:32\n")
+    ≡ all_hold
 unfolding print normal normal_text is_settled meaning shown_meaning is_accepted
 reads_leap_day = refl
 
 -- `a = 0x10 # c`
 abbrev pub hexadecimal_line : Document
 hexadecimal_line =
-    document (key_line (record { leading = []; path = a ∷ []; before_equals = codes " "; after_equals = codes " "; trailing = codes " # c" }) (int 16 (codes "0x10")) newline ∷ [])
+    document (key_line (record {
+      leading = [];
+      path = a ∷ [];
+      before_equals = codes " ";
+      after_equals = codes " ";
+      trailing = codes " # c";
+    }) (int 16 (codes "0x10")) newline ∷ [])
 
 pub cuts_hexadecimal_line : IsCut hexadecimal_line (codes "a = 0x10 # c\n")
 cuts_hexadecimal_line =
@@ -404,19 +627,28 @@ cuts_hexadecimal_line =
           },
           a_is.0,
         ),
-        inr (hexadecimal, (false, 0x31) ∷ (false, 0x30) ∷ [], (refl, (refl, (refl, tt))), refl, refl),
+        inr (
+          hexadecimal,
+          (false, 0x31) ∷ (false, 0x30)
+              ∷ [],
+          (refl, (refl, (refl, tt))),
+          refl,
+          refl,
+        ),
         lf_end,
       ),
       tt,
     )
 
-reads_hexadecimal_line : reads hexadecimal_line (codes "a = 0x10 # c\n") (codes "a = 0x10 # c\n") ≡ all_hold
+reads_hexadecimal_line : reads hexadecimal_line (codes "a = 0x10 # c\n") (codes "a = 0x10 # c\n")
+    ≡ all_hold
 unfolding print normal normal_text is_settled meaning shown_meaning is_accepted
 reads_hexadecimal_line = refl
 
 abbrev pub hexadecimal_spans : Tree
 hexadecimal_spans =
-    spanned_tree (slot (last (codes "a") (span 0 1) none (span 1 2)) (number 16 (span 4 8) (span 3 4) (span 8 12)) no_slots) none
+    spanned_tree (slot (last (codes "a") (span 0 1) none (span 1 2))
+    (number 16 (span 4 8) (span 3 4) (span 8 12)) no_slots) none
 
 pub tree_hexadecimal_line : HasTree hexadecimal_line (codes "a = 0x10 # c\n") hexadecimal_spans
 tree_hexadecimal_line = (
@@ -424,7 +656,8 @@ tree_hexadecimal_line = (
   record { root = refl; slots = (refl, (refl, (refl, refl, refl)), tt); trailing = refl },
 )
 
--- a tree of spans prints by default: `a = 16`, and what holds no text is the empty text in both forms
+-- a tree of spans prints by default: `a = 16`, and what holds no text is the empty text in both
+-- forms
 prints_spans : print hexadecimal_spans ≡ codes "a = 16\n"
 unfolding digits print
 prints_spans = refl
@@ -437,8 +670,15 @@ prints_tight_spans = refl
 abbrev pub mixed_values : Document
 mixed_values =
     document (line (t_key ∷ []) (array (element (record { before = []; after = [] })
-    (inline_table (pair (record { leading = []; path = a ∷ []; before_equals = codes " "; after_equals = codes " "; trailing = [] }) one_value no_pairs) false [])
-    (element (record { before = codes " "; after = [] }) (array no_elements false (codes " ")) no_elements)) false []) ∷ [])
+    (inline_table (pair (record {
+      leading = [];
+      path = a ∷ [];
+      before_equals = codes " ";
+      after_equals = codes " ";
+      trailing = [];
+    }) one_value no_pairs) false [])
+    (element (record { before = codes " "; after = [] })
+    (array no_elements false (codes " ")) no_elements)) false []) ∷ [])
 
 pub cuts_mixed_values : IsCut mixed_values (codes "t = [{a = 1}, [ ]]\n")
 cuts_mixed_values =
@@ -452,7 +692,20 @@ cuts_mixed_values =
             empty_trivia,
             (
               (empty_trivia, inr refl),
-              ((record { leading = empty_trivia; segments = a_is.1; before_equals = refl; after_equals = refl; trailing = empty_trivia }, a_is.0), one_is, tt),
+              (
+                (
+                  record {
+                    leading = empty_trivia;
+                    segments = a_is.1;
+                    before_equals = refl;
+                    after_equals = refl;
+                    trailing = empty_trivia;
+                  },
+                  a_is.0,
+                ),
+                one_is,
+                tt,
+              ),
             ),
             (space_trivia, empty_trivia, ((space_trivia, inl refl), tt), tt),
           ),
@@ -462,17 +715,43 @@ cuts_mixed_values =
       tt,
     )
 
-reads_mixed_values : reads mixed_values (codes "t = [{a = 1}, [ ]]\n") (codes "t = [{a = 1}, [ ]]\n") ≡ all_hold
+reads_mixed_values : reads mixed_values (codes "t = [{a = 1}, [ ]]\n")
+    (codes "t = [{a = 1}, [ ]]\n") ≡ all_hold
 unfolding print normal normal_text is_settled meaning shown_meaning is_accepted
 reads_mixed_values = refl
 
 pub tree_mixed_values : HasTree mixed_values (codes "t = [{a = 1}, [ ]]\n")
     (spanned_tree (slot (last (codes "t") (span 0 1) none (span 1 2))
-    (list (record { decor = decor (span 3 4) none; comma = false; trailing = none; extent = Some (4, 18) })
-    (item (inline (record { decor = decor none none; is_dotted = false; comma = false; trailing = none; extent = Some (5, 12) })
-    (slot (last (codes "a") (span 6 7) none (span 7 8)) (number 1 (span 10 11) (span 9 10) none) no_slots))
-    (item (list (record { decor = decor (span 13 14) none; comma = false; trailing = span 15 16; extent = Some (14, 17) }) no_items) no_items))) no_slots) none)
+    (list (record {
+      decor = decor (span 3 4) none;
+      comma = false;
+      trailing = none;
+      extent = Some (4, 18);
+    })
+    (item (inline (record {
+      decor = decor none none;
+      is_dotted = false;
+      comma = false;
+      trailing = none;
+      extent = Some (5, 12);
+    })
+    (slot (last (codes "a") (span 6 7) none (span 7 8))
+    (number 1 (span 10 11) (span 9 10) none) no_slots))
+    (item (list (record {
+      decor = decor (span 13 14) none;
+      comma = false;
+      trailing = span 15 16;
+      extent = Some (14, 17);
+    }) no_items) no_items))) no_slots) none)
 tree_mixed_values = (
-  record { root = refl; slots = (refl, (refl, (refl, ((refl, (refl, (refl, refl, refl), tt)), ((refl, tt), tt)))), tt); trailing = refl },
-  record { root = refl; slots = (refl, (refl, (refl, ((refl, (refl, (refl, refl, refl), tt)), ((refl, tt), tt)))), tt); trailing = refl },
+  record {
+    root = refl;
+    slots = (refl, (refl, (refl, ((refl, (refl, (refl, refl, refl), tt)), ((refl, tt), tt)))), tt);
+    trailing = refl;
+  },
+  record {
+    root = refl;
+    slots = (refl, (refl, (refl, ((refl, (refl, (refl, refl, refl), tt)), ((refl, tt), tt)))), tt);
+    trailing = refl;
+  },
 )

@@ -19,7 +19,8 @@ impl<T> Slots<T> {
     pub fn leaf_decor_mut(&mut self, at: usize) -> &mut Decor
         requires { at < length self.old }
         ensures* writes_back { sem 𝓛 (LendsLeafAt T.row self.entry at result) }
-        ensures decor { option_map (λ slot. slot.key.leaf) (slice_get self.old at) ≡ Some result.now }
+        ensures decor { option_map (λ slot. slot.key.leaf) (slice_get self.old at)
+            ≡ Some result.now }
     {
         let slot = &mut self.entries[at];
         slot.key.leaf_decor_mut()
@@ -29,7 +30,8 @@ impl<T> Slots<T> {
     pub fn dotted_decor_mut(&mut self, at: usize) -> &mut Decor
         requires { at < length self.old }
         ensures* writes_back { sem 𝓛 (LendsDottedAt T.row self.entry at result) }
-        ensures decor { option_map (λ slot. slot.key.dotted) (slice_get self.old at) ≡ Some result.now }
+        ensures decor { option_map (λ slot. slot.key.dotted) (slice_get self.old at)
+            ≡ Some result.now }
     {
         let slot = &mut self.entries[at];
         slot.key.dotted_decor_mut()

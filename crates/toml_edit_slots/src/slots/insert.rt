@@ -22,7 +22,8 @@ impl<T> Slots<T> {
     /// item.
     pub fn insert_formatted(&mut self, key: &Key, item: T) -> Result<Option<T>, NoMemory<T>>
         ensures old { IfOk result (λ old. old ≡ lookup key.now.name (seen self.old)) }
-        ensures slots { OnOk result (seen self.new ≡ inserted_formatted key.now item (seen self.old)) }
+        ensures slots { OnOk result
+            (seen self.new ≡ inserted_formatted key.now item (seen self.old)) }
         ensures back { IfErr result (λ refused. refused.0 ≡ item) }
         ensures err { OnErr result (self.new ≡ self.old) }
     {
@@ -66,7 +67,9 @@ impl<T> Slots<T> {
     pub fn extend_one(&mut self, key: Key, item: T) -> Mem<()>
     where
         T: Drop,
-        ensures slots { OnOk result (seen self.new ≡ put (with_item item) (record { key = key; item = item }) (seen self.old)) }
+        ensures slots { OnOk result
+            (seen self.new ≡ put (with_item item) (record { key = key; item = item })
+            (seen self.old)) }
         ensures err { OnErr result (self.new ≡ self.old) }
     {
         let _ = &self.entries;

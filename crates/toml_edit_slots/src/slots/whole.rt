@@ -68,7 +68,8 @@ impl<T> Slots<T> {
     pub fn extend<U: IntoIterator<Item = (Key, T)>>(&mut self, pairs: U) -> Result<(), AllocError>
     where
         T: Drop,
-        requires { (it : U.IntoIter) → U.into_iter_gives pairs it → U.IntoIter.can_next it × IsFinite (U.IntoIter.remaining it) }
+        requires { (it : U.IntoIter) → U.into_iter_gives pairs it
+            → U.IntoIter.can_next it × IsFinite (U.IntoIter.remaining it) }
         ensures { ExtendsWithItems U.into_iter_gives U.IntoIter.next_gives Adds pairs self.old self.new result }
     {
         for (key, item) in pairs {
@@ -89,8 +90,11 @@ impl<T> Slots<T> {
     ) -> Result<Slots<T>, AllocError>
     where
         T: Drop,
-        requires { (it : U.IntoIter) → U.into_iter_gives pairs it → U.IntoIter.can_next it × IsFinite (U.IntoIter.remaining it) }
-        ensures { IfOk result (λ slots. (it : U.IntoIter) × (ps : List _) × U.into_iter_gives pairs it × Drains U.IntoIter.next_gives it ps × Adds [] ps slots) }
+        requires { (it : U.IntoIter) → U.into_iter_gives pairs it
+            → U.IntoIter.can_next it × IsFinite (U.IntoIter.remaining it) }
+        ensures { IfOk result
+            (λ slots. (it : U.IntoIter) × (ps : List _) × U.into_iter_gives pairs it
+            × Drains U.IntoIter.next_gives it ps × Adds [] ps slots) }
     {
         let mut slots = Slots::new(alloc);
         slots.extend(pairs)?;
@@ -112,7 +116,9 @@ fn retain_entries<T: Drop, F: Fn(&str, &T) -> bool>(entries: &mut Vec<Slot<T>>, 
 where
     F: Drop,
     requires { F.IsAlwaysCallable keep }
-    ensures { RetainsBy (λ slot. SaysOfSlot F.Fn keep (slot_seen (λ x. x) slot)) entries.old.items entries.new.items }
+    ensures { RetainsBy
+        (λ slot. SaysOfSlot F.Fn keep
+        (slot_seen (λ x. x) slot)) entries.old.items entries.new.items }
 {
     entries.retain(
         |slot|

@@ -29,14 +29,16 @@ impl<'a, T: HasSlots> TableLikeEntry<'a, T> {
 
     /// Returns `true` if the key has a slot, which may be a placeholder.
     pub fn is_occupied(&self) -> bool
-        ensures { result ≡ has_slot (entry_key self.now).name (T.slots_of (entry_ref self.now).now) }
+        ensures { result ≡ has_slot (entry_key self.now).name
+            (T.slots_of (entry_ref self.now).now) }
     {
         self.find().is_some()
     }
 
     /// Returns the item of the key, a placeholder too, or `None` if the key is missing.
     pub fn get(&self) -> Option<&Item>
-        ensures { option_map (λ x. item_view x.now) result ≡ lookup (entry_key self.now).name (T.slots_of (entry_ref self.now).now) }
+        ensures { option_map (λ x. item_view x.now) result
+            ≡ lookup (entry_key self.now).name (T.slots_of (entry_ref self.now).now) }
     {
         self.table.as_slots().get(self.key())
     }
@@ -52,12 +54,23 @@ impl<'a, T: HasSlots> TableLikeEntry<'a, T> {
     /// Returns a [`NoMemory`] with `item` if out of memory. An existing key takes no memory.
     pub fn or_insert(&mut self, item: Item) -> Result<&mut Item, NoMemory<Item>>
         ensures* writes_back { sem 𝓛 (EntryLends T.row T.entries T.with_entries self.entry result) }
-        ensures item { IfOk result (λ lent. item_view lent.now ≡ unwrap_or (lookup (entry_key self.old).name (T.slots_of (entry_ref self.old).now)) (item_view item)) }
+        ensures item { IfOk result
+            (λ lent. item_view lent.now
+            ≡ unwrap_or (lookup (entry_key self.old).name (T.slots_of (entry_ref self.old).now))
+            (item_view item)) }
         // What the table is after a write through the reference.
-        ensures leaves { (w : Item) → T.slots_of (with_item_put T.entries T.with_entries (entry_key self.old) w (entry_ref self.old).now)
-            ≡ put (with_item (item_view w)) (record { key = entry_key self.old; item = item_view w }) (T.slots_of (entry_ref self.old).now) }
-        ensures keeps { (w : Item) → T.beside (with_item_put T.entries T.with_entries (entry_key self.old) w (entry_ref self.old).now) ≡ T.beside (entry_ref self.old).now }
-        ensures present { IsTrue (has_slot (entry_key self.old).name (T.slots_of (entry_ref self.old).now)) → IsOk result }
+        ensures leaves { (w : Item)
+            → T.slots_of (with_item_put T.entries T.with_entries (entry_key self.old) w
+            (entry_ref self.old).now)
+            ≡ put (with_item (item_view w))
+            (record { key = entry_key self.old; item = item_view w })
+            (T.slots_of (entry_ref self.old).now) }
+        ensures keeps { (w : Item)
+            → T.beside (with_item_put T.entries T.with_entries (entry_key self.old) w
+            (entry_ref self.old).now) ≡ T.beside (entry_ref self.old).now }
+        ensures present { IsTrue
+            (has_slot (entry_key self.old).name (T.slots_of (entry_ref self.old).now))
+            → IsOk result }
         ensures back { IfErr result (λ refused. refused.0 ≡ item) }
     {
         match self.place(item) {
@@ -82,14 +95,26 @@ impl<'a, T: HasSlots> TableLikeEntry<'a, T> {
     ) -> Result<&mut Item, NoMemory<Item>>
     where
         F: Drop,
-        requires { lookup (entry_key self.old).name (T.slots_of (entry_ref self.old).now) ≡ None → F.pre default }
+        requires { lookup (entry_key self.old).name (T.slots_of (entry_ref self.old).now) ≡ None
+            → F.pre default }
         ensures* writes_back { sem 𝓛 (EntryLends T.row T.entries T.with_entries self.entry result) }
-        ensures item { IfOk result (λ lent. UnwrapsOrElse (lookup (entry_key self.old).name (T.slots_of (entry_ref self.old).now)) (IsViewOf (F.post default)) (item_view lent.now)) }
+        ensures item { IfOk result
+            (λ lent. UnwrapsOrElse
+            (lookup (entry_key self.old).name (T.slots_of (entry_ref self.old).now))
+            (IsViewOf (F.post default)) (item_view lent.now)) }
         // What the table is after a write through the reference.
-        ensures leaves { (w : Item) → T.slots_of (with_item_put T.entries T.with_entries (entry_key self.old) w (entry_ref self.old).now)
-            ≡ put (with_item (item_view w)) (record { key = entry_key self.old; item = item_view w }) (T.slots_of (entry_ref self.old).now) }
-        ensures keeps { (w : Item) → T.beside (with_item_put T.entries T.with_entries (entry_key self.old) w (entry_ref self.old).now) ≡ T.beside (entry_ref self.old).now }
-        ensures present { IsTrue (has_slot (entry_key self.old).name (T.slots_of (entry_ref self.old).now)) → IsOk result }
+        ensures leaves { (w : Item)
+            → T.slots_of (with_item_put T.entries T.with_entries (entry_key self.old) w
+            (entry_ref self.old).now)
+            ≡ put (with_item (item_view w))
+            (record { key = entry_key self.old; item = item_view w })
+            (T.slots_of (entry_ref self.old).now) }
+        ensures keeps { (w : Item)
+            → T.beside (with_item_put T.entries T.with_entries (entry_key self.old) w
+            (entry_ref self.old).now) ≡ T.beside (entry_ref self.old).now }
+        ensures present { IsTrue
+            (has_slot (entry_key self.old).name (T.slots_of (entry_ref self.old).now))
+            → IsOk result }
         ensures back { IfErr result (λ refused. F.post default refused.0) }
     {
         match self.place_with(default) {
@@ -100,8 +125,10 @@ impl<'a, T: HasSlots> TableLikeEntry<'a, T> {
 
     /// Finds the slot of the key.
     fn find(&self) -> Option<usize>
-        ensures place { result ≡ place (entry_key self.now).name (T.entries (entry_ref self.now).now) }
-        ensures there { result ≡ place_seen (entry_key self.now).name (T.slots_of (entry_ref self.now).now) }
+        ensures place { result
+            ≡ place (entry_key self.now).name (T.entries (entry_ref self.now).now) }
+        ensures there { result
+            ≡ place_seen (entry_key self.now).name (T.slots_of (entry_ref self.now).now) }
         ensures within { IfSome result (λ at. at < length (T.entries (entry_ref self.now).now)) }
         ensures apart { AreApart (T.slots_of (entry_ref self.now).now) }
     {
@@ -112,13 +139,24 @@ impl<'a, T: HasSlots> TableLikeEntry<'a, T> {
     fn place(&mut self, item: Item) -> Result<usize, NoMemory<Item>>
         ensures same { self.new ≡ with_table (entry_ref self.new).now self.old }
         ensures within { IfOk result (λ at. at < length (T.entries (entry_ref self.new).now)) }
-        ensures item { IfOk result (λ at. option_map item_view (slice_get (items_of (T.entries (entry_ref self.new).now)) at)
-            ≡ Some (unwrap_or (lookup (entry_key self.old).name (T.slots_of (entry_ref self.old).now)) (item_view item))) }
-        ensures rest { IfOk result (λ at. (w : Item) → with_item_at T.entries T.with_entries at w (entry_ref self.new).now
-            ≡ with_item_put T.entries T.with_entries (entry_key self.old) w (entry_ref self.old).now) }
-        ensures leaves { (w : Item) → T.slots_of (with_item_put T.entries T.with_entries (entry_key self.old) w (entry_ref self.old).now)
-            ≡ put (with_item (item_view w)) (record { key = entry_key self.old; item = item_view w }) (T.slots_of (entry_ref self.old).now) }
-        ensures present { IsTrue (has_slot (entry_key self.old).name (T.slots_of (entry_ref self.old).now)) → IsOk result }
+        ensures item { IfOk result
+            (λ at. option_map item_view
+            (slice_get (items_of (T.entries (entry_ref self.new).now)) at)
+            ≡ Some (unwrap_or (lookup (entry_key self.old).name
+            (T.slots_of (entry_ref self.old).now)) (item_view item))) }
+        ensures rest { IfOk result
+            (λ at. (w : Item) → with_item_at T.entries T.with_entries at w (entry_ref self.new).now
+            ≡ with_item_put T.entries T.with_entries (entry_key self.old) w
+            (entry_ref self.old).now) }
+        ensures leaves { (w : Item)
+            → T.slots_of (with_item_put T.entries T.with_entries (entry_key self.old) w
+            (entry_ref self.old).now)
+            ≡ put (with_item (item_view w))
+            (record { key = entry_key self.old; item = item_view w })
+            (T.slots_of (entry_ref self.old).now) }
+        ensures present { IsTrue
+            (has_slot (entry_key self.old).name (T.slots_of (entry_ref self.old).now))
+            → IsOk result }
         ensures back { IfErr result (λ refused. refused.0 ≡ item) }
         ensures err { OnErr result ((entry_ref self.new).now ≡ (entry_ref self.old).now) }
     {
@@ -133,16 +171,28 @@ impl<'a, T: HasSlots> TableLikeEntry<'a, T> {
     fn place_with<F: FnOnce() -> Item>(&mut self, default: F) -> Result<usize, NoMemory<Item>>
     where
         F: Drop,
-        requires { lookup (entry_key self.old).name (T.slots_of (entry_ref self.old).now) ≡ None → F.pre default }
+        requires { lookup (entry_key self.old).name (T.slots_of (entry_ref self.old).now) ≡ None
+            → F.pre default }
         ensures same { self.new ≡ with_table (entry_ref self.new).now self.old }
         ensures within { IfOk result (λ at. at < length (T.entries (entry_ref self.new).now)) }
-        ensures item { IfOk result (λ at. IfSome (slice_get (items_of (T.entries (entry_ref self.new).now)) at)
-            (λ x. UnwrapsOrElse (lookup (entry_key self.old).name (T.slots_of (entry_ref self.old).now)) (IsViewOf (F.post default)) (item_view x))) }
-        ensures rest { IfOk result (λ at. (w : Item) → with_item_at T.entries T.with_entries at w (entry_ref self.new).now
-            ≡ with_item_put T.entries T.with_entries (entry_key self.old) w (entry_ref self.old).now) }
-        ensures leaves { (w : Item) → T.slots_of (with_item_put T.entries T.with_entries (entry_key self.old) w (entry_ref self.old).now)
-            ≡ put (with_item (item_view w)) (record { key = entry_key self.old; item = item_view w }) (T.slots_of (entry_ref self.old).now) }
-        ensures present { IsTrue (has_slot (entry_key self.old).name (T.slots_of (entry_ref self.old).now)) → IsOk result }
+        ensures item { IfOk result
+            (λ at. IfSome (slice_get (items_of (T.entries (entry_ref self.new).now)) at)
+            (λ x. UnwrapsOrElse
+            (lookup (entry_key self.old).name (T.slots_of (entry_ref self.old).now))
+            (IsViewOf (F.post default)) (item_view x))) }
+        ensures rest { IfOk result
+            (λ at. (w : Item) → with_item_at T.entries T.with_entries at w (entry_ref self.new).now
+            ≡ with_item_put T.entries T.with_entries (entry_key self.old) w
+            (entry_ref self.old).now) }
+        ensures leaves { (w : Item)
+            → T.slots_of (with_item_put T.entries T.with_entries (entry_key self.old) w
+            (entry_ref self.old).now)
+            ≡ put (with_item (item_view w))
+            (record { key = entry_key self.old; item = item_view w })
+            (T.slots_of (entry_ref self.old).now) }
+        ensures present { IsTrue
+            (has_slot (entry_key self.old).name (T.slots_of (entry_ref self.old).now))
+            → IsOk result }
         ensures back { IfErr result (λ refused. F.post default refused.0) }
         ensures err { OnErr result ((entry_ref self.new).now ≡ (entry_ref self.old).now) }
     {

@@ -37,8 +37,11 @@ impl<'a, T: HasSlots> TableLikeSlot<'a, T> {
         ensures item { Some result.now ≡ slot_item self.old }
         // What the table is after a write through the reference.
         ensures leaves { (w : Item) → T.slots_of (slot_ref (with_slot_item self.old w)).now
-            ≡ changed_at (slot_place self.old) (with_item (item_view w)) (T.slots_of (slot_ref self.old).now) }
-        ensures keeps { (w : Item) → T.beside (slot_ref (with_slot_item self.old w)).now ≡ T.beside (slot_ref self.old).now }
+            ≡ changed_at (slot_place self.old) (with_item (item_view w))
+            (T.slots_of (slot_ref self.old).now) }
+        ensures keeps { (w : Item)
+            → T.beside (slot_ref (with_slot_item self.old w)).now
+            ≡ T.beside (slot_ref self.old).now }
     {
         let at = self.at;
         self.table.item_at_mut(at)
@@ -61,7 +64,9 @@ impl<'a, T: HasSlots> TableLikeSlot<'a, T> {
         // What the table is after a change of the key.
         ensures leaves { (h : Key → Key) → T.slots_of (slot_ref (with_slot_key self.old h)).now
             ≡ changed_at (slot_place self.old) (on_key h) (T.slots_of (slot_ref self.old).now) }
-        ensures keeps { (h : Key → Key) → T.beside (slot_ref (with_slot_key self.old h)).now ≡ T.beside (slot_ref self.old).now }
+        ensures keeps { (h : Key → Key)
+            → T.beside (slot_ref (with_slot_key self.old h)).now
+            ≡ T.beside (slot_ref self.old).now }
     {
         let at = self.at;
         self.table.leaf_decor_at_mut(at)
@@ -75,7 +80,9 @@ impl<'a, T: HasSlots> TableLikeSlot<'a, T> {
         // What the table is after a change of the key.
         ensures leaves { (h : Key → Key) → T.slots_of (slot_ref (with_slot_key self.old h)).now
             ≡ changed_at (slot_place self.old) (on_key h) (T.slots_of (slot_ref self.old).now) }
-        ensures keeps { (h : Key → Key) → T.beside (slot_ref (with_slot_key self.old h)).now ≡ T.beside (slot_ref self.old).now }
+        ensures keeps { (h : Key → Key)
+            → T.beside (slot_ref (with_slot_key self.old h)).now
+            ≡ T.beside (slot_ref self.old).now }
     {
         let at = self.at;
         self.table.dotted_decor_at_mut(at)
@@ -85,7 +92,9 @@ impl<'a, T: HasSlots> TableLikeSlot<'a, T> {
     pub fn fmt_key(&mut self)
         ensures same_table { (slot_ref self.new).ghost_name ≡ (slot_ref self.old).ghost_name }
         ensures same_place { slot_place self.new ≡ slot_place self.old }
-        ensures table { (slot_ref self.new).now ≡ with_key_at T.entries T.with_entries (slot_place self.old) reset_key (slot_ref self.old).now }
+        ensures table { (slot_ref self.new).now
+            ≡ with_key_at T.entries T.with_entries (slot_place self.old) reset_key
+            (slot_ref self.old).now }
     {
         let at = self.at;
         self.table.as_slots_mut().fmt_key(at);
@@ -99,7 +108,9 @@ impl<'a, T: HasSlots> TableLikeSlot<'a, T> {
         ensures same_table { (slot_ref self.new).ghost_name ≡ (slot_ref self.old).ghost_name }
         ensures same_place { slot_place self.new ≡ slot_place self.old }
         ensures item { Some result ≡ slot_item self.old }
-        ensures table { (slot_ref self.new).now ≡ with_item_at T.entries T.with_entries (slot_place self.old) item (slot_ref self.old).now }
+        ensures table { (slot_ref self.new).now
+            ≡ with_item_at T.entries T.with_entries (slot_place self.old) item
+            (slot_ref self.old).now }
     {
         let at = self.at;
         self.table.as_slots_mut().replace_item(at, item)
@@ -111,7 +122,9 @@ impl<'a, T: HasSlots> TableLikeSlot<'a, T> {
     /// In an inline table the item is not made a value.
     pub fn remove(self) -> Item
         ensures item { Some result ≡ slot_item self.entry }
-        ensures removed { IfSome (slot_key self.entry) (λ key. T.slots_of self.exit.0.now ≡ without key.name (T.slots_of (slot_ref self.entry).now)) }
+        ensures removed { IfSome (slot_key self.entry)
+            (λ key. T.slots_of self.exit.0.now
+            ≡ without key.name (T.slots_of (slot_ref self.entry).now)) }
         ensures beside { T.beside self.exit.0.now ≡ T.beside (slot_ref self.entry).now }
         ensures origin { T.origin self.exit.0.now ≡ T.origin (slot_ref self.entry).now }
     {

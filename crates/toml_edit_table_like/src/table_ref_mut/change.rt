@@ -21,9 +21,15 @@ pub(crate) fn insert_in(
     item: Item,
 ) -> Result<Option<Item>, NoMemory<Item>>
     requires table { is_some (entries_in table.old) ≡ true }
-    requires takes { (differences_of (beside_in table.old)).insertion.takes (item_view item) ≡ true }
-    ensures old { IfOk result (λ old. option_map item_view old ≡ like_old (differences_of (beside_in table.old)) key.now (slots_seen table.old)) }
-    ensures slots { OnOk result (slots_seen table.new ≡ like_inserted (differences_of (beside_in table.old)) key.now (item_view item) (slots_seen table.old)) }
+    requires takes { (differences_of (beside_in table.old)).insertion.takes (item_view item)
+        ≡ true }
+    ensures old { IfOk result
+        (λ old. option_map item_view old
+        ≡ like_old (differences_of (beside_in table.old)) key.now (slots_seen table.old)) }
+    ensures slots { OnOk result
+        (slots_seen table.new
+        ≡ like_inserted (differences_of (beside_in table.old)) key.now (item_view item)
+        (slots_seen table.old)) }
     ensures present { IsTrue (has_slot key.now (slots_seen table.old)) → IsOk result }
     ensures beside { beside_in table.new ≡ beside_in table.old }
     ensures back { IfErr result (λ refused. refused.0 ≡ item) }
@@ -42,7 +48,8 @@ pub(crate) fn insert_in(
 /// Removes the slot of the key, as `AnyTable::remove` does.
 pub(crate) fn remove_in(table: &mut Item, key: &str) -> Option<Item>
     requires { is_some (entries_in table.old) ≡ true }
-    ensures item { option_map item_view result ≡ like_old (differences_of (beside_in table.old)) key.now (slots_seen table.old) }
+    ensures item { option_map item_view result
+        ≡ like_old (differences_of (beside_in table.old)) key.now (slots_seen table.old) }
     ensures slots { slots_seen table.new ≡ without key.now (slots_seen table.old) }
     ensures beside { beside_in table.new ≡ beside_in table.old }
     ensures stays { is_some (entries_in table.new) ≡ true }
@@ -77,7 +84,10 @@ pub(crate) fn sort_in(table: &mut Item) -> Mem<()>
     requires { is_some (entries_in table.old) ≡ true }
     ensures reorders { IsDeepReorder (differences_of (beside_in table.old)).enters (slots_seen table.old) (slots_seen table.new) }
     ensures sorted { OnOk result (LikeSorted (differences_of (beside_in table.old)) (slots_seen table.old) (slots_seen table.new)) }
-    ensures in_order { OnOk result (slots_seen table.new ≡ sorted_slots (differences_of (beside_in table.old)).enters (slots_from (slots_seen table.old))) }
+    ensures in_order { OnOk result
+        (slots_seen table.new
+        ≡ sorted_slots (differences_of (beside_in table.old)).enters
+        (slots_from (slots_seen table.old))) }
     ensures beside { beside_in table.new ≡ beside_in table.old }
     ensures stays { is_some (entries_in table.new) ≡ true }
 {

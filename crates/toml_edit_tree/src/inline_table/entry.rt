@@ -78,8 +78,11 @@ impl<'a> InlineEntry<'a> {
         ensures* writes_back { sem 𝓛 (InlineLendsOk self.entry result) }
         ensures value { IfOk result (λ x. x.now ≡ unwrap_or (inline_value self.entry) value) }
         // What the inline table is after a write through the reference.
-        ensures leaves { (w : Value) → inline_slots_of (inline_with self.entry w) ≡ inline_slots_left self.entry (value_view w) }
-        ensures keeps { (w : Value) → inline_fields (inline_with self.entry w) ≡ inline_fields (inline_ref self.entry).now }
+        ensures leaves { (w : Value)
+            → inline_slots_of (inline_with self.entry w)
+            ≡ inline_slots_left self.entry (value_view w) }
+        ensures keeps { (w : Value)
+            → inline_fields (inline_with self.entry w) ≡ inline_fields (inline_ref self.entry).now }
         ensures present { IsSome (inline_value self.entry) → IsOk result }
         ensures back { IfErr result (λ refused. refused.0 ≡ value) }
     {
@@ -109,10 +112,14 @@ impl<'a> InlineEntry<'a> {
         F: Drop,
         requires { inline_value self ≡ None → F.pre default }
         ensures* writes_back { sem 𝓛 (InlineLendsOk self.entry result) }
-        ensures value { IfOk result (λ x. UnwrapsOrElse (inline_value self.entry) (F.post default) x.now) }
+        ensures value { IfOk result
+            (λ x. UnwrapsOrElse (inline_value self.entry) (F.post default) x.now) }
         // What the inline table is after a write through the reference.
-        ensures leaves { (w : Value) → inline_slots_of (inline_with self.entry w) ≡ inline_slots_left self.entry (value_view w) }
-        ensures keeps { (w : Value) → inline_fields (inline_with self.entry w) ≡ inline_fields (inline_ref self.entry).now }
+        ensures leaves { (w : Value)
+            → inline_slots_of (inline_with self.entry w)
+            ≡ inline_slots_left self.entry (value_view w) }
+        ensures keeps { (w : Value)
+            → inline_fields (inline_with self.entry w) ≡ inline_fields (inline_ref self.entry).now }
         ensures present { IsSome (inline_value self.entry) → IsOk result }
         ensures back { IfErr result (λ refused. F.post default refused.0) }
     {
@@ -169,9 +176,13 @@ impl<'a> InlineOccupiedEntry<'a> {
         ensures* writes_back { sem 𝓛 (InlineOccupiedLendsKey self.entry result) }
         ensures key { inline_key (Occupied self.old) ≡ Some (key_of result) }
         // What the inline table is after a change of the key.
-        ensures leaves { (h : Key → Key) → inline_slots_of (with_inline_entry_key self.old h).table.now
-            ≡ changed_at (inline_place (Occupied self.old)) (on_key h) (inline_slots_of (inline_ref (Occupied self.old)).now) }
-        ensures keeps { (h : Key → Key) → inline_fields (with_inline_entry_key self.old h).table.now ≡ inline_fields (inline_ref (Occupied self.old)).now }
+        ensures leaves { (h : Key → Key)
+            → inline_slots_of (with_inline_entry_key self.old h).table.now
+            ≡ changed_at (inline_place (Occupied self.old)) (on_key h)
+            (inline_slots_of (inline_ref (Occupied self.old)).now) }
+        ensures keeps { (h : Key → Key)
+            → inline_fields (with_inline_entry_key self.old h).table.now
+            ≡ inline_fields (inline_ref (Occupied self.old)).now }
     {
         let at = self.at;
         self.table.key_at_mut(at)
@@ -181,11 +192,16 @@ impl<'a> InlineOccupiedEntry<'a> {
     /// comments before it, and the whitespace before `=`.
     pub fn leaf_decor_mut(&mut self) -> &mut Decor
         ensures* writes_back { sem 𝓛 (InlineOccupiedLendsLeaf self.entry result) }
-        ensures decor { option_map (λ key. key.leaf) (inline_key (Occupied self.old)) ≡ Some result.now }
+        ensures decor { option_map (λ key. key.leaf) (inline_key (Occupied self.old))
+            ≡ Some result.now }
         // What the inline table is after a change of the key.
-        ensures leaves { (h : Key → Key) → inline_slots_of (with_inline_entry_key self.old h).table.now
-            ≡ changed_at (inline_place (Occupied self.old)) (on_key h) (inline_slots_of (inline_ref (Occupied self.old)).now) }
-        ensures keeps { (h : Key → Key) → inline_fields (with_inline_entry_key self.old h).table.now ≡ inline_fields (inline_ref (Occupied self.old)).now }
+        ensures leaves { (h : Key → Key)
+            → inline_slots_of (with_inline_entry_key self.old h).table.now
+            ≡ changed_at (inline_place (Occupied self.old)) (on_key h)
+            (inline_slots_of (inline_ref (Occupied self.old)).now) }
+        ensures keeps { (h : Key → Key)
+            → inline_fields (with_inline_entry_key self.old h).table.now
+            ≡ inline_fields (inline_ref (Occupied self.old)).now }
     {
         let at = self.at;
         self.table.leaf_decor_at_mut(at)
@@ -195,11 +211,16 @@ impl<'a> InlineOccupiedEntry<'a> {
     /// key and the dots before and after it.
     pub fn dotted_decor_mut(&mut self) -> &mut Decor
         ensures* writes_back { sem 𝓛 (InlineOccupiedLendsDotted self.entry result) }
-        ensures decor { option_map (λ key. key.dotted) (inline_key (Occupied self.old)) ≡ Some result.now }
+        ensures decor { option_map (λ key. key.dotted) (inline_key (Occupied self.old))
+            ≡ Some result.now }
         // What the inline table is after a change of the key.
-        ensures leaves { (h : Key → Key) → inline_slots_of (with_inline_entry_key self.old h).table.now
-            ≡ changed_at (inline_place (Occupied self.old)) (on_key h) (inline_slots_of (inline_ref (Occupied self.old)).now) }
-        ensures keeps { (h : Key → Key) → inline_fields (with_inline_entry_key self.old h).table.now ≡ inline_fields (inline_ref (Occupied self.old)).now }
+        ensures leaves { (h : Key → Key)
+            → inline_slots_of (with_inline_entry_key self.old h).table.now
+            ≡ changed_at (inline_place (Occupied self.old)) (on_key h)
+            (inline_slots_of (inline_ref (Occupied self.old)).now) }
+        ensures keeps { (h : Key → Key)
+            → inline_fields (with_inline_entry_key self.old h).table.now
+            ≡ inline_fields (inline_ref (Occupied self.old)).now }
     {
         let at = self.at;
         self.table.dotted_decor_at_mut(at)
@@ -207,12 +228,16 @@ impl<'a> InlineOccupiedEntry<'a> {
 
     /// Resets the key to its default spelling and unsets its decors, so a comment before it goes.
     pub fn fmt_key(&mut self)
-        ensures same_table { (inline_ref (Occupied self.new)).ghost_name ≡ (inline_ref (Occupied self.old)).ghost_name }
+        ensures same_table { (inline_ref (Occupied self.new)).ghost_name
+            ≡ (inline_ref (Occupied self.old)).ghost_name }
         ensures same_place { inline_place (Occupied self.new) ≡ inline_place (Occupied self.old) }
-        ensures table { (inline_ref (Occupied self.new)).now ≡ (with_inline_entry_key self.old reset_key).table.now }
+        ensures table { (inline_ref (Occupied self.new)).now
+            ≡ (with_inline_entry_key self.old reset_key).table.now }
         ensures slots { inline_slots_of (inline_ref (Occupied self.new)).now
-            ≡ changed_at (inline_place (Occupied self.old)) (on_key reset_key) (inline_slots_of (inline_ref (Occupied self.old)).now) }
-        ensures fields { inline_fields (inline_ref (Occupied self.new)).now ≡ inline_fields (inline_ref (Occupied self.old)).now }
+            ≡ changed_at (inline_place (Occupied self.old)) (on_key reset_key)
+            (inline_slots_of (inline_ref (Occupied self.old)).now) }
+        ensures fields { inline_fields (inline_ref (Occupied self.new)).now
+            ≡ inline_fields (inline_ref (Occupied self.old)).now }
     {
         self.table.fmt_key_at(self.at);
     }
@@ -233,8 +258,11 @@ impl<'a> InlineOccupiedEntry<'a> {
         ensures value { Some result.now ≡ inline_value (Occupied self.old) }
         // What the inline table is after a write through the reference.
         ensures leaves { (w : Value) → inline_slots_of (with_entry_value self.old w).table.now
-            ≡ changed_at (inline_place (Occupied self.old)) (with_item (value_view w)) (inline_slots_of (inline_ref (Occupied self.old)).now) }
-        ensures keeps { (w : Value) → inline_fields (with_entry_value self.old w).table.now ≡ inline_fields (inline_ref (Occupied self.old)).now }
+            ≡ changed_at (inline_place (Occupied self.old)) (with_item (value_view w))
+            (inline_slots_of (inline_ref (Occupied self.old)).now) }
+        ensures keeps { (w : Value)
+            → inline_fields (with_entry_value self.old w).table.now
+            ≡ inline_fields (inline_ref (Occupied self.old)).now }
     {
         let at = self.at;
         self.table.value_at_mut(at)
@@ -249,8 +277,11 @@ impl<'a> InlineOccupiedEntry<'a> {
         ensures value { Some result.now ≡ inline_value (Occupied self.entry) }
         // What the inline table is after a write through the reference.
         ensures leaves { (w : Value) → inline_slots_of (inline_with (Occupied self.entry) w)
-            ≡ changed_at (inline_place (Occupied self.entry)) (with_item (value_view w)) (inline_slots_of (inline_ref (Occupied self.entry)).now) }
-        ensures keeps { (w : Value) → inline_fields (inline_with (Occupied self.entry) w) ≡ inline_fields (inline_ref (Occupied self.entry)).now }
+            ≡ changed_at (inline_place (Occupied self.entry)) (with_item (value_view w))
+            (inline_slots_of (inline_ref (Occupied self.entry)).now) }
+        ensures keeps { (w : Value)
+            → inline_fields (inline_with (Occupied self.entry) w)
+            ≡ inline_fields (inline_ref (Occupied self.entry)).now }
     {
         let InlineOccupiedEntry { table, at } = self;
         table.value_at_mut(at)
@@ -260,14 +291,18 @@ impl<'a> InlineOccupiedEntry<'a> {
     ///
     /// The whitespace and the comments around the old value go with it.
     pub fn insert(&mut self, value: Value) -> Value
-        ensures same_table { (inline_ref (Occupied self.new)).ghost_name ≡ (inline_ref (Occupied self.old)).ghost_name }
+        ensures same_table { (inline_ref (Occupied self.new)).ghost_name
+            ≡ (inline_ref (Occupied self.old)).ghost_name }
         ensures same_place { inline_place (Occupied self.new) ≡ inline_place (Occupied self.old) }
         ensures value { Some result ≡ inline_value (Occupied self.old) }
-        ensures table { (inline_ref (Occupied self.new)).now ≡ inline_with (Occupied self.old) value }
+        ensures table { (inline_ref (Occupied self.new)).now
+            ≡ inline_with (Occupied self.old) value }
         ensures holds { inline_value (Occupied self.new) ≡ Some value }
         ensures slots { inline_slots_of (inline_ref (Occupied self.new)).now
-            ≡ changed_at (inline_place (Occupied self.old)) (with_item (value_view value)) (inline_slots_of (inline_ref (Occupied self.old)).now) }
-        ensures fields { inline_fields (inline_ref (Occupied self.new)).now ≡ inline_fields (inline_ref (Occupied self.old)).now }
+            ≡ changed_at (inline_place (Occupied self.old)) (with_item (value_view value))
+            (inline_slots_of (inline_ref (Occupied self.old)).now) }
+        ensures fields { inline_fields (inline_ref (Occupied self.new)).now
+            ≡ inline_fields (inline_ref (Occupied self.old)).now }
     {
         self.table.replace_value_at(self.at, value)
     }
@@ -276,8 +311,11 @@ impl<'a> InlineOccupiedEntry<'a> {
     /// comments are dropped.
     pub fn remove(self) -> Value
         ensures value { Some result ≡ inline_value (Occupied self.entry) }
-        ensures removed { IfSome (inline_key (Occupied self.entry)) (λ key. inline_slots_of self.exit.0.now ≡ without key.name (inline_slots_of (inline_ref (Occupied self.entry)).now)) }
-        ensures fields { inline_fields self.exit.0.now ≡ inline_fields (inline_ref (Occupied self.entry)).now }
+        ensures removed { IfSome (inline_key (Occupied self.entry))
+            (λ key. inline_slots_of self.exit.0.now
+            ≡ without key.name (inline_slots_of (inline_ref (Occupied self.entry)).now)) }
+        ensures fields { inline_fields self.exit.0.now
+            ≡ inline_fields (inline_ref (Occupied self.entry)).now }
     {
         let at = self.at;
         self.table.remove_value_at(at)
@@ -331,8 +369,12 @@ impl<'a> InlineVacantEntry<'a> {
         ensures* writes_back { sem 𝓛 (InlineLendsOk (Vacant self.entry) result) }
         ensures value { IfOk result (λ x. x.now ≡ value) }
         // What the inline table is after a write through the reference.
-        ensures leaves { (w : Value) → inline_slots_of (inline_with (Vacant self.entry) w) ≡ inline_slots_left (Vacant self.entry) (value_view w) }
-        ensures keeps { (w : Value) → inline_fields (inline_with (Vacant self.entry) w) ≡ inline_fields (inline_ref (Vacant self.entry)).now }
+        ensures leaves { (w : Value)
+            → inline_slots_of (inline_with (Vacant self.entry) w)
+            ≡ inline_slots_left (Vacant self.entry) (value_view w) }
+        ensures keeps { (w : Value)
+            → inline_fields (inline_with (Vacant self.entry) w)
+            ≡ inline_fields (inline_ref (Vacant self.entry)).now }
         ensures back { IfErr result (λ refused. refused.0 ≡ value) }
     {
         let InlineVacantEntry { table, key } = self;
@@ -412,7 +454,8 @@ impl InlineTable {
     /// Returns the key of slot `at`.
     fn key_at(&self, at: usize) -> &Key
         requires { has_value_at at (out-InlineTable self.now).items ≡ true }
-        ensures { Some result.now ≡ option_map (λ slot. slot.key) (slice_get (out-InlineTable self.now).items at) }
+        ensures { Some result.now
+            ≡ option_map (λ slot. slot.key) (slice_get (out-InlineTable self.now).items at) }
     {
         &self.items.as_slice()[at].key
     }
@@ -442,7 +485,8 @@ impl InlineTable {
     fn key_at_mut(&mut self, at: usize) -> KeyMut<'_>
         requires { has_value_at at (out-InlineTable self.old).items ≡ true }
         ensures* writes_back { sem 𝓛 (LendsInlineKeyAt self.entry at result) }
-        ensures key { option_map (λ slot. slot.key) (slice_get (out-InlineTable self.old).items at) ≡ Some (key_of result) }
+        ensures key { option_map (λ slot. slot.key) (slice_get (out-InlineTable self.old).items at)
+            ≡ Some (key_of result) }
     {
         self.items.key_mut(at)
     }
@@ -451,7 +495,8 @@ impl InlineTable {
     fn leaf_decor_at_mut(&mut self, at: usize) -> &mut Decor
         requires { has_value_at at (out-InlineTable self.old).items ≡ true }
         ensures* writes_back { sem 𝓛 (LendsInlineLeafAt self.entry at result) }
-        ensures decor { option_map (λ slot. slot.key.leaf) (slice_get (out-InlineTable self.old).items at) ≡ Some result.now }
+        ensures decor { option_map (λ slot. slot.key.leaf)
+            (slice_get (out-InlineTable self.old).items at) ≡ Some result.now }
     {
         self.items.leaf_decor_mut(at)
     }
@@ -460,7 +505,8 @@ impl InlineTable {
     fn dotted_decor_at_mut(&mut self, at: usize) -> &mut Decor
         requires { has_value_at at (out-InlineTable self.old).items ≡ true }
         ensures* writes_back { sem 𝓛 (LendsInlineDottedAt self.entry at result) }
-        ensures decor { option_map (λ slot. slot.key.dotted) (slice_get (out-InlineTable self.old).items at) ≡ Some result.now }
+        ensures decor { option_map (λ slot. slot.key.dotted)
+            (slice_get (out-InlineTable self.old).items at) ≡ Some result.now }
     {
         self.items.dotted_decor_mut(at)
     }
@@ -488,7 +534,8 @@ impl InlineTable {
     fn remove_value_at(&mut self, at: usize) -> Value
         requires { has_value_at at (out-InlineTable self.old).items ≡ true }
         ensures value { Some result ≡ value_at at (out-InlineTable self.old).items }
-        ensures removed { IfSome (slice_get (out-InlineTable self.old).items at) (λ slot. inline_slots_of self.new ≡ without slot.key.name (inline_slots_of self.old)) }
+        ensures removed { IfSome (slice_get (out-InlineTable self.old).items at)
+            (λ slot. inline_slots_of self.new ≡ without slot.key.name (inline_slots_of self.old)) }
         ensures fields { inline_fields self.new ≡ inline_fields self.old }
     {
         self.items.remove_at(at).into_item().into_own_value()

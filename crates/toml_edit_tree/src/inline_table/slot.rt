@@ -60,8 +60,11 @@ impl<'a> InlineSlotMut<'a> {
         ensures key { slot_key self.old ≡ Some (key_of result) }
         // What the inline table is after a change of the key.
         ensures leaves { (h : Key → Key) → inline_slots_of (slot_ref (with_slot_key self.old h)).now
-            ≡ changed_at (slot_place self.old) (on_key h) (inline_slots_of (slot_ref self.old).now) }
-        ensures keeps { (h : Key → Key) → inline_fields (slot_ref (with_slot_key self.old h)).now ≡ inline_fields (slot_ref self.old).now }
+            ≡ changed_at (slot_place self.old) (on_key h)
+            (inline_slots_of (slot_ref self.old).now) }
+        ensures keeps { (h : Key → Key)
+            → inline_fields (slot_ref (with_slot_key self.old h)).now
+            ≡ inline_fields (slot_ref self.old).now }
     {
         let at = self.at;
         self.table.key_in_mut(at)
@@ -74,8 +77,11 @@ impl<'a> InlineSlotMut<'a> {
         ensures decor { option_map (λ key. key.leaf) (slot_key self.old) ≡ Some result.now }
         // What the inline table is after a change of the key.
         ensures leaves { (h : Key → Key) → inline_slots_of (slot_ref (with_slot_key self.old h)).now
-            ≡ changed_at (slot_place self.old) (on_key h) (inline_slots_of (slot_ref self.old).now) }
-        ensures keeps { (h : Key → Key) → inline_fields (slot_ref (with_slot_key self.old h)).now ≡ inline_fields (slot_ref self.old).now }
+            ≡ changed_at (slot_place self.old) (on_key h)
+            (inline_slots_of (slot_ref self.old).now) }
+        ensures keeps { (h : Key → Key)
+            → inline_fields (slot_ref (with_slot_key self.old h)).now
+            ≡ inline_fields (slot_ref self.old).now }
     {
         let at = self.at;
         self.table.leaf_decor_in_mut(at)
@@ -87,8 +93,11 @@ impl<'a> InlineSlotMut<'a> {
         ensures decor { option_map (λ key. key.dotted) (slot_key self.old) ≡ Some result.now }
         // What the inline table is after a change of the key.
         ensures leaves { (h : Key → Key) → inline_slots_of (slot_ref (with_slot_key self.old h)).now
-            ≡ changed_at (slot_place self.old) (on_key h) (inline_slots_of (slot_ref self.old).now) }
-        ensures keeps { (h : Key → Key) → inline_fields (slot_ref (with_slot_key self.old h)).now ≡ inline_fields (slot_ref self.old).now }
+            ≡ changed_at (slot_place self.old) (on_key h)
+            (inline_slots_of (slot_ref self.old).now) }
+        ensures keeps { (h : Key → Key)
+            → inline_fields (slot_ref (with_slot_key self.old h)).now
+            ≡ inline_fields (slot_ref self.old).now }
     {
         let at = self.at;
         self.table.dotted_decor_in_mut(at)
@@ -98,9 +107,13 @@ impl<'a> InlineSlotMut<'a> {
     pub fn fmt_key(&mut self)
         ensures same_table { (slot_ref self.new).ghost_name ≡ (slot_ref self.old).ghost_name }
         ensures same_place { slot_place self.new ≡ slot_place self.old }
-        ensures table { (slot_ref self.new).now ≡ (slot_ref (with_slot_key self.old reset_key)).now }
-        ensures slots { inline_slots_of (slot_ref self.new).now ≡ changed_at (slot_place self.old) (on_key reset_key) (inline_slots_of (slot_ref self.old).now) }
-        ensures fields { inline_fields (slot_ref self.new).now ≡ inline_fields (slot_ref self.old).now }
+        ensures table { (slot_ref self.new).now
+            ≡ (slot_ref (with_slot_key self.old reset_key)).now }
+        ensures slots { inline_slots_of (slot_ref self.new).now
+            ≡ changed_at (slot_place self.old) (on_key reset_key)
+            (inline_slots_of (slot_ref self.old).now) }
+        ensures fields { inline_fields (slot_ref self.new).now
+            ≡ inline_fields (slot_ref self.old).now }
     {
         self.table.fmt_key_in(self.at);
     }
@@ -118,8 +131,11 @@ impl<'a> InlineSlotMut<'a> {
         ensures item { Some result.now ≡ slot_item self.old }
         // What the inline table is after a write through the reference.
         ensures leaves { (w : Item) → inline_slots_of (slot_ref (with_slot_item self.old w)).now
-            ≡ changed_at (slot_place self.old) (with_item (item_view w)) (inline_slots_of (slot_ref self.old).now) }
-        ensures keeps { (w : Item) → inline_fields (slot_ref (with_slot_item self.old w)).now ≡ inline_fields (slot_ref self.old).now }
+            ≡ changed_at (slot_place self.old) (with_item (item_view w))
+            (inline_slots_of (slot_ref self.old).now) }
+        ensures keeps { (w : Item)
+            → inline_fields (slot_ref (with_slot_item self.old w)).now
+            ≡ inline_fields (slot_ref self.old).now }
     {
         let at = self.at;
         self.table.item_at_mut(at)
@@ -134,9 +150,11 @@ impl InlineTable {
     /// It lends the item by `get_mut` and the key by `key_mut`, one after the other.
     pub fn slot_mut(&mut self, key: &str) -> Option<InlineSlotMut<'_>>
         ensures* absent { sem 𝓛 (SlotRestsIfAbsent self.entry result) }
-        ensures same_table { IfSome result (λ slot. (slot_ref slot).ghost_name ≡ self.entry.ghost_name) }
+        ensures same_table { IfSome result
+            (λ slot. (slot_ref slot).ghost_name ≡ self.entry.ghost_name) }
         ensures table { IfSome result (λ slot. (slot_ref slot).now ≡ self.old) }
-        ensures place { option_map slot_place result ≡ place_seen key.now (inline_slots_of self.old) }
+        ensures place { option_map slot_place result
+            ≡ place_seen key.now (inline_slots_of self.old) }
     {
         match self.place_of(key) {
             Some(at) => Some(InlineSlotMut { table: self, at }),
@@ -150,10 +168,13 @@ impl InlineTable {
     /// placeholders too, use [`slot_mut`](Self::slot_mut).
     pub fn get_key_value_mut(&mut self, key: &str) -> Option<InlineSlotMut<'_>>
         ensures* absent { sem 𝓛 (SlotRestsIfAbsent self.entry result) }
-        ensures same_table { IfSome result (λ slot. (slot_ref slot).ghost_name ≡ self.entry.ghost_name) }
+        ensures same_table { IfSome result
+            (λ slot. (slot_ref slot).ghost_name ≡ self.entry.ghost_name) }
         ensures table { IfSome result (λ slot. (slot_ref slot).now ≡ self.old) }
-        ensures item { option_and_then (λ slot. option_map item_view (slot_item slot)) result ≡ get key.now (inline_slots_of self.old) }
-        ensures place { IfSome result (λ slot. place_seen key.now (inline_slots_of self.old) ≡ Some (slot_place slot)) }
+        ensures item { option_and_then (λ slot. option_map item_view (slot_item slot)) result
+            ≡ get key.now (inline_slots_of self.old) }
+        ensures place { IfSome result
+            (λ slot. place_seen key.now (inline_slots_of self.old) ≡ Some (slot_place slot)) }
     {
         match self.held_place(key) {
             Some(at) => Some(InlineSlotMut { table: self, at }),
@@ -166,9 +187,11 @@ impl InlineTable {
     /// In a loop over numbers it takes the place of an `iter_mut`.
     pub fn key_value_at_mut(&mut self, at: usize) -> Option<InlineSlotMut<'_>>
         ensures* absent { sem 𝓛 (SlotRestsIfAbsent self.entry result) }
-        ensures same_table { IfSome result (λ slot. (slot_ref slot).ghost_name ≡ self.entry.ghost_name) }
+        ensures same_table { IfSome result
+            (λ slot. (slot_ref slot).ghost_name ≡ self.entry.ghost_name) }
         ensures table { IfSome result (λ slot. (slot_ref slot).now ≡ self.old) }
-        ensures place { option_map slot_place result ≡ if nat_lt at (length (inline_slots_of self.old)) then Some at else None }
+        ensures place { option_map slot_place result
+            ≡ if nat_lt at (length (inline_slots_of self.old)) then Some at else None }
     {
         if self.has_place(at) {
             Some(InlineSlotMut { table: self, at })
@@ -213,7 +236,8 @@ impl InlineTable {
     fn key_in_mut(&mut self, at: usize) -> KeyMut<'_>
         requires { at < length (out-InlineTable self.old).items }
         ensures* writes_back { sem 𝓛 (LendsInlineKeyAt self.entry at result) }
-        ensures key { option_map (λ slot. slot.key) (slice_get (out-InlineTable self.old).items at) ≡ Some (key_of result) }
+        ensures key { option_map (λ slot. slot.key) (slice_get (out-InlineTable self.old).items at)
+            ≡ Some (key_of result) }
     {
         self.items.key_mut(at)
     }
@@ -222,7 +246,8 @@ impl InlineTable {
     fn leaf_decor_in_mut(&mut self, at: usize) -> &mut Decor
         requires { at < length (out-InlineTable self.old).items }
         ensures* writes_back { sem 𝓛 (LendsInlineLeafAt self.entry at result) }
-        ensures decor { option_map (λ slot. slot.key.leaf) (slice_get (out-InlineTable self.old).items at) ≡ Some result.now }
+        ensures decor { option_map (λ slot. slot.key.leaf)
+            (slice_get (out-InlineTable self.old).items at) ≡ Some result.now }
     {
         self.items.leaf_decor_mut(at)
     }
@@ -231,7 +256,8 @@ impl InlineTable {
     fn dotted_decor_in_mut(&mut self, at: usize) -> &mut Decor
         requires { at < length (out-InlineTable self.old).items }
         ensures* writes_back { sem 𝓛 (LendsInlineDottedAt self.entry at result) }
-        ensures decor { option_map (λ slot. slot.key.dotted) (slice_get (out-InlineTable self.old).items at) ≡ Some result.now }
+        ensures decor { option_map (λ slot. slot.key.dotted)
+            (slice_get (out-InlineTable self.old).items at) ≡ Some result.now }
     {
         self.items.dotted_decor_mut(at)
     }

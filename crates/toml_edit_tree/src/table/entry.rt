@@ -87,8 +87,10 @@ impl<'a> Entry<'a> {
         ensures* writes_back { sem 𝓛 (EntryLendsOk self.entry result) }
         ensures item { IfOk result (λ x. x.now ≡ unwrap_or (entry_item self.entry) item) }
         // What the table is after a write through the reference.
-        ensures leaves { (w : Item) → slots_of (table_with self.entry w) ≡ slots_left self.entry (item_view w) }
-        ensures keeps { (w : Item) → fields_view (table_with self.entry w) ≡ fields_view (entry_ref self.entry).now }
+        ensures leaves { (w : Item)
+            → slots_of (table_with self.entry w) ≡ slots_left self.entry (item_view w) }
+        ensures keeps { (w : Item)
+            → fields_view (table_with self.entry w) ≡ fields_view (entry_ref self.entry).now }
         ensures present { IsSome (entry_item self.entry) → IsOk result }
         ensures back { IfErr result (λ refused. refused.0 ≡ item) }
     {
@@ -119,10 +121,13 @@ impl<'a> Entry<'a> {
         F: Drop,
         requires { entry_item self ≡ None → F.pre default }
         ensures* writes_back { sem 𝓛 (EntryLendsOk self.entry result) }
-        ensures item { IfOk result (λ x. UnwrapsOrElse (entry_item self.entry) (F.post default) x.now) }
+        ensures item { IfOk result
+            (λ x. UnwrapsOrElse (entry_item self.entry) (F.post default) x.now) }
         // What the table is after a write through the reference.
-        ensures leaves { (w : Item) → slots_of (table_with self.entry w) ≡ slots_left self.entry (item_view w) }
-        ensures keeps { (w : Item) → fields_view (table_with self.entry w) ≡ fields_view (entry_ref self.entry).now }
+        ensures leaves { (w : Item)
+            → slots_of (table_with self.entry w) ≡ slots_left self.entry (item_view w) }
+        ensures keeps { (w : Item)
+            → fields_view (table_with self.entry w) ≡ fields_view (entry_ref self.entry).now }
         ensures present { IsSome (entry_item self.entry) → IsOk result }
         ensures back { IfErr result (λ refused. F.post default refused.0) }
     {
@@ -184,8 +189,11 @@ impl<'a> OccupiedEntry<'a> {
         ensures key { entry_key (Occupied self.old) ≡ Some (key_of result) }
         // What the table is after a change of the key.
         ensures leaves { (h : Key → Key) → slots_of (with_entry_key self.old h).table.now
-            ≡ changed_at (entry_place (Occupied self.old)) (on_key h) (slots_of (entry_ref (Occupied self.old)).now) }
-        ensures keeps { (h : Key → Key) → fields_view (with_entry_key self.old h).table.now ≡ fields_view (entry_ref (Occupied self.old)).now }
+            ≡ changed_at (entry_place (Occupied self.old)) (on_key h)
+            (slots_of (entry_ref (Occupied self.old)).now) }
+        ensures keeps { (h : Key → Key)
+            → fields_view (with_entry_key self.old h).table.now
+            ≡ fields_view (entry_ref (Occupied self.old)).now }
     {
         let at = self.at;
         self.table.key_at_mut(at)
@@ -195,11 +203,15 @@ impl<'a> OccupiedEntry<'a> {
     /// comments before its line, and the whitespace before `=`.
     pub fn leaf_decor_mut(&mut self) -> &mut Decor
         ensures* writes_back { sem 𝓛 (OccupiedLendsLeaf self.entry result) }
-        ensures decor { option_map (λ key. key.leaf) (entry_key (Occupied self.old)) ≡ Some result.now }
+        ensures decor { option_map (λ key. key.leaf) (entry_key (Occupied self.old))
+            ≡ Some result.now }
         // What the table is after a change of the key.
         ensures leaves { (h : Key → Key) → slots_of (with_entry_key self.old h).table.now
-            ≡ changed_at (entry_place (Occupied self.old)) (on_key h) (slots_of (entry_ref (Occupied self.old)).now) }
-        ensures keeps { (h : Key → Key) → fields_view (with_entry_key self.old h).table.now ≡ fields_view (entry_ref (Occupied self.old)).now }
+            ≡ changed_at (entry_place (Occupied self.old)) (on_key h)
+            (slots_of (entry_ref (Occupied self.old)).now) }
+        ensures keeps { (h : Key → Key)
+            → fields_view (with_entry_key self.old h).table.now
+            ≡ fields_view (entry_ref (Occupied self.old)).now }
     {
         let at = self.at;
         self.table.leaf_decor_at_mut(at)
@@ -209,11 +221,15 @@ impl<'a> OccupiedEntry<'a> {
     /// key and the dots before and after it.
     pub fn dotted_decor_mut(&mut self) -> &mut Decor
         ensures* writes_back { sem 𝓛 (OccupiedLendsDotted self.entry result) }
-        ensures decor { option_map (λ key. key.dotted) (entry_key (Occupied self.old)) ≡ Some result.now }
+        ensures decor { option_map (λ key. key.dotted) (entry_key (Occupied self.old))
+            ≡ Some result.now }
         // What the table is after a change of the key.
         ensures leaves { (h : Key → Key) → slots_of (with_entry_key self.old h).table.now
-            ≡ changed_at (entry_place (Occupied self.old)) (on_key h) (slots_of (entry_ref (Occupied self.old)).now) }
-        ensures keeps { (h : Key → Key) → fields_view (with_entry_key self.old h).table.now ≡ fields_view (entry_ref (Occupied self.old)).now }
+            ≡ changed_at (entry_place (Occupied self.old)) (on_key h)
+            (slots_of (entry_ref (Occupied self.old)).now) }
+        ensures keeps { (h : Key → Key)
+            → fields_view (with_entry_key self.old h).table.now
+            ≡ fields_view (entry_ref (Occupied self.old)).now }
     {
         let at = self.at;
         self.table.dotted_decor_at_mut(at)
@@ -221,12 +237,16 @@ impl<'a> OccupiedEntry<'a> {
 
     /// Resets the key to its default spelling and unsets its decors, so a comment above it goes.
     pub fn fmt_key(&mut self)
-        ensures same_table { (entry_ref (Occupied self.new)).ghost_name ≡ (entry_ref (Occupied self.old)).ghost_name }
+        ensures same_table { (entry_ref (Occupied self.new)).ghost_name
+            ≡ (entry_ref (Occupied self.old)).ghost_name }
         ensures same_place { entry_place (Occupied self.new) ≡ entry_place (Occupied self.old) }
-        ensures table { (entry_ref (Occupied self.new)).now ≡ (with_entry_key self.old reset_key).table.now }
+        ensures table { (entry_ref (Occupied self.new)).now
+            ≡ (with_entry_key self.old reset_key).table.now }
         ensures slots { slots_of (entry_ref (Occupied self.new)).now
-            ≡ changed_at (entry_place (Occupied self.old)) (on_key reset_key) (slots_of (entry_ref (Occupied self.old)).now) }
-        ensures fields { fields_view (entry_ref (Occupied self.new)).now ≡ fields_view (entry_ref (Occupied self.old)).now }
+            ≡ changed_at (entry_place (Occupied self.old)) (on_key reset_key)
+            (slots_of (entry_ref (Occupied self.old)).now) }
+        ensures fields { fields_view (entry_ref (Occupied self.new)).now
+            ≡ fields_view (entry_ref (Occupied self.old)).now }
     {
         self.table.slots.fmt_key(self.at);
     }
@@ -247,8 +267,11 @@ impl<'a> OccupiedEntry<'a> {
         ensures item { Some result.now ≡ entry_item (Occupied self.old) }
         // What the table is after a write through the reference.
         ensures leaves { (w : Item) → slots_of (with_entry_item self.old w).table.now
-            ≡ changed_at (entry_place (Occupied self.old)) (with_item (item_view w)) (slots_of (entry_ref (Occupied self.old)).now) }
-        ensures keeps { (w : Item) → fields_view (with_entry_item self.old w).table.now ≡ fields_view (entry_ref (Occupied self.old)).now }
+            ≡ changed_at (entry_place (Occupied self.old)) (with_item (item_view w))
+            (slots_of (entry_ref (Occupied self.old)).now) }
+        ensures keeps { (w : Item)
+            → fields_view (with_entry_item self.old w).table.now
+            ≡ fields_view (entry_ref (Occupied self.old)).now }
     {
         let at = self.at;
         self.table.item_at_mut(at)
@@ -263,8 +286,11 @@ impl<'a> OccupiedEntry<'a> {
         ensures item { Some result.now ≡ entry_item (Occupied self.entry) }
         // What the table is after a write through the reference.
         ensures leaves { (w : Item) → slots_of (table_with (Occupied self.entry) w)
-            ≡ changed_at (entry_place (Occupied self.entry)) (with_item (item_view w)) (slots_of (entry_ref (Occupied self.entry)).now) }
-        ensures keeps { (w : Item) → fields_view (table_with (Occupied self.entry) w) ≡ fields_view (entry_ref (Occupied self.entry)).now }
+            ≡ changed_at (entry_place (Occupied self.entry)) (with_item (item_view w))
+            (slots_of (entry_ref (Occupied self.entry)).now) }
+        ensures keeps { (w : Item)
+            → fields_view (table_with (Occupied self.entry) w)
+            ≡ fields_view (entry_ref (Occupied self.entry)).now }
     {
         let OccupiedEntry { table, at } = self;
         table.slots.item_mut(at)
@@ -274,14 +300,17 @@ impl<'a> OccupiedEntry<'a> {
     ///
     /// The comment after an old value goes with it, since it is in the decor of the value.
     pub fn insert(&mut self, item: Item) -> Item
-        ensures same_table { (entry_ref (Occupied self.new)).ghost_name ≡ (entry_ref (Occupied self.old)).ghost_name }
+        ensures same_table { (entry_ref (Occupied self.new)).ghost_name
+            ≡ (entry_ref (Occupied self.old)).ghost_name }
         ensures same_place { entry_place (Occupied self.new) ≡ entry_place (Occupied self.old) }
         ensures item { Some result ≡ entry_item (Occupied self.old) }
         ensures table { (entry_ref (Occupied self.new)).now ≡ table_with (Occupied self.old) item }
         ensures holds { entry_item (Occupied self.new) ≡ Some item }
         ensures slots { slots_of (entry_ref (Occupied self.new)).now
-            ≡ changed_at (entry_place (Occupied self.old)) (with_item (item_view item)) (slots_of (entry_ref (Occupied self.old)).now) }
-        ensures fields { fields_view (entry_ref (Occupied self.new)).now ≡ fields_view (entry_ref (Occupied self.old)).now }
+            ≡ changed_at (entry_place (Occupied self.old)) (with_item (item_view item))
+            (slots_of (entry_ref (Occupied self.old)).now) }
+        ensures fields { fields_view (entry_ref (Occupied self.new)).now
+            ≡ fields_view (entry_ref (Occupied self.old)).now }
     {
         self.table.slots.replace_item(self.at, item)
     }
@@ -290,8 +319,11 @@ impl<'a> OccupiedEntry<'a> {
     /// comments are dropped.
     pub fn remove(self) -> Item
         ensures item { Some result ≡ entry_item (Occupied self.entry) }
-        ensures removed { IfSome (entry_key (Occupied self.entry)) (λ key. slots_of self.exit.0.now ≡ without key.name (slots_of (entry_ref (Occupied self.entry)).now)) }
-        ensures fields { fields_view self.exit.0.now ≡ fields_view (entry_ref (Occupied self.entry)).now }
+        ensures removed { IfSome (entry_key (Occupied self.entry))
+            (λ key. slots_of self.exit.0.now
+            ≡ without key.name (slots_of (entry_ref (Occupied self.entry)).now)) }
+        ensures fields { fields_view self.exit.0.now
+            ≡ fields_view (entry_ref (Occupied self.entry)).now }
     {
         let at = self.at;
         self.table.remove_at(at)
@@ -344,8 +376,12 @@ impl<'a> VacantEntry<'a> {
         ensures* writes_back { sem 𝓛 (EntryLendsOk (Vacant self.entry) result) }
         ensures item { IfOk result (λ x. x.now ≡ item) }
         // What the table is after a write through the reference.
-        ensures leaves { (w : Item) → slots_of (table_with (Vacant self.entry) w) ≡ slots_left (Vacant self.entry) (item_view w) }
-        ensures keeps { (w : Item) → fields_view (table_with (Vacant self.entry) w) ≡ fields_view (entry_ref (Vacant self.entry)).now }
+        ensures leaves { (w : Item)
+            → slots_of (table_with (Vacant self.entry) w)
+            ≡ slots_left (Vacant self.entry) (item_view w) }
+        ensures keeps { (w : Item)
+            → fields_view (table_with (Vacant self.entry) w)
+            ≡ fields_view (entry_ref (Vacant self.entry)).now }
         ensures back { IfErr result (λ refused. refused.0 ≡ item) }
     {
         let VacantEntry { table, key } = self;
@@ -432,9 +468,11 @@ impl Table {
     /// From `set_comment` of the guide, docs/GUIDE.md.
     pub fn slot_mut(&mut self, key: &str) -> Option<OccupiedEntry<'_>>
         ensures* absent { sem 𝓛 (RestsIfAbsent self.entry result) }
-        ensures same_table { IfSome result (λ e. (entry_ref (Occupied e)).ghost_name ≡ self.entry.ghost_name) }
+        ensures same_table { IfSome result
+            (λ e. (entry_ref (Occupied e)).ghost_name ≡ self.entry.ghost_name) }
         ensures table { IfSome result (λ e. (entry_ref (Occupied e)).now ≡ self.old) }
-        ensures place { option_map (λ e. entry_place (Occupied e)) result ≡ place_seen key.now (slots_of self.old) }
+        ensures place { option_map (λ e. entry_place (Occupied e)) result
+            ≡ place_seen key.now (slots_of self.old) }
     {
         match self.place_of(key) {
             Some(at) => Some(OccupiedEntry { table: self, at }),
@@ -448,10 +486,13 @@ impl Table {
     /// placeholders too, use [`slot_mut`](Self::slot_mut).
     pub fn get_key_value_mut(&mut self, key: &str) -> Option<OccupiedEntry<'_>>
         ensures* absent { sem 𝓛 (RestsIfAbsent self.entry result) }
-        ensures same_table { IfSome result (λ e. (entry_ref (Occupied e)).ghost_name ≡ self.entry.ghost_name) }
+        ensures same_table { IfSome result
+            (λ e. (entry_ref (Occupied e)).ghost_name ≡ self.entry.ghost_name) }
         ensures table { IfSome result (λ e. (entry_ref (Occupied e)).now ≡ self.old) }
-        ensures item { option_and_then (λ e. option_map item_view (entry_item (Occupied e))) result ≡ get key.now (slots_of self.old) }
-        ensures place { IfSome result (λ e. place_seen key.now (slots_of self.old) ≡ Some (entry_place (Occupied e))) }
+        ensures item { option_and_then (λ e. option_map item_view (entry_item (Occupied e))) result
+            ≡ get key.now (slots_of self.old) }
+        ensures place { IfSome result
+            (λ e. place_seen key.now (slots_of self.old) ≡ Some (entry_place (Occupied e))) }
     {
         match self.held_place(key) {
             Some(at) => Some(OccupiedEntry { table: self, at }),
@@ -464,9 +505,11 @@ impl Table {
     /// In a loop over numbers it takes the place of an `iter_mut`.
     pub fn key_value_at_mut(&mut self, at: usize) -> Option<OccupiedEntry<'_>>
         ensures* absent { sem 𝓛 (RestsIfAbsent self.entry result) }
-        ensures same_table { IfSome result (λ e. (entry_ref (Occupied e)).ghost_name ≡ self.entry.ghost_name) }
+        ensures same_table { IfSome result
+            (λ e. (entry_ref (Occupied e)).ghost_name ≡ self.entry.ghost_name) }
         ensures table { IfSome result (λ e. (entry_ref (Occupied e)).now ≡ self.old) }
-        ensures place { option_map (λ e. entry_place (Occupied e)) result ≡ if nat_lt at (length (slots_of self.old)) then Some at else None }
+        ensures place { option_map (λ e. entry_place (Occupied e)) result
+            ≡ if nat_lt at (length (slots_of self.old)) then Some at else None }
     {
         if self.has_place(at) {
             Some(OccupiedEntry { table: self, at })
@@ -521,7 +564,8 @@ impl Table {
     fn key_at_mut(&mut self, at: usize) -> KeyMut<'_>
         requires { at < length (out-Table self.old).slots }
         ensures* writes_back { sem 𝓛 (LendsKeyAt self.entry at result) }
-        ensures key { option_map (λ slot. slot.key) (slice_get (out-Table self.old).slots at) ≡ Some (key_of result) }
+        ensures key { option_map (λ slot. slot.key) (slice_get (out-Table self.old).slots at)
+            ≡ Some (key_of result) }
     {
         self.slots.key_mut(at)
     }
@@ -530,7 +574,8 @@ impl Table {
     fn leaf_decor_at_mut(&mut self, at: usize) -> &mut Decor
         requires { at < length (out-Table self.old).slots }
         ensures* writes_back { sem 𝓛 (LendsLeafAt self.entry at result) }
-        ensures decor { option_map (λ slot. slot.key.leaf) (slice_get (out-Table self.old).slots at) ≡ Some result.now }
+        ensures decor { option_map (λ slot. slot.key.leaf)
+            (slice_get (out-Table self.old).slots at) ≡ Some result.now }
     {
         self.slots.leaf_decor_mut(at)
     }
@@ -539,7 +584,8 @@ impl Table {
     fn dotted_decor_at_mut(&mut self, at: usize) -> &mut Decor
         requires { at < length (out-Table self.old).slots }
         ensures* writes_back { sem 𝓛 (LendsDottedAt self.entry at result) }
-        ensures decor { option_map (λ slot. slot.key.dotted) (slice_get (out-Table self.old).slots at) ≡ Some result.now }
+        ensures decor { option_map (λ slot. slot.key.dotted)
+            (slice_get (out-Table self.old).slots at) ≡ Some result.now }
     {
         self.slots.dotted_decor_mut(at)
     }
@@ -548,7 +594,8 @@ impl Table {
     fn remove_at(&mut self, at: usize) -> Item
         requires { at < length (out-Table self.old).slots }
         ensures item { Some result ≡ slice_get (items_of (out-Table self.old).slots) at }
-        ensures removed { IfSome (slice_get (out-Table self.old).slots at) (λ slot. slots_of self.new ≡ without slot.key.name (slots_of self.old)) }
+        ensures removed { IfSome (slice_get (out-Table self.old).slots at)
+            (λ slot. slots_of self.new ≡ without slot.key.name (slots_of self.old)) }
         ensures fields { fields_view self.new ≡ fields_view self.old }
     {
         self.slots.remove_at(at).into_item()

@@ -37,7 +37,9 @@ use Rattle.toml_edit_slots.specs.contracts.slots.Slots.TheInside as I
 
 -- a slot, by its item
 abbrev pub of_slot : Former {0} → Former {0}
-of_slot g = via (pair (const Key) g) (λ X. Slot (g.Of X)) (λ X s. (s.key, s.item)) (λ X v. record { key = v.0; item = v.1 }) (λ X s. refl) (λ X v. refl)
+of_slot g =
+    via (pair (const Key) g) (λ X. Slot (g.Of X)) (λ X s. (s.key, s.item))
+    (λ X v. record { key = v.0; item = v.1 }) (λ X s. refl) (λ X v. refl)
 
 abbrev pub the_former : Former {0} → Former {0}
 the_former g = list (of_slot g)
@@ -46,7 +48,9 @@ abbrev pub the_empty : List (Slot ⊥)
 the_empty = []
 
 abbrev pub the_weighed : {g : Former {0}} → Weighed g → Weighed (the_former g)
-the_weighed {g} w = w_list (w_via (w_pair (w_const Key) w) (λ X. Slot (g.Of X)) (λ X s. (s.key, s.item)) (λ X v. record { key = v.0; item = v.1 }) (λ X s. refl) (λ X v. refl))
+the_weighed {g} w =
+    w_list (w_via (w_pair (w_const Key) w) (λ X. Slot (g.Of X)) (λ X s. (s.key, s.item))
+    (λ X v. record { key = v.0; item = v.1 }) (λ X s. refl) (λ X v. refl))
 
 abbrev pub items_of : {X : Type 0} → List (Slot X) → List X
 items_of [] = []
@@ -55,7 +59,8 @@ items_of (s ∷ es) = s.item ∷ items_of es
 abbrev pub the_items : (X : Type 0) → List (Slot X) → List X
 the_items X es = items_of es
 
-pub the_items_listed : (X : Type 0) (es : List (Slot X)) → listed _ (children (the_former this) X es) ≡ the_items X es
+pub the_items_listed : (X : Type 0) (es : List (Slot X))
+    → listed _ (children (the_former this) X es) ≡ the_items X es
 the_items_listed X [] = refl
 the_items_listed X (s ∷ es) = ap (λ l. s.item ∷ l) (the_items_listed X es)
 
@@ -68,7 +73,10 @@ abbrev IndexValue : Type 0
 IndexValue = Option (Box Index)
 
 abbrev fields : Former {0}
-fields = via (pair (vec.the_former (of_slot this) Global) (const IndexValue)) Inside (λ X a. (a.entries, a.index)) (λ X v. record { entries = v.0; index = v.1 }) (λ X a. refl) (λ X v. refl)
+fields =
+    via (pair (vec.the_former (of_slot this) Global) (const IndexValue)) Inside
+    (λ X a. (a.entries, a.index)) (λ X v. record { entries = v.0; index = v.1 }) (λ X a. refl)
+    (λ X v. refl)
 
 IsChainedTo-prop : (c : Chains) (us : List Text) (k : ℕ) → IsProp (IsChainedTo c us k)
 IsChainedTo-prop c us k p q = λ i. record {
@@ -80,7 +88,9 @@ IsChainedTo-prop c us k p q = λ i. record {
 
 IsIndex-prop : (index : Index) (us : List Text) → IsProp (IsIndex index us)
 IsIndex-prop (Chained c) us = IsChainedTo-prop c us (length us)
-IsIndex-prop (Sorted m) us = λ p q i k t there. Coded-set (coded_option coded_ℕ) (place_of m t) (Some k) (p k t there) (q k t there) i
+IsIndex-prop (Sorted m) us =
+    λ p q i k t there. Coded-set (coded_option coded_ℕ) (place_of m t) (Some k) (p k t there)
+    (q k t there) i
 
 IsIndexed-prop : (index : IndexValue) (us : List Text) → IsProp (IsIndexed index us)
 IsIndexed-prop None us = le_prop
@@ -88,17 +98,38 @@ IsIndexed-prop (Some x) us = IsIndex-prop x.value us
 
 module _ (R S : RattleType) (h : R.Denot → S.Denot) where
   slot_places : Alike R S h → Alike (slot.the_row R) (slot.the_row S) (on_item h)
-  slot_places a = struct_places (slot.the_type R) (slot.the_type S) ((λ k. k), (h, tt)) (on_item h) (λ d. refl) refl ((refl, (λ n. refl, λ n. refl)), (laid _ _ _ a, tt))
+  slot_places a =
+      struct_places (slot.the_type R) (slot.the_type S) ((λ k. k), (h, tt)) (on_item h)
+      (λ d. refl) refl ((refl, (λ n. refl, λ n. refl)), (laid _ _ _ a, tt))
 
-  pub the_places : Alike R S h → Alike (C.the_row R) (C.the_row S) ((the_former this).map R.Denot S.Denot h)
-  the_places a = view_places fields (list (of_slot this)) view (λ X Y k u. refl) (λ X u. refl) R.Denot S.Denot h (C.the_row R).coded (C.the_row S).coded
+  pub the_places : Alike R S h
+      → Alike (C.the_row R) (C.the_row S) ((the_former this).map R.Denot S.Denot h)
+  the_places a =
+      view_places fields (list (of_slot this)) view (λ X Y k u. refl)
+      (λ X u. refl) R.Denot S.Denot h (C.the_row R).coded (C.the_row S).coded
       (invariant R.Denot) (invariant S.Denot)
-      (λ u. ×_prop (IsDistinct-prop _ _) (IsIndexed-prop u.index (names u.entries.items))) (λ u. ×_prop (IsDistinct-prop _ _) (IsIndexed-prop u.index (names u.entries.items)))
-      (λ u e. (subst (IsDistinct same_text) (sym (names_kept h u.entries.items)) e.0, subst (IsIndexed u.index) (sym (names_kept h u.entries.items)) e.1))
-      (λ u e. (subst (IsDistinct same_text) (names_kept h u.entries.items) e.0, subst (IsIndexed u.index) (names_kept h u.entries.items) e.1))
+      (λ u. ×_prop (IsDistinct-prop _ _) (IsIndexed-prop u.index (names u.entries.items)))
+      (λ u. ×_prop (IsDistinct-prop _ _) (IsIndexed-prop u.index (names u.entries.items)))
+      (λ u e. (
+        subst (IsDistinct same_text) (sym (names_kept h u.entries.items)) e.0,
+        subst
+            (IsIndexed u.index) (sym (names_kept h u.entries.items)) e.1,
+      ))
+      (λ u e. (
+        subst (IsDistinct same_text) (names_kept h u.entries.items) e.0,
+        subst
+            (IsIndexed u.index) (names_kept h u.entries.items) e.1,
+      ))
       (over (I.the_row R)) (over (I.the_row S))
-      (struct_places (I.the_type R) (I.the_type S) (vec.mapped (on_item h), ((λ n. n), tt)) _ (λ d. refl) refl
-      (laid _ _ _ (vec.the_places heap.the_row ghosts (slot.the_row R) (slot.the_row S) (on_item h) (slot_places a)), ((refl, (λ n. refl, λ n. refl)), tt)))
+      (struct_places (I.the_type R) (I.the_type S) (vec.mapped (on_item h), ((λ n. n), tt)) _
+      (λ d. refl) refl (
+        laid _ _ _ (vec.the_places heap.the_row ghosts (slot.the_row R) (slot.the_row S) (on_item h)
+            (slot_places a)),
+        ((refl, (λ n. refl, λ n. refl)), tt),
+      ))
 
-  pub the_codes_placed : Recodes R S h → Recodes (C.the_row R) (C.the_row S) ((the_former this).map R.Denot S.Denot h)
-  the_codes_placed e d = sym (code_map (slot_code R.coded).code (slot_code S.coded).code (on_item h) (λ x i. gcons ((key.the_row).coded.code x.key) (sym (e x.item) i)) d)
+  pub the_codes_placed : Recodes R S h
+      → Recodes (C.the_row R) (C.the_row S) ((the_former this).map R.Denot S.Denot h)
+  the_codes_placed e d =
+      sym (code_map (slot_code R.coded).code (slot_code S.coded).code (on_item h)
+      (λ x i. gcons ((key.the_row).coded.code x.key) (sym (e x.item) i)) d)

@@ -62,9 +62,11 @@ impl<T> Slots<T> {
     /// Returns the entry of the slot at the place, or `None` if it is after the last slot.
     pub fn key_value_at_mut(&mut self, at: usize) -> Option<OccupiedEntry<'_, T>>
         ensures* absent { sem 𝓛 (RestsIfAbsent T.row self.entry result) }
-        ensures same_slots { IfSome result (λ e. (entry_ref (Occupied e)).ghost_name ≡ self.entry.ghost_name) }
+        ensures same_slots { IfSome result
+            (λ e. (entry_ref (Occupied e)).ghost_name ≡ self.entry.ghost_name) }
         ensures slots { IfSome result (λ e. (entry_ref (Occupied e)).now ≡ self.old) }
-        ensures place { option_map (λ e. entry_place (Occupied e)) result ≡ if nat_lt at (length self.old) then Some at else None }
+        ensures place { option_map (λ e. entry_place (Occupied e)) result
+            ≡ if nat_lt at (length self.old) then Some at else None }
     {
         if at < self.len() {
             Some(OccupiedEntry { slots: self, at })
@@ -76,9 +78,11 @@ impl<T> Slots<T> {
     /// Returns the entry of the slot with the name, or `None` if no slot has the name.
     pub fn get_key_value_mut(&mut self, name: &str) -> Option<OccupiedEntry<'_, T>>
         ensures* absent { sem 𝓛 (RestsIfAbsent T.row self.entry result) }
-        ensures same_slots { IfSome result (λ e. (entry_ref (Occupied e)).ghost_name ≡ self.entry.ghost_name) }
+        ensures same_slots { IfSome result
+            (λ e. (entry_ref (Occupied e)).ghost_name ≡ self.entry.ghost_name) }
         ensures slots { IfSome result (λ e. (entry_ref (Occupied e)).now ≡ self.old) }
-        ensures place { option_map (λ e. entry_place (Occupied e)) result ≡ place name.now self.old }
+        ensures place { option_map (λ e. entry_place (Occupied e)) result
+            ≡ place name.now self.old }
     {
         match self.find(name) {
             Some(at) => Some(OccupiedEntry { slots: self, at }),
@@ -132,7 +136,8 @@ impl<'a, T> OccupiedEntry<'a, T> {
     /// Returns a mutable reference to the decor that the key has as the last key of a path.
     pub fn leaf_decor_mut(&mut self) -> &mut Decor
         ensures* writes_back { sem 𝓛 (OccupiedLendsLeaf T.row self.entry result) }
-        ensures decor { option_map (λ key. key.leaf) (entry_key (Occupied self.old)) ≡ Some result.now }
+        ensures decor { option_map (λ key. key.leaf) (entry_key (Occupied self.old))
+            ≡ Some result.now }
     {
         let at = self.at;
         self.slots.leaf_decor_mut(at)
@@ -141,7 +146,8 @@ impl<'a, T> OccupiedEntry<'a, T> {
     /// Returns a mutable reference to the decor that the key has before a dot.
     pub fn dotted_decor_mut(&mut self) -> &mut Decor
         ensures* writes_back { sem 𝓛 (OccupiedLendsDotted T.row self.entry result) }
-        ensures decor { option_map (λ key. key.dotted) (entry_key (Occupied self.old)) ≡ Some result.now }
+        ensures decor { option_map (λ key. key.dotted) (entry_key (Occupied self.old))
+            ≡ Some result.now }
     {
         let at = self.at;
         self.slots.dotted_decor_mut(at)
@@ -149,9 +155,11 @@ impl<'a, T> OccupiedEntry<'a, T> {
 
     /// Removes the formatting of the key: its spelling and its decors.
     pub fn fmt_key(&mut self)
-        ensures same_slots { (entry_ref (Occupied self.new)).ghost_name ≡ (entry_ref (Occupied self.old)).ghost_name }
+        ensures same_slots { (entry_ref (Occupied self.new)).ghost_name
+            ≡ (entry_ref (Occupied self.old)).ghost_name }
         ensures same_place { entry_place (Occupied self.new) ≡ entry_place (Occupied self.old) }
-        ensures slots { (entry_ref (Occupied self.new)).now ≡ (with_entry_key self.old reset_key).slots.now }
+        ensures slots { (entry_ref (Occupied self.new)).now
+            ≡ (with_entry_key self.old reset_key).slots.now }
     {
         self.slots.fmt_key(self.at);
     }
@@ -159,7 +167,9 @@ impl<'a, T> OccupiedEntry<'a, T> {
     /// Removes the slot, and returns its item. The others keep their order. Allocates nothing.
     pub fn remove(self) -> T
         ensures item { Some result ≡ entry_item (Occupied self.entry) }
-        ensures removed { IfSome (entry_key (Occupied self.entry)) (λ key. seen self.exit.0.now ≡ without key.name (seen (entry_ref (Occupied self.entry)).now)) }
+        ensures removed { IfSome (entry_key (Occupied self.entry))
+            (λ key. seen self.exit.0.now
+            ≡ without key.name (seen (entry_ref (Occupied self.entry)).now)) }
     {
         let at = self.at;
         self.slots.remove_at(at).into_item()
@@ -167,7 +177,8 @@ impl<'a, T> OccupiedEntry<'a, T> {
 
     /// Replaces the item, and returns the old one.
     pub fn insert(&mut self, item: T) -> T
-        ensures same_slots { (entry_ref (Occupied self.new)).ghost_name ≡ (entry_ref (Occupied self.old)).ghost_name }
+        ensures same_slots { (entry_ref (Occupied self.new)).ghost_name
+            ≡ (entry_ref (Occupied self.old)).ghost_name }
         ensures same_place { entry_place (Occupied self.new) ≡ entry_place (Occupied self.old) }
         ensures item { Some result ≡ entry_item (Occupied self.old) }
         ensures slots { (entry_ref (Occupied self.new)).now ≡ slots_with (Occupied self.old) item }
@@ -253,7 +264,8 @@ impl<'a, T> Entry<'a, T> {
         F: Drop,
         requires { entry_item self ≡ None → F.pre default }
         ensures* writes_back { sem 𝓛 (EntryLendsOk T.row self.entry result) }
-        ensures item { IfOk result (λ x. UnwrapsOrElse (entry_item self.entry) (F.post default) x.now) }
+        ensures item { IfOk result
+            (λ x. UnwrapsOrElse (entry_item self.entry) (F.post default) x.now) }
         ensures present { IsSome (entry_item self.entry) → IsOk result }
         ensures back { IfErr result (λ refused. F.post default refused.0) }
     {
