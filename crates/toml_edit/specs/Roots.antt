@@ -20,7 +20,8 @@ pub table-is : (t : Table) → is_table (items.Table t) ≡ true
 table-is t =
     ap is_table (sym (rolls-Table t))
     ∙ ap (λ n. is_some (table_in n))
-    (fold-roll-Item Node Node ArrayView TablesView InlineView TableView item_step value_step array_step tables_step inline_step table_step (Item-F.Table t))
+    (fold-roll-Item Node Node ArrayView TablesView InlineView TableView item_step value_step
+    array_step tables_step inline_step table_step (Item-F.Table t))
 
 -- the tree with this root, which is a table
 abbrev pub tree_at : Node → Raw → Tree

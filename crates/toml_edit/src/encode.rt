@@ -33,8 +33,10 @@ pub(crate) fn put_document<S: Sink>(
     headers: &[Header<'_, '_>],
     trailing: &RawString,
 )
-    requires { ArePrintedInOrder (mode_of mode) (fields_view root.now) (table_slots root.now) (map header_view headers.now) }
-    ensures { WritesInCalls S.puts out.old (print_in (mode_of mode) false (tree_view root.now trailing.now)) out.new }
+    requires { ArePrintedInOrder (mode_of mode) (fields_view root.now) (table_slots root.now)
+        (map header_view headers.now) }
+    ensures { WritesInCalls S.puts out.old
+        (print_in (mode_of mode) false (tree_view root.now trailing.now)) out.new }
 {
     put_side(out, mode, root.decor().prefix(), "");
     put_root_lines(out, mode, root);
@@ -45,7 +47,8 @@ pub(crate) fn put_document<S: Sink>(
 
 /// Puts the lines of the root. A dotted root has none.
 fn put_root_lines<S: Sink>(out: &mut S, mode: Mode, root: &Table)
-    ensures { WritesInCalls S.puts out.old (root_lines (mode_of mode) (fields_view root.now) (table_slots root.now)) out.new }
+    ensures { WritesInCalls S.puts out.old
+        (root_lines (mode_of mode) (fields_view root.now) (table_slots root.now)) out.new }
 {
     if root.is_dotted() {
         return;
@@ -63,7 +66,8 @@ fn headers_begin(root: &Table) -> bool
 /// Puts the headers in this order, each with the lines of its table after it. `begins` says that
 /// the first one is the first statement.
 fn put_headers<S: Sink>(out: &mut S, mode: Mode, headers: &[Header<'_, '_>], begins: bool)
-    ensures { WritesInCalls S.puts out.old (headers_text (mode_of mode) begins (map header_view headers.now)) out.new }
+    ensures { WritesInCalls S.puts out.old
+        (headers_text (mode_of mode) begins (map header_view headers.now)) out.new }
 {
     let mut is_first = begins;
     'headers: for header in headers {
@@ -78,7 +82,8 @@ fn put_headers<S: Sink>(out: &mut S, mode: Mode, headers: &[Header<'_, '_>], beg
 /// If the prefix of its last key has a line feed (LF), it is put before the header, since it can't
 /// be inside the brackets.
 fn put_header<S: Sink>(out: &mut S, mode: Mode, header: &Header<'_, '_>, is_first: bool)
-    ensures { WritesInCalls S.puts out.old (header_text (mode_of mode) is_first (header_view header.now)) out.new }
+    ensures { WritesInCalls S.puts out.old
+        (header_text (mode_of mode) is_first (header_view header.now)) out.new }
 {
     let leaf = header.key.leaf_decor();
     let decor = header.table.decor();
@@ -102,7 +107,9 @@ fn put_brackets<S: Sink>(out: &mut S, mode: Mode, header: &Header<'_, '_>, lifte
     requires { lifted ≡ holds_newline (mode_of mode) header.now.key.now.leaf }
     ensures { WritesInCalls S.puts out.old
         (opening_brackets header.now.is_element
-        ++ (inside_brackets (mode_of mode) header.now.key.now.leaf (path_text (segments (mode_of mode) (keys_on header.now.path.now ++ (header.now.key.now ∷ []))))
+        ++ (inside_brackets (mode_of mode) header.now.key.now.leaf
+        (path_text (segments (mode_of mode)
+        (keys_on header.now.path.now ++ (header.now.key.now ∷ []))))
         ++ closing_brackets header.now.is_element)) out.new }
 {
     out.put(if header.is_element { "[[" } else { "[" });
@@ -121,7 +128,8 @@ fn put_inside_brackets<S: Sink>(
 )
     requires { lifted ≡ holds_newline (mode_of mode) key.now.leaf }
     ensures { WritesInCalls S.puts out.old
-        (inside_brackets (mode_of mode) key.now.leaf (path_text (segments (mode_of mode) (keys_on path.now ++ (key.now ∷ []))))) out.new }
+        (inside_brackets (mode_of mode) key.now.leaf
+        (path_text (segments (mode_of mode) (keys_on path.now ++ (key.now ∷ []))))) out.new }
 {
     let leaf = key.leaf_decor();
     put_side_if(out, mode, !lifted, leaf.prefix());
@@ -131,7 +139,8 @@ fn put_inside_brackets<S: Sink>(
 
 /// Puts the side of a decor if `stands` is set, and nothing if not.
 fn put_side_if<S: Sink>(out: &mut S, mode: Mode, stands: bool, side: Option<&RawString>)
-    ensures { WritesInCalls S.puts out.old (if stands then shown_side (mode_of mode) [] (option_copied side.entry) else []) out.new }
+    ensures { WritesInCalls S.puts out.old
+        (if stands then shown_side (mode_of mode) [] (option_copied side.entry) else []) out.new }
 {
     if stands {
         put_side(out, mode, side, "")

@@ -106,7 +106,8 @@ fn enter_table<'p, 'a>(
 ) -> Mem<()>
     ensures { OnOk result (walk_view walk.new
         ≡ walked (table_slots table.now) (keys_on path.now ++ (key.now ∷ []))
-        (enter (walk_view walk.old) (keys_on path.now ++ (key.now ∷ [])) is_element (fields_view table.now) (table_slots table.now))) }
+        (enter (walk_view walk.old) (keys_on path.now ++ (key.now ∷ [])) is_element
+        (fields_view table.now) (table_slots table.now))) }
 {
     add_table(walk, table, is_element, key, path)?;
     if !have_tables(&table.slots) {

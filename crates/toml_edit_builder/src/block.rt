@@ -24,8 +24,10 @@ fn split_name(block: &[String]) -> Option<(&str, &[String])>
 /// Swaps `others` with the slots of the table at these names. If there is no such table, both stay.
 #[cycle(swap)]
 pub fn swap_block(block: &[String], others: &mut Slots<Item>, slots: &mut Slots<Item>)
-    ensures { Swaps (slots_along (names block.now) (slots_view slots.old)) (slots_view others.old) (slots_view slots.old)
-        (put_along (names block.now) (slots_view others.old) (slots_view slots.old)) (slots_view others.new) (slots_view slots.new) }
+    ensures { Swaps (slots_along (names block.now) (slots_view slots.old)) (slots_view others.old)
+        (slots_view slots.old)
+        (put_along (names block.now) (slots_view others.old) (slots_view slots.old))
+        (slots_view others.new) (slots_view slots.new) }
 {
     match split_name(block) {
         None => mem::swap(others, slots),
@@ -39,8 +41,10 @@ pub fn swap_block(block: &[String], others: &mut Slots<Item>, slots: &mut Slots<
 /// Swaps `others` with the slots of the table at these names in the item.
 #[cycle(swap)]
 fn swap_item(block: &[String], others: &mut Slots<Item>, holder: &mut Item)
-    ensures { Swaps (option_and_then (slots_along (names block.now)) (block_slots (item_view holder.old))) (slots_view others.old) (item_view holder.old)
-        (put_in (put_along (names block.now) (slots_view others.old)) (item_view holder.old)) (slots_view others.new) (item_view holder.new) }
+    ensures { Swaps (option_and_then (slots_along (names block.now))
+        (block_slots (item_view holder.old))) (slots_view others.old) (item_view holder.old)
+        (put_in (put_along (names block.now) (slots_view others.old)) (item_view holder.old))
+        (slots_view others.new) (item_view holder.new) }
 {
     match holder {
         Item::Table(table) => swap_table(block, others, table),
@@ -52,8 +56,10 @@ fn swap_item(block: &[String], others: &mut Slots<Item>, holder: &mut Item)
 /// Swaps `others` with the slots of the table at these names in the table.
 #[cycle(swap)]
 fn swap_table(block: &[String], others: &mut Slots<Item>, table: &mut Table)
-    ensures { Swaps (slots_along (names block.now) (table_view table.old).slots) (slots_view others.old) (table_node (table_view table.old))
-        (table_of (table_view table.old).fields (put_along (names block.now) (slots_view others.old) (table_view table.old).slots))
+    ensures { Swaps (slots_along (names block.now) (table_view table.old).slots)
+        (slots_view others.old) (table_node (table_view table.old))
+        (table_of (table_view table.old).fields
+        (put_along (names block.now) (slots_view others.old) (table_view table.old).slots))
         (slots_view others.new) (table_node (table_view table.new)) }
 {
     swap_block(block, others, table.slots_mut())
@@ -62,9 +68,12 @@ fn swap_table(block: &[String], others: &mut Slots<Item>, table: &mut Table)
 /// Swaps `others` with the slots of the table at these names in the last element.
 #[cycle(swap)]
 fn swap_tables(block: &[String], others: &mut Slots<Item>, tables: &mut ArrayOfTables)
-    ensures { Swaps (option_and_then (slots_along (names block.now)) (last_slots (tables_view tables.old).items)) (slots_view others.old)
+    ensures { Swaps (option_and_then (slots_along (names block.now))
+        (last_slots (tables_view tables.old).items)) (slots_view others.old)
         (tables_node (tables_view tables.old))
-        (tables_of (tables_view tables.old).extent (put_last (put_along (names block.now) (slots_view others.old)) (tables_view tables.old).items))
+        (tables_of (tables_view tables.old).extent
+        (put_last (put_along (names block.now) (slots_view others.old))
+        (tables_view tables.old).items))
         (slots_view others.new) (tables_node (tables_view tables.new)) }
 {
     match tables.values.last_mut() {
@@ -76,8 +85,11 @@ fn swap_tables(block: &[String], others: &mut Slots<Item>, tables: &mut ArrayOfT
 /// Swaps `others` with the slots of the table at these names in the element, if it is a table.
 #[cycle(swap)]
 fn swap_last(block: &[String], others: &mut Slots<Item>, holder: &mut Item)
-    ensures { Swaps (option_and_then (slots_along (names block.now)) (last_slots (item_of (item_view holder.old) no_items))) (slots_view others.old)
-        (item_of (item_view holder.old) no_items) (put_last (put_along (names block.now) (slots_view others.old)) (item_of (item_view holder.old) no_items))
+    ensures { Swaps (option_and_then (slots_along (names block.now))
+        (last_slots (item_of (item_view holder.old) no_items))) (slots_view others.old)
+        (item_of (item_view holder.old) no_items)
+        (put_last (put_along (names block.now) (slots_view others.old))
+        (item_of (item_view holder.old) no_items))
         (slots_view others.new) (item_of (item_view holder.new) no_items) }
 {
     match holder {

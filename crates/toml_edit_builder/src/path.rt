@@ -129,8 +129,11 @@ fn add_below(
     ensures added { (mode : Mode) (s : Source) (ms : List (Mention Source))
         → IsItemFor mode kind s (item_view item.old) → IsPathOf mode source.now s ms path.entry
         → Goes source.now (option_map (λ inner. with_slot (slots_view slots.old) key
-        (table_of (made_by_path spanned_form (makes_dotted (addition_for kind (item_view item.old))) (Some (span.start, span.end))) inner))
-        (model.add_in_place mode (addition_for kind (item_view item.old)) ms no_slots)) None (slots_view slots.new) result }
+        (table_of (made_by_path spanned_form
+        (makes_dotted (addition_for kind (item_view item.old))) (Some (span.start, span.end)))
+        inner))
+        (model.add_in_place mode (addition_for kind (item_view item.old)) ms no_slots)) None
+        (slots_view slots.new) result }
     ensures input { IfErr result (λ e. IfToml e (λ r. r.input ≡ source.now)) }
     ensures listed { IfErr result (λ e. IfToml e IsListed) }
 {
@@ -282,7 +285,8 @@ fn add_in_element(
         → Goes source.now (change_table
         (model.add_in_place mode (addition_for kind (item_view item.old)) ms)
         (item_view holder.old))
-        (clash_in_last (m, way) (path_clash (addition_for kind (item_view item.old)) ms) (item_of (item_view holder.old) no_items)) (item_view holder.new) result }
+        (clash_in_last (m, way) (path_clash (addition_for kind (item_view item.old)) ms)
+        (item_of (item_view holder.old) no_items)) (item_view holder.new) result }
     ensures input { IfErr result (λ e. IfToml e (λ r. r.input ≡ source.now)) }
     ensures listed { IfErr result (λ e. IfToml e IsListed) }
 {
@@ -308,7 +312,8 @@ fn add_in_slots(
         → Goes source.now (change_table
         (model.add_in_place mode (addition_for kind (item_view item.old)) ms)
         (table_node (table_view table.old)))
-        (path_clash (addition_for kind (item_view item.old)) ms (table_view table.old).slots) (table_node (table_view table.new)) result }
+        (path_clash (addition_for kind (item_view item.old)) ms (table_view table.old).slots)
+        (table_node (table_view table.new)) result }
     ensures input { IfErr result (λ e. IfToml e (λ r. r.input ≡ source.now)) }
     ensures listed { IfErr result (λ e. IfToml e IsListed) }
 {

@@ -36,7 +36,8 @@ use toml_edit_tree::{Array, ArrayOfTables, InlineTable, Item, Table, Value};
 /// of tables at the end of the path or a scalar before it, and with `Memory` if out of memory. The
 /// root is unchanged then.
 pub fn set(alloc: Global, root: &mut Table, path: &[Key], value: Value) -> Result<(), ChangeFault>
-    ensures { Changes (set_below (value_view value) (names path.now) (table_node (table_view root.old))) (table_node (table_view root.old))
+    ensures { Changes (set_below (value_view value) (names path.now)
+        (table_node (table_view root.old))) (table_node (table_view root.old))
         (table_node (table_view root.new)) result }
 {
     let mut item = Item::Value(value);
@@ -52,7 +53,8 @@ fn set_in_root(
     path: &[Key],
     value: &mut Item,
 ) -> Result<(), ChangeFault>
-    ensures { Changes (set_below (item_view value.old) (names path.now) (table_node (table_view root.old))) (table_node (table_view root.old))
+    ensures { Changes (set_below (item_view value.old) (names path.now)
+        (table_node (table_view root.old))) (table_node (table_view root.old))
         (table_node (table_view root.new)) result }
 {
     match path.split_first() {
@@ -70,7 +72,8 @@ fn set_in_item(
     path: &[Key],
     value: &mut Item,
 ) -> Result<(), ChangeFault>
-    ensures { Changes (set_below (item_view value.old) (names path.now) (item_view item.old)) (item_view item.old) (item_view item.new) result }
+    ensures { Changes (set_below (item_view value.old) (names path.now) (item_view item.old))
+        (item_view item.old) (item_view item.new) result }
 {
     match path.split_first() {
         None => set_here(item, value),
@@ -92,7 +95,8 @@ fn set_in_value(
     rest: &[Key],
     value: &mut Item,
 ) -> Result<(), ChangeFault>
-    ensures { Changes (set_below (item_view value.old) (key.now.name ∷ names rest.now) (value_view holder.old)) (value_view holder.old)
+    ensures { Changes (set_below (item_view value.old) (key.now.name ∷ names rest.now)
+        (value_view holder.old)) (value_view holder.old)
         (value_view holder.new) result }
 {
     match holder {
@@ -111,7 +115,8 @@ fn set_in_table(
     rest: &[Key],
     value: &mut Item,
 ) -> Result<(), ChangeFault>
-    ensures { Changes (set_below (item_view value.old) (key.now.name ∷ names rest.now) (table_node (table_view table.old)))
+    ensures { Changes (set_below (item_view value.old) (key.now.name ∷ names rest.now)
+        (table_node (table_view table.old)))
         (table_node (table_view table.old)) (table_node (table_view table.new)) result }
 {
     set_in_slots(alloc, table.slots_mut(), key, rest, value)
@@ -126,7 +131,8 @@ fn set_in_inline(
     rest: &[Key],
     value: &mut Item,
 ) -> Result<(), ChangeFault>
-    ensures { Changes (set_below (item_view value.old) (key.now.name ∷ names rest.now) (inline_node (inline_view table.old)))
+    ensures { Changes (set_below (item_view value.old) (key.now.name ∷ names rest.now)
+        (inline_node (inline_view table.old)))
         (inline_node (inline_view table.old)) (inline_node (inline_view table.new)) result }
 {
     set_in_slots(alloc, table.slots_mut(), key, rest, value)
@@ -141,7 +147,8 @@ fn set_in_array(
     rest: &[Key],
     value: &mut Item,
 ) -> Result<(), ChangeFault>
-    ensures { Changes (set_below (item_view value.old) (key.now.name ∷ names rest.now) (array_node (array_view array.old)))
+    ensures { Changes (set_below (item_view value.old) (key.now.name ∷ names rest.now)
+        (array_node (array_view array.old)))
         (array_node (array_view array.old)) (array_node (array_view array.new)) result }
 {
     let at = value_named(&array.values, key);
@@ -157,7 +164,8 @@ fn set_in_tables(
     rest: &[Key],
     value: &mut Item,
 ) -> Result<(), ChangeFault>
-    ensures { Changes (set_below (item_view value.old) (key.now.name ∷ names rest.now) (tables_node (tables_view tables.old)))
+    ensures { Changes (set_below (item_view value.old) (key.now.name ∷ names rest.now)
+        (tables_node (tables_view tables.old)))
         (tables_node (tables_view tables.old)) (tables_node (tables_view tables.new)) result }
 {
     let at = table_named(&tables.values, key);
@@ -195,7 +203,9 @@ fn set_in_slots(
     rest: &[Key],
     value: &mut Item,
 ) -> Result<(), ChangeFault>
-    ensures { Changes (change_slot true key.now.name (set_below (item_view value.old) (names rest.now)) (shown_slots slots.old) (lookup_slot key.now.name (shown_slots slots.old)))
+    ensures { Changes (change_slot true key.now.name
+        (set_below (item_view value.old) (names rest.now)) (shown_slots slots.old)
+        (lookup_slot key.now.name (shown_slots slots.old)))
         (shown_slots slots.old) (shown_slots slots.new) result }
 {
     // No two keys have one name, says its contract.
@@ -213,7 +223,8 @@ fn set_in_slots(
 /// Puts the value in the item's place, in the decor of the value there. Fails with `WrongKind`
 /// alone.
 fn set_here(item: &mut Item, value: &mut Item) -> Result<(), ChangeFault>
-    ensures { Changes (set_here (item_view value.old) (item_view item.old)) (item_view item.old) (item_view item.new) result }
+    ensures { Changes (set_here (item_view value.old) (item_view item.old)) (item_view item.old)
+        (item_view item.new) result }
 {
     match item {
         Item::None => {}
@@ -250,7 +261,8 @@ fn fill_below(
     value: &mut Item,
 ) -> Result<(), ChangeFault>
     requires { item_view item.old ≡ nothing }
-    ensures { Changes (set_below (item_view value.old) (names path.now) (item_view item.old)) (item_view item.old) (item_view item.new) result }
+    ensures { Changes (set_below (item_view value.old) (names path.now) (item_view item.old))
+        (item_view item.old) (item_view item.new) result }
 {
     make_below(alloc, path, value)?;
     mem::swap(item, value);

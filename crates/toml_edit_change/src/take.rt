@@ -27,7 +27,8 @@ use toml_edit_tree::{Array, ArrayOfTables, InlineTable, Item, Table, Value};
 ///
 /// Fails with `NoSuchPath` if there is no such item. The root is unchanged then.
 pub fn remove(root: &mut Table, path: &[Key]) -> Result<(), ChangeFault>
-    ensures changes { Changes (remove_below (names path.now) (table_node (table_view root.old))) (table_node (table_view root.old))
+    ensures changes { Changes (remove_below (names path.now) (table_node (table_view root.old)))
+        (table_node (table_view root.old))
         (table_node (table_view root.new)) result }
     ensures fault { IfErr result (λ fault. fault ≡ NoSuchPath) }
 {
@@ -40,7 +41,8 @@ pub fn remove(root: &mut Table, path: &[Key]) -> Result<(), ChangeFault>
 /// Removes the item at the path below the item. Fails with `NoSuchPath` alone.
 #[cycle(remove)]
 fn remove_in_item(item: &mut Item, path: &[Key]) -> Result<(), ChangeFault>
-    ensures changes { Changes (remove_below (names path.now) (item_view item.old)) (item_view item.old) (item_view item.new) result }
+    ensures changes { Changes (remove_below (names path.now) (item_view item.old))
+        (item_view item.old) (item_view item.new) result }
     ensures fault { IfErr result (λ fault. fault ≡ NoSuchPath) }
 {
     match path.split_first() {
@@ -57,7 +59,9 @@ fn remove_in_item(item: &mut Item, path: &[Key]) -> Result<(), ChangeFault>
 /// Removes the item at the path below a value.
 #[cycle(remove)]
 fn remove_in_value(holder: &mut Value, key: &Key, rest: &[Key]) -> Result<(), ChangeFault>
-    ensures changes { Changes (remove_below (key.now.name ∷ names rest.now) (value_view holder.old)) (value_view holder.old) (value_view holder.new) result }
+    ensures changes { Changes
+        (remove_below (key.now.name ∷ names rest.now) (value_view holder.old))
+        (value_view holder.old) (value_view holder.new) result }
     ensures fault { IfErr result (λ fault. fault ≡ NoSuchPath) }
 {
     match holder {
@@ -70,7 +74,9 @@ fn remove_in_value(holder: &mut Value, key: &Key, rest: &[Key]) -> Result<(), Ch
 /// Removes the item at the path below a table.
 #[cycle(remove)]
 fn remove_in_table(table: &mut Table, key: &Key, rest: &[Key]) -> Result<(), ChangeFault>
-    ensures changes { Changes (remove_below (key.now.name ∷ names rest.now) (table_node (table_view table.old))) (table_node (table_view table.old))
+    ensures changes { Changes
+        (remove_below (key.now.name ∷ names rest.now) (table_node (table_view table.old)))
+        (table_node (table_view table.old))
         (table_node (table_view table.new)) result }
     ensures fault { IfErr result (λ fault. fault ≡ NoSuchPath) }
 {
@@ -80,7 +86,9 @@ fn remove_in_table(table: &mut Table, key: &Key, rest: &[Key]) -> Result<(), Cha
 /// Removes the item at the path below an inline table.
 #[cycle(remove)]
 fn remove_in_inline(table: &mut InlineTable, key: &Key, rest: &[Key]) -> Result<(), ChangeFault>
-    ensures changes { Changes (remove_below (key.now.name ∷ names rest.now) (inline_node (inline_view table.old))) (inline_node (inline_view table.old))
+    ensures changes { Changes
+        (remove_below (key.now.name ∷ names rest.now) (inline_node (inline_view table.old)))
+        (inline_node (inline_view table.old))
         (inline_node (inline_view table.new)) result }
     ensures fault { IfErr result (λ fault. fault ≡ NoSuchPath) }
 {
@@ -90,7 +98,9 @@ fn remove_in_inline(table: &mut InlineTable, key: &Key, rest: &[Key]) -> Result<
 /// Removes the item at the path below an array, where the key names an element.
 #[cycle(remove)]
 fn remove_in_array(array: &mut Array, key: &Key, rest: &[Key]) -> Result<(), ChangeFault>
-    ensures changes { Changes (remove_below (key.now.name ∷ names rest.now) (array_node (array_view array.old))) (array_node (array_view array.old))
+    ensures changes { Changes
+        (remove_below (key.now.name ∷ names rest.now) (array_node (array_view array.old)))
+        (array_node (array_view array.old))
         (array_node (array_view array.new)) result }
     ensures fault { IfErr result (λ fault. fault ≡ NoSuchPath) }
 {
@@ -101,7 +111,9 @@ fn remove_in_array(array: &mut Array, key: &Key, rest: &[Key]) -> Result<(), Cha
 /// Removes the item at the path below an array of tables, where the key names an element.
 #[cycle(remove)]
 fn remove_in_tables(tables: &mut ArrayOfTables, key: &Key, rest: &[Key]) -> Result<(), ChangeFault>
-    ensures changes { Changes (remove_below (key.now.name ∷ names rest.now) (tables_node (tables_view tables.old))) (tables_node (tables_view tables.old))
+    ensures changes { Changes
+        (remove_below (key.now.name ∷ names rest.now) (tables_node (tables_view tables.old)))
+        (tables_node (tables_view tables.old))
         (tables_node (tables_view tables.new)) result }
     ensures fault { IfErr result (λ fault. fault ≡ NoSuchPath) }
 {
@@ -135,7 +147,8 @@ fn remove_in_element(
 /// Removes the slot of the key, or the item at the rest of the path below it.
 #[cycle(remove)]
 fn remove_in_slots(slots: &mut Slots<Item>, key: &Key, rest: &[Key]) -> Result<(), ChangeFault>
-    ensures changes { Changes (removed_slot key.now.name (names rest.now) (shown_slots slots.old)) (shown_slots slots.old) (shown_slots slots.new) result }
+    ensures changes { Changes (removed_slot key.now.name (names rest.now) (shown_slots slots.old))
+        (shown_slots slots.old) (shown_slots slots.new) result }
     ensures fault { IfErr result (λ fault. fault ≡ NoSuchPath) }
 {
     if rest.is_empty() {
@@ -151,7 +164,10 @@ fn remove_in_slots(slots: &mut Slots<Item>, key: &Key, rest: &[Key]) -> Result<(
 
 /// Removes the slot of the key, unless it is a placeholder.
 fn take_slot(slots: &mut Slots<Item>, key: &str) -> Result<(), ChangeFault>
-    ensures changes { Changes (drop_slot key.now (shown_slots slots.old) (present (lookup_slot key.now (shown_slots slots.old)))) (shown_slots slots.old) (shown_slots slots.new) result }
+    ensures changes { Changes
+        (drop_slot key.now (shown_slots slots.old)
+        (present (lookup_slot key.now (shown_slots slots.old)))) (shown_slots slots.old)
+        (shown_slots slots.new) result }
     ensures fault { IfErr result (λ fault. fault ≡ NoSuchPath) }
 {
     match slots.get(key) {

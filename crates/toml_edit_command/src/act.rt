@@ -25,16 +25,20 @@ pub fn perform<I: Input, O: Output>(
 ) -> Result<(), Stop>
     requires input { I.has_failed input.old ≡ false }
     requires output { O.has_failed output.old ≡ false }
-    ensures wrote { OnOk result (WroteRead (mode_of options) (version_of options) (action_of command) (I.remaining input.old) (O.contents output.old) (O.contents output.new)) }
+    ensures wrote { OnOk result
+        (WroteRead (mode_of options) (version_of options) (action_of command)
+        (I.remaining input.old) (O.contents output.old) (O.contents output.new)) }
     ensures ok { OnOk result
         ((I.has_failed input.new ≡ false) × (O.has_failed output.new ≡ false)) }
     ensures end { OnOk result (IsAtEnd (I.remaining input.new)) }
     ensures err_end { IfErr result (HasReadAll (I.remaining input.new)) }
-    ensures err { IfErr result (StopsDoing (mode_of options) (version_of options) (action_of command) (I.remaining input.old) (I.has_failed input.new) (record {
-      old = O.contents output.old;
-      new = O.contents output.new;
-      failed = O.has_failed output.new;
-    })) }
+    ensures err { IfErr result
+        (StopsDoing (mode_of options) (version_of options) (action_of command)
+        (I.remaining input.old) (I.has_failed input.new) (record {
+          old = O.contents output.old;
+          new = O.contents output.new;
+          failed = O.has_failed output.new;
+        })) }
 {
     match read_document(alloc, input, options) {
         Ok(mut document) => {
@@ -57,7 +61,9 @@ fn act<O: Output>(
     output: &mut O,
 ) -> Result<(), Stop>
     requires { O.has_failed output.old ≡ false }
-    ensures wrote { OnOk result (Wrote (action_of command) (held document.old) (O.contents output.old) (O.contents output.new)) }
+    ensures wrote { OnOk result
+        (Wrote (action_of command) (held document.old) (O.contents output.old)
+        (O.contents output.new)) }
     ensures ok { OnOk result (O.has_failed output.new ≡ false) }
     ensures err { IfErr result (StopsActing (action_of command) (held document.old) (record {
       old = O.contents output.old;
@@ -76,7 +82,8 @@ fn act<O: Output>(
 /// Prints the document.
 pub fn print<O: Output>(alloc: Global, document: &DocumentMut, output: &mut O) -> Result<(), Stop>
     requires { O.has_failed output.old ≡ false }
-    ensures wrote { OnOk result (Wrote printing (held document.now) (O.contents output.old) (O.contents output.new)) }
+    ensures wrote { OnOk result
+        (Wrote printing (held document.now) (O.contents output.old) (O.contents output.new)) }
     ensures ok { OnOk result (O.has_failed output.new ≡ false) }
     ensures err { IfErr result (StopsActing printing (held document.now) (record {
       old = O.contents output.old;

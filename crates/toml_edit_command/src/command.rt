@@ -125,7 +125,8 @@ pub fn run<I: Input, O: Output, E: Output>(
 /// and returns the exit status 3. A fault in writing is ignored.
 pub fn end_without_memory<E: Output>(errors: &mut E) -> u8
     ensures status { result ≡ 3 }
-    ensures told { Tells (E.contents errors.old) (E.contents errors.new) (E.has_failed errors.new) memory_line }
+    ensures told { Tells (E.contents errors.old) (E.contents errors.new)
+        (E.has_failed errors.new) memory_line }
 {
     end(&Stop::Memory, errors)
 }
@@ -136,7 +137,8 @@ pub fn end_without_memory<E: Output>(errors: &mut E) -> u8
 /// written. A fault in writing to `errors` is ignored.
 pub fn end_unwritten<E: Output>(errors: &mut E) -> u8
     ensures status { result ≡ 4 }
-    ensures told { Tells (E.contents errors.old) (E.contents errors.new) (E.has_failed errors.new) write_line }
+    ensures told { Tells (E.contents errors.old) (E.contents errors.new)
+        (E.has_failed errors.new) write_line }
 {
     end(&Stop::WriteFailed, errors)
 }

@@ -24,13 +24,16 @@ pub fn set<O: Output>(
     output: &mut O,
 ) -> Result<(), Stop>
     requires { O.has_failed output.old ≡ false }
-    ensures wrote { OnOk result (Wrote (setting (names path.now) (value_view value)) (held document.old) (O.contents output.old) (O.contents output.new)) }
+    ensures wrote { OnOk result
+        (Wrote (setting (names path.now) (value_view value)) (held document.old)
+        (O.contents output.old) (O.contents output.new)) }
     ensures ok { OnOk result (O.has_failed output.new ≡ false) }
-    ensures err { IfErr result (StopsActing (setting (names path.now) (value_view value)) (held document.old) (record {
-      old = O.contents output.old;
-      new = O.contents output.new;
-      failed = O.has_failed output.new;
-    })) }
+    ensures err { IfErr result
+        (StopsActing (setting (names path.now) (value_view value)) (held document.old) (record {
+          old = O.contents output.old;
+          new = O.contents output.new;
+          failed = O.has_failed output.new;
+        })) }
 {
     match set_value(alloc, document, path, value) {
         Ok(()) => write_fitting(alloc, document, output),
@@ -46,13 +49,16 @@ pub fn remove<O: Output>(
     output: &mut O,
 ) -> Result<(), Stop>
     requires { O.has_failed output.old ≡ false }
-    ensures wrote { OnOk result (Wrote (removing (names path.now)) (held document.old) (O.contents output.old) (O.contents output.new)) }
+    ensures wrote { OnOk result
+        (Wrote (removing (names path.now)) (held document.old) (O.contents output.old)
+        (O.contents output.new)) }
     ensures ok { OnOk result (O.has_failed output.new ≡ false) }
-    ensures err { IfErr result (StopsActing (removing (names path.now)) (held document.old) (record {
-      old = O.contents output.old;
-      new = O.contents output.new;
-      failed = O.has_failed output.new;
-    })) }
+    ensures err { IfErr result
+        (StopsActing (removing (names path.now)) (held document.old) (record {
+          old = O.contents output.old;
+          new = O.contents output.new;
+          failed = O.has_failed output.new;
+        })) }
 {
     match remove_item(document, path) {
         Ok(()) => write_fitting(alloc, document, output),
@@ -67,7 +73,9 @@ fn set_value(
     path: &[Key],
     value: Value,
 ) -> Result<(), ChangeFault>
-    ensures changes { Changes (set_at (names path.now) (value_view value) (tree_owned document.old)) (tree_owned document.old) (tree_owned document.new) result }
+    ensures changes { Changes
+        (set_at (names path.now) (value_view value) (tree_owned document.old))
+        (tree_owned document.old) (tree_owned document.new) result }
     ensures printed { IsPrintedAs document.new document.old }
 {
     toml_edit_change::set(alloc, document.as_table_mut(), path, value)
@@ -75,7 +83,8 @@ fn set_value(
 
 /// Removes the item at the path.
 fn remove_item(document: &mut DocumentMut, path: &[Key]) -> Result<(), ChangeFault>
-    ensures changes { Changes (remove_at (names path.now) (tree_owned document.old)) (tree_owned document.old) (tree_owned document.new) result }
+    ensures changes { Changes (remove_at (names path.now) (tree_owned document.old))
+        (tree_owned document.old) (tree_owned document.new) result }
     ensures printed { IsPrintedAs document.new document.old }
 {
     toml_edit_change::remove(document.as_table_mut(), path)
@@ -99,7 +108,8 @@ fn write_fitting<O: Output>(
     output: &mut O,
 ) -> Result<(), Stop>
     requires { O.has_failed output.old ≡ false }
-    ensures wrote { OnOk result (Printed (held document.now) (O.contents output.old) (O.contents output.new)) }
+    ensures wrote { OnOk result
+        (Printed (held document.now) (O.contents output.old) (O.contents output.new)) }
     ensures ok { OnOk result (O.has_failed output.new ≡ false) }
     ensures err { IfErr result (StopsPrinting (held document.now) (record {
       old = O.contents output.old;

@@ -30,7 +30,9 @@ pub fn get<O: Output>(
     output: &mut O,
 ) -> Result<(), Stop>
     requires { O.has_failed output.old ≡ false }
-    ensures wrote { OnOk result (Wrote (getting (names path.now)) (held document.now) (O.contents output.old) (O.contents output.new)) }
+    ensures wrote { OnOk result
+        (Wrote (getting (names path.now)) (held document.now) (O.contents output.old)
+        (O.contents output.new)) }
     ensures ok { OnOk result (O.has_failed output.new ≡ false) }
     ensures err { IfErr result (StopsActing (getting (names path.now)) (held document.now) (record {
       old = O.contents output.old;
@@ -110,7 +112,9 @@ fn table_at(item: &Item, at: usize) -> Option<&Item>
 /// newline; or the lines of a table.
 fn write_item<O: Output>(alloc: Global, item: &Item, output: &mut O) -> Result<(), Stop>
     requires { O.has_failed output.old ≡ false }
-    ensures wrote { OnOk result (Appends (O.contents output.old) (O.contents output.new) (commands.shown_item (item_view item.now))) }
+    ensures wrote { OnOk result
+        (Appends (O.contents output.old) (O.contents output.new)
+        (commands.shown_item (item_view item.now))) }
     ensures ok { OnOk result (O.has_failed output.new ≡ false) }
     ensures err { IfErr result (StopsWriting (commands.shown_item (item_view item.now)) (record {
       old = O.contents output.old;
@@ -134,13 +138,16 @@ fn write_tables<O: Output>(
     output: &mut O,
 ) -> Result<(), Stop>
     requires { O.has_failed output.old ≡ false }
-    ensures wrote { OnOk result (Appends (O.contents output.old) (O.contents output.new) (commands.shown_item (tables_node (tables_view tables.now)))) }
+    ensures wrote { OnOk result
+        (Appends (O.contents output.old) (O.contents output.new)
+        (commands.shown_item (tables_node (tables_view tables.now)))) }
     ensures ok { OnOk result (O.has_failed output.new ≡ false) }
-    ensures err { IfErr result (StopsWriting (commands.shown_item (tables_node (tables_view tables.now))) (record {
-      old = O.contents output.old;
-      new = O.contents output.new;
-      failed = O.has_failed output.new;
-    })) }
+    ensures err { IfErr result
+        (StopsWriting (commands.shown_item (tables_node (tables_view tables.now))) (record {
+          old = O.contents output.old;
+          new = O.contents output.new;
+          failed = O.has_failed output.new;
+        })) }
 {
     let Ok(copy) = tables.clone(alloc) else {
         return Err(Stop::Memory);
@@ -154,7 +161,8 @@ fn write_tables<O: Output>(
 /// Writes the text of what is printed.
 fn write_printed<T: Printed, O: Output>(printed: &T, output: &mut O) -> Result<(), Stop>
     requires { O.has_failed output.old ≡ false }
-    ensures wrote { OnOk result (Appends (O.contents output.old) (O.contents output.new) (T.text printed.now)) }
+    ensures wrote { OnOk result
+        (Appends (O.contents output.old) (O.contents output.new) (T.text printed.now)) }
     ensures ok { OnOk result (O.has_failed output.new ≡ false) }
     ensures err { IfErr result (StopsWriting (T.text printed.now) (record {
       old = O.contents output.old;

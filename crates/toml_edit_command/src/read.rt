@@ -28,7 +28,8 @@ pub fn read_document<I: Input>(
     ensures mode { IfOk result (λ m. mode_owned m ≡ mode_of options) }
     ensures ok { OnOk result (I.has_failed input.new ≡ false) }
     ensures end { OnOk result (IsAtEnd (I.remaining input.new)) }
-    ensures err { IfErr result (StopsReading (version_of options) (I.remaining input.old) (I.has_failed input.new)) }
+    ensures err { IfErr result
+        (StopsReading (version_of options) (I.remaining input.old) (I.has_failed input.new)) }
     ensures err_end { IfErr result (HasReadAll (I.remaining input.new)) }
 {
     let text = text_of(alloc, input)?;

@@ -10,7 +10,8 @@ use toml_edit_stream::{Output, write_all};
 /// Writes to `errors` why a run stopped, and returns its exit status.
 pub fn end<E: Output>(stop: &Stop, errors: &mut E) -> u8
     ensures status { result ≡ status_of stop.now }
-    ensures told { TellsStop stop.now (E.contents errors.old) (E.contents errors.new) (E.has_failed errors.new) }
+    ensures told { TellsStop stop.now (E.contents errors.old) (E.contents errors.new)
+        (E.has_failed errors.new) }
 {
     match stop {
         Stop::Mistaken(mistake) => {
@@ -58,7 +59,8 @@ fn mistake_text(mistake: Mistake) -> &'static str
 
 /// Writes a message to `errors`. A fault in that is ignored.
 fn tell<E: Output>(errors: &mut E, text: &str)
-    ensures { Tells (E.contents errors.old) (E.contents errors.new) (E.has_failed errors.new) text.now }
+    ensures { Tells (E.contents errors.old) (E.contents errors.new)
+        (E.has_failed errors.new) text.now }
 {
     let _ = write_all(errors, text.as_bytes());
 }

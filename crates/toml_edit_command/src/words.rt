@@ -51,7 +51,8 @@ impl Command {
     fn read_by(alloc: Global, words: &[String], options: ParseOptions) -> Result<Command, Stop>
         ensures said { IfOk result
             (λ command. Says (asked_by options (map string_bytes words.now)) (action_of command)) }
-        ensures stops { IfErr result (StopsInWords (asked_by options (map string_bytes words.now))) }
+        ensures stops { IfErr result
+            (StopsInWords (asked_by options (map string_bytes words.now))) }
     {
         match form_of(words) {
             Some(Form::Print) => Ok(Command::Print),

@@ -46,7 +46,8 @@ impl Printed for Datetime {
 
 /// Puts the date, if there is one.
 fn put_date<S: Sink>(out: &mut S, date: Option<Date>)
-    ensures { WritesInCalls S.puts out.old (spec.part_spelling date_text (option_map date_view date)) out.new }
+    ensures { WritesInCalls S.puts out.old
+        (spec.part_spelling date_text (option_map date_view date)) out.new }
 {
     match date {
         Some(date) => date.put_into(out),
@@ -57,7 +58,8 @@ fn put_date<S: Sink>(out: &mut S, date: Option<Date>)
 /// Puts the time of day, if there is one, with a `T` before it if there is a date.
 fn put_time<S: Sink>(out: &mut S, date: Option<Date>, time: Option<Time>)
     ensures { WritesInCalls S.puts out.old
-        (spec.date_mark (option_map date_view date) (option_map time_view time) ++ spec.part_spelling spec.time_spelling (option_map time_view time))
+        (spec.date_mark (option_map date_view date) (option_map time_view time)
+        ++ spec.part_spelling spec.time_spelling (option_map time_view time))
         out.new }
 {
     match (date, time) {
@@ -78,7 +80,8 @@ fn put_marked_time<S: Sink>(out: &mut S, time: Time)
 /// Puts `Z`, or a sign and `hh:mm`. Without an offset nothing is put.
 fn put_offset<S: Sink>(out: &mut S, offset: Option<Offset>)
     requires { is_absent_or is_real_shift (option_map offset_view offset) ≡ true }
-    ensures { WritesInCalls S.puts out.old (spec.part_spelling spec.offset_spelling (option_map offset_view offset)) out.new }
+    ensures { WritesInCalls S.puts out.old
+        (spec.part_spelling spec.offset_spelling (option_map offset_view offset)) out.new }
 {
     match offset {
         None => {}

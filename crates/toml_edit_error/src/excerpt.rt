@@ -22,7 +22,8 @@ pub fn write_excerpt<W: Write>(
     message: &str,
 ) -> fmt::Result
     requires { ∥ SpanIsIn text.now (Some (start, end)) ∥₁ }
-    ensures { WritesOnOk W.write_str_gives f.old result (excerpt_at text.now start end message.now) f.new }
+    ensures { WritesOnOk W.write_str_gives f.old result
+        (excerpt_at text.now start end message.now) f.new }
 {
     let place = Place::of(text, start, end);
     write_place(f, &place)?;
@@ -40,7 +41,8 @@ pub fn write_message<W: Write>(f: &mut Formatter<W>, message: &str) -> fmt::Resu
 /// Writes the line and the column, the line itself, and the marks below it.
 fn write_place<W: Write>(f: &mut Formatter<W>, place: &Place<'_>) -> fmt::Result
     ensures { WritesOnOk W.write_str_gives f.old result
-        (place_text place.now.line place.now.column place.now.before.now place.now.after.now place.now.marks) f.new }
+        (place_text place.now.line place.now.column place.now.before.now place.now.after.now
+        place.now.marks) f.new }
 {
     let width = digit_count(place.line) + 1;
     writeln!(
@@ -84,7 +86,8 @@ fn write_marks<W: Write>(f: &mut Formatter<W>, place: &Place<'_>) -> fmt::Result
 /// Writes a character of one byte `count` times.
 fn write_repeated<W: Write>(f: &mut Formatter<W>, character: &str, count: usize) -> fmt::Result
     requires { length character.now ≡ 1 }
-    ensures { WritesOnOk W.write_str_gives f.old result (replicate count (slice_index character.now 0)) f.new }
+    ensures { WritesOnOk W.write_str_gives f.old result
+        (replicate count (slice_index character.now 0)) f.new }
 {
     for _i in 0..count {
         f.write_str(character)?;

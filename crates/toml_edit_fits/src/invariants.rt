@@ -75,7 +75,8 @@ fn see_value(value: &Value)
 
 /// Opens a string.
 fn see_string(scalar: &Formatted<String>)
-    ensures { ∥ IsWellMade (leaf (string (string_bytes scalar.now.value)) scalar.now.repr scalar.now.decor) ∥₁ }
+    ensures { ∥ IsWellMade
+        (leaf (string (string_bytes scalar.now.value)) scalar.now.repr scalar.now.decor) ∥₁ }
 {
     let _value = scalar.value();
 }
@@ -110,7 +111,8 @@ fn see_boolean(scalar: &Formatted<bool>)
 
 /// Opens a date, a time, or both.
 fn see_datetime(scalar: &Formatted<Datetime>)
-    ensures { ∥ IsWellMade (leaf (datetime (datetime_view scalar.now.value)) scalar.now.repr scalar.now.decor) ∥₁ }
+    ensures { ∥ IsWellMade
+        (leaf (datetime (datetime_view scalar.now.value)) scalar.now.repr scalar.now.decor) ∥₁ }
 {
     let _value = scalar.value();
 }

@@ -25,4 +25,7 @@ LendsLeafMut s r =
 abbrev pub LendsDottedMut : MutBor KeyMut → MutBor Decor → Fml
 LendsDottedMut s r =
     Lends (key_mut.the_row (record { mir = named 1; lft = [] })) decor.the_row s r
-    (λ w. record s.now { parts = record s.now.parts { now = record s.now.parts.now { dotted = w } } })
+    (λ w. record s.now {
+      parts =
+          record s.now.parts { now = record s.now.parts.now { dotted = w } };
+    })

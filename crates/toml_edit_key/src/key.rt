@@ -326,7 +326,8 @@ impl Key {
     #[doc(hidden)]
     pub fn despan(&mut self, alloc: Global, source: &str) -> Mem<()>
         requires fits { KeyFits source.now self.old }
-        requires spelled { ∥ HasTrueSpelling (SpellsKey self.old.name) (option_map (owned_raw source.now) self.old.spelling) ∥₁ }
+        requires spelled { ∥ HasTrueSpelling (SpellsKey self.old.name)
+            (option_map (owned_raw source.now) self.old.spelling) ∥₁ }
         ensures name { self.new.name ≡ self.old.name }
         ensures ok { OnOk result (self.new ≡ owned_key source.now self.old) }
     {
@@ -597,7 +598,8 @@ pub(crate) fn displayed<'a>(alloc: Global, name: &'a str, repr: Option<&'a Repr>
 
 /// Puts the spelling if it is a text, else the default one of the name.
 pub(crate) fn put_spelling<S: Sink>(out: &mut S, name: &str, repr: Option<&Repr>)
-    ensures { WritesInCalls S.puts out.old (shown_spelling (key_spelling name.now) (option_copied repr.entry)) out.new }
+    ensures { WritesInCalls S.puts out.old
+        (shown_spelling (key_spelling name.now) (option_copied repr.entry)) out.new }
 {
     match spelling_text(repr) {
         Some(spelling) => out.put(spelling),

@@ -118,7 +118,8 @@ where
     F: Drop,
     requires { F.IsAlwaysCallable compare }
     ensures permutation { IsPermutation items.old.items items.new.items }
-    ensures sorted { OnOk result (SortsHeldAs F.FnMut T.held compare items.old.items items.new.items) }
+    ensures sorted { OnOk result
+        (SortsHeldAs F.FnMut T.held compare items.old.items items.new.items) }
     ensures err { OnErr result (items.new.items ≡ items.old.items) }
 {
     items.sort_by(
@@ -148,7 +149,8 @@ where
     F: Drop,
     requires { F.IsAlwaysCallable key }
     ensures permutation { IsPermutation items.old.items items.new.items }
-    ensures sorted { OnOk result (SortsHeldByKey F.FnMut K.cmp T.held key items.old.items items.new.items) }
+    ensures sorted { OnOk result
+        (SortsHeldByKey F.FnMut K.cmp T.held key items.old.items items.new.items) }
     ensures err { OnErr result (items.new.items ≡ items.old.items) }
 {
     sort_by(

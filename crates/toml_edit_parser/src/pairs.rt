@@ -81,7 +81,8 @@ pub(crate) fn read_inline<'a>(
         → Stands source.now start (value_text (syntax.inline_table ps comma t))
         → level < nesting_limit → opening.start ≡ start
         → events.now ≡ shortened (suc level) (pairs_events (start + 1) ps
-        ++ (close_events InlineTableClose (codes "}") (start + length (value_text (syntax.inline_table ps comma t)) - 1) comma t ++ more))
+        ++ (close_events InlineTableClose (codes "}")
+        (start + length (value_text (syntax.inline_table ps comma t)) - 1) comma t ++ more))
         → ReadsValue source.now (syntax.inline_table ps comma t) start level more result }
     ensures input { IfErr result (λ e. IfToml e (λ r. r.input ≡ source.now)) }
     ensures listed { IfErr result (λ e. IfToml e IsListed) }
@@ -239,7 +240,9 @@ fn end_pair<'a>(
         → spec.parts_of frame.entry ≡ spec.frame_parts start f
         → events.now ≡ event After end f.trailing ∷ more
         → EndsPair source.now (pair_path spanned_form start f v)
-        (with_decor (decor_at spanned_form (start + value_start spanned_form f) f.after_equals end f.trailing) (item_view item.old))
+        (with_decor (decor_at spanned_form
+        (start + value_start spanned_form f) f.after_equals end f.trailing)
+        (item_view item.old))
         more (slots_view slots.old) (slots_view slots.new) result }
     ensures input { IfErr result (λ e. IfToml e (λ r. r.input ≡ source.now)) }
     ensures listed { IfErr result (λ e. IfToml e IsListed) }

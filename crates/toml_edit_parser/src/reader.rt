@@ -260,7 +260,8 @@ fn read_array<'a>(
         → Stands source.now start (value_text (syntax.array es comma t)) → level < nesting_limit
         → opening.start ≡ start
         → events.now ≡ shortened (suc level) (elements_events (start + 1) es
-        ++ (close_events ArrayClose (codes "]") (start + length (value_text (syntax.array es comma t)) - 1) comma t ++ more))
+        ++ (close_events ArrayClose (codes "]")
+        (start + length (value_text (syntax.array es comma t)) - 1) comma t ++ more))
         → ReadsValue source.now (syntax.array es comma t) start level more result }
     ensures input { IfErr result (λ e. IfToml e (λ r. r.input ≡ source.now)) }
     ensures listed { IfErr result (λ e. IfToml e IsListed) }

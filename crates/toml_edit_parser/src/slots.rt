@@ -34,7 +34,8 @@ pub fn add_last(
     slots: &mut Slots<Item>,
 ) -> Result<(), ParseFault>
     requires span { IsSpanOf source.now span }
-    ensures last { AddsLast source.now span key (item_view item.old) (slots_view slots.old) (slots_view slots.new) result }
+    ensures last { AddsLast source.now span key (item_view item.old) (slots_view slots.old)
+        (slots_view slots.new) result }
     ensures fits { KeyFits source.now key → NodeFits source.now (item_view item.old)
         → SlotsFit source.now (slots_view slots.old)
         → OnOk result (SlotsFit source.now (slots_view slots.new)) }

@@ -662,7 +662,8 @@ impl<T: ValueRepr> Formatted<T> {
     pub fn default_repr(&self, alloc: Global) -> Mem<Repr>
         ensures default { IfOk result
             (λ repr. repr ≡ owned (default_spelling (T.scalar self.now.value))) }
-        ensures spelled { ∥ T.spells (default_spelling (T.scalar self.now.value)) self.now.value ∥₁ }
+        ensures spelled { ∥ T.spells
+            (default_spelling (T.scalar self.now.value)) self.now.value ∥₁ }
     {
         self.value.to_repr(alloc)
     }
@@ -702,7 +703,9 @@ impl<T: ValueRepr> Formatted<T> {
 
     /// Returns a mutable reference to the whitespace and the comments around the value.
     pub fn decor_mut(&mut self) -> &mut Decor
-        ensures* writes_back { sem 𝓛 (LendsDecor T.row (record { spells = T.spells }) (record { scalar = T.scalar }) (record { eq = T.eq }) self.entry result) }
+        ensures* writes_back { sem 𝓛
+            (LendsDecor T.row (record { spells = T.spells }) (record { scalar = T.scalar })
+            (record { eq = T.eq }) self.entry result) }
         ensures decor { result.now ≡ self.old.decor }
     {
         &mut self.decor

@@ -19,7 +19,8 @@ use toml_edit_stream::Sink;
 
 /// Puts the spelling of the scalar, or the default one of its value if it has none that is a text.
 pub fn put_scalar<S: Sink, T: ValueRepr>(out: &mut S, scalar: &Formatted<T>)
-    ensures { WritesInCalls S.puts out.old (scalar_text (T.scalar scalar.now.value) scalar.now.repr) out.new }
+    ensures { WritesInCalls S.puts out.old
+        (scalar_text (T.scalar scalar.now.value) scalar.now.repr) out.new }
 {
     match spelling_text(scalar.as_repr()) {
         Some(text) => out.put(text),
@@ -46,7 +47,8 @@ fn side_text(side: Option<&RawString>) -> Option<&str>
 /// In plain mode the carriage returns (CR) of the side are left out, but not those of `default`.
 #[inline(always)]
 pub fn put_side<S: Sink>(out: &mut S, mode: Mode, side: Option<&RawString>, default: &str)
-    ensures { WritesInCalls S.puts out.old (shown_side (mode_of mode) default.now (option_copied side.entry)) out.new }
+    ensures { WritesInCalls S.puts out.old
+        (shown_side (mode_of mode) default.now (option_copied side.entry)) out.new }
 {
     match side_text(side) {
         Some(text) => put_text(out, mode, text),

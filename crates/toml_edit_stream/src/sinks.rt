@@ -105,7 +105,8 @@ impl<O: Output> Written<'_, O> {
 
     /// Writes what is held.
     fn write_held(&mut self)
-        ensures wrote { Writes O.contents O.has_failed self.old.broken self.old.output self.old.held.bytes [] self.new.broken self.new.output self.new.held.bytes }
+        ensures wrote { Writes O.contents O.has_failed self.old.broken self.old.output
+            self.old.held.bytes [] self.new.broken self.new.output self.new.held.bytes }
         ensures empty { self.new.held.bytes ≡ [] }
     {
         if !self.broken {
@@ -119,7 +120,8 @@ impl<O: Output> Written<'_, O> {
     #[cold]
     #[inline(never)]
     fn put_without_room(&mut self, text: &str)
-        ensures { Writes O.contents O.has_failed self.old.broken self.old.output self.old.held.bytes text.now self.new.broken self.new.output self.new.held.bytes }
+        ensures { Writes O.contents O.has_failed self.old.broken self.old.output
+            self.old.held.bytes text.now self.new.broken self.new.output self.new.held.bytes }
     {
         self.write_held();
         if self.held.try_push_str(text).is_err() && !self.broken {
@@ -131,7 +133,8 @@ impl<O: Output> Written<'_, O> {
 impl<O: Output> Sink for Written<'_, O> {
     ghost use Rattle.toml_edit_stream.specs.Sinks.{Writes};
 
-    ghost puts = { λ s text t. Writes O.contents O.has_failed s.broken s.output s.held.bytes text t.broken t.output t.held.bytes };
+    ghost puts = { λ s text t. Writes O.contents O.has_failed s.broken s.output s.held.bytes text
+        t.broken t.output t.held.bytes };
 
     #[inline]
     fn put(&mut self, text: &str) {
@@ -148,9 +151,11 @@ impl<O: Output> Sink for Written<'_, O> {
 /// Returns [`Broken`] if the output failed. It holds a beginning of the text then, perhaps an empty
 /// one.
 pub fn print_to<T: Printed, O: Output>(output: &mut O, printed: &T) -> Result<(), Broken>
-    ensures text { OnOk result (Appends (O.contents output.old) (O.contents output.new) (T.text printed.now)) }
+    ensures text { OnOk result
+        (Appends (O.contents output.old) (O.contents output.new) (T.text printed.now)) }
     ensures ok { OnOk result (O.has_failed output.new ≡ O.has_failed output.old) }
-    ensures beginning { OnErr result (AppendsBeginning (O.contents output.old) (O.contents output.new) (T.text printed.now)) }
+    ensures beginning { OnErr result
+        (AppendsBeginning (O.contents output.old) (O.contents output.new) (T.text printed.now)) }
     ensures err { OnErr result (O.has_failed output.new ≡ true) }
 {
     let mut out = Written {

@@ -198,7 +198,8 @@ pub fn read_to_end<I: Input>(alloc: Global, input: &mut I) -> Result<Vec<u8>, Re
 pub fn write_all<O: Output>(output: &mut O, text: &[u8]) -> Result<(), Broken>
     ensures text { OnOk result (Appends (O.contents output.old) (O.contents output.new) text.now) }
     ensures ok { OnOk result (O.has_failed output.new ≡ O.has_failed output.old) }
-    ensures beginning { OnErr result (AppendsBeginning (O.contents output.old) (O.contents output.new) text.now) }
+    ensures beginning { OnErr result
+        (AppendsBeginning (O.contents output.old) (O.contents output.new) text.now) }
     ensures err { OnErr result (O.has_failed output.new ≡ true) }
 {
     let mut at = 0;

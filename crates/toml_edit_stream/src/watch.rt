@@ -48,7 +48,8 @@ impl<T: Read + Drop> Input for Watched<T> {
 
     fn read(&mut self, buffer: &mut [u8]) -> Result<usize, Broken>
         ensures bound { ReadsAtMost result buffer.new }
-        ensures bytes { ReadConsumes (T.remaining (watched_inner self.old)) (T.remaining (watched_inner self.new)) result buffer.new }
+        ensures bytes { ReadConsumes (T.remaining (watched_inner self.old))
+            (T.remaining (watched_inner self.new)) result buffer.new }
         ensures ok { OnOk result (watched_fault self.new ≡ watched_fault self.old) }
         ensures err { OnErr result (watched_fault self.new ≡ true) }
         ensures stays { watched_fault self.old ≡ true → IsErr result }
@@ -74,7 +75,8 @@ impl<T: Write + Drop> Output for Watched<T> {
     fn write(&mut self, piece: &[u8]) -> Result<usize, Broken>
         ensures bound { WritesAtMost result piece.now }
         ensures progress { IfOk result (λ n. 0 < length piece.now → 0 < n) }
-        ensures bytes { WriteAppends (T.contents (watched_inner self.old)) (T.contents (watched_inner self.new)) result piece.now }
+        ensures bytes { WriteAppends (T.contents (watched_inner self.old))
+            (T.contents (watched_inner self.new)) result piece.now }
         ensures ok { OnOk result (watched_fault self.new ≡ watched_fault self.old) }
         ensures err { OnErr result (watched_fault self.new ≡ true) }
         ensures stays { watched_fault self.old ≡ true → IsErr result }
@@ -95,7 +97,8 @@ impl<T: Write + Drop> Output for Watched<T> {
 /// Reads once, and again for as long as a signal interrupts it.
 fn read_once<R: Read>(reader: &mut R, buffer: &mut [u8]) -> Result<usize, Broken>
     ensures bound { ReadsAtMost result buffer.new }
-    ensures bytes { ReadConsumes (R.remaining reader.old) (R.remaining reader.new) result buffer.new }
+    ensures bytes { ReadConsumes (R.remaining reader.old)
+        (R.remaining reader.new) result buffer.new }
 {
     for _ in 0..u64::MAX {
         match reader.read(buffer) {

@@ -22,7 +22,8 @@ fn key_line<'a>(
     s: &'a str,
 ) -> Result<&'a str, Stop>
     requires { length leading.now + length s.now ≤ whole }
-    ensures adds { Adds events.old.items events.new.items result (read.key_line_read whole leading.now s.now) }
+    ensures adds { Adds events.old.items events.new.items result
+        (read.key_line_read whole leading.now s.now) }
     ensures shorter { IfOk result (λ r. length r.now < length s.now) }
 {
     let text = frame(events, whole, leading, s)?;
@@ -81,7 +82,8 @@ fn header_end<'a>(
     s: &'a str,
 ) -> Result<&'a str, Stop>
     requires { length s.now ≤ whole }
-    ensures adds { Adds events.old.items events.new.items result (read.header_end_read whole is_array s.now) }
+    ensures adds { Adds events.old.items events.new.items result
+        (read.header_end_read whole is_array s.now) }
     ensures within { IfOk result (λ r. length r.now ≤ length s.now) }
 {
     let (_, brackets) = split_run(s, Class::Blank);
@@ -106,7 +108,8 @@ fn header<'a>(
 ) -> Result<&'a str, Stop>
     requires here { first s.now ≡ 0x5B }
     requires fits { length leading.now + length s.now ≤ whole }
-    ensures adds { Adds events.old.items events.new.items result (read.header_read whole leading.now s.now) }
+    ensures adds { Adds events.old.items events.new.items result
+        (read.header_read whole leading.now s.now) }
     ensures shorter { IfOk result (λ r. length r.now < length s.now) }
 {
     let (is_array, inside) = opened(s);
@@ -134,7 +137,8 @@ pub(crate) fn statement<'a>(
     s: &'a str,
 ) -> Result<&'a str, Stop>
     requires { length leading.now + length s.now ≤ whole }
-    ensures adds { Adds events.old.items events.new.items result (read.statement_read whole leading.now s.now) }
+    ensures adds { Adds events.old.items events.new.items result
+        (read.statement_read whole leading.now s.now) }
     ensures shorter { IfOk result (λ r. length r.now < length s.now) }
 {
     if first(s) == b'[' {

@@ -120,7 +120,8 @@ fn close<'a>(
     requires here { first s.now ≡ read.closing_byte brackets }
     requires fits { length inner.now + length s.now ≤ whole }
     requires before { comma ≡ true → length inner.now + length s.now < whole }
-    ensures adds { Adds events.old.items events.new.items result (spec.got (read.close_read brackets whole comma inner.now s.now) (drop 1 s.now)) }
+    ensures adds { Adds events.old.items events.new.items result
+        (spec.got (read.close_read brackets whole comma inner.now s.now) (drop 1 s.now)) }
     ensures shorter { IfOk result (λ r. length r.now < length s.now) }
 {
     let start = whole - s.len() - inner.len();
@@ -136,7 +137,8 @@ fn close<'a>(
 /// Adds the parts of the key at the front.
 pub(crate) fn path<'a>(events: &mut Vec<Event>, whole: usize, s: &'a str) -> Result<&'a str, Stop>
     requires { length s.now ≤ whole }
-    ensures adds { Adds events.old.items events.new.items result (read.path_read (length s.now) whole [] s.now) }
+    ensures adds { Adds events.old.items events.new.items result
+        (read.path_read (length s.now) whole [] s.now) }
     ensures within { IfOk result (λ r. length r.now ≤ length s.now) }
 {
     let mut rest = s;
@@ -184,7 +186,8 @@ pub(crate) fn frame<'a>(
     s: &'a str,
 ) -> Result<&'a str, Stop>
     requires { length leading.now + length s.now ≤ whole }
-    ensures adds { Adds events.old.items events.new.items result (read.frame_read whole leading.now s.now) }
+    ensures adds { Adds events.old.items events.new.items result
+        (read.frame_read whole leading.now s.now) }
     ensures within { IfOk result (λ r. length r.now ≤ length s.now) }
 {
     events.push(part(
@@ -205,7 +208,8 @@ fn head<'a>(
     s: &'a str,
 ) -> Result<&'a str, Stop>
     requires { length leading.now + length s.now ≤ whole }
-    ensures adds { Adds events.old.items events.new.items result (read.head_read brackets whole leading.now s.now) }
+    ensures adds { Adds events.old.items events.new.items result
+        (read.head_read brackets whole leading.now s.now) }
     ensures within { IfOk result (λ r. length r.now ≤ length s.now) }
 {
     match brackets {

@@ -86,7 +86,8 @@ pub trait HasSlots {
     /// Returns a mutable reference to the item of slot `at`, which a contract requires to exist.
     fn item_at_mut(&mut self, at: usize) -> &mut Item
         requires { at < length (entries self.old) }
-        ensures* writes_back { sem 𝓛 (LendsItemAt Self.row entries with_entries self.entry at result) }
+        ensures* writes_back { sem 𝓛
+            (LendsItemAt Self.row entries with_entries self.entry at result) }
         ensures item { Some result.now ≡ slice_get (items_of (entries self.old)) at }
     {
         let slots = self.as_slots_mut();
@@ -96,7 +97,8 @@ pub trait HasSlots {
     /// Returns a [`KeyMut`] of the key of slot `at`, which a contract requires to exist.
     fn key_at_mut(&mut self, at: usize) -> KeyMut<'_>
         requires { at < length (entries self.old) }
-        ensures* writes_back { sem 𝓛 (LendsKeyAt Self.row entries with_entries self.entry at result) }
+        ensures* writes_back { sem 𝓛
+            (LendsKeyAt Self.row entries with_entries self.entry at result) }
         ensures key { option_map (λ slot. slot.key) (slice_get (entries self.old) at)
             ≡ Some (key_of result) }
     {
@@ -108,7 +110,8 @@ pub trait HasSlots {
     /// comments before its path, and the whitespace before `=`.
     fn leaf_decor_at_mut(&mut self, at: usize) -> &mut Decor
         requires { at < length (entries self.old) }
-        ensures* writes_back { sem 𝓛 (LendsLeafAt Self.row entries with_entries self.entry at result) }
+        ensures* writes_back { sem 𝓛
+            (LendsLeafAt Self.row entries with_entries self.entry at result) }
         ensures decor { option_map (λ slot. slot.key.leaf) (slice_get (entries self.old) at)
             ≡ Some result.now }
     {
@@ -120,7 +123,8 @@ pub trait HasSlots {
     /// beside it.
     fn dotted_decor_at_mut(&mut self, at: usize) -> &mut Decor
         requires { at < length (entries self.old) }
-        ensures* writes_back { sem 𝓛 (LendsDottedAt Self.row entries with_entries self.entry at result) }
+        ensures* writes_back { sem 𝓛
+            (LendsDottedAt Self.row entries with_entries self.entry at result) }
         ensures decor { option_map (λ slot. slot.key.dotted) (slice_get (entries self.old) at)
             ≡ Some result.now }
     {

@@ -103,7 +103,8 @@ pub trait AnyTable: HasSlots {
     /// decor of the value. To insert what is missing, use [`or_insert`](Self::or_insert) or
     /// [`entry`](Self::entry).
     fn get_mut(&mut self, key: &str) -> Option<&mut Item>
-        ensures* writes_back { sem 𝓛 (LendsUnder Self.row Self.entries Self.with_entries self.entry key.now result) }
+        ensures* writes_back { sem 𝓛
+            (LendsUnder Self.row Self.entries Self.with_entries self.entry key.now result) }
         ensures item { option_map (λ x. item_view x.now) result
             ≡ get key.now (Self.slots_of self.old) }
         // What the table is after a write through the reference.
@@ -235,7 +236,8 @@ pub trait AnyTable: HasSlots {
     ///
     /// Returns a [`NoMemory`] with `item` if out of memory. An existing key takes no memory.
     fn or_insert(&mut self, key: &str, item: Item) -> Result<&mut Item, NoMemory<Item>>
-        ensures* writes_back { sem 𝓛 (LendsPut Self.row Self.entries Self.with_entries self.entry (new_key key.now) result) }
+        ensures* writes_back { sem 𝓛
+            (LendsPut Self.row Self.entries Self.with_entries self.entry (new_key key.now) result) }
         ensures item { IfOk result
             (λ lent. item_view lent.now
             ≡ unwrap_or (lookup key.now (Self.slots_of self.old)) (item_view item)) }
@@ -267,7 +269,8 @@ pub trait AnyTable: HasSlots {
     ///
     /// Returns a [`NoMemory`] with `item` if out of memory. An existing key takes no memory.
     fn or_insert_format(&mut self, key: &Key, item: Item) -> Result<&mut Item, NoMemory<Item>>
-        ensures* writes_back { sem 𝓛 (LendsPut Self.row Self.entries Self.with_entries self.entry key.now result) }
+        ensures* writes_back { sem 𝓛
+            (LendsPut Self.row Self.entries Self.with_entries self.entry key.now result) }
         ensures item { IfOk result
             (λ lent. item_view lent.now
             ≡ unwrap_or (lookup key.now.name (Self.slots_of self.old)) (item_view item)) }
@@ -357,8 +360,11 @@ pub trait AnyTable: HasSlots {
     /// Returns an `AllocError` if out of memory. Some of the tables may be sorted then and others
     /// not, but no slot is lost.
     fn sort_values(&mut self) -> Mem<()>
-        ensures reorders { IsDeepReorder (differences_of (Self.beside self.old)).enters (Self.slots_of self.old) (Self.slots_of self.new) }
-        ensures sorted { OnOk result (LikeSorted (differences_of (Self.beside self.old)) (Self.slots_of self.old) (Self.slots_of self.new)) }
+        ensures reorders { IsDeepReorder (differences_of (Self.beside self.old)).enters
+            (Self.slots_of self.old) (Self.slots_of self.new) }
+        ensures sorted { OnOk result
+            (LikeSorted (differences_of (Self.beside self.old)) (Self.slots_of self.old)
+            (Self.slots_of self.new)) }
         // The order of names is a lawful one, so exactly one list is in order.
         ensures in_order { OnOk result
             (Self.slots_of self.new

@@ -65,7 +65,8 @@ fn put_between<S: Sink>(out: &mut S, delimiter: &str, text: &str)
 
 /// Puts a basic string with escapes, on one line.
 fn put_basic<S: Sink>(out: &mut S, text: &str)
-    ensures { WritesInCalls S.puts out.old (spec.between (one quote) (spec.escaped false text.now)) out.new }
+    ensures { WritesInCalls S.puts out.old
+        (spec.between (one quote) (spec.escaped false text.now)) out.new }
 {
     out.put("\"");
     put_escaped(out, text, false);

@@ -76,22 +76,34 @@ table_step t =
     }
 
 abbrev pub item_view : Item → Node
-item_view = fold-Item Node Node ArrayView TablesView InlineView TableView item_step value_step array_step tables_step inline_step table_step
+item_view =
+    fold-Item Node Node ArrayView TablesView InlineView TableView item_step value_step array_step
+    tables_step inline_step table_step
 
 abbrev pub value_view : Value → Node
-value_view = fold-Value Node Node ArrayView TablesView InlineView TableView item_step value_step array_step tables_step inline_step table_step
+value_view =
+    fold-Value Node Node ArrayView TablesView InlineView TableView item_step value_step array_step
+    tables_step inline_step table_step
 
 abbrev pub array_view : Array → ArrayView
-array_view = fold-Array Node Node ArrayView TablesView InlineView TableView item_step value_step array_step tables_step inline_step table_step
+array_view =
+    fold-Array Node Node ArrayView TablesView InlineView TableView item_step value_step array_step
+    tables_step inline_step table_step
 
 abbrev pub inline_view : InlineTable → InlineView
-inline_view = fold-InlineTable Node Node ArrayView TablesView InlineView TableView item_step value_step array_step tables_step inline_step table_step
+inline_view =
+    fold-InlineTable Node Node ArrayView TablesView InlineView TableView item_step value_step
+    array_step tables_step inline_step table_step
 
 abbrev pub tables_view : ArrayOfTables → TablesView
-tables_view = fold-ArrayOfTables Node Node ArrayView TablesView InlineView TableView item_step value_step array_step tables_step inline_step table_step
+tables_view =
+    fold-ArrayOfTables Node Node ArrayView TablesView InlineView TableView item_step value_step
+    array_step tables_step inline_step table_step
 
 abbrev pub table_view : Table → TableView
-table_view = fold-Table Node Node ArrayView TablesView InlineView TableView item_step value_step array_step tables_step inline_step table_step
+table_view =
+    fold-Table Node Node ArrayView TablesView InlineView TableView item_step value_step array_step
+    tables_step inline_step table_step
 
 abbrev pub items_view : List Item → Items
 items_view xs = items_from (map item_view xs)

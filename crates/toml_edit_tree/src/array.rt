@@ -636,7 +636,8 @@ impl Array {
     where
         F: Drop,
         requires { F.IsAlwaysCallable keep }
-        ensures kept { RetainsBy (SaysOfValue F.Fn keep) (values_seen (items_of self.old)) (items_of self.new) }
+        ensures kept { RetainsBy (SaysOfValue F.Fn keep) (values_seen (items_of self.old))
+            (items_of self.new) }
         ensures fields { array_fields self.new ≡ array_fields self.old }
     {
         retain_values(&mut self.values, keep);
@@ -664,7 +665,8 @@ impl Array {
         F: Drop,
         requires { F.IsAlwaysCallable compare }
         ensures permutation { IsPermutation (items_of self.old) (items_of self.new) }
-        ensures sorted { OnOk result (SortsValuesAs F.FnMut compare (items_of self.old) (items_of self.new)) }
+        ensures sorted { OnOk result
+            (SortsValuesAs F.FnMut compare (items_of self.old) (items_of self.new)) }
         ensures fields { array_fields self.new ≡ array_fields self.old }
         ensures err { OnErr result (array_view self.new ≡ array_view self.old) }
     {
@@ -684,7 +686,8 @@ impl Array {
         F: Drop,
         requires { F.IsAlwaysCallable key }
         ensures permutation { IsPermutation (items_of self.old) (items_of self.new) }
-        ensures sorted { OnOk result (SortsValuesByKey F.FnMut K.cmp key (items_of self.old) (items_of self.new)) }
+        ensures sorted { OnOk result
+            (SortsValuesByKey F.FnMut K.cmp key (items_of self.old) (items_of self.new)) }
         ensures fields { array_fields self.new ≡ array_fields self.old }
         ensures err { OnErr result (array_view self.new ≡ array_view self.old) }
     {
@@ -701,7 +704,8 @@ impl Array {
     pub fn extend<U: IntoIterator<Item = Value>>(&mut self, values: U) -> Mem<()>
         requires { (it : U.IntoIter) → U.into_iter_gives values it
             → U.IntoIter.can_next it × IsFinite (U.IntoIter.remaining it) }
-        ensures { ExtendsWithItems U.into_iter_gives U.IntoIter.next_gives AddsValues values self.old self.new result }
+        ensures { ExtendsWithItems U.into_iter_gives U.IntoIter.next_gives AddsValues values
+            self.old self.new result }
     {
         for value in values {
             self.push(value)?;
@@ -740,7 +744,8 @@ fn retain_values<F: Fn(&Value) -> bool>(items: &mut Vec<Item>, keep: F)
 where
     F: Drop,
     requires { F.IsAlwaysCallable keep }
-    ensures { RetainsBy (SaysOfValue F.Fn keep) (values_seen (listed items.old.items)) (listed items.new.items) }
+    ensures { RetainsBy (SaysOfValue F.Fn keep) (values_seen (listed items.old.items))
+        (listed items.new.items) }
 {
     toml_edit_lists::retain(items, keep);
 }
@@ -751,7 +756,8 @@ where
     F: Drop,
     requires { F.IsAlwaysCallable compare }
     ensures permutation { IsPermutation (listed items.old.items) (listed items.new.items) }
-    ensures sorted { OnOk result (SortsValuesAs F.FnMut compare (listed items.old.items) (listed items.new.items)) }
+    ensures sorted { OnOk result
+        (SortsValuesAs F.FnMut compare (listed items.old.items) (listed items.new.items)) }
     ensures err { OnErr result (items_view items.new.items ≡ items_view items.old.items) }
 {
     toml_edit_lists::sort_by(items, compare)
@@ -764,7 +770,8 @@ where
     F: Drop,
     requires { F.IsAlwaysCallable key }
     ensures permutation { IsPermutation (listed items.old.items) (listed items.new.items) }
-    ensures sorted { OnOk result (SortsValuesByKey F.FnMut K.cmp key (listed items.old.items) (listed items.new.items)) }
+    ensures sorted { OnOk result
+        (SortsValuesByKey F.FnMut K.cmp key (listed items.old.items) (listed items.new.items)) }
     ensures err { OnErr result (items_view items.new.items ≡ items_view items.old.items) }
 {
     toml_edit_lists::sort_by_key(items, key)

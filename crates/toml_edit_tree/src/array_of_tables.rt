@@ -342,7 +342,8 @@ impl ArrayOfTables {
     where
         F: Drop,
         requires { F.IsAlwaysCallable keep }
-        ensures kept { RetainsBy (SaysOfTable F.Fn keep) (elements (tables_of self.old)) (tables_of self.new) }
+        ensures kept { RetainsBy (SaysOfTable F.Fn keep) (elements (tables_of self.old))
+            (tables_of self.new) }
         ensures extent { extent_of self.new ≡ extent_of self.old }
     {
         retain_tables(&mut self.values, keep);
@@ -358,7 +359,8 @@ impl ArrayOfTables {
     pub fn extend<U: IntoIterator<Item = Table>>(&mut self, tables: U) -> Mem<()>
         requires { (it : U.IntoIter) → U.into_iter_gives tables it
             → U.IntoIter.can_next it × IsFinite (U.IntoIter.remaining it) }
-        ensures { ExtendsWithItems U.into_iter_gives U.IntoIter.next_gives AddsTables tables self.old self.new result }
+        ensures { ExtendsWithItems U.into_iter_gives U.IntoIter.next_gives AddsTables tables
+            self.old self.new result }
     {
         for table in tables {
             self.push(table)?;
@@ -399,7 +401,8 @@ fn retain_tables<F: Fn(&Table) -> bool>(items: &mut Vec<Item>, keep: F)
 where
     F: Drop,
     requires { F.IsAlwaysCallable keep }
-    ensures { RetainsBy (SaysOfTable F.Fn keep) (elements (listed items.old.items)) (listed items.new.items) }
+    ensures { RetainsBy (SaysOfTable F.Fn keep) (elements (listed items.old.items))
+        (listed items.new.items) }
 {
     toml_edit_lists::retain(items, keep);
 }

@@ -71,7 +71,8 @@ fn despan_array(array: &mut Array, alloc: Global, source: &str) -> Mem<()>
 #[cycle(despan)]
 fn despan_inline(table: &mut InlineTable, alloc: Global, source: &str) -> Mem<()>
     requires fits { NodeFits source.now (inline_node (inline_view table.old)) }
-    requires spelled { ∥ IsWellMade (owned_node source.now (inline_node (inline_view table.old))) ∥₁ }
+    requires spelled { ∥ IsWellMade
+        (owned_node source.now (inline_node (inline_view table.old))) ∥₁ }
     ensures { OnOk result
         (inline_node (inline_view table.new)
         ≡ owned_node source.now (inline_node (inline_view table.old))) }
@@ -102,7 +103,8 @@ pub(crate) fn despan_table(table: &mut Table, alloc: Global, source: &str) -> Me
 #[cycle(despan)]
 fn despan_tables(tables: &mut ArrayOfTables, alloc: Global, source: &str) -> Mem<()>
     requires fits { NodeFits source.now (tables_node (tables_view tables.old)) }
-    requires spelled { ∥ IsWellMade (owned_node source.now (tables_node (tables_view tables.old))) ∥₁ }
+    requires spelled { ∥ IsWellMade
+        (owned_node source.now (tables_node (tables_view tables.old))) ∥₁ }
     ensures { OnOk result
         (tables_node (tables_view tables.new)
         ≡ owned_node source.now (tables_node (tables_view tables.old))) }

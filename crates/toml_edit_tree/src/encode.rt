@@ -45,7 +45,9 @@ pub enum Path<'p, 'k> {
 /// below it that have headers.
 #[doc(hidden)]
 pub fn put_table_lines<S: Sink>(out: &mut S, mode: Mode, table: &Table)
-    ensures { WritesInCalls S.puts out.old (lines_text (mode_of mode) (table_lines (mode_of mode) (table_slots table.now) [])) out.new }
+    ensures { WritesInCalls S.puts out.old
+        (lines_text (mode_of mode) (table_lines (mode_of mode) (table_slots table.now) []))
+        out.new }
 {
     put_lines(out, mode, &table.slots, &Path::Root)
 }
@@ -58,7 +60,9 @@ fn put_lines<'p, 'a, S: Sink>(
     slots: &'a Slots<Item>,
     path: &'p Path<'p, 'a>,
 )
-    ensures { WritesInCalls S.puts out.old (lines_text (mode_of mode) (table_lines (mode_of mode) (slots_view slots.now) (keys_on path.now))) out.new }
+    ensures { WritesInCalls S.puts out.old
+        (lines_text (mode_of mode)
+        (table_lines (mode_of mode) (slots_view slots.now) (keys_on path.now))) out.new }
 {
     let entries = slots.as_slice();
     'slots: for slot in entries {
@@ -78,7 +82,9 @@ fn put_item_lines<'p, 'a, S: Sink>(
     path: &'p Path<'p, 'a>,
 )
     ensures { WritesInCalls S.puts out.old
-        (lines_text (mode_of mode) (lines_in_table (mode_of mode) (item_view item.now) (keys_on path.now ++ (key.now ∷ [])))) out.new }
+        (lines_text (mode_of mode)
+        (lines_in_table (mode_of mode) (item_view item.now)
+        (keys_on path.now ++ (key.now ∷ [])))) out.new }
 {
     match item {
         Item::Value(value) => put_value_lines(out, mode, value, key, path),
@@ -99,7 +105,9 @@ fn put_inside_lines<'p, 'a, S: Sink>(
     slots: &'a Slots<Item>,
     path: &'p Path<'p, 'a>,
 )
-    ensures { WritesInCalls S.puts out.old (lines_text (mode_of mode) (inside_lines (mode_of mode) (slots_view slots.now) (keys_on path.now))) out.new }
+    ensures { WritesInCalls S.puts out.old
+        (lines_text (mode_of mode)
+        (inside_lines (mode_of mode) (slots_view slots.now) (keys_on path.now))) out.new }
 {
     let entries = slots.as_slice();
     'slots: for slot in entries {
@@ -117,7 +125,9 @@ fn put_inside_item<'p, 'a, S: Sink>(
     path: &'p Path<'p, 'a>,
 )
     ensures { WritesInCalls S.puts out.old
-        (lines_text (mode_of mode) (lines_of_item (mode_of mode) (item_view item.now) (keys_on path.now ++ (key.now ∷ [])))) out.new }
+        (lines_text (mode_of mode)
+        (lines_of_item (mode_of mode) (item_view item.now)
+        (keys_on path.now ++ (key.now ∷ [])))) out.new }
 {
     match item {
         Item::Value(value) => put_value_lines(out, mode, value, key, path),
@@ -136,7 +146,9 @@ fn put_value_lines<'p, 'a, S: Sink>(
     path: &'p Path<'p, 'a>,
 )
     ensures { WritesInCalls S.puts out.old
-        (lines_text (mode_of mode) (lines_of_item (mode_of mode) (value_view value.now) (keys_on path.now ++ (key.now ∷ [])))) out.new }
+        (lines_text (mode_of mode)
+        (lines_of_item (mode_of mode) (value_view value.now)
+        (keys_on path.now ++ (key.now ∷ [])))) out.new }
 {
     match value {
         Value::InlineTable(table) => {
@@ -228,7 +240,8 @@ fn value_has_lines(value: &Value) -> bool
 fn put_line<S: Sink>(out: &mut S, mode: Mode, path: &Path<'_, '_>, key: &Key, value: &Value)
     ensures { WritesInCalls S.puts out.old
         (pair_start (mode_of mode) [] (keys_on path.now) key.now (value_view value.now)
-        ++ (shown_suffix (mode_of mode) [] (node_decor (value_view value.now)) ++ newline)) out.new }
+        ++ (shown_suffix (mode_of mode) [] (node_decor (value_view value.now)) ++ newline))
+        out.new }
 {
     let decor = value.decor();
     put_key_part(out, mode, "", path, key);
@@ -241,7 +254,8 @@ fn put_line<S: Sink>(out: &mut S, mode: Mode, path: &Path<'_, '_>, key: &Key, va
 /// Puts the keys of a line or a pair, inside the leaf decor of the last one, and `=`. An unset
 /// prefix is put as `default`, and an unset suffix as one space.
 fn put_key_part<S: Sink>(out: &mut S, mode: Mode, default: &str, path: &Path<'_, '_>, key: &Key)
-    ensures { WritesInCalls S.puts out.old (key_part (mode_of mode) default.now (keys_on path.now) key.now) out.new }
+    ensures { WritesInCalls S.puts out.old
+        (key_part (mode_of mode) default.now (keys_on path.now) key.now) out.new }
 {
     let decor = key.leaf_decor();
     put_side(out, mode, decor.prefix(), default);
@@ -254,7 +268,8 @@ fn put_key_part<S: Sink>(out: &mut S, mode: Mode, default: &str, path: &Path<'_,
 
 /// Puts the keys of a path with their dotted decors, and a dot after each.
 fn put_dotted_keys<S: Sink>(out: &mut S, mode: Mode, path: &Path<'_, '_>)
-    ensures { WritesInCalls S.puts out.old (dotted_keys (mode_of mode) true (keys_on path.now)) out.new }
+    ensures { WritesInCalls S.puts out.old
+        (dotted_keys (mode_of mode) true (keys_on path.now)) out.new }
 {
     match path {
         Path::Root => {}
@@ -270,7 +285,8 @@ fn put_dotted_keys<S: Sink>(out: &mut S, mode: Mode, path: &Path<'_, '_>)
 
 /// Puts the prefix of the dotted decor of the key, unless `path` has no key before it.
 fn put_before_key<S: Sink>(out: &mut S, mode: Mode, path: &Path<'_, '_>, key: &Key)
-    ensures { WritesInCalls S.puts out.old (before_key (mode_of mode) (keys_on path.now) key.now) out.new }
+    ensures { WritesInCalls S.puts out.old
+        (before_key (mode_of mode) (keys_on path.now) key.now) out.new }
 {
     match path {
         Path::Root => {}
@@ -284,7 +300,8 @@ fn put_before_key<S: Sink>(out: &mut S, mode: Mode, path: &Path<'_, '_>, key: &K
 /// the caller.
 #[doc(hidden)]
 pub fn put_path<S: Sink>(out: &mut S, mode: Mode, path: &Path<'_, '_>, key: &Key)
-    ensures { WritesInCalls S.puts out.old (path_text (segments (mode_of mode) (keys_on path.now ++ (key.now ∷ [])))) out.new }
+    ensures { WritesInCalls S.puts out.old
+        (path_text (segments (mode_of mode) (keys_on path.now ++ (key.now ∷ [])))) out.new }
 {
     put_dotted_keys(out, mode, path);
     put_before_key(out, mode, path, key);
@@ -301,7 +318,8 @@ fn put_key_text<S: Sink>(out: &mut S, key: &Key)
 /// Puts the value without its decor.
 #[cycle(print)]
 fn put_value_text<S: Sink>(out: &mut S, mode: Mode, value: &Value)
-    ensures { WritesInCalls S.puts out.old (node_text (mode_of mode) (value_view value.now)) out.new }
+    ensures { WritesInCalls S.puts out.old
+        (node_text (mode_of mode) (value_view value.now)) out.new }
 {
     match value {
         Value::String(scalar) => put_scalar(out, scalar),
@@ -317,7 +335,8 @@ fn put_value_text<S: Sink>(out: &mut S, mode: Mode, value: &Value)
 /// Puts the array from `[` to `]`.
 #[cycle(print)]
 fn put_array_text<S: Sink>(out: &mut S, mode: Mode, array: &Array)
-    ensures { WritesInCalls S.puts out.old (node_text (mode_of mode) (array_node (array_view array.now))) out.new }
+    ensures { WritesInCalls S.puts out.old
+        (node_text (mode_of mode) (array_node (array_view array.now))) out.new }
 {
     out.put("[");
     put_items(out, mode, &array.values, array.trailing_comma);
@@ -329,7 +348,8 @@ fn put_array_text<S: Sink>(out: &mut S, mode: Mode, array: &Array)
 /// Other items are left out.
 #[cycle(print)]
 fn put_items<S: Sink>(out: &mut S, mode: Mode, items: &Vec<Item>, comma: bool)
-    ensures { WritesInCalls S.puts out.old (items_text (mode_of mode) comma true (items_view items.now.items)) out.new }
+    ensures { WritesInCalls S.puts out.old
+        (items_text (mode_of mode) comma true (items_view items.now.items)) out.new }
 {
     let mut is_first = true;
     'items: for item in items {
@@ -344,7 +364,8 @@ fn put_items<S: Sink>(out: &mut S, mode: Mode, items: &Vec<Item>, comma: bool)
 /// Puts a value of an array with its decor, after a comma unless it is the first.
 #[cycle(print)]
 fn put_element<S: Sink>(out: &mut S, mode: Mode, value: &Value, is_first: bool)
-    ensures { WritesInCalls S.puts out.old (element_text (mode_of mode) is_first (value_view value.now)) out.new }
+    ensures { WritesInCalls S.puts out.old
+        (element_text (mode_of mode) is_first (value_view value.now)) out.new }
 {
     let decor = value.decor();
     put_comma_before(out, is_first);
@@ -372,7 +393,8 @@ fn default_before(is_first: bool) -> &'static str
 /// Puts the inline table from `{` to `}`.
 #[cycle(print)]
 fn put_inline_text<S: Sink>(out: &mut S, mode: Mode, table: &InlineTable)
-    ensures { WritesInCalls S.puts out.old (node_text (mode_of mode) (inline_node (inline_view table.now))) out.new }
+    ensures { WritesInCalls S.puts out.old
+        (node_text (mode_of mode) (inline_node (inline_view table.now))) out.new }
 {
     out.put("{");
     let last = put_pairs(out, mode, &table.items, &Path::Root, None);
@@ -398,7 +420,8 @@ fn put_pairs<'p, 'a, S: Sink>(
         ≡ last_shown (option_copied before.entry)
         (inside_lines (mode_of mode) (slots_view slots.now) (keys_on path.now)) }
     ensures text { WritesInCalls S.puts out.old
-        (pairs_shown (mode_of mode) (option_copied before.entry) (inside_lines (mode_of mode) (slots_view slots.now) (keys_on path.now))) out.new }
+        (pairs_shown (mode_of mode) (option_copied before.entry)
+        (inside_lines (mode_of mode) (slots_view slots.now) (keys_on path.now))) out.new }
 {
     let mut last = before;
     let entries = slots.as_slice();
@@ -422,7 +445,9 @@ fn put_item_pairs<'p, 'a, S: Sink>(
         ≡ last_shown (option_copied before.entry)
         (lines_of_item (mode_of mode) (item_view item.now) (keys_on path.now ++ (key.now ∷ []))) }
     ensures text { WritesInCalls S.puts out.old
-        (pairs_shown (mode_of mode) (option_copied before.entry) (lines_of_item (mode_of mode) (item_view item.now) (keys_on path.now ++ (key.now ∷ [])))) out.new }
+        (pairs_shown (mode_of mode) (option_copied before.entry)
+        (lines_of_item (mode_of mode) (item_view item.now)
+        (keys_on path.now ++ (key.now ∷ [])))) out.new }
 {
     match item {
         Item::Value(value) => put_value_pairs(out, mode, value, key, path, before),
@@ -446,7 +471,9 @@ fn put_value_pairs<'p, 'a, S: Sink>(
         ≡ last_shown (option_copied before.entry)
         (lines_of_item (mode_of mode) (value_view value.now) (keys_on path.now ++ (key.now ∷ []))) }
     ensures text { WritesInCalls S.puts out.old
-        (pairs_shown (mode_of mode) (option_copied before.entry) (lines_of_item (mode_of mode) (value_view value.now) (keys_on path.now ++ (key.now ∷ [])))) out.new }
+        (pairs_shown (mode_of mode) (option_copied before.entry)
+        (lines_of_item (mode_of mode) (value_view value.now)
+        (keys_on path.now ++ (key.now ∷ [])))) out.new }
 {
     match value {
         Value::InlineTable(table) => {
@@ -475,7 +502,9 @@ fn put_pair<S: Sink>(
     before: Option<&Decor>,
 )
     ensures { WritesInCalls S.puts out.old
-        (between_pairs (mode_of mode) (option_copied before.entry) ++ pair_start (mode_of mode) one_space (keys_on path.now) key.now (value_view value.now)) out.new }
+        (between_pairs (mode_of mode) (option_copied before.entry)
+        ++ pair_start (mode_of mode) one_space (keys_on path.now) key.now
+        (value_view value.now)) out.new }
 {
     put_between_pairs(out, mode, before);
     put_key_part(out, mode, " ", path, key);
@@ -485,7 +514,8 @@ fn put_pair<S: Sink>(
 
 /// Puts the end of a pair that another follows: the suffix of its value, and a comma.
 fn put_between_pairs<S: Sink>(out: &mut S, mode: Mode, before: Option<&Decor>)
-    ensures { WritesInCalls S.puts out.old (between_pairs (mode_of mode) (option_copied before.entry)) out.new }
+    ensures { WritesInCalls S.puts out.old
+        (between_pairs (mode_of mode) (option_copied before.entry)) out.new }
 {
     match before {
         None => {}
@@ -499,7 +529,8 @@ fn put_between_pairs<S: Sink>(out: &mut S, mode: Mode, before: Option<&Decor>)
 /// Puts the end of the last pair: the suffix of its value, which is one space if unset, and a
 /// comma if `comma` is set. Without pairs nothing is put.
 fn put_after_pairs<S: Sink>(out: &mut S, mode: Mode, comma: bool, last: Option<&Decor>)
-    ensures { WritesInCalls S.puts out.old (after_pairs (mode_of mode) comma (option_copied last.entry)) out.new }
+    ensures { WritesInCalls S.puts out.old
+        (after_pairs (mode_of mode) comma (option_copied last.entry)) out.new }
 {
     match last {
         None => {}
@@ -525,7 +556,8 @@ impl Printed for Bare<'_> {
 
 /// Puts the array with its decor, in plain mode. Unset sides are put as nothing.
 pub(crate) fn put_array<S: Sink>(out: &mut S, array: &Array)
-    ensures { WritesInCalls S.puts out.old (value_display (array_node (array_view array.now))) out.new }
+    ensures { WritesInCalls S.puts out.old
+        (value_display (array_node (array_view array.now))) out.new }
 {
     put_side(out, Mode::Plain, array.decor().prefix(), "");
     put_array_text(out, Mode::Plain, array);
@@ -534,7 +566,8 @@ pub(crate) fn put_array<S: Sink>(out: &mut S, array: &Array)
 
 /// Puts the inline table with its decor, in plain mode. Unset sides are put as nothing.
 pub(crate) fn put_inline<S: Sink>(out: &mut S, table: &InlineTable)
-    ensures { WritesInCalls S.puts out.old (value_display (inline_node (inline_view table.now))) out.new }
+    ensures { WritesInCalls S.puts out.old
+        (value_display (inline_node (inline_view table.now))) out.new }
 {
     put_side(out, Mode::Plain, table.decor().prefix(), "");
     put_inline_text(out, Mode::Plain, table);

@@ -256,8 +256,11 @@ impl InlineTable {
     /// Returns an `AllocError` if out of memory. Some of the inline tables may be sorted then and
     /// others not, but no slot is lost.
     pub fn sort_values(&mut self) -> Mem<()>
-        ensures reorders { IsDeepReorder is_dotted_inline (inline_slots_of self.old) (inline_slots_of self.new) }
-        ensures sorted { OnOk result (IsDeepSort is_dotted_inline name_lt (inline_slots_of self.old) (inline_slots_of self.new)) }
+        ensures reorders { IsDeepReorder is_dotted_inline (inline_slots_of self.old)
+            (inline_slots_of self.new) }
+        ensures sorted { OnOk result
+            (IsDeepSort is_dotted_inline name_lt (inline_slots_of self.old)
+            (inline_slots_of self.new)) }
         // The order of names is a lawful one, so exactly one list is in order.
         ensures in_order { OnOk result
             (inline_slots_of self.new
@@ -287,15 +290,18 @@ impl InlineTable {
     where
         F: Drop,
         requires { F.IsAlwaysCallable compare }
-        ensures reorders { IsDeepReorder is_dotted_inline (inline_slots_of self.old) (inline_slots_of self.new) }
-        ensures sorted { OnOk result (SortsInlineAs F.FnMut compare (inline_slots_of self.old) (inline_slots_of self.new)) }
+        ensures reorders { IsDeepReorder is_dotted_inline (inline_slots_of self.old)
+            (inline_slots_of self.new) }
+        ensures sorted { OnOk result
+            (SortsInlineAs F.FnMut compare (inline_slots_of self.old) (inline_slots_of self.new)) }
         ensures fields { inline_fields self.new ≡ inline_fields self.old }
     {
         sort_slots(
             &mut self.items,
             &|key: &Key, item: &Item, other_key: &Key, other: &Item| -> Ordering
                 requires { F.IsAlwaysCallable compare }
-                ensures { AnswersPairs F.FnMut compare (slot_taken (key.now, item.now)) (slot_taken (other_key.now, other.now)) result }
+                ensures { AnswersPairs F.FnMut compare (slot_taken (key.now, item.now))
+                    (slot_taken (other_key.now, other.now)) result }
             { compare_values(key, item, other_key, other, &compare) },
         )
     }
@@ -506,7 +512,8 @@ impl InlineTable {
 
     /// Finds the slot of the key, unless it is a placeholder.
     fn held_place(&self, key: &str) -> Option<usize>
-        ensures held { option_map item_view (option_and_then (slice_get (items_of (out-InlineTable self.now).items)) result)
+        ensures held { option_map item_view
+            (option_and_then (slice_get (items_of (out-InlineTable self.now).items)) result)
             ≡ get key.now (inline_slots_of self.now) }
         ensures place { IfSome result
             (λ at. place key.now (out-InlineTable self.now).items ≡ Some at) }
@@ -724,7 +731,8 @@ impl InlineTable {
     where
         F: Drop,
         requires { F.IsAlwaysCallable keep }
-        ensures kept { RetainsBy (SaysOfPair F.Fn keep) (valued (inline_slots_of self.old)) (inline_slots_of self.new) }
+        ensures kept { RetainsBy (SaysOfPair F.Fn keep) (valued (inline_slots_of self.old))
+            (inline_slots_of self.new) }
         ensures fields { inline_fields self.new ≡ inline_fields self.old }
     {
         retain_values(&mut self.items, keep);
@@ -744,7 +752,8 @@ impl InlineTable {
     pub fn extend<U: IntoIterator<Item = (Key, Value)>>(&mut self, pairs: U) -> Mem<()>
         requires { (it : U.IntoIter) → U.into_iter_gives pairs it
             → U.IntoIter.can_next it × IsFinite (U.IntoIter.remaining it) }
-        ensures { ExtendsWithItems U.into_iter_gives U.IntoIter.next_gives AddsValues pairs self.old self.new result }
+        ensures { ExtendsWithItems U.into_iter_gives U.IntoIter.next_gives AddsValues pairs
+            self.old self.new result }
     {
         for (key, value) in pairs {
             self.extend_one(key, value)?;
@@ -831,12 +840,14 @@ fn retain_values<F: Fn(&str, &Value) -> bool>(slots: &mut Slots<Item>, keep: F)
 where
     F: Drop,
     requires { F.IsAlwaysCallable keep }
-    ensures { RetainsBy (SaysOfPair F.Fn keep) (valued (slot_list (slots_view slots.old))) (slot_list (slots_view slots.new)) }
+    ensures { RetainsBy (SaysOfPair F.Fn keep) (valued (slot_list (slots_view slots.old)))
+        (slot_list (slots_view slots.new)) }
 {
     slots.retain(
         |name, item|
             requires { F.IsAlwaysCallable keep }
-            ensures { KeepsOnly is_value_node (SaysOfNamed F.Fn keep name.entry.now) (item_view item.entry.now) result }
+            ensures { KeepsOnly is_value_node (SaysOfNamed F.Fn keep name.entry.now)
+                (item_view item.entry.now) result }
         {
             match item.as_value() {
                 Some(value) => keep(name, value),

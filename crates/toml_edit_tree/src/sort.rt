@@ -28,7 +28,8 @@ impl Table {
     /// not, but no slot is lost.
     pub fn sort_values(&mut self) -> Mem<()>
         ensures reorders { IsDeepReorder is_dotted_table (slots_of self.old) (slots_of self.new) }
-        ensures sorted { OnOk result (IsDeepSort is_dotted_table name_lt (slots_of self.old) (slots_of self.new)) }
+        ensures sorted { OnOk result
+            (IsDeepSort is_dotted_table name_lt (slots_of self.old) (slots_of self.new)) }
         // The order of names is a lawful one, so exactly one list is in order.
         ensures in_order { OnOk result
             (slots_of self.new ≡ sorted_slots is_dotted_table (slots_from (slots_of self.old))) }
@@ -58,7 +59,8 @@ impl Table {
         F: Drop,
         requires { F.IsAlwaysCallable compare }
         ensures reorders { IsDeepReorder is_dotted_table (slots_of self.old) (slots_of self.new) }
-        ensures sorted { OnOk result (SortsTableAs F.FnMut compare (slots_of self.old) (slots_of self.new)) }
+        ensures sorted { OnOk result
+            (SortsTableAs F.FnMut compare (slots_of self.old) (slots_of self.new)) }
         ensures fields { fields_view self.new ≡ fields_view self.old }
     {
         sort_slots(&mut self.slots, &compare)
@@ -73,7 +75,9 @@ fn sort_slots<F: Fn(&Key, &Item, &Key, &Item) -> Ordering>(
 ) -> Mem<()>
     requires { F.IsAlwaysCallable compare.now }
     ensures reorders { IsDeepReorder is_dotted_table (items_seen slots.old) (items_seen slots.new) }
-    ensures sorted { OnOk result (SortsDeeplyAs is_dotted_table F.FnMut compare.now (items_seen slots.old) (items_seen slots.new)) }
+    ensures sorted { OnOk result
+        (SortsDeeplyAs is_dotted_table F.FnMut compare.now (items_seen slots.old)
+        (items_seen slots.new)) }
 {
     sort_items(slots, compare)?;
     for at in 0..slots.len() {
@@ -87,8 +91,11 @@ fn sort_slots<F: Fn(&Key, &Item, &Key, &Item) -> Ordering>(
 #[cycle(sort)]
 fn sort_item<F: Fn(&Key, &Item, &Key, &Item) -> Ordering>(item: &mut Item, compare: &F) -> Mem<()>
     requires { F.IsAlwaysCallable compare.now }
-    ensures reorders { ReordersItem is_dotted_table IsPermutation (item_view item.old) (item_view item.new) }
-    ensures sorted { OnOk result (SortsItemAs is_dotted_table F.FnMut compare.now (item_view item.old) (item_view item.new)) }
+    ensures reorders { ReordersItem is_dotted_table IsPermutation (item_view item.old)
+        (item_view item.new) }
+    ensures sorted { OnOk result
+        (SortsItemAs is_dotted_table F.FnMut compare.now (item_view item.old)
+        (item_view item.new)) }
 {
     match item {
         Item::None => Ok(()),
@@ -105,8 +112,11 @@ fn sort_table<F: Fn(&Key, &Item, &Key, &Item) -> Ordering>(
     compare: &F,
 ) -> Mem<()>
     requires { F.IsAlwaysCallable compare.now }
-    ensures reorders { ReordersItem is_dotted_table IsPermutation (table_node (table_view table.old)) (table_node (table_view table.new)) }
-    ensures sorted { OnOk result (SortsItemAs is_dotted_table F.FnMut compare.now (table_node (table_view table.old)) (table_node (table_view table.new))) }
+    ensures reorders { ReordersItem is_dotted_table IsPermutation
+        (table_node (table_view table.old)) (table_node (table_view table.new)) }
+    ensures sorted { OnOk result
+        (SortsItemAs is_dotted_table F.FnMut compare.now (table_node (table_view table.old))
+        (table_node (table_view table.new))) }
 {
     if table.is_dotted() {
         sort_slots(&mut table.slots, compare)
@@ -122,13 +132,15 @@ pub(crate) fn sort_items<F: Fn(&Key, &Item, &Key, &Item) -> Ordering>(
 ) -> Mem<()>
     requires { F.IsAlwaysCallable compare.now }
     ensures permutation { IsPermutation (seen slots.old) (seen slots.new) }
-    ensures sorted { OnOk result (SortsItemsAs F.FnMut compare.now (items_seen slots.old) (items_seen slots.new)) }
+    ensures sorted { OnOk result
+        (SortsItemsAs F.FnMut compare.now (items_seen slots.old) (items_seen slots.new)) }
     ensures err { OnErr result (slots.new ≡ slots.old) }
 {
     slots.sort_by(
         |one: &Slot<Item>, other: &Slot<Item>| -> Ordering
             requires { F.IsAlwaysCallable compare.now }
-            ensures { AnswersItems F.FnMut compare.entry.now (slot_seen item_view one.now) (slot_seen item_view other.now) result }
+            ensures { AnswersItems F.FnMut compare.entry.now (slot_seen item_view one.now)
+                (slot_seen item_view other.now) result }
         { compare(&one.key, &one.item, &other.key, &other.item) },
     )
 }

@@ -489,7 +489,8 @@ impl Table {
 
     /// Finds the slot of the key, unless it is a placeholder.
     fn held_place(&self, key: &str) -> Option<usize>
-        ensures held { option_map item_view (option_and_then (slice_get (items_of (out-Table self.now).slots)) result)
+        ensures held { option_map item_view
+            (option_and_then (slice_get (items_of (out-Table self.now).slots)) result)
             ≡ get key.now (slots_of self.now) }
         ensures place { IfSome result (λ at. place key.now (out-Table self.now).slots ≡ Some at) }
         ensures within { IfSome result (λ at. at < length (out-Table self.now).slots) }
@@ -754,7 +755,8 @@ impl Table {
     pub fn extend<U: IntoIterator<Item = (Key, Item)>>(&mut self, pairs: U) -> Mem<()>
         requires { (it : U.IntoIter) → U.into_iter_gives pairs it
             → U.IntoIter.can_next it × IsFinite (U.IntoIter.remaining it) }
-        ensures { ExtendsWithItems U.into_iter_gives U.IntoIter.next_gives AddsSlots pairs self.old self.new result }
+        ensures { ExtendsWithItems U.into_iter_gives U.IntoIter.next_gives AddsSlots pairs self.old
+            self.new result }
     {
         self.slots.extend(pairs)
     }

@@ -167,7 +167,8 @@ impl DocumentMut {
     /// From `write_to` of the guide, docs/GUIDE.md.
     pub fn print_to<W: Output>(&self, alloc: Global, out: &mut W) -> Result<(), PrintFault>
         requires { W.has_failed out.old ≡ false }
-        ensures prints { OnOk result (Appends (W.contents out.old) (W.contents out.new) (print_of self.now)) }
+        ensures prints { OnOk result
+            (Appends (W.contents out.old) (W.contents out.new) (print_of self.now)) }
         ensures works { OnOk result (W.has_failed out.new ≡ false) }
         ensures memory { IsErrOf result PrintFault.Memory → out.new ≡ out.old }
         ensures device { IsErrOf result PrintFault.Device → (W.has_failed out.new ≡ true)

@@ -197,7 +197,8 @@ fn outer_decor(alloc: Global, before: &str, after: &str) -> Mem<Decor>
 fn path_part(alloc: Global, part: Part<'_>, before: &str, after: &str, leaf: Decor) -> Mem<Key>
     requires { ∥ SpellsKey (string_bytes part.name) part.spelled.now ∥₁ }
     ensures { IfOk result (λ key. key ≡ path_key leaf
-        (spec.segment before.now (string_bytes part.entry.name, part.entry.spelled.now) after.now)) }
+        (spec.segment before.now
+        (string_bytes part.entry.name, part.entry.spelled.now) after.now)) }
 {
     let before = RawString::from_text(alloc, before)?;
     let after = RawString::from_text(alloc, after)?;
@@ -219,7 +220,8 @@ fn push_part(
 ) -> Mem<()>
     requires { ∥ SpellsKey (string_bytes part.name) part.spelled.now ∥₁ }
     ensures { OnOk result (keys.new.items ≡ keys.old.items ++ (path_key leaf
-        (spec.segment before.now (string_bytes part.entry.name, part.entry.spelled.now) after.now) ∷ [])) }
+        (spec.segment before.now (string_bytes part.entry.name, part.entry.spelled.now) after.now)
+        ∷ [])) }
 {
     let key = path_part(alloc, part, before, after, leaf)?;
     keys.push(key)?;

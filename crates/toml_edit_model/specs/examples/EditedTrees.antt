@@ -466,7 +466,10 @@ readme_with_value : print
     (slot (plain_key (codes "d"))
     (leaf
     (string
-    (codes "hello")) None unset) no_slots)) no_slots)) no_slots)) no_slots))) { trailing = owned (codes "    ") })
+    (codes "hello")) None unset) no_slots)) no_slots)) no_slots)) no_slots))) {
+      trailing = owned
+          (codes "    ");
+    })
     ≡ codes "\n\"hello\" = 'toml!' # comment\n['a'.b]\nc = { d = \"hello\" }\n    "
 unfolding print
 readme_with_value = refl

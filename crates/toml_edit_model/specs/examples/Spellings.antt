@@ -155,7 +155,18 @@ infinity = inr (minus, inl refl)
 half_second : SpellsDatetime
     (record { date = None; time = Some (time 7 32 (Some 0) (Some 500000000)); offset = None })
     (codes "07:32:00.5")
-half_second = (lit< tt, lit< tt, codes ":00.5", (lit< tt, codes ".5", (codes "5", refl, refl, refl, refl), refl), refl)
+half_second = (
+  lit< tt,
+  lit< tt,
+  codes ":00.5",
+  (
+    lit< tt,
+    codes ".5",
+    (codes "5", refl, refl, refl, refl),
+    refl,
+  ),
+  refl,
+)
 
 abbrev day : Option Date
 day = Some (record { year = 1979; month = 5; day = 27 })
@@ -164,8 +175,17 @@ day = Some (record { year = 1979; month = 5; day = 27 })
 small_marks : SpellsDatetime
     (record { date = day; time = Some (time 7 32 None None); offset = Some zulu })
     (codes "1979-05-27t07:32z")
-small_marks =
-    (codes "1979-05-27", codes "07:32", codes "z", 0x74, (lit< tt, lit< tt, lit< tt, refl), refl, (lit< tt, lit< tt, [], refl, refl), inr refl, refl)
+small_marks = (
+  codes "1979-05-27",
+  codes "07:32",
+  codes "z",
+  0x74,
+  (lit< tt, lit< tt, lit< tt, refl),
+  refl,
+  (lit< tt, lit< tt, [], refl, refl),
+  inr refl,
+  refl,
+)
 
 -- `1979-05-27T07:32:00+24:00` spells an offset of 1440 minutes, which is out of range
 long_offset : SpellsDatetime

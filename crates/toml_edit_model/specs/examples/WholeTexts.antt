@@ -83,12 +83,44 @@ pub tree_spaced_header : HasTree spaced_header (codes "[a. b.c]\n[a]\nb.x = 1\n"
 tree_spaced_header = (
   record {
     root = refl;
-    slots = (refl, (tt, refl, (refl, (tt, refl, (refl, (tt, refl, tt), (refl, (refl, (refl, refl, refl)), tt))), tt)), tt);
+    slots = (
+      refl,
+      (
+        tt,
+        refl,
+        (
+          refl,
+          (
+            tt,
+            refl,
+            (refl, (tt, refl, tt), (refl, (refl, (refl, refl, refl)), tt)),
+          ),
+          tt,
+        ),
+      ),
+      tt,
+    );
     trailing = refl;
   },
   record {
     root = refl;
-    slots = (refl, (tt, refl, (refl, (tt, refl, (refl, (tt, refl, tt), (refl, (refl, (refl, refl, refl)), tt))), tt)), tt);
+    slots = (
+      refl,
+      (
+        tt,
+        refl,
+        (
+          refl,
+          (
+            tt,
+            refl,
+            (refl, (tt, refl, tt), (refl, (refl, (refl, refl, refl)), tt)),
+          ),
+          tt,
+        ),
+      ),
+      tt,
+    );
     trailing = refl;
   },
 )
@@ -124,12 +156,44 @@ pub tree_quoted_first : HasTree quoted_first (codes "\"a\".b = 1\na.c = 2\n")
 tree_quoted_first = (
   record {
     root = refl;
-    slots = (refl, (tt, refl, (refl, (refl, (refl, refl, refl)), (refl, (refl, (refl, refl, refl)), tt))), tt);
+    slots = (
+      refl,
+      (
+        tt,
+        refl,
+        (
+          refl,
+          (refl, (refl, refl, refl)),
+          (
+            refl,
+            (refl, (refl, refl, refl)),
+            tt,
+          ),
+        ),
+      ),
+      tt,
+    );
     trailing = refl;
   },
   record {
     root = refl;
-    slots = (refl, (tt, refl, (refl, (refl, (refl, refl, refl)), (refl, (refl, (refl, refl, refl)), tt))), tt);
+    slots = (
+      refl,
+      (
+        tt,
+        refl,
+        (
+          refl,
+          (refl, (refl, refl, refl)),
+          (
+            refl,
+            (refl, (refl, refl, refl)),
+            tt,
+          ),
+        ),
+      ),
+      tt,
+    );
     trailing = refl;
   },
 )
@@ -145,12 +209,36 @@ pub tree_apart : HasTree apart (codes "[a.x]\n[b]\n[a.y]\n")
 tree_apart = (
   record {
     root = refl;
-    slots = (refl, (tt, refl, (refl, (tt, refl, tt), (refl, (tt, refl, tt), tt))), (refl, (tt, refl, tt), tt));
+    slots = (
+      refl,
+      (tt, refl, (refl, (tt, refl, tt), (refl, (tt, refl, tt), tt))),
+      (
+        refl,
+        (
+          tt,
+          refl,
+          tt,
+        ),
+        tt,
+      ),
+    );
     trailing = refl;
   },
   record {
     root = refl;
-    slots = (refl, (tt, refl, (refl, (tt, refl, tt), (refl, (tt, refl, tt), tt))), (refl, (tt, refl, tt), tt));
+    slots = (
+      refl,
+      (tt, refl, (refl, (tt, refl, tt), (refl, (tt, refl, tt), tt))),
+      (
+        refl,
+        (
+          tt,
+          refl,
+          tt,
+        ),
+        tt,
+      ),
+    );
     trailing = refl;
   },
 )
@@ -220,7 +308,14 @@ pub cuts_two_blocks : IsCut two_blocks (codes "[[a]]\nx = 1\n[[a]]\nx = 2\n")
 cuts_two_blocks =
     cut two_blocks.statements (
       head_is true _ a_is,
-      ((frame_is _ x_is, one_is, lf_end), (head_is true _ a_is, ((frame_is _ x_is, two_is, lf_end), tt))),
+      (
+        (frame_is _ x_is, one_is, lf_end),
+        (
+          head_is true _
+              a_is,
+          ((frame_is _ x_is, two_is, lf_end), tt),
+        ),
+      ),
     )
   where
     x_is : IsKey (x ∷ [])
@@ -243,12 +338,44 @@ pub tree_two_blocks : HasTree two_blocks (codes "[[a]]\nx = 1\n[[a]]\nx = 2\n")
 tree_two_blocks = (
   record {
     root = refl;
-    slots = (refl, (refl, refl, (refl, (refl, (refl, (refl, refl, refl)), tt), (refl, (refl, (refl, (refl, refl, refl)), tt), tt))), tt);
+    slots = (
+      refl,
+      (
+        refl,
+        refl,
+        (
+          refl,
+          (
+            refl,
+            (refl, (refl, refl, refl)),
+            tt,
+          ),
+          (refl, (refl, (refl, (refl, refl, refl)), tt), tt),
+        ),
+      ),
+      tt,
+    );
     trailing = refl;
   },
   record {
     root = refl;
-    slots = (refl, (refl, refl, (refl, (refl, (refl, (refl, refl, refl)), tt), (refl, (refl, (refl, (refl, refl, refl)), tt), tt))), tt);
+    slots = (
+      refl,
+      (
+        refl,
+        refl,
+        (
+          refl,
+          (
+            refl,
+            (refl, (refl, refl, refl)),
+            tt,
+          ),
+          (refl, (refl, (refl, (refl, refl, refl)), tt), tt),
+        ),
+      ),
+      tt,
+    );
     trailing = refl;
   },
 )
@@ -306,12 +433,52 @@ pub tree_arrays_in_elements : HasTree arrays_in_elements
 tree_arrays_in_elements = (
   record {
     root = refl;
-    slots = (refl, (refl, refl, (refl, (refl, (refl, refl, (refl, tt, tt)), tt), (refl, (refl, (refl, refl, (refl, (refl, (refl, (refl, refl, refl)), tt), tt)), tt), tt))), tt);
+    slots = (
+      refl,
+      (
+        refl,
+        refl,
+        (
+          refl,
+          (
+            refl,
+            (refl, refl, (refl, tt, tt)),
+            tt,
+          ),
+          (
+            refl,
+            (refl, (refl, refl, (refl, (refl, (refl, (refl, refl, refl)), tt), tt)), tt),
+            tt,
+          ),
+        ),
+      ),
+      tt,
+    );
     trailing = refl;
   },
   record {
     root = refl;
-    slots = (refl, (refl, refl, (refl, (refl, (refl, refl, (refl, tt, tt)), tt), (refl, (refl, (refl, refl, (refl, (refl, (refl, (refl, refl, refl)), tt), tt)), tt), tt))), tt);
+    slots = (
+      refl,
+      (
+        refl,
+        refl,
+        (
+          refl,
+          (
+            refl,
+            (refl, refl, (refl, tt, tt)),
+            tt,
+          ),
+          (
+            refl,
+            (refl, (refl, refl, (refl, (refl, (refl, (refl, refl, refl)), tt), tt)), tt),
+            tt,
+          ),
+        ),
+      ),
+      tt,
+    );
     trailing = refl;
   },
 )
@@ -560,8 +727,10 @@ leap_second =
 
 pub cuts_leap_second : IsCut leap_second (codes "t = 23:59:60\n")
 cuts_leap_second =
-    cut leap_second.statements
-    ((frame_is _ t_is, (lit< tt, lit< tt, codes ":60", (lit< tt, [], refl, refl), refl), lf_end), tt)
+    cut leap_second.statements (
+      (frame_is _ t_is, (lit< tt, lit< tt, codes ":60", (lit< tt, [], refl, refl), refl), lf_end),
+      tt,
+    )
 
 reads_leap_second : reads leap_second (codes "t = 23:59:60\n") (codes "t = 23:59:60\n") ≡ all_hold
 unfolding print normal normal_text is_settled meaning shown_meaning is_accepted

@@ -70,7 +70,8 @@ impl<T> Slots<T> {
         T: Drop,
         requires { (it : U.IntoIter) → U.into_iter_gives pairs it
             → U.IntoIter.can_next it × IsFinite (U.IntoIter.remaining it) }
-        ensures { ExtendsWithItems U.into_iter_gives U.IntoIter.next_gives Adds pairs self.old self.new result }
+        ensures { ExtendsWithItems U.into_iter_gives U.IntoIter.next_gives Adds pairs self.old
+            self.new result }
     {
         for (key, item) in pairs {
             self.extend_one(key, item)?;

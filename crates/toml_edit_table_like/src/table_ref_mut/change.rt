@@ -82,8 +82,11 @@ pub(crate) fn format_in(table: &mut Item)
 /// Sorts the slots by name, as `AnyTable::sort_values` does.
 pub(crate) fn sort_in(table: &mut Item) -> Mem<()>
     requires { is_some (entries_in table.old) ≡ true }
-    ensures reorders { IsDeepReorder (differences_of (beside_in table.old)).enters (slots_seen table.old) (slots_seen table.new) }
-    ensures sorted { OnOk result (LikeSorted (differences_of (beside_in table.old)) (slots_seen table.old) (slots_seen table.new)) }
+    ensures reorders { IsDeepReorder (differences_of (beside_in table.old)).enters
+        (slots_seen table.old) (slots_seen table.new) }
+    ensures sorted { OnOk result
+        (LikeSorted (differences_of (beside_in table.old)) (slots_seen table.old)
+        (slots_seen table.new)) }
     ensures in_order { OnOk result
         (slots_seen table.new
         ≡ sorted_slots (differences_of (beside_in table.old)).enters

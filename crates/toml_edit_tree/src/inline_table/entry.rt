@@ -544,7 +544,8 @@ impl InlineTable {
     /// Makes the item of slot `at` a value, and puts `value` in place of a placeholder.
     pub(crate) fn make_value_at(&mut self, at: usize, value: Value)
         requires { at < length (out-InlineTable self.old).items }
-        ensures items { MakesValueAt (value_view value) at (out-InlineTable self.old).items (out-InlineTable self.new).items }
+        ensures items { MakesValueAt (value_view value) at (out-InlineTable self.old).items
+            (out-InlineTable self.new).items }
         ensures table { self.new ≡ holding (out-InlineTable self.new).items self.old }
         ensures fields { inline_fields self.new ≡ inline_fields self.old }
     {

@@ -25,7 +25,8 @@ pub(crate) fn compare_values<F: Fn(&Key, &Value, &Key, &Value) -> Ordering>(
     compare: &F,
 ) -> Ordering
     requires { F.IsAlwaysCallable compare.now }
-    ensures { AnswersPairs F.FnMut compare.now (slot_taken (key.now, item.now)) (slot_taken (other_key.now, other.now)) result }
+    ensures { AnswersPairs F.FnMut compare.now (slot_taken (key.now, item.now))
+        (slot_taken (other_key.now, other.now)) result }
 {
     match (item.as_value(), other.as_value()) {
         (Some(value), Some(other_value)) => compare(key, value, other_key, other_value),
@@ -42,8 +43,11 @@ pub(crate) fn sort_slots<F: Fn(&Key, &Item, &Key, &Item) -> Ordering>(
     compare: &F,
 ) -> Mem<()>
     requires { F.IsAlwaysCallable compare.now }
-    ensures reorders { IsDeepReorder is_dotted_inline (items_seen slots.old) (items_seen slots.new) }
-    ensures sorted { OnOk result (SortsDeeplyAs is_dotted_inline F.FnMut compare.now (items_seen slots.old) (items_seen slots.new)) }
+    ensures reorders { IsDeepReorder is_dotted_inline (items_seen slots.old)
+        (items_seen slots.new) }
+    ensures sorted { OnOk result
+        (SortsDeeplyAs is_dotted_inline F.FnMut compare.now (items_seen slots.old)
+        (items_seen slots.new)) }
 {
     sort_items(slots, compare)?;
     for at in 0..slots.len() {
@@ -57,8 +61,11 @@ pub(crate) fn sort_slots<F: Fn(&Key, &Item, &Key, &Item) -> Ordering>(
 #[cycle(sort)]
 fn sort_item<F: Fn(&Key, &Item, &Key, &Item) -> Ordering>(item: &mut Item, compare: &F) -> Mem<()>
     requires { F.IsAlwaysCallable compare.now }
-    ensures reorders { ReordersItem is_dotted_inline IsPermutation (item_view item.old) (item_view item.new) }
-    ensures sorted { OnOk result (SortsItemAs is_dotted_inline F.FnMut compare.now (item_view item.old) (item_view item.new)) }
+    ensures reorders { ReordersItem is_dotted_inline IsPermutation (item_view item.old)
+        (item_view item.new) }
+    ensures sorted { OnOk result
+        (SortsItemAs is_dotted_inline F.FnMut compare.now (item_view item.old)
+        (item_view item.new)) }
 {
     match item {
         Item::None => Ok(()),
@@ -75,8 +82,11 @@ fn sort_value<F: Fn(&Key, &Item, &Key, &Item) -> Ordering>(
     compare: &F,
 ) -> Mem<()>
     requires { F.IsAlwaysCallable compare.now }
-    ensures reorders { ReordersItem is_dotted_inline IsPermutation (value_view value.old) (value_view value.new) }
-    ensures sorted { OnOk result (SortsItemAs is_dotted_inline F.FnMut compare.now (value_view value.old) (value_view value.new)) }
+    ensures reorders { ReordersItem is_dotted_inline IsPermutation (value_view value.old)
+        (value_view value.new) }
+    ensures sorted { OnOk result
+        (SortsItemAs is_dotted_inline F.FnMut compare.now (value_view value.old)
+        (value_view value.new)) }
 {
     match value {
         Value::String(_) => Ok(()),
@@ -96,8 +106,11 @@ fn sort_inline<F: Fn(&Key, &Item, &Key, &Item) -> Ordering>(
     compare: &F,
 ) -> Mem<()>
     requires { F.IsAlwaysCallable compare.now }
-    ensures reorders { ReordersItem is_dotted_inline IsPermutation (inline_node (inline_view table.old)) (inline_node (inline_view table.new)) }
-    ensures sorted { OnOk result (SortsItemAs is_dotted_inline F.FnMut compare.now (inline_node (inline_view table.old)) (inline_node (inline_view table.new))) }
+    ensures reorders { ReordersItem is_dotted_inline IsPermutation
+        (inline_node (inline_view table.old)) (inline_node (inline_view table.new)) }
+    ensures sorted { OnOk result
+        (SortsItemAs is_dotted_inline F.FnMut compare.now (inline_node (inline_view table.old))
+        (inline_node (inline_view table.new))) }
 {
     if table.is_dotted() {
         sort_slots(&mut table.items, compare)
