@@ -1,4 +1,4 @@
-//! Keys, and mutable references to all of a key but its name. How keys are parsed is in a submodule.
+//! Keys, and mutable references to all of a key but its name. Parsing is in a submodule.
 ghost use Rattle.std.specs.Prelude.{◌≡◌, Some, IsSome, IsOkAnd, IfOk, OnOk, option_map, option_and_then, refl, bytes_eq, string_bytes};
 ghost use Rattle.std.specs.Option.{option_copied};
 ghost use Rattle.std.specs.Cow.{cow_str_bytes, IsBorrowedStr};
@@ -100,7 +100,7 @@ impl Key {
     ghost use Rattle.toml_edit_key.specs.LendingParts.{LendsLeaf, LendsDotted};
 
     /// Returns the name, and drops the rest.
-    pub(crate) fn into_text(self) -> String
+    fn into_text(self) -> String
         ensures { string_bytes result ≡ self.name }
     {
         let Key { text, repr, parts } = self;
@@ -574,7 +574,7 @@ impl Printed for KeyMut<'_> {
 }
 
 /// Returns the default spelling of the name.
-pub(crate) fn default_spelling(alloc: Global, name: &str) -> Mem<Repr>
+fn default_spelling(alloc: Global, name: &str) -> Mem<Repr>
     ensures default { IfOk result (λ repr. repr ≡ owned (key_spelling name.now)) }
     ensures spelled { SpellsKey name.now (key_spelling name.now) }
 {
@@ -583,7 +583,7 @@ pub(crate) fn default_spelling(alloc: Global, name: &str) -> Mem<Repr>
 }
 
 /// Returns the spelling if it is a text, else the default one of the name.
-pub(crate) fn displayed<'a>(alloc: Global, name: &'a str, repr: Option<&'a Repr>) -> Mem<CowStr<'a>>
+fn displayed<'a>(alloc: Global, name: &'a str, repr: Option<&'a Repr>) -> Mem<CowStr<'a>>
     ensures text { IfOk result
         (λ text. cow_str_bytes text
         ≡ shown_spelling (key_spelling name.now) (option_copied repr.entry)) }
@@ -597,7 +597,7 @@ pub(crate) fn displayed<'a>(alloc: Global, name: &'a str, repr: Option<&'a Repr>
 }
 
 /// Puts the spelling if it is a text, else the default one of the name.
-pub(crate) fn put_spelling<S: Sink>(out: &mut S, name: &str, repr: Option<&Repr>)
+fn put_spelling<S: Sink>(out: &mut S, name: &str, repr: Option<&Repr>)
     ensures { WritesInCalls S.puts out.old
         (shown_spelling (key_spelling name.now) (option_copied repr.entry)) out.new }
 {
