@@ -19,15 +19,18 @@ setting name key n = replace (into_table name ∷ []) key (λ k. k) n ∷ []
 abbrev pub string_like : Node → Text → Node
 string_like old value = with_decor (node_decor old) (leaf (string value) None unset)
 
--- under these keys two values are lines that differ in the values alone: what is before and after them, a comment too, is the same
+-- under these keys two values are lines that differ in the values alone: what is before and after
+-- them, a comment too, is the same
 abbrev pub KeepsAround : List Key → Node → Node → Type 0
 KeepsAround ks old new =
     (frame : Frame) × (end : Text)
     × (line_statement plain (value_line plain ks old) ≡ key_line frame (value_of plain old) end)
     × (line_statement plain (value_line plain ks new) ≡ key_line frame (value_of plain new) end)
 
--- What was written is the print of the text's tree with this string under the key of the table under the name, in the decor of the old one:
--- the normal text of the text, but for the value of one statement. It is accepted, and means what the tree shows.
+-- What was written is the print of the text's tree with this string under the key of the table
+-- under the name, in the decor of the old one:
+-- the normal text of the text, but for the value of one statement. It is accepted, and means what
+-- the tree shows.
 pub record HasValueSet (text name key value out : Text) : Type 0 where
   pub document : Document
   pub tree : Tree

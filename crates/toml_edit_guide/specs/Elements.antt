@@ -13,7 +13,8 @@ abbrev pub with_last : Node → Node → Node
 with_last x (tables e xs) = tables e (items_from (pushed x (item_list xs)))
 with_last x n = n
 
--- the element added to the array of tables under the name, or to a new one in place of any other item
+-- the element added to the array of tables under the name, or to a new one in place of any other
+-- item
 abbrev pub with_element : Text → Node → List (Slot Node) → List (Slot Node)
 with_element t x es =
     if contains_tables t es then option_map_or (λ at. changed_at at (on_item (with_last x)) es) (place t es) es

@@ -33,8 +33,10 @@ ExchangesInTree name key n t u =
 abbrev pub exchanging : Text → Text → Text → List Edit
 exchanging name key value = remove [] name ∷ add [] (new_key key) (leaf (string value) None unset) ∷ []
 
--- What was written is the print of the text's tree without this table, and with this string under a new key at the end of the root's lines:
--- the normal text of the text, but for those statements. It is accepted, and means what the tree shows.
+-- What was written is the print of the text's tree without this table, and with this string under a
+-- new key at the end of the root's lines:
+-- the normal text of the text, but for those statements. It is accepted, and means what the tree
+-- shows.
 pub record HasExchanged (text name key value out : Text) : Type 0 where
   pub document : Document
   pub tree : Tree

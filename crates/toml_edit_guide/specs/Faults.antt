@@ -38,7 +38,8 @@ FailsToFit Fits Unfit = Fits → ⊥
 FailsToFit Fits Memory = Unit {0}
 FailsToFit Fits _ = ⊥
 
--- Why no value under a key of a table is replaced by a string: the text is refused; its tree has no value there; or the tree would not fit
+-- Why no value under a key of a table is replaced by a string: the text is refused; its tree has no
+-- value there; or the tree would not fit
 -- with this string in place of the value.
 abbrev pub SetFails : Text → Text → Text → Text → EditFault → Type 0
 SetFails text name key value (Toml report) = IsRefusal text report
@@ -50,7 +51,8 @@ SetFails text name key value Unfit =
     (t : Tree) × (u : Tree) × IsOwnedReading text t
     × SetsInTree name key (leaf (string value) None unset) t u × (FitsIn plain u → ⊥)
 
--- why a slot that has a table is not removed and a key not added: there is no such table; or there is, and the key is one of the others
+-- why a slot that has a table is not removed and a key not added: there is no such table; or there
+-- is, and the key is one of the others
 abbrev pub SlotsStay : Text → Text → List (Slot Node) → EditFault → Type 0
 SlotsStay name key es Memory = Unit {0}
 SlotsStay name key es Missing = option_and_then table_in (lookup name es) ≡ None
@@ -59,7 +61,8 @@ SlotsStay name key es Present =
     × (is_some (lookup_key key (without name es)) ≡ true)
 SlotsStay name key es _ = ⊥
 
--- why no table is removed and no string added: the text is refused; so it is with the slots of its root; or the tree would not fit
+-- why no table is removed and no string added: the text is refused; so it is with the slots of its
+-- root; or the tree would not fit
 abbrev pub ExchangeFails : Text → Text → Text → Text → EditFault → Type 0
 ExchangeFails text name key value (Toml report) = IsRefusal text report
 ExchangeFails text name key value Memory = Unit {0}
@@ -71,7 +74,8 @@ ExchangeFails text name key value Unfit =
     (t : Tree) × (u : Tree) × IsOwnedReading text t
     × ExchangesInTree name key (leaf (string value) None unset) t u × (FitsIn plain u → ⊥)
 
--- why no key of the root is removed: the text is refused; there is no such key; or the tree would not fit
+-- why no key of the root is removed: the text is refused; there is no such key; or the tree would
+-- not fit
 abbrev pub RemovalFails : Text → Text → EditFault → Type 0
 RemovalFails text name (Toml report) = IsRefusal text report
 RemovalFails text name Memory = Unit {0}

@@ -11,7 +11,8 @@ use Rattle.toml_edit.specs.model.Syntax.{Document}
 use Rattle.toml_edit.specs.model.Text.{Text}
 use Rattle.toml_edit.specs.model.Tree.{Tree}
 
--- What was written is the normal text of the text: it is accepted, means the same and is settled, and a settled text stays (`form`). However
+-- What was written is the normal text of the text: it is accepted, means the same and is settled,
+-- and a settled text stays (`form`). However
 -- it is read, its own normal text is what was written.
 pub record IsNormalized (text out : Text) : Type 0 where
   pub document : Document

@@ -15,7 +15,8 @@ use Rattle.toml_edit.specs.model.Tree.{Node, Tree}
 abbrev pub without_key : Text → Tree → Tree
 without_key name t = record t { slots = slots_from (without name (slot_list t.slots)) }
 
--- What was written is the normal text of the text without the statements of this key of the root and of all below it. The others are as
+-- What was written is the normal text of the text without the statements of this key of the root
+-- and of all below it. The others are as
 -- they were, in their order. It is accepted, and means what the tree shows.
 pub record HasKeyRemoved (text name out : Text) : Type 0 where
   pub document : Document

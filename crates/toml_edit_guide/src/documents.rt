@@ -1,5 +1,5 @@
 //! Parsing, checking and printing whole documents.
-ghost use Rattle.std.specs.Prelude.{◌≡◌, ◌⊎◌, ◌↔◌, [], IfOk, IfSome, IsErrOf, IsOk, IsSome, OnOk, string_bytes};
+ghost use Rattle.std.specs.Prelude.{◌≡◌, ◌⊎◌, ◌↔◌, [], true, IfOk, IfSome, IsErrOf, IsOk, IsSome, OnOk, string_bytes};
 ghost use Rattle.std.specs.Io.KnownBytes.{Appends};
 ghost use Rattle.toml_edit_guide.specs.Reports.{Reports};
 ghost use Rattle.toml_edit.specs.DocumentView.{mode_owned, open_owned, print_of, tree_owned};
@@ -44,8 +44,9 @@ pub fn write_to<W: Output>(
     document: &DocumentMut,
     output: &mut W,
 ) -> Result<(), PrintFault>
-    ensures { OnOk result
+    ensures prints { OnOk result
         (Appends (W.contents output.old) (W.contents output.new) (print_of document.now)) }
+    ensures device { IsErrOf result PrintFault.Device → W.has_failed output.new ≡ true }
 {
     if output.failed() {
         return Err(PrintFault::Device);

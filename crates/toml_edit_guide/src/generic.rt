@@ -1,5 +1,5 @@
 //! Functions over any source, scalar, table or stream, by the traits of the library.
-ghost use Rattle.std.specs.Prelude.{◌≡◌, IfOk, length, not, is_some, option_map, slice_get, Some};
+ghost use Rattle.std.specs.Prelude.{◌≡◌, true, IfOk, OnErr, length, not, is_some, option_map, slice_get, Some};
 ghost use Rattle.std.specs.Fmt.{WritesInCalls};
 ghost use Rattle.std.specs.Io.KnownBytes.{Appends, ReadConsumes};
 ghost use Rattle.toml_edit.specs.DocumentView.{print_of, source};
@@ -72,7 +72,8 @@ pub fn count_slots<T: HasSlots>(table: &T) -> usize
 
 /// Reads a piece of an input.
 pub fn read_piece<I: Input>(input: &mut I, buffer: &mut [u8]) -> Result<usize, Broken>
-    ensures { ReadConsumes (I.remaining input.old) (I.remaining input.new) result buffer.new }
+    ensures bytes { ReadConsumes (I.remaining input.old) (I.remaining input.new) result buffer.new }
+    ensures failed { OnErr result (I.has_failed input.new ≡ true) }
 {
     input.read(buffer)
 }
