@@ -11,7 +11,7 @@ pub enum EditFault {
     Toml(TomlError),
     /// Memory ran out.
     Memory,
-    /// What is to be changed or removed is not there.
+    /// What the edit names is not there.
     Missing,
     /// The key that is to be added is there.
     Present,
