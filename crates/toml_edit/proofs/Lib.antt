@@ -14,3 +14,4 @@ pub mod OpenEndLaws
 pub mod PlainReads
 pub mod TailLaws
 pub mod HoldLaws
+pub mod AtLaws

@@ -1,11 +1,11 @@
 -- The text with an open end is that with a closed one, but for the newline of the last statement, which may be cut off.
-use Rattle.std.proofs.Common.{◌≡◌, ℕ, zero, suc, ◌+◌, ◌-◌, ◌<◌, ◌≤◌, Bool, true, false, [], ◌∷◌, ◌++◌, Option, None, Some, length, get_or, take, refl, sym, ap, subst, ◌∙◌, arith, length-append, IsUtf8, IsAscii, IsCharBoundary, lit<}
-use Rattle.std.specs.Prelude.{◌==◌, if◌then◌else◌, slice_index}
+use Rattle.std.proofs.Common.{◌≡◌, ℕ, suc, ◌+◌, ◌-◌, ◌<◌, ◌≤◌, Bool, true, false, [], ◌∷◌, ◌++◌, length, get_or, take, refl, sym, ap, subst, ◌∙◌, arith, length-append, IsUtf8, IsCharBoundary, lit<}
+use Rattle.std.specs.Prelude.{◌==◌, slice_index}
 use Rattle.std.proofs.lemmas.List.{take-append-le}
-use Rattle.std.proofs.lemmas.Str.{IsCharBoundary-at_seam, IsUtf8-from_ascii, IsUtf8-nil}
+use Rattle.std.proofs.lemmas.Str.{IsCharBoundary-at_seam}
 use Rattle.toml_edit_model.specs.Mode.{Mode, plain, exact, ends_in_return}
-use Rattle.toml_edit_model.specs.Text.{Text, carriage_return, newline}
-use Rattle.toml_edit_model.specs.Tree.{Decor, Tree, shown_suffix}
+use Rattle.toml_edit_model.specs.Text.{Text, carriage_return}
+use Rattle.toml_edit_model.specs.Tree.{Tree}
 use Rattle.toml_edit_model.specs.Print.{leaves_open, print_in}
 use Rattle.toml_edit_laws.proofs.accepted_prints.OpenEnds.{open-prints}
 use Rattle.toml_edit.specs.LastLines.{last_statement, newline_of}
@@ -26,23 +26,6 @@ closed-print mode true t e = (open-prints mode t).1 e
 closed-print mode false t e = refl
 
 -- ---- the cut
-
-lf-ascii : IsAscii newline
-lf-ascii zero = lit< tt
-lf-ascii (suc i) = lit< tt
-
-crlf-ascii : IsAscii (carriage_return ∷ newline)
-crlf-ascii zero = lit< tt
-crlf-ascii (suc zero) = lit< tt
-crlf-ascii (suc (suc i)) = lit< tt
-
-pub newline-utf8 : (d : Option Decor) → IsUtf8 (newline_of exact d)
-newline-utf8 None = IsUtf8-nil
-newline-utf8 (Some d) = by_test (ends_in_return (shown_suffix exact [] d))
-  where
-    by_test : (b : Bool) → IsUtf8 (if b then carriage_return ∷ newline else newline)
-    by_test true = IsUtf8-from_ascii (carriage_return ∷ newline) crlf-ascii
-    by_test false = IsUtf8-from_ascii newline lf-ascii
 
 -- the text may be cut there
 abbrev pub MayBeCut : Text → ℕ → Type 0

@@ -1,8 +1,8 @@
 -- The item that is the root of a document.
 use denote.Struct.Props.{props}
-use Rattle.std.proofs.Common.{◌≡◌, ap, refl, subst, sym, ◌∙◌, Bool, true, rules}
+use Rattle.std.proofs.Common.{◌≡◌, ap, refl, subst, ◌∙◌, Bool, true, rules}
 use Rattle.toml_edit_repr.specs.declared.mode.Mode.{Mode}
-use Rattle.toml_edit_model.specs.Tree.{Raw, Node, Slots, TableFields, Tree, nothing, leaf, list, inline, table, tables}
+use Rattle.toml_edit_model.specs.Tree.{Raw, Node, nothing, leaf, list, inline, table, tables}
 use Rattle.toml_edit_tree.specs.View.{item_view, fields_view, table_slots, tree_view}
 use Rattle.toml_edit_tree.specs.declared.item.Item.{Item, the_lemmas}
 use Rattle.toml_edit_tree.specs.declared.item.Item.TheVariants as items
@@ -51,12 +51,3 @@ trailing-at (tables e xs) r = refl
 
 pub root-under : (t : Table) (r : Raw) → root_node (tree_under (items.Table t) r) ≡ table (fields_view t) (table_slots t)
 root-under t r = ap (λ n. root_node (tree_at n r)) (view-table t)
-
--- the tree with the parts of one is that
-pub tree-by-parts : (n : Node) (r : Raw) (f : TableFields) (ss : Slots) → f ≡ (tree_at n r).root → ss ≡ (tree_at n r).slots
-    → record { root = f; slots = ss; trailing = r } ≡ tree_at n r
-tree-by-parts n r f ss e g = same-tree f (tree_at n r).root ss (tree_at n r).slots r (tree_at n r).trailing e g (sym (trailing-at n r))
-  where
-    same-tree : (f h : TableFields) (ss us : Slots) (r q : Raw) → f ≡ h → ss ≡ us → r ≡ q
-        → (let t : Tree = record { root = f; slots = ss; trailing = r } in t) ≡ record { root = h; slots = us; trailing = q }
-    same-tree f h ss us r q e g k = rw (e, g, k) refl

@@ -21,3 +21,4 @@ pub use Rattle.toml_edit_stream.specs as stream
 pub use Rattle.toml_edit_tree.specs as tree
 pub use Rattle.toml_edit_table_like.specs as table_like
 pub use Rattle.toml_edit_parser.specs as parser
+pub use Rattle.toml_edit_change.specs as change

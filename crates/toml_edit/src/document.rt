@@ -12,6 +12,7 @@ use toml_edit_parser::ParseOptions;
 use toml_edit_repr::{Mem, Mode, RawString};
 use toml_edit_tree::{Item, Iter, Table};
 
+mod at;
 mod index;
 mod print;
 
@@ -598,7 +599,7 @@ impl DocumentMut {
     pub fn is_exact(&self) -> bool
         ensures { result ≡ model.is_exact (mode_owned self.now) }
     {
-        matches!(self.mode, Mode::Exact)
+        self.mode.is_exact()
     }
 
     /// Sets whether line endings are kept from now on.

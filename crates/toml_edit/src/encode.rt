@@ -1,19 +1,18 @@
 //! Putting documents into sinks.
 #![tactic(auto, using(toml_edit_stream::proofs::Puts::put_steps))]
 
-ghost use Rattle.std.specs.Prelude.{◌≡◌, false, ◌++◌, ◌∷◌, [], map, if◌then◌else◌};
+ghost use Rattle.std.specs.Prelude.{◌≡◌, false, ◌++◌, [], map, if◌then◌else◌};
 ghost use Rattle.std.specs.Fmt.{WritesInCalls};
 ghost use Rattle.std.specs.Option.{option_copied};
 ghost use Rattle.toml_edit_model.specs.Mode.{Mode as LineMode};
-ghost use Rattle.toml_edit_model.specs.Syntax.{closing_brackets, opening_brackets, path_text};
+ghost use Rattle.toml_edit_model.specs.Syntax.{closing_brackets, opening_brackets};
 ghost use Rattle.toml_edit_model.specs.Text.{has_byte, line_feed};
 ghost use Rattle.toml_edit_model.specs.Tree.{shown_prefix, shown_raw, shown_side, shown_suffix};
-ghost use Rattle.toml_edit_model.specs.Print.{header_default, print_in, segments};
-ghost use Rattle.toml_edit_laws.specs.PrintByVisits.{begins, header_text, headers_text, holds_newline, inside_brackets, root_lines};
+ghost use Rattle.toml_edit_model.specs.Print.{header_default, print_in};
+ghost use Rattle.toml_edit_laws.specs.PrintByVisits.{begins, header_text, headers_text, holds_newline, root_lines};
 ghost use Rattle.toml_edit_repr.specs.Modes.{mode_of};
-ghost use Rattle.toml_edit_tree.specs.Printing.{keys_on};
 ghost use Rattle.toml_edit_tree.specs.View.{fields_view, table_slots, tree_view};
-ghost use Rattle.toml_edit.specs.HeadersView.{header_view};
+ghost use Rattle.toml_edit.specs.HeadersView.{header_view, keys_in_brackets};
 ghost use Rattle.toml_edit.specs.Ordered.{ArePrintedInOrder};
 
 use crate::headers::Header;
@@ -107,9 +106,7 @@ fn put_brackets<S: Sink>(out: &mut S, mode: Mode, header: &Header<'_, '_>, lifte
     requires { lifted ≡ holds_newline (mode_of mode) header.now.key.now.leaf }
     ensures { WritesInCalls S.puts out.old
         (opening_brackets header.now.is_element
-        ++ (inside_brackets (mode_of mode) header.now.key.now.leaf
-        (path_text (segments (mode_of mode)
-        (keys_on header.now.path.now ++ (header.now.key.now ∷ []))))
+        ++ (keys_in_brackets (mode_of mode) header.now.path.now header.now.key.now
         ++ closing_brackets header.now.is_element)) out.new }
 {
     out.put(if header.is_element { "[[" } else { "[" });
@@ -128,8 +125,7 @@ fn put_inside_brackets<S: Sink>(
 )
     requires { lifted ≡ holds_newline (mode_of mode) key.now.leaf }
     ensures { WritesInCalls S.puts out.old
-        (inside_brackets (mode_of mode) key.now.leaf
-        (path_text (segments (mode_of mode) (keys_on path.now ++ (key.now ∷ []))))) out.new }
+        (keys_in_brackets (mode_of mode) path.now key.now) out.new }
 {
     let leaf = key.leaf_decor();
     put_side_if(out, mode, !lifted, leaf.prefix());

@@ -79,12 +79,13 @@ mod tail;
 
 pub use document::{Document, DocumentMut, PrintFault, SourceText};
 pub use item::value;
+pub use toml_edit_change::ChangeFault;
 pub use toml_edit_datetime::{Date, Datetime, DatetimeFault, FloatText, Offset, Time};
 pub use toml_edit_error::{ParseFault, TomlError};
 pub use toml_edit_key::{Key, KeyMut};
 pub use toml_edit_parser::{FromStr, FromStrWith, ParseOptions, Version};
 pub use toml_edit_repr::{Decor, Formatted, Mem, RawString, Repr, ScalarValue, ValueRepr};
-pub use toml_edit_slots::{NoMemory, Slot, Slots};
+pub use toml_edit_slots::{NoMemory, Refused, Renamed, Slot, Slots};
 pub use toml_edit_stream::{Broken, Input, Output, Printed, Sink, Watched};
 pub use toml_edit_table_like::{
     AnyTable, AsTableLike, HasSlots, TableLike, TableLikeEntry, TableLikeSlot, TableRef,

@@ -18,7 +18,7 @@ use Rattle.toml_edit_error.specs.declared.toml_error.ParseFault.{ParseFault}
 use Rattle.toml_edit_syntax.specs.declared.event.Event.{Event}
 use Rattle.toml_edit_syntax.specs.declared.event.Span.{Span}
 use Rattle.toml_edit_syntax.specs.Events.{IsSpanOf, has_deep_value}
-use Rattle.toml_edit_version.specs.LateEvents.{NamesLate}
+use Rattle.toml_edit_syntax.specs.LateEvents.{NamesLate}
 use Rattle.toml_edit_parser.specs.Listed.{IsListed, IsListedIn, IsMessageIn}
 use Rattle.toml_edit_parser.specs.ValueRead.{NamesOne}
 use Rattle.toml_edit_builder.specs.declared.parser.Building.{Building}

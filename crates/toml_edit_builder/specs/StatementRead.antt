@@ -5,13 +5,15 @@ use Rattle.std.specs.declared.alloc.Global.{Global}
 use Rattle.std.specs.Borrow.{Bor}
 use Rattle.toml_edit_model.specs.Mode.{Mode, with_return}
 use Rattle.toml_edit_model.specs.Text.{Text}
-use Rattle.toml_edit_model.specs.Syntax.{Segment, Header, Statement, IsStatement, Document, opening_brackets, brackets_text, document_text}
+use Rattle.toml_edit_model.specs.Syntax as syntax
+use Rattle.toml_edit_model.specs.Syntax.{Frame, Segment, Header, Statement, IsStatement, Document, key_line, opening_brackets, brackets_text, document_text, statement_text}
 use Rattle.toml_edit_model.specs.Version.{Version, is_of_version}
 use Rattle.toml_edit_model.specs.Accepted.{is_accepted_in}
 use Rattle.toml_edit_model.specs.Faults.{own_faults, late_faults}
 use Rattle.toml_edit_model.specs.Tree.{Raw, Node, nothing, Slots, Tree}
 use Rattle.toml_edit_model.specs.TreeOf.{spanned_form, spanned_in, header_leaf, root_fields, IsTreeOf}
 use Rattle.toml_edit_laws.specs.Building.{slots_along, Builder, added, clash_at, faults_at, behind, IsStatementNode}
+use Rattle.toml_edit_laws.specs.Standing.{Stands}
 use Rattle.toml_edit_laws.specs.Versions.{IsRefusedIn}
 use Rattle.toml_edit_laws.specs.TableClash.{table_way_faults}
 use Rattle.toml_edit_laws.specs.AddPath.{put_along}
@@ -22,9 +24,11 @@ use Rattle.toml_edit_error.specs.declared.toml_error.ParseFault.{ParseFault}
 use Rattle.toml_edit_syntax.specs.declared.event.Event.{Event}
 use Rattle.toml_edit_syntax.specs.declared.event.EventKind.TheVariants.{Final}
 use Rattle.toml_edit_syntax.specs.declared.event.Span.{Span}
+use Rattle.toml_edit_syntax.specs.Events.{statement_events}
 use Rattle.toml_edit_syntax.specs.ValueEvents.{event, shortened}
 use Rattle.toml_edit_tree.specs.View.{slots_view}
 use Rattle.toml_edit_parser.specs.PathRead.{IsPathFrom}
+use Rattle.toml_edit_parser.specs.StatementParts.{IsEnded, header_behind, line_behind}
 use Rattle.toml_edit_parser.specs.ValueRead.{NamesOne, span_at}
 use Rattle.toml_edit_builder.specs.BlockRead.{names}
 use Rattle.toml_edit_builder.specs.declared.parser.Building.{Building}
@@ -48,6 +52,44 @@ pub record IsHeld (b : Builder) (h : Building) : Type 0 where
   pub slots : b.slots
       ≡ slots_by_place (put_along b.block (slots_view h.current) (slots_view h.root))
   pub placed : ArePlaced b.start (put_along b.block (slots_view h.current) (slots_view h.root))
+
+-- A fact for where the events begin with those of this statement, which is in the text from this
+-- byte on.
+abbrev pub IfStatementNext : Text → List Event → Statement → ℕ → List Event → Type 0 → Type 0
+IfStatementNext t es s start more P =
+    IsWhole s
+    → Stands t start (statement_text s)
+    → es ≡ shortened 0 (statement_events start s ++ more) → P
+
+-- And with those of the next statement, where this is held of those before it,
+abbrev pub IfStatementDue : Text → Building → List Event → Builder → Statement → List Event → Type 0
+    → Type 0
+IfStatementDue t held es b s more P =
+    IsWhole s
+    → Stands t b.start (statement_text s)
+    → IsEnded t b.start s → IsHeld b held
+    → es ≡ shortened 0 (statement_events b.start s ++ more) → P
+
+-- or of a key line after the text at this span,
+abbrev pub IfLineDue : Text → Building → Span → List Event → Builder → Frame → syntax.Value → Text
+    → List Event → Type 0 → Type 0
+IfLineDue t held leading es b f v end more P =
+    IsWhole (key_line f v end)
+    → Stands t b.start (statement_text (key_line f v end))
+    → IsEnded t b.start (key_line f v end) → IsHeld b held
+    → leading ≡ span_at b.start f.leading
+    → es ≡ shortened 0 (line_behind b.start f v more) → P
+
+-- or of a header after the text and the opening brackets at these spans.
+abbrev pub IfHeaderDue : Text → Building → Span → Bool → Span → List Event → Builder → Header → Text
+    → List Event → Type 0 → Type 0
+IfHeaderDue t held leading is_array opening es b h end more P =
+    IsWhole (syntax.header h end)
+    → Stands t b.start (statement_text (syntax.header h end))
+    → IsEnded t b.start (syntax.header h end)
+    → IsHeld b held → leading ≡ span_at b.start h.leading → is_array ≡ h.is_array
+    → opening ≡ span_at (b.start + length h.leading) (opening_brackets h.is_array)
+    → es ≡ shortened 0 (header_behind b.start h more) → P
 
 -- The statement is right and is added: the builder after it is what is held. These events follow.
 pub record IsAdded (mode : Mode) (b : Builder) (s : Statement) (more : List Event) (new : Building)
@@ -97,6 +139,15 @@ pub record AreHeaderParts (mode : Mode) (h : Header) (end : Text) (start : ℕ)
   pub trailing : parts.trailing
       ≡ span_at (start + length h.leading + length (brackets_text h))
       (with_return mode h.trailing end)
+
+-- A fact for where these are the parts of the next header, and this is held of the statements
+-- before it.
+abbrev pub IfHeaderRead : Mode → Text → Building → HeaderParts → Builder → Header → Text → Type 0
+    → Type 0
+IfHeaderRead mode t held parts b h end P =
+    IsWhole (syntax.header h end)
+    → Stands t b.start (statement_text (syntax.header h end)) → IsHeld b held
+    → AreHeaderParts mode h end b.start parts → P
 
 -- the names of a path's keys; reading them fails only if memory runs out
 abbrev pub ReadsNames : List Segment → Result (Vec (String Global) Global) ParseFault → Type 0

@@ -6,13 +6,14 @@ use Rattle.toml_edit_model.specs.Roles.{extends}
 use Rattle.toml_edit_model.specs.Text.{Text}
 use Rattle.toml_edit_model.specs.Syntax.{Segment, path_text}
 use Rattle.toml_edit_model.specs.Paths.{Mention, Source}
-use Rattle.toml_edit_model.specs.Tree.{Key, TableFields, Node, table, tables, Slots, no_slots}
-use Rattle.toml_edit_model.specs.TreeOf.{spanned_in, header_fields, statement_leaf, key_at, brackets_from, brackets_to}
+use Rattle.toml_edit_model.specs.Tree.{Key, TableFields, Node, item, no_items, table, tables, Slots, no_slots}
+use Rattle.toml_edit_model.specs.TreeOf.{made_by_path, spanned_form, spanned_in, header_fields, statement_leaf, key_at, brackets_from, brackets_to}
 use Rattle.toml_edit_laws.specs.Standing.{Stands}
 use Rattle.toml_edit_laws.specs.InlineTree.{node_at}
-use Rattle.toml_edit_laws.specs.TableTree.{reaching, with_item}
-use Rattle.toml_edit_laws.specs.TableClash.{table_way_fault}
-use Rattle.toml_edit_laws.specs.AddPath.{Addition, a_value, a_table, an_element, path_clash, inside, clash_inside, last_key_clash, AreMentionsOf}
+use Rattle.toml_edit_laws.specs.FlatTree.{with_slot}
+use Rattle.toml_edit_laws.specs.TableTree.{change_table, reaching, with_item}
+use Rattle.toml_edit_laws.specs.TableClash.{clash_in_last, table_way_fault}
+use Rattle.toml_edit_laws.specs.AddPath.{Addition, a_value, a_table, an_element, makes_dotted, path_clash, inside, clash_inside, last_key_clash, AreMentionsOf}
 use Rattle.toml_edit_laws.specs.InPlace.{add_in_place, put_in_place}
 use Rattle.toml_edit_error.specs.Report.{fault_of}
 use Rattle.toml_edit_error.specs.Fault.{IfToml}
@@ -22,6 +23,8 @@ use Rattle.toml_edit_parser.specs.declared.pairs.KeyPath.{KeyPath}
 use Rattle.toml_edit_parser.specs.PairRead.{IsEndOfPath}
 use Rattle.toml_edit_parser.specs.PathRead.{IsPathFrom}
 use Rattle.toml_edit_parser.specs.ValueRead.{span_at}
+use Rattle.toml_edit_tree.specs.Containers.{TableView, table_node}
+use Rattle.toml_edit_builder.specs.declared.path.Adding.{Adding}
 use Rattle.toml_edit_builder.specs.declared.path.Kind.{Kind}
 use Rattle.toml_edit_builder.specs.declared.path.Kind.TheVariants as kinds
 
@@ -74,6 +77,19 @@ pub record IsKeyOf (mode : Mode) (s : Source) (passes : Bool) (m : Mention Sourc
   pub role : extends m.role ≡ passes
   pub spelled : at ≡ span_at m.start m.segment.spelled
 
+-- A fact for where this item is what a statement adds at the end of this path,
+abbrev pub IfAdded : Mode → Adding → Source → List (Mention Source) → Node → KeyPath → Type 0
+    → Type 0
+IfAdded mode a s ms n path P =
+    IsItemFor mode a.kind s n → IsPathOf mode a.source.now s ms path → P
+
+-- which goes on after this key.
+abbrev pub IfAddedAfter : Mode → Adding → Source → Mention Source → Key → Span
+    → List (Mention Source) → Node → KeyPath → Type 0 → Type 0
+IfAddedAfter mode a s m k at ms n path P =
+    IsItemFor mode a.kind s n → IsKeyOf mode s true m k at
+    → IsPathOf mode a.source.now s ms path → P
+
 -- ---- what is done
 
 -- What was to be done is done, or the report is of the text and names what is in the way; memory
@@ -97,6 +113,43 @@ AddsInside mode t a m ms old new result =
     Goes t (inside a (add_in_place mode a ms) old)
     (clash_inside a m (path_clash a ms) old) new result
 
+-- adding what a statement adds below this key, whichever statement and mode it is
+abbrev pub AddsPathInside : {A : Type 0} → Adding → Span → KeyPath → Node → Node → Node
+    → Result A ParseFault → Type 0
+AddsPathInside a at path n old new result =
+    (mode : Mode) (s : Source) (m : Mention Source) (ms : List (Mention Source)) (k : Key)
+    → IfAddedAfter mode a s m k at ms n path
+    (AddsInside mode a.source.now (addition_for a.kind n) m ms old new result)
+
+-- adding it below a new key, which is spelled at this span
+abbrev pub AddsBelow : (mode : Mode) {A : Type 0} → Text → Addition → Key → Span
+    → List (Mention Source) → Slots → Slots → Result A ParseFault → Type 0
+AddsBelow mode t a k at ms old new result =
+    Goes t
+    (option_map (λ inner. with_slot old k
+    (table (made_by_path spanned_form (makes_dotted a) (Some (at.start, at.end))) inner))
+    (add_in_place mode a ms no_slots))
+    None new result
+
+-- adding it below this table
+abbrev pub AddsInTable : (mode : Mode) {A : Type 0} → Text → Addition → List (Mention Source)
+    → TableView → TableView → Result A ParseFault → Type 0
+AddsInTable mode t a ms old new result =
+    Goes t (change_table (add_in_place mode a ms) (table_node old)) (path_clash a ms old.slots)
+    (table_node new) result
+
+abbrev pub AreTables : Node → Type 0
+AreTables (tables e xs) = Unit {0}
+AreTables n = ⊥
+
+-- adding it below this element, the last of the array of tables in the way
+abbrev pub AddsInLast : (mode : Mode) {A : Type 0} → Text → Addition → Mention Source → Node
+    → List (Mention Source) → Node → Node → Result A ParseFault → Type 0
+AddsInLast mode t a m way ms old new result =
+    AreTables way
+    → Goes t (change_table (add_in_place mode a ms) old)
+    (clash_in_last (m, way) (path_clash a ms) (item old no_items)) new result
+
 -- adding it at the last key of a path
 abbrev pub PutsLast : (mode : Mode) {A : Type 0} → Text → Addition → Mention Source → Slots → Slots
     → Result A ParseFault → Type 0
@@ -115,7 +168,3 @@ opened g n = None
 abbrev pub with_element : ℕ → Node → Node → Option Node
 with_element end n (tables e xs) = Some (tables (reaching e end) (with_item xs n))
 with_element end n other = None
-
-abbrev pub AreTables : Node → Type 0
-AreTables (tables e xs) = Unit {0}
-AreTables n = ⊥

@@ -1,10 +1,6 @@
 //! Taking out the slots of the table that key lines are added to, and putting them back.
-ghost use Rattle.std.specs.Prelude.{◌≡◌, List, None, Some, map, option_and_then, option_map, string_bytes};
-ghost use Rattle.toml_edit_model.specs.Tree.{no_items, item as item_of, table as table_of, tables as tables_of};
-ghost use Rattle.toml_edit_laws.specs.AddPath.{put_along, put_in, put_last};
-ghost use Rattle.toml_edit_laws.specs.Building.{last_slots, slots_along, block_slots};
-ghost use Rattle.toml_edit_builder.specs.BlockRead.{Swaps, names, split_name};
-ghost use Rattle.toml_edit_tree.specs.Containers.{table_node, tables_node};
+ghost use Rattle.std.specs.Prelude.{◌≡◌, option_map};
+ghost use Rattle.toml_edit_builder.specs.BlockRead.{names, split_name, SwapsBelow, SwapsInItem, SwapsInTable, SwapsInTables, SwapsInLast};
 ghost use Rattle.toml_edit_tree.specs.View.{item_view, slots_view, table_view, tables_view};
 
 use std::mem;
@@ -24,9 +20,7 @@ fn split_name(block: &[String]) -> Option<(&str, &[String])>
 /// Swaps `others` with the slots of the table at these names. If there is no such table, both stay.
 #[cycle(swap)]
 pub fn swap_block(block: &[String], others: &mut Slots<Item>, slots: &mut Slots<Item>)
-    ensures { Swaps (slots_along (names block.now) (slots_view slots.old)) (slots_view others.old)
-        (slots_view slots.old)
-        (put_along (names block.now) (slots_view others.old) (slots_view slots.old))
+    ensures { SwapsBelow (names block.now) (slots_view others.old) (slots_view slots.old)
         (slots_view others.new) (slots_view slots.new) }
 {
     match split_name(block) {
@@ -41,9 +35,7 @@ pub fn swap_block(block: &[String], others: &mut Slots<Item>, slots: &mut Slots<
 /// Swaps `others` with the slots of the table at these names in the item.
 #[cycle(swap)]
 fn swap_item(block: &[String], others: &mut Slots<Item>, holder: &mut Item)
-    ensures { Swaps (option_and_then (slots_along (names block.now))
-        (block_slots (item_view holder.old))) (slots_view others.old) (item_view holder.old)
-        (put_in (put_along (names block.now) (slots_view others.old)) (item_view holder.old))
+    ensures { SwapsInItem (names block.now) (slots_view others.old) (item_view holder.old)
         (slots_view others.new) (item_view holder.new) }
 {
     match holder {
@@ -56,11 +48,8 @@ fn swap_item(block: &[String], others: &mut Slots<Item>, holder: &mut Item)
 /// Swaps `others` with the slots of the table at these names in the table.
 #[cycle(swap)]
 fn swap_table(block: &[String], others: &mut Slots<Item>, table: &mut Table)
-    ensures { Swaps (slots_along (names block.now) (table_view table.old).slots)
-        (slots_view others.old) (table_node (table_view table.old))
-        (table_of (table_view table.old).fields
-        (put_along (names block.now) (slots_view others.old) (table_view table.old).slots))
-        (slots_view others.new) (table_node (table_view table.new)) }
+    ensures { SwapsInTable (names block.now) (slots_view others.old) (table_view table.old)
+        (slots_view others.new) (table_view table.new) }
 {
     swap_block(block, others, table.slots_mut())
 }
@@ -68,13 +57,8 @@ fn swap_table(block: &[String], others: &mut Slots<Item>, table: &mut Table)
 /// Swaps `others` with the slots of the table at these names in the last element.
 #[cycle(swap)]
 fn swap_tables(block: &[String], others: &mut Slots<Item>, tables: &mut ArrayOfTables)
-    ensures { Swaps (option_and_then (slots_along (names block.now))
-        (last_slots (tables_view tables.old).items)) (slots_view others.old)
-        (tables_node (tables_view tables.old))
-        (tables_of (tables_view tables.old).extent
-        (put_last (put_along (names block.now) (slots_view others.old))
-        (tables_view tables.old).items))
-        (slots_view others.new) (tables_node (tables_view tables.new)) }
+    ensures { SwapsInTables (names block.now) (slots_view others.old) (tables_view tables.old)
+        (slots_view others.new) (tables_view tables.new) }
 {
     match tables.values.last_mut() {
         None => {}
@@ -85,12 +69,8 @@ fn swap_tables(block: &[String], others: &mut Slots<Item>, tables: &mut ArrayOfT
 /// Swaps `others` with the slots of the table at these names in the element, if it is a table.
 #[cycle(swap)]
 fn swap_last(block: &[String], others: &mut Slots<Item>, holder: &mut Item)
-    ensures { Swaps (option_and_then (slots_along (names block.now))
-        (last_slots (item_of (item_view holder.old) no_items))) (slots_view others.old)
-        (item_of (item_view holder.old) no_items)
-        (put_last (put_along (names block.now) (slots_view others.old))
-        (item_of (item_view holder.old) no_items))
-        (slots_view others.new) (item_of (item_view holder.new) no_items) }
+    ensures { SwapsInLast (names block.now) (slots_view others.old) (item_view holder.old)
+        (slots_view others.new) (item_view holder.new) }
 {
     match holder {
         Item::Table(table) => swap_table(block, others, table),

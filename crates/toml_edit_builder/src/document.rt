@@ -6,7 +6,7 @@ ghost use Rattle.toml_edit_model.specs.Syntax.{Document};
 ghost use Rattle.toml_edit_error.specs.Fault.{IfToml};
 ghost use Rattle.toml_edit_syntax.specs.Events.{AreEventsOf, events_of};
 ghost use Rattle.toml_edit_syntax.specs.ValueEvents.{are_deep};
-ghost use Rattle.toml_edit_version.specs.Grammar.{grammar};
+ghost use Rattle.toml_edit_syntax.specs.Grammar.{grammar};
 ghost use Rattle.toml_edit_tree.specs.View.{slots_view};
 ghost use Rattle.toml_edit_repr.specs.Modes.{mode_of};
 ghost use Rattle.toml_edit_parser.specs.ValueRead.{AreIn};
@@ -15,12 +15,11 @@ ghost use Rattle.toml_edit_builder.specs.DocumentRead.{IsParsedWith, IsRefusalIn
 use crate::parser::build;
 use std::alloc::Global;
 use toml_edit_error::ParseFault;
-use toml_edit_parser::{are_cut_short, refusal, refusal_of_all};
+use toml_edit_parser::{are_cut_short, refusal_of_all, refusal_with};
 use toml_edit_repr::{Mode, RawString};
 use toml_edit_slots::Slots;
-use toml_edit_syntax::{Event, SyntaxFault, events};
+use toml_edit_syntax::{Event, SyntaxFault, Version, events};
 use toml_edit_tree::Item;
-use toml_edit_version::Version;
 
 /// Returns the error of a text whose events are cut short.
 fn cut_short(
@@ -38,7 +37,7 @@ fn cut_short(
     ensures refused { IfToml result (IsRefusalIn (grammar version) source.now) }
 {
     match build(alloc, source, events, version, mode) {
-        Ok(_) => refusal_of_all(alloc, source, "recursion limit"),
+        Ok(_) => refusal_of_all(alloc, source),
         Err(fault) => fault,
     }
 }
@@ -129,7 +128,7 @@ pub fn parse_with(
         }
         Err(SyntaxFault::Memory) => Err(ParseFault::Memory),
         Err(SyntaxFault::Text(mistake, span)) => {
-            Err(refusal(alloc, source, mistake.message(), span))
+            Err(refusal_with(alloc, source, mistake.message(), span))
         }
     }
 }

@@ -1,13 +1,12 @@
 //! The error about a key that exists already.
-ghost use Rattle.std.specs.Prelude.{◌≡◌, Some};
 ghost use Rattle.toml_edit_model.specs.Faults as faults;
 ghost use Rattle.toml_edit_error.specs.Fault.{IfToml};
 ghost use Rattle.toml_edit_syntax.specs.Events.{IsSpanOf};
-ghost use Rattle.toml_edit_parser.specs.Listed.{IsListed};
+ghost use Rattle.toml_edit_parser.specs.Listed.{IsListed, Says};
 
 use std::alloc::Global;
 use toml_edit_error::ParseFault;
-use toml_edit_parser::refusal;
+use toml_edit_parser::{Fault, refusal};
 use toml_edit_syntax::Span;
 
 /// Returns the error about a key at this span that exists already.
@@ -15,13 +14,8 @@ use toml_edit_syntax::Span;
 #[inline(never)]
 pub(crate) fn duplicate_key(alloc: Global, source: &str, span: Span) -> ParseFault
     requires { IsSpanOf source.now span }
-    ensures report { IfToml result
-        (λ r. r ≡ record {
-          message = faults.duplicate_key;
-          span = Some (span.start, span.end);
-          input = source.now;
-        }) }
+    ensures report { Says source.now faults.duplicate_key span result }
     ensures listed { IfToml result IsListed }
 {
-    refusal(alloc, source, "duplicate key", span)
+    refusal(alloc, source, Fault::DuplicateKey, span)
 }

@@ -1,24 +1,22 @@
 //! Adding what a statement states at the last key of its path.
-ghost use Rattle.std.specs.Prelude.{◌≡◌, ◌<◌, false, None, Some, OnOk, IfErr, length};
+ghost use Rattle.std.specs.Prelude.{◌≡◌, ◌<◌, false, None, Some, OnOk, length};
 ghost use Rattle.toml_edit_model.specs.Mode.{Mode};
 ghost use Rattle.toml_edit_model.specs.Paths.{Mention, Source};
 ghost use Rattle.toml_edit_model.specs.Tree.{TableFields, item as item_of, no_items, no_slots, table as table_of, tables as tables_of};
-ghost use Rattle.toml_edit_laws.specs.AddPath.{a_table, a_value, an_element};
+ghost use Rattle.toml_edit_laws.specs.AddPath.{a_table, an_element};
 ghost use Rattle.toml_edit_laws.specs.FlatTree.{with_slot};
 ghost use Rattle.toml_edit_laws.specs.InPlace.{replace_slot};
 ghost use Rattle.toml_edit_laws.specs.TableClash.{element_clash, table_clash};
-ghost use Rattle.toml_edit_error.specs.Fault.{IfToml};
 ghost use Rattle.toml_edit_slots.specs.Slots.{place};
 ghost use Rattle.toml_edit_syntax.specs.Events.{IsSpanOf};
-ghost use Rattle.toml_edit_parser.specs.Listed.{IsListed};
+ghost use Rattle.toml_edit_parser.specs.Listed.{BlamesOnly, GivesListed};
 ghost use Rattle.toml_edit_tree.specs.Containers.{table_node};
 ghost use Rattle.toml_edit_tree.specs.View.{fields_view, item_view, slots_view, table_view};
-ghost use Rattle.toml_edit_builder.specs.TableRead as spec;
 ghost use Rattle.toml_edit_builder.specs.TableRead.{Goes, IsHeaded, IsItemFor, IsKeyOf, PutsLast, addition_for, opened, with_element};
 ghost use Rattle.toml_edit_builder.specs.declared.path.Kind.TheVariants as kinds;
 
 use crate::duplicate::duplicate_key;
-use crate::path::Kind;
+use crate::path::{Adding, Kind};
 use std::alloc::Global;
 use std::mem;
 use toml_edit_error::ParseFault;
@@ -32,31 +30,29 @@ use toml_edit_tree::{ArrayOfTables, Item, Table};
 /// Adds an item at the last key of a path. What is left in its place is unspecified.
 #[inline(always)]
 pub(crate) fn put_last(
-    alloc: Global,
-    source: &str,
-    kind: Kind,
+    adding: &Adding<'_>,
     key: Key,
     at: Span,
     item: &mut Item,
     slots: &mut Slots<Item>,
 ) -> Result<(), ParseFault>
-    requires { IsSpanOf source.now at }
+    requires { IsSpanOf adding.now.source.now at }
     ensures put { (mode : Mode) (s : Source) (m : Mention Source)
-        → IsItemFor mode kind s (item_view item.old) → IsKeyOf mode s false m key at
-        → PutsLast mode source.now (addition_for kind (item_view item.old)) m
+        → IsItemFor mode adding.now.kind s (item_view item.old) → IsKeyOf mode s false m key at
+        → PutsLast mode adding.now.source.now (addition_for adding.now.kind (item_view item.old)) m
         (slots_view slots.old) (slots_view slots.new) result }
-    ensures input { IfErr result (λ e. IfToml e (λ r. r.input ≡ source.now)) }
-    ensures listed { IfErr result (λ e. IfToml e IsListed) }
+    ensures input { BlamesOnly adding.now.source.now result }
+    ensures listed { GivesListed result }
 {
-    match kind {
-        Kind::Line => add_last(alloc, source, key, at, item, slots),
-        Kind::Table => put_table(alloc, source, key, at, item, slots),
-        Kind::Element(brackets) => put_element(alloc, source, brackets, key, at, item, slots),
+    match adding.kind {
+        Kind::Line => add_last(adding.alloc, adding.source, key, at, item, slots),
+        Kind::Table => put_table(adding.alloc, adding.source, key, at, item, slots),
+        Kind::Element(brackets) => put_element(adding.source, brackets, key, at, item, slots),
     }
 }
 
-/// Puts the table of a header last, or in the place of a table that until now was only passed through,
-/// whose slots it takes.
+/// Puts the table of a header last, or in the place of a table that until now was only passed
+/// through, whose slots it takes.
 // Not inlined, so that its locals stay out of the caller's frame.
 #[inline(never)]
 fn put_table(
@@ -71,15 +67,15 @@ fn put_table(
     ensures put { (mode : Mode) (s : Source) (m : Mention Source)
         → IsHeaded mode s (item_view item.old) → IsKeyOf mode s false m key at
         → PutsLast mode source.now a_table m (slots_view slots.old) (slots_view slots.new) result }
-    ensures input { IfErr result (λ e. IfToml e (λ r. r.input ≡ source.now)) }
-    ensures listed { IfErr result (λ e. IfToml e IsListed) }
+    ensures input { BlamesOnly source.now result }
+    ensures listed { GivesListed result }
 {
     match slots.find(key.get()) {
         None => {
             push_item(slots, key, mem::replace(item, Item::None))?;
             Ok(())
         }
-        Some(there) => put_opened(alloc, source, key, at, there, item, slots),
+        Some(there) => put_opened(source, key, at, there, item, slots),
     }
 }
 
@@ -88,7 +84,6 @@ fn put_table(
 ///
 /// No slot moves: the slots are put in order after all statements.
 fn put_opened(
-    alloc: Global,
     source: &str,
     key: Key,
     at: Span,
@@ -102,9 +97,10 @@ fn put_opened(
     ensures put { (mode : Mode) (s : Source) (m : Mention Source)
         → IsHeaded mode s (item_view item.old) → IsKeyOf mode s false m key at
         → PutsLast mode source.now a_table m (slots_view slots.old) (slots_view slots.new) result }
-    ensures input { IfErr result (λ e. IfToml e (λ r. r.input ≡ source.now)) }
-    ensures listed { IfErr result (λ e. IfToml e IsListed) }
+    ensures input { BlamesOnly source.now result }
+    ensures listed { GivesListed result }
 {
+    let alloc = slots.allocator();
     open_item(alloc, source, at, slots.item_mut(there), item)?;
     put_slot(key, there, mem::replace(item, Item::None), slots);
     Ok(())
@@ -134,8 +130,8 @@ fn open_item(
         → item_view item.old ≡ table_of g no_slots → IsKeyOf mode s false m k at
         → Goes source.now (opened g (item_view there.old))
         (table_clash m (Some (item_view there.old))) (item_view item.new) result }
-    ensures input { IfErr result (λ e. IfToml e (λ r. r.input ≡ source.now)) }
-    ensures listed { IfErr result (λ e. IfToml e IsListed) }
+    ensures input { BlamesOnly source.now result }
+    ensures listed { GivesListed result }
 {
     match there {
         Item::Table(table) => open_table(alloc, source, at, table, item),
@@ -156,8 +152,8 @@ fn open_table(
         → item_view item.old ≡ table_of g no_slots → IsKeyOf mode s false m k at
         → Goes source.now (opened g (table_node (table_view there.old)))
         (table_clash m (Some (table_node (table_view there.old)))) (item_view item.new) result }
-    ensures input { IfErr result (λ e. IfToml e (λ r. r.input ≡ source.now)) }
-    ensures listed { IfErr result (λ e. IfToml e IsListed) }
+    ensures input { BlamesOnly source.now result }
+    ensures listed { GivesListed result }
 {
     if there.is_implicit() && !there.is_dotted() {
         fill(item, taken_slots(alloc, there));
@@ -197,7 +193,6 @@ fn fill_table(table: &mut Table, slots: Slots<Item>)
 // Not inlined, so that its locals stay out of the caller's frame.
 #[inline(never)]
 fn put_element(
-    alloc: Global,
     source: &str,
     brackets: Span,
     key: Key,
@@ -208,12 +203,12 @@ fn put_element(
     requires { IsSpanOf source.now at }
     ensures put { (mode : Mode) (s : Source) (m : Mention Source)
         → IsItemFor mode (kinds.Element brackets) s (item_view item.old)
-        → IsKeyOf mode s false m key at
-        → PutsLast mode source.now an_element m (slots_view slots.old)
-        (slots_view slots.new) result }
-    ensures input { IfErr result (λ e. IfToml e (λ r. r.input ≡ source.now)) }
-    ensures listed { IfErr result (λ e. IfToml e IsListed) }
+        → IsKeyOf mode s false m key at → PutsLast mode source.now an_element m
+        (slots_view slots.old) (slots_view slots.new) result }
+    ensures input { BlamesOnly source.now result }
+    ensures listed { GivesListed result }
 {
+    let alloc = slots.allocator();
     match slots.find(key.get()) {
         Some(place) => add_element(alloc, source, brackets, at, item, slots.item_mut(place)),
         None => {
@@ -255,10 +250,9 @@ fn add_element(
     ensures added { (mode : Mode) (s : Source) (m : Mention Source) (k : Key)
         → IsKeyOf mode s false m k at
         → Goes source.now (with_element brackets.end (item_view item.old) (item_view holder.old))
-        (element_clash m (Some (item_view holder.old)))
-        (item_view holder.new) result }
-    ensures input { IfErr result (λ e. IfToml e (λ r. r.input ≡ source.now)) }
-    ensures listed { IfErr result (λ e. IfToml e IsListed) }
+        (element_clash m (Some (item_view holder.old))) (item_view holder.new) result }
+    ensures input { BlamesOnly source.now result }
+    ensures listed { GivesListed result }
 {
     match holder {
         Item::ArrayOfTables(tables) => {

@@ -14,6 +14,6 @@ pub use block::swap_block;
 #[doc(hidden)]
 pub use document::parse_with;
 #[doc(hidden)]
-pub use path::{Kind, add_path};
+pub use path::{Adding, Kind, add_path};
 pub use toml_edit_parser::FromStr;
-pub use toml_edit_version::Version;
+pub use toml_edit_syntax::Version;

@@ -1,31 +1,29 @@
 //! From the events of a text to its tree, statement by statement.
-ghost use Rattle.std.specs.Prelude.{◌≡◌, ◌+◌, ◌<◌, ◌≤◌, ◌++◌, ◌∷◌, List, [], ℕ, length, is_some, IfOk, IfErr};
-ghost use Rattle.toml_edit_model.specs.Syntax.{Document, Statement, IsCut, statement_text};
+ghost use Rattle.std.specs.Prelude.{◌≡◌, ◌<◌, ◌∷◌, [], ℕ, is_some};
+ghost use Rattle.toml_edit_model.specs.Syntax.{Document, IsCut};
 ghost use Rattle.toml_edit_model.specs.Text.{Text};
 ghost use Rattle.toml_edit_model.specs.TreeOf.{span_of};
 ghost use Rattle.toml_edit_laws.specs.Building.{Builder};
 ghost use Rattle.toml_edit_laws.specs.PlaceOrder.{slots_by_place};
-ghost use Rattle.toml_edit_laws.specs.Standing.{Stands};
-ghost use Rattle.toml_edit_error.specs.Fault.{IfToml};
-ghost use Rattle.toml_edit_syntax.specs.Events.{events_of, statement_events};
+ghost use Rattle.toml_edit_syntax.specs.Events.{events_of};
 ghost use Rattle.toml_edit_syntax.specs.ValueEvents.{event, shortened};
 ghost use Rattle.toml_edit_syntax.specs.declared.event.EventKind.TheVariants.{Final};
-ghost use Rattle.toml_edit_version.specs.Grammar.{grammar};
+ghost use Rattle.toml_edit_syntax.specs.Grammar.{grammar};
 ghost use Rattle.toml_edit_tree.specs.View.{slots_view};
 ghost use Rattle.toml_edit_repr.specs.Modes.{mode_of};
-ghost use Rattle.toml_edit_parser.specs.Listed.{IsListedIn};
+ghost use Rattle.toml_edit_parser.specs.Listed.{BlamesOnly, GivesListedIn};
 ghost use Rattle.toml_edit_parser.specs.ValueRead.{AreIn, split_leading};
-ghost use Rattle.toml_edit_builder.specs.StatementRead.{Builds, IsHeld, IsWhole, ReadsStatement};
+ghost use Rattle.toml_edit_builder.specs.StatementRead.{Builds, IsHeld};
 
 use crate::block::swap_block;
 use crate::statement::read_in_version;
 use std::alloc::Global;
 use toml_edit_error::ParseFault;
+use toml_edit_parser::{Reader, raw};
 use toml_edit_repr::{Mode, RawString};
 use toml_edit_slots::Slots;
-use toml_edit_syntax::{Event, EventKind, Span};
+use toml_edit_syntax::{Event, EventKind, Version};
 use toml_edit_tree::{Item, put_in_order};
-use toml_edit_version::Version;
 
 /// The tree between two statements: the slots of the root, without those of the table that key
 /// lines are added to, which are held apart, with the names of that table's path and the number of
@@ -74,19 +72,8 @@ fn trailing(events: &[Event]) -> RawString
         → result ≡ span_of start t }
 {
     match events.first() {
-        Some(last) => spanned(last.span),
+        Some(last) => raw(last.span),
         None => RawString::default(),
-    }
-}
-
-/// Makes a raw text of the span, empty if nothing is there.
-fn spanned(span: Span) -> RawString
-    ensures { (t : Text) → span.end ≡ span.start + length t → result ≡ span_of span.start t }
-{
-    if span.start == span.end {
-        RawString::default()
-    } else {
-        RawString::from_span(span.start, span.end)
     }
 }
 
@@ -132,8 +119,8 @@ pub(crate) fn build(
     requires { AreIn source.now events.items }
     ensures built { (d : Document) → IsCut d source.now → events.items ≡ shortened 0 (events_of d)
         → Builds (mode_of mode) (grammar version) slots_view source.now d result }
-    ensures input { IfErr result (λ e. IfToml e (λ r. r.input ≡ source.now)) }
-    ensures listed { IfErr result (λ e. IfToml e (IsListedIn (grammar version))) }
+    ensures input { BlamesOnly source.now result }
+    ensures listed { GivesListedIn (grammar version) result }
 {
     let mut building = Building {
         root: Slots::new(alloc),
@@ -142,12 +129,18 @@ pub(crate) fn build(
         headers: 0,
         item: Item::None,
     };
+    let reader = Reader {
+        alloc,
+        source,
+        version,
+        mode,
+    };
     let mut held = events;
     'rounds: loop {
         let left = left_of(held.len());
         let mut rest = held.as_slice();
         'statements: while rest.len() > left && starts_statement(rest) {
-            match read_in_version(alloc, source, version, mode, &mut building, rest) {
+            match read_in_version(&reader, &mut building, rest) {
                 Ok(after) => rest = after,
                 Err(fault) => {
                     drop(building);

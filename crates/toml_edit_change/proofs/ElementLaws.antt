@@ -3,7 +3,7 @@ use Rattle.std.proofs.Common.{◌≡◌, refl, sym, ◌∙◌, ap, subst, ℕ, z
 use Rattle.std.specs.Prelude.{if◌then◌else◌, slice_get, is_some, option_map, remove, Result}
 use Rattle.toml_edit_model.specs.Text.{Text}
 use Rattle.toml_edit_model.specs.Tree.{Node, nothing, leaf, list, inline, table, tables}
-use Rattle.toml_edit_laws.specs.Commands.{Answer, done, refused, no_such_path, number_of, kept_item, at_number, element_of, change_element, drop_element}
+use Rattle.toml_edit_laws.specs.Commands.{Answer, done, number_of, kept_item, at_number, element_of, change_element, drop_element}
 use Rattle.toml_edit_model.specs.Shown.{is_table_node}
 use Rattle.toml_edit_model.specs.ArrayCalls.{written_at, removed_at}
 use Rattle.toml_edit_laws.proofs.commands.Apart.{named}
@@ -88,22 +88,6 @@ element-is is k xs i d h inside =
     let there : slice_get (nodes xs) i ≡ Some m.0.1 = subst (λ j. slice_get (nodes xs) j ≡ Some m.0.1) m.2 r.item in
     let same : m.0.1 ≡ item_view (get_or xs i d) = some-is m.0.1 _ (sym there ∙ node-at xs i d inside) in
     m.1 ∙ ap Some (ap (λ (j : ℕ). (j, m.0.1)) m.2 ∙ ap (λ (n : Node). (i, n)) same)
-
--- none stands where none is named
-pub none-changes : (is : Node → Bool) (k : Text) (go : Node → Answer Node) (ns : List Node) → None ≡ place_named is k ns
-    → change_element go ns (element_of is k ns) ≡ refused no_such_path
-none-changes is k go ns h = by_element (element_of is k ns) refl h
-  where
-    by_element : (o : Option (ℕ × Node)) → element_of is k ns ≡ o → None ≡ option_map (λ (x : ℕ × Node). x.0) o → change_element go ns o ≡ refused no_such_path
-    by_element None e g = refl
-    by_element (Some x) e g = absurd cc
-
-pub none-dropped : (is : Node → Bool) (k : Text) (ns : List Node) → None ≡ place_named is k ns → drop_element ns (element_of is k ns) ≡ refused no_such_path
-none-dropped is k ns h = by_element (element_of is k ns) h
-  where
-    by_element : (o : Option (ℕ × Node)) → None ≡ option_map (λ (x : ℕ × Node). x.0) o → drop_element ns o ≡ refused no_such_path
-    by_element None g = refl
-    by_element (Some x) g = absurd cc
 
 -- one that is changed
 pub element-changes : (is : Node → Bool) (k : Text) (go : Node → Answer Node) (xs : List Item) (i : ℕ) (d y : Item) (r : Result (Unit {0}) ChangeFault)

@@ -4,3 +4,4 @@ pub mod ElementLaws
 pub mod SlotLaws
 pub mod ChangeLaws
 pub mod ViewLaws
+pub mod FoundLaws

@@ -1,13 +1,14 @@
-//! Putting a value at a path of keys, and removing an item there, as the commands `set` and
-//! `remove` do.
+//! Finding an item by a path of keys, putting a value there, and removing it.
 #![tactic(auto)]
 
 mod element;
 mod fault;
+mod find;
 mod put;
 mod take;
 
 pub use element::number_of;
 pub use fault::ChangeFault;
+pub use find::get;
 pub use put::set;
 pub use take::remove;

@@ -1,7 +1,6 @@
 -- Lemmas on runs.
 pub mod Reading
 pub mod Spelled
-pub mod Trees
 pub mod Local
 pub mod Items
 pub mod Ends

@@ -18,7 +18,7 @@ use Rattle.toml_edit_laws.proofs.commands.Filled.{read_has_no_placeholders}
 use Rattle.toml_edit_laws.proofs.print_of_read.PrintOfRead.{print_normal}
 use Rattle.toml_edit.specs.Documents.{opens}
 use Rattle.toml_edit_command.specs.Edits.{Sets, Removes, DropsInside}
-use Rattle.toml_edit_command.specs.Words.{Action, printing, getting, setting, removing, Asked, Says}
+use Rattle.toml_edit_command.specs.Words.{Action, printing, getting, setting, removing, Request, Says}
 use Rattle.toml_edit_command.specs.Written.{Held, IsHeldAs, IsPrintFor, IsPrintOf, Makes, Writes}
 use Rattle.toml_edit_command.proofs.Spelled.{spelled-plain}
 
@@ -77,7 +77,7 @@ module _ (mode : Mode) (version : Version) (bytes : Text) (d : Document) (h : He
       subst (λ b. IsPrintOf mode b u x) is.open_end (subst (λ m. IsPrintOf m h.is_open u x) is.same_mode print)
 
   -- What is made of it is what the command writes of what was read.
-  pub made-written : (q : Asked) (a : Action) → Says q a → (x : Text) → Makes a h x → Writes mode a d h.tree x
+  pub made-written : (q : Request) (a : Action) → Says q a → (x : Text) → Makes a h x → Writes mode a d h.tree x
   made-written q printing said x made =
       made ∙ ap (λ m. print_in m h.is_open h.tree) is.same_mode ∙ ap (λ b. print_in mode b h.tree) is.open_end ∙ print-opens mode d h.tree
       ∙ print_normal mode d is.read.read.is_document is.read.read.accepted h.tree is.read.read.tree

@@ -1,5 +1,5 @@
 -- The tree of what was read, and what the words stop.
-use Rattle.std.proofs.Common.{◌≡◌, sym, ap, subst, ◌∙◌, Bool, List, inl, inr}
+use Rattle.std.proofs.Common.{◌≡◌, sym, subst, ◌∙◌, Bool, List, inl, inr}
 use Rattle.toml_edit_model.specs.Mode.{Mode}
 use Rattle.toml_edit_model.specs.Text.{Text}
 use Rattle.toml_edit_model.specs.Version.{Version}
@@ -11,9 +11,9 @@ use Rattle.toml_edit_laws.proofs.versions.EarlyPrints.{normal_texts_stay}
 use Rattle.toml_edit.specs.Documents.{IsOwnedTreeWith, IsReadingIn}
 use Rattle.toml_edit_command.specs.Forms.{MayStopPath, MayStopValue}
 use Rattle.toml_edit_command.specs.Steps.{StopsInWords}
-use Rattle.toml_edit_command.specs.Words.{Asked, IsSet, SpellsPath, TakesPath}
+use Rattle.toml_edit_command.specs.Words.{Request, IsSet, SpellsPath, TakesPath}
 use Rattle.toml_edit_command.specs.Written.{Held, IsHeldOf}
-use Rattle.toml_edit_command.specs.declared.stop.Stop.{Stop}
+use Rattle.toml_edit_command.specs.declared.error.RunError.{RunError}
 
 -- what is made of a reading of a text, so that it owns its texts
 module _ (mode : Mode) (version : Version) (t u : Text) (x : Tree) (kept : Mode) (is_open : Bool) (h : Held) where
@@ -47,14 +47,14 @@ module _ (mode : Mode) (version : Version) (t u : Text) (x : Tree) (kept : Mode)
       )
 
 -- PATH, or VALUE, stops what the words say
-pub path-stops : (q : Asked) (path : Text) (stop : Stop) → TakesPath q.command path → MayStopPath path stop → StopsInWords q stop
+pub path-stops : (q : Request) (path : Text) (stop : RunError) → TakesPath q.command path → MayStopPath path stop → StopsInWords q stop
 path-stops q path stop takes may =
     elim may [
       | inl memory ↦ subst (StopsInWords q) (sym memory) (inr (path, takes))
       | inr bad ↦ subst (StopsInWords q) (sym bad.0) (path, takes, bad.1)
     ]
 
-pub value-stops : (q : Asked) (path value : Text) (names : List Text) (stop : Stop) → IsSet q.command path value → SpellsPath path names
+pub value-stops : (q : Request) (path value : Text) (names : List Text) (stop : RunError) → IsSet q.command path value → SpellsPath path names
     → MayStopValue q.version value stop → StopsInWords q stop
 value-stops q path value names stop set spelled may =
     elim may [

@@ -13,8 +13,8 @@ use Rattle.toml_edit_laws.specs.Locality.{into_element, Leads, has_block}
 use Rattle.toml_edit_laws.specs.Commands.{done, number_of, set_below, set_at, remove_below, remove_at}
 use Rattle.toml_edit_laws.specs.CommandLaws.{NamesTable, ChangesStatement, AddsStatement, DropsStatements, made_below}
 
--- What is said of a key in a table that the walk of the print enters, of which this path is the
--- table's and these texts follow.
+-- A claim about the key that ends a path in a table that the walk of the print enters: about the
+-- table's path, the visit of that table, the key, and the keys below it.
 abbrev pub AtKey : Tree → List Text → (List Text → Visit → Text → List Text → Type 0) → Type 0
 AtKey t names Is =
     (path : List Text) (v : Visit) (k : Text) (inner : List Text) → names ≡ path ++ (k ∷ inner)

@@ -6,10 +6,10 @@ use Rattle.toml_edit_model.specs.Version.{Version}
 use Rattle.toml_edit_model.specs.Fits.{FitsIn}
 use Rattle.toml_edit_model.specs.Tree.{Tree}
 use Rattle.toml_edit_laws.specs.Commands.{no_such_path, wrong_kind}
-use Rattle.toml_edit_command.specs.Words.{Action, Asked, TakesPath, IsCommand, IsSet, IsNoPath, IsNoValue, Says, SpellsPath}
+use Rattle.toml_edit_command.specs.Words.{Action, Request, TakesPath, IsCommand, IsSet, IsNoPath, IsNoValue, Says, SpellsPath}
 use Rattle.toml_edit_command.specs.Written.{IsReadOf, Changes, Refuses}
-use Rattle.toml_edit_command.specs.declared.stop.Mistake.{Mistake}
-use Rattle.toml_edit_command.specs.declared.stop.Mistake.TheVariants.{Words, Path, Value, NoSuchPath, WrongKind, Unfit}
+use Rattle.toml_edit_command.specs.declared.error.CommandError.{CommandError}
+use Rattle.toml_edit_command.specs.declared.error.CommandError.TheVariants.{Words, Path, Value, NoSuchPath, WrongKind, Unfit}
 
 -- ---- lines
 
@@ -30,7 +30,7 @@ read_line = codes "tomled: read failed" ++ newline
 abbrev pub write_line : Text
 write_line = codes "tomled: write failed" ++ newline
 
-abbrev pub mistake_line : Mistake → Text
+abbrev pub mistake_line : CommandError → Text
 mistake_line Words = usage_line
 mistake_line Path = codes "tomled: bad path" ++ newline
 mistake_line Value = codes "tomled: bad value" ++ newline
@@ -42,7 +42,7 @@ mistake_line Unfit = codes "tomled: does not fit" ++ newline
 
 -- It is in the words: they are no command, or PATH is no lone path, or PATH is one and VALUE is no
 -- lone value.
-abbrev pub InWords : Asked → Mistake → Type 0
+abbrev pub InWords : Request → CommandError → Type 0
 InWords q Words = ¬ (IsCommand q.command)
 InWords q Path = (path : Text) × TakesPath q.command path × IsNoPath path
 InWords q Value =
@@ -52,10 +52,13 @@ InWords q NoSuchPath = ⊥
 InWords q WrongKind = ⊥
 InWords q Unfit = ⊥
 
+abbrev pub IsMisworded : Request → Type 0
+IsMisworded q = (m : CommandError) × InWords q m
+
 module _ (mode : Mode) where
   -- It is in what they say of the tree: nothing is at the path, or the wrong kind, or the changed
   -- tree does not fit.
-  abbrev pub InTree : Action → Tree → Mistake → Type 0
+  abbrev pub InTree : Action → Tree → CommandError → Type 0
   InTree a t Words = ⊥
   InTree a t Path = ⊥
   InTree a t Value = ⊥
@@ -64,9 +67,9 @@ module _ (mode : Mode) where
   InTree a t Unfit = (u : Tree) × Changes a t u × (¬ (FitsIn mode u))
 
   -- so it is in that of what was left to read
-  abbrev pub InRead : Version → Action → Option Text → Mistake → Type 0
+  abbrev pub InRead : Version → Action → Option Text → CommandError → Type 0
   InRead version a known m =
       (t : Tree) × InTree a t m × IfSome known (λ bytes. IsReadOf mode version bytes t)
 
-abbrev pub IsMistaken : Asked → Option Text → Mistake → Type 0
+abbrev pub IsMistaken : Request → Option Text → CommandError → Type 0
 IsMistaken q known m = InWords q m ⊎ ((a : Action) × Says q a × InRead q.mode q.version a known m)

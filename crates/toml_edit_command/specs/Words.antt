@@ -1,5 +1,6 @@
 -- What the words of a command say.
-use Rattle.std.specs.Prelude.{◌≡◌, ◌⊎◌, true, if◌then◌else◌, List, [], ◌∷◌, map, codes}
+use Rattle.std.specs.Prelude.{◌≡◌, ◌⊎◌, true, if◌then◌else◌, List, [], ◌∷◌, map, codes, String, string_bytes}
+use Rattle.std.specs.Global.{Global}
 use Rattle.toml_edit_model.specs.Text.{Text, same_text}
 use Rattle.toml_edit_model.specs.Mode.{Mode, plain, exact}
 use Rattle.toml_edit_model.specs.Syntax.{Segment, Value}
@@ -18,22 +19,26 @@ pub data Action : Type 0 where
 
 -- what words ask for: the mode that the input is read in, the version of TOML that texts are read
 -- as, and what is left of the words, the command
-pub record Asked : Type 0 where
+pub record Request : Type 0 where
   pub mode : Mode
   pub version : Version
   pub command : List Text
 
 -- TOML 1.0 by the word `strict` in front, and TOML 1.1 without it
-abbrev pub asked_in : Mode → List Text → Asked
+abbrev pub asked_in : Mode → List Text → Request
 asked_in mode [] = record { mode = mode; version = v1_1; command = [] }
 asked_in mode (w ∷ ws) =
     if same_text w (codes "strict") then record { mode = mode; version = v1_0; command = ws }
     else record { mode = mode; version = v1_1; command = w ∷ ws }
 
 -- the exact mode by the word `exact` in front of that, and the plain mode without it
-abbrev pub asked : List Text → Asked
+abbrev pub asked : List Text → Request
 asked [] = asked_in plain []
 asked (w ∷ ws) = if same_text w (codes "exact") then asked_in exact ws else asked_in plain (w ∷ ws)
+
+-- what the words of a call ask for
+abbrev pub request : List (String Global) → Request
+request words = asked (map string_bytes words)
 
 -- ---- the commands
 
@@ -76,10 +81,14 @@ SpellsValue version t n =
 abbrev pub IsNoValue : Version → Text → Type 0
 IsNoValue version t = (n : Node) → SpellsValue version t n → ⊥
 
-abbrev pub Says : Asked → Action → Type 0
+abbrev pub Says : Request → Action → Type 0
 Says q printing = IsPrint q.command
 Says q (getting names) = (path : Text) × IsGet q.command path × SpellsPath path names
 Says q (setting names n) =
     (path : Text) × (value : Text) × IsSet q.command path value × SpellsPath path names
     × SpellsValue q.version value n
 Says q (removing names) = (path : Text) × IsRemove q.command path × SpellsPath path names
+
+-- the words are a command, its PATH is a path, and its VALUE a value
+abbrev pub SaysAction : Request → Type 0
+SaysAction q = (a : Action) × Says q a

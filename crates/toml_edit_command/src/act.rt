@@ -1,16 +1,17 @@
 //! Running a command on the document that the input holds.
 ghost use Rattle.std.specs.Prelude.{◌≡◌, false, IfErr, OnOk};
 ghost use Rattle.std.specs.Io.KnownBytes.{IsAtEnd};
+ghost use Rattle.toml_edit_command.specs.Run.{written};
 ghost use Rattle.toml_edit_command.specs.Steps.{HasReadAll, StopsActing, StopsDoing, Wrote, WroteRead, action_of};
 ghost use Rattle.toml_edit_command.specs.Words.{printing};
 ghost use Rattle.toml_edit_command.specs.Written.{held};
 ghost use Rattle.toml_edit_parser.specs.Options.{mode_of, version_of};
 
-use super::edit::{remove, set};
-use super::get::get;
-use super::read::read_document;
-use super::stop::Stop;
-use super::words::Command;
+use crate::edit::{remove, set};
+use crate::error::RunError;
+use crate::get::get;
+use crate::read::read_document;
+use crate::words::Command;
 use std::alloc::Global;
 use toml_edit::{DocumentMut, ParseOptions, PrintFault};
 use toml_edit_stream::{Input, Output};
@@ -22,23 +23,20 @@ pub fn perform<I: Input, O: Output>(
     options: ParseOptions,
     input: &mut I,
     output: &mut O,
-) -> Result<(), Stop>
+) -> Result<(), RunError>
     requires input { I.has_failed input.old ≡ false }
     requires output { O.has_failed output.old ≡ false }
     ensures wrote { OnOk result
         (WroteRead (mode_of options) (version_of options) (action_of command)
-        (I.remaining input.old) (O.contents output.old) (O.contents output.new)) }
+        (I.remaining input.old) (written O.contents O.has_failed output.old output.new)) }
     ensures ok { OnOk result
         ((I.has_failed input.new ≡ false) × (O.has_failed output.new ≡ false)) }
     ensures end { OnOk result (IsAtEnd (I.remaining input.new)) }
     ensures err_end { IfErr result (HasReadAll (I.remaining input.new)) }
     ensures err { IfErr result
         (StopsDoing (mode_of options) (version_of options) (action_of command)
-        (I.remaining input.old) (I.has_failed input.new) (record {
-          old = O.contents output.old;
-          new = O.contents output.new;
-          failed = O.has_failed output.new;
-        })) }
+        (I.remaining input.old) (I.has_failed input.new)
+        (written O.contents O.has_failed output.old output.new)) }
 {
     match read_document(alloc, input, options) {
         Ok(mut document) => {
@@ -46,9 +44,9 @@ pub fn perform<I: Input, O: Output>(
             drop(document);
             done
         }
-        Err(stop) => {
+        Err(error) => {
             drop(command);
-            Err(stop)
+            Err(error)
         }
     }
 }
@@ -59,17 +57,15 @@ fn act<O: Output>(
     command: Command,
     document: &mut DocumentMut,
     output: &mut O,
-) -> Result<(), Stop>
+) -> Result<(), RunError>
     requires { O.has_failed output.old ≡ false }
     ensures wrote { OnOk result
-        (Wrote (action_of command) (held document.old) (O.contents output.old)
-        (O.contents output.new)) }
+        (Wrote (action_of command) (held document.old)
+        (written O.contents O.has_failed output.old output.new)) }
     ensures ok { OnOk result (O.has_failed output.new ≡ false) }
-    ensures err { IfErr result (StopsActing (action_of command) (held document.old) (record {
-      old = O.contents output.old;
-      new = O.contents output.new;
-      failed = O.has_failed output.new;
-    })) }
+    ensures err { IfErr result
+        (StopsActing (action_of command) (held document.old)
+        (written O.contents O.has_failed output.old output.new)) }
 {
     match command {
         Command::Print => print(alloc, document, output),
@@ -80,20 +76,23 @@ fn act<O: Output>(
 }
 
 /// Prints the document.
-pub fn print<O: Output>(alloc: Global, document: &DocumentMut, output: &mut O) -> Result<(), Stop>
+pub fn print<O: Output>(
+    alloc: Global,
+    document: &DocumentMut,
+    output: &mut O,
+) -> Result<(), RunError>
     requires { O.has_failed output.old ≡ false }
     ensures wrote { OnOk result
-        (Wrote printing (held document.now) (O.contents output.old) (O.contents output.new)) }
+        (Wrote printing (held document.now)
+        (written O.contents O.has_failed output.old output.new)) }
     ensures ok { OnOk result (O.has_failed output.new ≡ false) }
-    ensures err { IfErr result (StopsActing printing (held document.now) (record {
-      old = O.contents output.old;
-      new = O.contents output.new;
-      failed = O.has_failed output.new;
-    })) }
+    ensures err { IfErr result
+        (StopsActing printing (held document.now)
+        (written O.contents O.has_failed output.old output.new)) }
 {
     match document.print_to(alloc, output) {
         Ok(()) => Ok(()),
-        Err(PrintFault::Memory) => Err(Stop::Memory),
-        Err(PrintFault::Device) => Err(Stop::WriteFailed),
+        Err(PrintFault::Memory) => Err(RunError::Memory),
+        Err(PrintFault::Device) => Err(RunError::WriteFailed),
     }
 }

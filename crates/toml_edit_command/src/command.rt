@@ -1,15 +1,14 @@
 //! The program as one function.
-ghost use Rattle.std.specs.Prelude.{◌≡◌, ◌≤◌, ◌↔◌, ◌⊎◌, false, true, map, IfSome, IsUtf8, string_bytes};
+ghost use Rattle.std.specs.Prelude.{◌≡◌, ◌≤◌, ◌↔◌, ◌⊎◌, false, true};
 ghost use Rattle.std.specs.Io.KnownBytes.{IsAtEnd};
-ghost use Rattle.toml_edit_command.specs.declared.stop.Mistake.{Mistake};
-ghost use Rattle.toml_edit_command.specs.Mistakes.{InWords, encoding_line, memory_line, read_line, usage_line, write_line};
-ghost use Rattle.toml_edit_command.specs.Run.{BeginsCommand, DoesCommand, IsNotAccepted, Tells, TellsMistake, TellsRefusal};
-ghost use Rattle.toml_edit_command.specs.Words.{Action, IsCommand, IsPrint, Says, asked};
+ghost use Rattle.toml_edit_command.specs.Mistakes.{IsMisworded, memory_line, read_line, usage_line, write_line};
+ghost use Rattle.toml_edit_command.specs.Run.{Begins, Does, IsUnwritten, Tells, TellsMistake, TellsRefusal, written};
+ghost use Rattle.toml_edit_command.specs.Words.{IsCommand, IsPrint, SaysAction, request};
 
-use super::act::perform;
-use super::stop::Stop;
-use super::tell::end;
-use super::words::Command;
+use crate::act::perform;
+use crate::error::RunError;
+use crate::tell::end;
+use crate::words::Command;
 use std::alloc::Global;
 use toml_edit_stream::{Input, Output};
 
@@ -59,65 +58,60 @@ pub fn run<I: Input, O: Output, E: Output>(
     requires input { I.has_failed input.old ≡ false }
     requires output { O.has_failed output.old ≡ false }
     ensures status { result ≤ 4 }
+
+    // 0: done.
     ensures done { result ≡ 0
-        → DoesCommand (asked (map string_bytes words.now)) (I.remaining input.old)
-        (O.contents output.old) (O.contents output.new) }
+        → Does (request words.now) (I.remaining input.old)
+        (written O.contents O.has_failed output.old output.new) }
     ensures quiet { result ≡ 0 → errors.new ≡ errors.old }
-    // What ends otherwise than for its words, or out of memory, is a command.
-    ensures said { (result ≡ 0) ⊎ (result ≡ 1) ⊎ (result ≡ 4)
-        → (a : Action) × Says (asked (map string_bytes words.now)) a }
+
+    // 1: the input is refused.
     ensures refused { result ≡ 1
-        → IfSome (I.remaining input.old)
-        (IsNotAccepted (asked (map string_bytes words.now)).version) }
-    ensures encoding { result ≡ 1 → IfSome (I.remaining input.old) (λ bytes. ¬ (IsUtf8 bytes) →
-        Tells (E.contents errors.old) (E.contents errors.new) (E.has_failed errors.new) encoding_line) }
-    ensures excerpt { result ≡ 1 → IfSome (I.remaining input.old) (λ bytes. IsUtf8 bytes →
-        TellsRefusal (asked (map string_bytes words.now)).version bytes (E.contents errors.old) (E.contents errors.new) (E.has_failed errors.new)) }
-    // The words are mistaken, or what they say of the document.
+        → TellsRefusal (request words.now) (I.remaining input.old)
+        (written E.contents E.has_failed errors.old errors.new) }
+
+    // 2: the words are mistaken, or what they say of the document.
     ensures mistaken { result ≡ 2
-        → TellsMistake (asked (map string_bytes words.now)) (I.remaining input.old)
-        (E.contents errors.old) (E.contents errors.new) (E.has_failed errors.new) }
-    ensures wrong_words { ¬ (IsCommand (asked (map string_bytes words.now)).command) → (result ≡ 2)
-        × Tells (E.contents errors.old) (E.contents errors.new)
-        (E.has_failed errors.new) usage_line }
-    // All of the input was read before the command is done or the text refused, and before a
-    // mistake about the document.
-    ensures end { (result ≡ 0) ⊎ (result ≡ 1) → IsAtEnd (I.remaining input.new) }
-    ensures mistaken_end { result ≡ 2
-        → ((m : Mistake) × InWords (asked (map string_bytes words.now)) m)
-        ⊎ IsAtEnd (I.remaining input.new) }
-    ensures print { IsPrint (asked (map string_bytes words.now)).command → ¬ (result ≡ 2) }
-    // If the mistake is in the words, nothing is read.
-    ensures untouched { (m : Mistake) → InWords (asked (map string_bytes words.now)) m
-        → ((result ≡ 2) ⊎ (result ≡ 3)) × (input.new ≡ input.old) × (output.new ≡ output.old) }
+        → TellsMistake (request words.now) (I.remaining input.old)
+        (written E.contents E.has_failed errors.old errors.new) }
+    ensures wrong_words { ¬ (IsCommand (request words.now).command)
+        → (result ≡ 2) × Tells usage_line (written E.contents E.has_failed errors.old errors.new) }
+    ensures print { IsPrint (request words.now).command → ¬ (result ≡ 2) }
+
+    // 3: out of memory.
     ensures memory { result ≡ 3
-        → Tells (E.contents errors.old) (E.contents errors.new)
-        (E.has_failed errors.new) memory_line }
+        → Tells memory_line (written E.contents E.has_failed errors.old errors.new) }
+
+    // 4: the input or the output has failed. Then nothing was written, or a beginning at most.
     ensures failed { (result ≡ 4)
         ↔ ((I.has_failed input.new ≡ true) ⊎ (O.has_failed output.new ≡ true)) }
-    // The message names the input that failed, and nothing was written.
     ensures read_fault { I.has_failed input.new ≡ true
-        → Tells (E.contents errors.old) (E.contents errors.new)
-        (E.has_failed errors.new) read_line }
+        → Tells read_line (written E.contents E.has_failed errors.old errors.new) }
     ensures unread { I.has_failed input.new ≡ true
-        → (O.contents output.new ≡ O.contents output.old) × (O.has_failed output.new ≡ false) }
-    // The message names the output that failed, which holds at most a beginning of the text.
+        → IsUnwritten (written O.contents O.has_failed output.old output.new) }
     ensures write_fault { O.has_failed output.new ≡ true
-        → Tells (E.contents errors.old) (E.contents errors.new)
-        (E.has_failed errors.new) write_line }
+        → Tells write_line (written E.contents E.has_failed errors.old errors.new) }
     ensures beginning { O.has_failed output.new ≡ true
-        → BeginsCommand (asked (map string_bytes words.now)) (I.remaining input.old)
-        (O.contents output.old) (O.contents output.new) }
+        → Begins (request words.now) (I.remaining input.old)
+        (written O.contents O.has_failed output.old output.new) }
+
+    // What several of these share: what the words say, what was read, and what was written.
+    ensures said { (result ≡ 0) ⊎ (result ≡ 1) ⊎ (result ≡ 4) → SaysAction (request words.now) }
+    ensures untouched { IsMisworded (request words.now)
+        → ((result ≡ 2) ⊎ (result ≡ 3)) × (input.new ≡ input.old) × (output.new ≡ output.old) }
+    ensures end { (result ≡ 0) ⊎ (result ≡ 1) → IsAtEnd (I.remaining input.new) }
+    ensures mistaken_end { result ≡ 2
+        → IsMisworded (request words.now) ⊎ IsAtEnd (I.remaining input.new) }
     ensures unwritten { (result ≡ 1) ⊎ (result ≡ 2) ⊎ (result ≡ 3)
         → O.contents output.new ≡ O.contents output.old }
 {
     let (command, options) = match Command::of_words(alloc, words) {
         Ok(read) => read,
-        Err(stop) => return end(&stop, errors),
+        Err(error) => return end(&error, errors),
     };
     match perform(alloc, command, options, input, output) {
         Ok(()) => DONE,
-        Err(stop) => end(&stop, errors),
+        Err(error) => end(&error, errors),
     }
 }
 
@@ -125,10 +119,9 @@ pub fn run<I: Input, O: Output, E: Output>(
 /// and returns the exit status 3. A fault in writing is ignored.
 pub fn end_without_memory<E: Output>(errors: &mut E) -> u8
     ensures status { result ≡ 3 }
-    ensures told { Tells (E.contents errors.old) (E.contents errors.new)
-        (E.has_failed errors.new) memory_line }
+    ensures told { Tells memory_line (written E.contents E.has_failed errors.old errors.new) }
 {
-    end(&Stop::Memory, errors)
+    end(&RunError::Memory, errors)
 }
 
 /// Writes to `errors` that the output has failed, and returns the exit status for that, which is 4.
@@ -137,8 +130,7 @@ pub fn end_without_memory<E: Output>(errors: &mut E) -> u8
 /// written. A fault in writing to `errors` is ignored.
 pub fn end_unwritten<E: Output>(errors: &mut E) -> u8
     ensures status { result ≡ 4 }
-    ensures told { Tells (E.contents errors.old) (E.contents errors.new)
-        (E.has_failed errors.new) write_line }
+    ensures told { Tells write_line (written E.contents E.has_failed errors.old errors.new) }
 {
-    end(&Stop::WriteFailed, errors)
+    end(&RunError::WriteFailed, errors)
 }

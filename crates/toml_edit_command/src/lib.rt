@@ -4,9 +4,9 @@
 mod act;
 mod command;
 mod edit;
+mod error;
 mod get;
 mod read;
-mod stop;
 mod tell;
 mod words;
 

@@ -10,7 +10,7 @@ ghost use Rattle.toml_edit_command.specs.Steps.{HasReadAll, StopsReading};
 ghost use Rattle.toml_edit_command.specs.Written.{IsHeldOf, held};
 ghost use Rattle.toml_edit_parser.specs.Options.{mode_of, version_of};
 
-use super::stop::Stop;
+use crate::error::RunError;
 use std::alloc::Global;
 use toml_edit::{Document, DocumentMut, ParseFault, ParseOptions};
 use toml_edit_stream::{Input, ReadFault, read_to_end};
@@ -20,7 +20,7 @@ pub fn read_document<I: Input>(
     alloc: Global,
     input: &mut I,
     options: ParseOptions,
-) -> Result<DocumentMut, Stop>
+) -> Result<DocumentMut, RunError>
     requires { I.has_failed input.old ≡ false }
     ensures read { IfOk result
         (λ m. IfSome (I.remaining input.old)
@@ -36,15 +36,15 @@ pub fn read_document<I: Input>(
     match document_of(alloc, text.as_str(), options) {
         Ok(document) => Ok(document),
         Err(ParseFault::Toml(error)) => match error.to_string(alloc) {
-            Ok(excerpt) => Err(Stop::Refused(excerpt)),
-            Err(_) => Err(Stop::Memory),
+            Ok(excerpt) => Err(RunError::Refused(excerpt)),
+            Err(_) => Err(RunError::Memory),
         },
-        Err(ParseFault::Memory) => Err(Stop::Memory),
+        Err(ParseFault::Memory) => Err(RunError::Memory),
     }
 }
 
 /// Reads the text of the input.
-fn text_of<I: Input>(alloc: Global, input: &mut I) -> Result<String, Stop>
+fn text_of<I: Input>(alloc: Global, input: &mut I) -> Result<String, RunError>
     requires { I.has_failed input.old ≡ false }
     ensures text { IfOk result
         (λ s. IfSome (I.remaining input.old) (λ bytes. string_bytes s ≡ bytes)) }
@@ -58,10 +58,10 @@ fn text_of<I: Input>(alloc: Global, input: &mut I) -> Result<String, Stop>
     match read_to_end(alloc, input) {
         Ok(bytes) => match String::from_utf8(bytes) {
             Ok(text) => Ok(text),
-            Err(_) => Err(Stop::NotUtf8),
+            Err(_) => Err(RunError::NotUtf8),
         },
-        Err(ReadFault::Memory) => Err(Stop::Memory),
-        Err(ReadFault::Broken) => Err(Stop::ReadFailed),
+        Err(ReadFault::Memory) => Err(RunError::Memory),
+        Err(ReadFault::Broken) => Err(RunError::ReadFailed),
     }
 }
 

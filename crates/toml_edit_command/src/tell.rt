@@ -1,40 +1,40 @@
 //! Reporting how a run ended.
 ghost use Rattle.std.specs.Prelude.{◌≡◌};
 ghost use Rattle.toml_edit_command.specs.Mistakes.{mistake_line};
-ghost use Rattle.toml_edit_command.specs.Run.{Tells};
-ghost use Rattle.toml_edit_command.specs.Steps.{TellsStop, status_of};
+ghost use Rattle.toml_edit_command.specs.Run.{Tells, written};
+ghost use Rattle.toml_edit_command.specs.Steps.{TellsError, status_of};
 
-use super::stop::{Mistake, Stop};
+use crate::error::{CommandError, RunError};
 use toml_edit_stream::{Output, write_all};
 
 /// Writes to `errors` why a run stopped, and returns its exit status.
-pub fn end<E: Output>(stop: &Stop, errors: &mut E) -> u8
-    ensures status { result ≡ status_of stop.now }
-    ensures told { TellsStop stop.now (E.contents errors.old) (E.contents errors.new)
-        (E.has_failed errors.new) }
+pub fn end<E: Output>(error: &RunError, errors: &mut E) -> u8
+    ensures status { result ≡ status_of error.now }
+    ensures told { TellsError error.now
+        (written E.contents E.has_failed errors.old errors.new) }
 {
-    match stop {
-        Stop::Mistaken(mistake) => {
+    match error {
+        RunError::Mistaken(mistake) => {
             tell(errors, mistake_text(*mistake));
             2
         }
-        Stop::NotUtf8 => {
+        RunError::NotUtf8 => {
             tell(errors, "tomled: input is not UTF-8\n");
             1
         }
-        Stop::Refused(excerpt) => {
+        RunError::Refused(excerpt) => {
             tell(errors, excerpt.as_str());
             1
         }
-        Stop::Memory => {
+        RunError::Memory => {
             tell(errors, "tomled: out of memory\n");
             3
         }
-        Stop::ReadFailed => {
+        RunError::ReadFailed => {
             tell(errors, "tomled: read failed\n");
             4
         }
-        Stop::WriteFailed => {
+        RunError::WriteFailed => {
             tell(errors, "tomled: write failed\n");
             4
         }
@@ -42,25 +42,24 @@ pub fn end<E: Output>(stop: &Stop, errors: &mut E) -> u8
 }
 
 /// Returns the message about a mistake.
-fn mistake_text(mistake: Mistake) -> &'static str
+fn mistake_text(mistake: CommandError) -> &'static str
     ensures { result.now ≡ mistake_line mistake }
 {
     match mistake {
-        Mistake::Words => {
+        CommandError::Words => {
             "tomled: usage: tomled [exact] [strict] print | get PATH | set PATH VALUE | remove PATH\n"
         }
-        Mistake::Path => "tomled: bad path\n",
-        Mistake::Value => "tomled: bad value\n",
-        Mistake::NoSuchPath => "tomled: no such path\n",
-        Mistake::WrongKind => "tomled: wrong kind\n",
-        Mistake::Unfit => "tomled: does not fit\n",
+        CommandError::Path => "tomled: bad path\n",
+        CommandError::Value => "tomled: bad value\n",
+        CommandError::NoSuchPath => "tomled: no such path\n",
+        CommandError::WrongKind => "tomled: wrong kind\n",
+        CommandError::Unfit => "tomled: does not fit\n",
     }
 }
 
 /// Writes a message to `errors`. A fault in that is ignored.
 fn tell<E: Output>(errors: &mut E, text: &str)
-    ensures { Tells (E.contents errors.old) (E.contents errors.new)
-        (E.has_failed errors.new) text.now }
+    ensures { Tells text.now (written E.contents E.has_failed errors.old errors.new) }
 {
     let _ = write_all(errors, text.as_bytes());
 }

@@ -3,12 +3,12 @@ ghost use Rattle.std.specs.Prelude.{◌≡◌, [], ◌∷◌, IfErr, IfOk, map, 
 ghost use Rattle.toml_edit_model.specs.Mode as model;
 ghost use Rattle.toml_edit_change.specs.Changes.{names};
 ghost use Rattle.toml_edit_command.specs.Steps.{StopsInWords, action_of};
-ghost use Rattle.toml_edit_command.specs.Words.{Says, SpellsPath, SpellsValue, asked, asked_in};
-ghost use Rattle.toml_edit_command.specs.Forms.{IsForm, MayStopPath, MayStopValue, asked_by};
+ghost use Rattle.toml_edit_command.specs.Words.{Says, SpellsPath, SpellsValue, asked_in, request};
+ghost use Rattle.toml_edit_command.specs.Forms.{IsForm, MayStopPath, MayStopValue, request_by};
 ghost use Rattle.toml_edit_parser.specs.Options.{mode_of, version_of};
 ghost use Rattle.toml_edit_tree.specs.View.{value_view};
 
-use super::stop::{Mistake, Stop};
+use crate::error::{CommandError, RunError};
 use std::alloc::Global;
 use toml_edit::{FromStrWith, Key, ParseFault, ParseOptions, Value, Version};
 
@@ -21,9 +21,9 @@ pub enum Command {
     Remove(Vec<Key>),
 }
 
-/// The words of a command, by its name.
+/// The words of a command by its name.
 #[derive(Clone, Copy)]
-enum Form<'a> {
+enum CommandForm<'a> {
     Print,
     Get(&'a str),
     Set(&'a str, &'a str),
@@ -32,45 +32,41 @@ enum Form<'a> {
 
 impl Command {
     /// Reads the command that the words say, and how it parses its input.
-    pub fn of_words(alloc: Global, words: &[String]) -> Result<(Command, ParseOptions), Stop>
-        ensures said { IfOk result
-            (λ r. Says (asked (map string_bytes words.now)) (action_of r.0)) }
-        ensures mode { IfOk result (λ r. mode_of r.1 ≡ (asked (map string_bytes words.now)).mode) }
-        ensures version { IfOk result
-            (λ r. version_of r.1 ≡ (asked (map string_bytes words.now)).version) }
-        ensures stops { IfErr result (StopsInWords (asked (map string_bytes words.now))) }
+    pub fn of_words(alloc: Global, words: &[String]) -> Result<(Command, ParseOptions), RunError>
+        ensures said { IfOk result (λ r. Says (request words.now) (action_of r.0)) }
+        ensures mode { IfOk result (λ r. mode_of r.1 ≡ (request words.now).mode) }
+        ensures version { IfOk result (λ r. version_of r.1 ≡ (request words.now).version) }
+        ensures stops { IfErr result (StopsInWords (request words.now)) }
     {
         let (options, words) = options_of(words);
         match Command::read_by(alloc, words, options) {
             Ok(command) => Ok((command, options)),
-            Err(stop) => Err(stop),
+            Err(error) => Err(error),
         }
     }
 
     /// Reads the command that the words say, with VALUE parsed by these options.
-    fn read_by(alloc: Global, words: &[String], options: ParseOptions) -> Result<Command, Stop>
+    fn read_by(alloc: Global, words: &[String], options: ParseOptions) -> Result<Command, RunError>
         ensures said { IfOk result
-            (λ command. Says (asked_by options (map string_bytes words.now)) (action_of command)) }
-        ensures stops { IfErr result
-            (StopsInWords (asked_by options (map string_bytes words.now))) }
+            (λ command. Says (request_by options words.now) (action_of command)) }
+        ensures stops { IfErr result (StopsInWords (request_by options words.now)) }
     {
         match form_of(words) {
-            Some(Form::Print) => Ok(Command::Print),
-            Some(Form::Get(path)) => Ok(Command::Get(path_of(alloc, path)?)),
-            Some(Form::Set(path, value)) => {
+            Some(CommandForm::Print) => Ok(Command::Print),
+            Some(CommandForm::Get(path)) => Ok(Command::Get(path_of(alloc, path)?)),
+            Some(CommandForm::Set(path, value)) => {
                 let path = path_of(alloc, path)?;
                 Ok(Command::Set(path, value_of(alloc, value, options)?))
             }
-            Some(Form::Remove(path)) => Ok(Command::Remove(path_of(alloc, path)?)),
-            None => Err(Stop::Mistaken(Mistake::Words)),
+            Some(CommandForm::Remove(path)) => Ok(Command::Remove(path_of(alloc, path)?)),
+            None => Err(RunError::Mistaken(CommandError::Words)),
         }
     }
 }
 
 /// Splits off the words `exact` and `strict`, as options of parsing.
 fn options_of(words: &[String]) -> (ParseOptions, &[String])
-    ensures { asked_by result.0 (map string_bytes result.1.now)
-        ≡ asked (map string_bytes words.now) }
+    ensures { request_by result.0 result.1.now ≡ request words.now }
 {
     match words {
         [first, rest @ ..] if first.as_str() == "exact" => options_in(true, rest),
@@ -80,7 +76,7 @@ fn options_of(words: &[String]) -> (ParseOptions, &[String])
 
 /// Splits off the word `strict`, of words that follow `exact` or do not.
 fn options_in(exact: bool, words: &[String]) -> (ParseOptions, &[String])
-    ensures { asked_by result.0 (map string_bytes result.1.now)
+    ensures { request_by result.0 result.1.now
         ≡ asked_in (if exact then model.exact else model.plain) (map string_bytes words.now) }
 {
     let options = ParseOptions::new().exact(exact);
@@ -93,7 +89,7 @@ fn options_in(exact: bool, words: &[String]) -> (ParseOptions, &[String])
 }
 
 /// Returns the words by the command's name, if they are a command.
-fn form_of(words: &[String]) -> Option<Form<'_>>
+fn form_of(words: &[String]) -> Option<CommandForm<'_>>
     ensures { IsForm (map string_bytes words.now) result }
 {
     match words {
@@ -105,57 +101,57 @@ fn form_of(words: &[String]) -> Option<Form<'_>>
 }
 
 /// Returns the form of a command of no operands.
-fn form_alone(name: &str) -> Option<Form<'_>>
+fn form_alone(name: &str) -> Option<CommandForm<'_>>
     ensures { IsForm (name.now ∷ []) result }
 {
     match name {
-        "print" => Some(Form::Print),
+        "print" => Some(CommandForm::Print),
         _ => None,
     }
 }
 
 /// Returns the form of a command of one operand.
-fn form_with_path<'a>(name: &str, path: &'a str) -> Option<Form<'a>>
+fn form_with_path<'a>(name: &str, path: &'a str) -> Option<CommandForm<'a>>
     ensures { IsForm (name.now ∷ path.now ∷ []) result }
 {
     match name {
-        "get" => Some(Form::Get(path)),
-        "remove" => Some(Form::Remove(path)),
+        "get" => Some(CommandForm::Get(path)),
+        "remove" => Some(CommandForm::Remove(path)),
         _ => None,
     }
 }
 
 /// Returns the form of a command of two operands.
-fn form_with_value<'a>(name: &str, path: &'a str, value: &'a str) -> Option<Form<'a>>
+fn form_with_value<'a>(name: &str, path: &'a str, value: &'a str) -> Option<CommandForm<'a>>
     ensures { IsForm (name.now ∷ path.now ∷ value.now ∷ []) result }
 {
     match name {
-        "set" => Some(Form::Set(path, value)),
+        "set" => Some(CommandForm::Set(path, value)),
         _ => None,
     }
 }
 
 /// Parses PATH.
-fn path_of(alloc: Global, text: &str) -> Result<Vec<Key>, Stop>
+fn path_of(alloc: Global, text: &str) -> Result<Vec<Key>, RunError>
     ensures spelled { IfOk result (λ keys. SpellsPath text.now (names keys.items)) }
     ensures stops { IfErr result (MayStopPath text.now) }
 {
     match Key::parse(alloc, text) {
         Ok(keys) => Ok(keys),
-        Err(ParseFault::Toml(_)) => Err(Stop::Mistaken(Mistake::Path)),
-        Err(ParseFault::Memory) => Err(Stop::Memory),
+        Err(ParseFault::Toml(_)) => Err(RunError::Mistaken(CommandError::Path)),
+        Err(ParseFault::Memory) => Err(RunError::Memory),
     }
 }
 
 /// Parses VALUE.
-fn value_of(alloc: Global, text: &str, options: ParseOptions) -> Result<Value, Stop>
+fn value_of(alloc: Global, text: &str, options: ParseOptions) -> Result<Value, RunError>
     ensures spelled { IfOk result
         (λ value. SpellsValue (version_of options) text.now (value_view value)) }
     ensures stops { IfErr result (MayStopValue (version_of options) text.now) }
 {
     match <Value as FromStrWith>::from_str_with(alloc, text, options) {
         Ok(value) => Ok(value),
-        Err(ParseFault::Toml(_)) => Err(Stop::Mistaken(Mistake::Value)),
-        Err(ParseFault::Memory) => Err(Stop::Memory),
+        Err(ParseFault::Toml(_)) => Err(RunError::Mistaken(CommandError::Value)),
+        Err(ParseFault::Memory) => Err(RunError::Memory),
     }
 }

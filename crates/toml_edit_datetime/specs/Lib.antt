@@ -1,8 +1,9 @@
--- What the contracts of this crate cite.
+-- Cited by public contracts.
 pub mod DateView
 pub mod TimeView
 pub mod OffsetView
 pub mod DatetimeView
-pub mod PartsView
 pub mod ReadsDatetime
+-- Cited inside this crate alone.
+pub mod PartsView
 pub mod FractionText

@@ -75,7 +75,7 @@ pub struct Datetime {
 
 impl Datetime {
     ghost use Rattle.std.specs.Prelude.{if◌then◌else◌, Some, None};
-    ghost use Rattle.toml_edit_datetime.specs.DatetimeView.{datetime_view};
+    ghost use Rattle.toml_edit_datetime.specs.DatetimeView.{datetime_of, datetime_view};
 
     /// Makes a date-time of its parts.
     ///
@@ -85,8 +85,7 @@ impl Datetime {
         ensures { option_map datetime_view result
             ≡ (if has_real_parts (option_map date_view date) (option_map time_view time)
             (option_map offset_view offset)
-            then Some (record { date = option_map date_view date; time = option_map time_view time; offset = option_map offset_view offset })
-            else None) }
+            then Some (datetime_of date time offset) else None) }
     {
         let is_real = match (date, time, offset) {
             (Some(_), Some(_), Some(Offset::Custom { minutes })) => minutes.unsigned_abs() < 1440,

@@ -25,7 +25,7 @@ pub struct Time {
 
 impl Time {
     ghost use Rattle.std.specs.Prelude.{if◌then◌else◌, Some, None, option_map};
-    ghost use Rattle.toml_edit_datetime.specs.TimeView.{time_view};
+    ghost use Rattle.toml_edit_datetime.specs.TimeView.{time_of, time_view};
 
     /// Makes a time of its parts.
     ///
@@ -33,13 +33,8 @@ impl Time {
     /// nanosecond above 999,999,999, or if there is a nanosecond but no second.
     pub fn new(hour: u8, minute: u8, second: Option<u8>, nanosecond: Option<u32>) -> Option<Time>
         ensures { option_map time_view result
-            ≡ (if is_real_time (record {
-              hour = hour;
-              minute = minute;
-              second = second;
-              nanosecond = nanosecond;
-            })
-            then Some (record { hour = hour; minute = minute; second = second; nanosecond = nanosecond }) else None) }
+            ≡ (if is_real_time (time_of hour minute second nanosecond)
+            then Some (time_of hour minute second nanosecond) else None) }
     {
         let is_real = hour < 24
             && minute < 60

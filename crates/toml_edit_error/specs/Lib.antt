@@ -1,5 +1,7 @@
+-- Cited by public contracts.
 pub mod Report
 pub mod Fault
-pub mod Place
 pub mod Sameness
 pub mod SamenessLaws
+-- Cited inside this crate alone.
+pub mod Place

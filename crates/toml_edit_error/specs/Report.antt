@@ -9,6 +9,9 @@ pub record Report : Type 0 where
   pub span : Option (ℕ × ℕ)
   pub input : Text
 
+abbrev pub report : Text → Option (ℕ × ℕ) → Text → Report
+report message span input = record { message = message; span = span; input = input }
+
 -- a span lies in the text, on the boundaries of characters
 abbrev pub SpanIsIn : Text → Option (ℕ × ℕ) → Type 0
 SpanIsIn t None = Unit {0}

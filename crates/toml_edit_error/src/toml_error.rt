@@ -1,7 +1,7 @@
 //! Errors of parsing.
 ghost use Rattle.std.specs.Prelude.{◌≡◌, ◌↔◌, IfOk, IsTrue, option_map, string_bytes};
 ghost use Rattle.toml_edit_error.specs.Fault.{IfToml};
-ghost use Rattle.toml_edit_error.specs.Report.{SpanIsIn};
+ghost use Rattle.toml_edit_error.specs.Report.{SpanIsIn, report};
 
 use crate::excerpt::{write_excerpt, write_message};
 use std::alloc::{AllocError, AllocFailed, Global};
@@ -73,12 +73,7 @@ impl TomlError {
         input: String,
     ) -> Result<TomlError, AllocError>
         requires { ∥ SpanIsIn (string_bytes input) span ∥₁ }
-        ensures { IfOk result
-            (λ e. e ≡ record {
-              message = string_bytes message;
-              span = span;
-              input = string_bytes input;
-            }) }
+        ensures { IfOk result (λ e. e ≡ report (string_bytes message) span (string_bytes input)) }
     {
         let parts = Parts {
             message,

@@ -81,12 +81,6 @@ one-late true b = refl
 one-late false true = refl
 one-late false false = refl
 
-other-late : (a b : Bool) → ((a && false) || (b && true)) ≡ b
-other-late true true = refl
-other-late true false = refl
-other-late false true = refl
-other-late false false = refl
-
 -- a table and one below it, by a key
 module _ (p : Path) (ss : Slots) (x y : Visit) (is : x.path ≡ p) (under : InSlots p ss y) where
   own : x.path ≡ p ++ []

@@ -1,4 +1,4 @@
--- What the contracts of this crate cite.
+-- Cited inside this crate alone.
 pub mod TriviaTests
 pub mod FitTests
 pub mod OrderTests

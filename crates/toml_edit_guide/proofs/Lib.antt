@@ -3,7 +3,6 @@ pub mod EditLaws
 pub mod ExchangeLaws
 pub mod FaultLaws
 pub mod LineLaws
-pub mod MoveLaws
 pub mod NormalLaws
 pub mod RemovalLaws
 pub mod SlotLaws

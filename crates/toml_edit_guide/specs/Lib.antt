@@ -1,4 +1,4 @@
--- What the contracts of the guide cite.
+-- Cited by public contracts.
 pub mod Adds
 pub mod Comments
 pub mod Dates
@@ -8,7 +8,6 @@ pub mod Elements
 pub mod Exchanges
 pub mod Faults
 pub mod Lines
-pub mod Moves
 pub mod Names
 pub mod Normals
 pub mod Paths

@@ -1,4 +1,4 @@
--- What is said of a document and its print.
+-- A document and its print.
 use Rattle.toml_edit.specs.DocumentView.{mode_owned, open_owned, tree_owned}
 use Rattle.toml_edit.specs.Documents.{MeansWhatIsShown}
 use Rattle.toml_edit.specs.declared.document.DocumentMut.{DocumentMut}

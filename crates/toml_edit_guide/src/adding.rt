@@ -116,10 +116,14 @@ fn push_element(item: &mut Item, element: Table) -> Mem<()>
 
 /// Adds an element to the array of tables in a slot, and leaves any other item as it is.
 fn push_slot(slot: &mut OccupiedEntry<'_>, element: Table) -> Mem<()>
-    ensures same_table { (entry_ref (Occupied slot.new)).ghost_name ≡ (entry_ref (Occupied slot.old)).ghost_name }
+    ensures same_table { (entry_ref (Occupied slot.new)).ghost_name
+        ≡ (entry_ref (Occupied slot.old)).ghost_name }
     ensures ok { OnOk result (slots_of (entry_ref (Occupied slot.new)).now
-        ≡ changed_at (entry_place (Occupied slot.old)) (on_item (with_last (table_node (table_view element)))) (slots_of (entry_ref (Occupied slot.old)).now)) }
-    ensures err { OnErr result (slots_of (entry_ref (Occupied slot.new)).now ≡ slots_of (entry_ref (Occupied slot.old)).now) }
+        ≡ changed_at (entry_place (Occupied slot.old))
+        (on_item (with_last (table_node (table_view element))))
+        (slots_of (entry_ref (Occupied slot.old)).now)) }
+    ensures err { OnErr result (slots_of (entry_ref (Occupied slot.new)).now
+        ≡ slots_of (entry_ref (Occupied slot.old)).now) }
 {
     push_element(slot.get_mut(), element)
 }

@@ -14,6 +14,7 @@ pub mod first;
 pub mod generic;
 pub mod lists;
 pub mod normalizing;
+pub mod paths;
 pub mod reading;
 pub mod removing;
 pub mod spelling;

@@ -12,7 +12,7 @@ ghost use Rattle.toml_edit_model.specs.DefaultSpelling.{key_spelling};
 ghost use Rattle.toml_edit_model.specs.Keys.{new_key, reset_key};
 ghost use Rattle.toml_edit_model.specs.Spelling.{SpellsKey};
 ghost use Rattle.toml_edit_repr.specs.Views.{text_of};
-ghost use Rattle.toml_edit_key.specs.Keys.{name_of};
+ghost use Rattle.toml_edit_key.specs.Keys.{name_of, spanned_key};
 
 use std::alloc::Global;
 use std::borrow::CowStr;
@@ -140,12 +140,7 @@ impl Key {
 
     /// Makes a key that was parsed, spelled by the bytes of the source from `start` up to `end`.
     pub fn spanned(text: String, start: usize, end: usize, leaf: Decor, dotted: Decor) -> Key
-        ensures { result ≡ record {
-          name = string_bytes text;
-          spelling = Some (span start end);
-          leaf = leaf;
-          dotted = dotted;
-        } }
+        ensures { result ≡ spanned_key (string_bytes text) start end leaf dotted }
     {
         Key {
             text,

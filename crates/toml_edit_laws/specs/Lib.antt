@@ -1,7 +1,7 @@
+-- Cited by the laws.
 pub mod FlatTree
 pub mod InlineTree
 pub mod DefaultSpellings
-pub mod Standing
 pub mod TableTree
 pub mod TableClash
 pub mod OneByOne
@@ -11,9 +11,6 @@ pub mod FaultMessages
 pub mod Extents
 pub mod KeptKeys
 pub mod Building
-pub mod AddPath
-pub mod PlaceOrder
-pub mod InPlace
 pub mod OneCut
 pub mod AcceptedPrints
 pub mod Reparse
@@ -28,5 +25,11 @@ pub mod ReadTrees
 pub mod PrintByVisits
 pub mod Commands
 pub mod CommandLaws
+-- Cited by contracts of other crates, and by the proofs of these laws.
+pub mod Standing
+pub mod AddPath
+pub mod PlaceOrder
+pub mod InPlace
 pub mod reading
+-- Worked examples: nothing cites them.
 pub mod examples

@@ -1,3 +1,3 @@
--- What the contracts of this crate cite.
+-- Cited by public contracts.
 pub mod Elements
 pub mod Sorts

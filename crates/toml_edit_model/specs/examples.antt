@@ -19,6 +19,7 @@ pub mod Modes
 pub mod Versions
 pub mod TreesOfTexts
 pub mod WholeTexts
+pub mod ShortTexts
 pub mod EditedTrees
 pub mod LoneTexts
 pub mod KeyedSlots

@@ -14,6 +14,7 @@ use Rattle.toml_edit_model.specs.TreeOf.{Entry}
 use Rattle.toml_edit_laws.specs.FlatTree.{with_slot}
 use Rattle.toml_edit_laws.specs.InlineTree.{entry_clash, path_fields, way_message}
 use Rattle.toml_edit_laws.specs.Standing.{Stands}
+use Rattle.toml_edit_laws.specs.TableClash.{table_way_message}
 use Rattle.toml_edit_error.specs.Fault.{IfToml}
 use Rattle.toml_edit_error.specs.declared.toml_error.ParseFault.{ParseFault}
 use Rattle.toml_edit_slots.specs.declared.slots.Slot as repr
@@ -32,7 +33,7 @@ use Rattle.toml_edit_tree.specs.declared.value.Value.{Value, out-Value}
 use Rattle.toml_edit_tree.specs.declared.value.Value.TheVariants as values
 use Rattle.toml_edit_tree.specs.declared.array.Array.{Array}
 use Rattle.toml_edit_parser.specs.declared.pairs.KeyPath.{KeyPath}
-use Rattle.toml_edit_parser.specs.PairRead.{AddsEntry, AddsInside, IsEndOfPath, IsPathAt, NamesClash, PathView, path_of, split_dot}
+use Rattle.toml_edit_parser.specs.PairRead.{AddsEntry, AddsInside, IsEndOfPath, IsPathAt, IsPathIn, NamesClash, PathView, path_of, split_dot}
 use Rattle.toml_edit_tree.specs.Containers.{ArrayView, InlineView, array_node, inline_node}
 use Rattle.toml_edit_parser.specs.ValueRead.{AreIn, split_first}
 use Rattle.toml_edit_tree.specs.View.{item_view, slots_view, value_view}
@@ -64,17 +65,18 @@ below-refused source ms es err new h =
 -- the parts behind a dot
 pub dot_in : (t : Text) (path : KeyPath) (after : Span) (inside : KeyPath) (rest : List Event)
     → ◌≡◌ {A = Option (Span × PathView)} (Some (after, path_of inside)) (split_dot path rest) → AreIn t rest → IsSpanOf t path.prefix → IsSpanOf t path.suffix
-    → IsSpanOf t after × IsSpanOf t inside.prefix × IsSpanOf t inside.suffix × IsSpanOf t inside.before × AreIn t inside.events.now
-    × (length inside.events.now < length rest)
+    → IsSpanOf t after × IsPathIn t inside × (length inside.events.now < length rest)
 dot_in t path after inside [] dot h prefix suffix = absurd cc
 dot_in t path after inside (a ∷ []) dot h prefix suffix = absurd cc
 dot_in t path after inside (a ∷ b ∷ es) dot h prefix suffix =
     let dots = same_dots after a.span (path_of inside) _ dot in (
       subst (IsSpanOf t) (sym dots.0) h.0,
-      subst (IsSpanOf t) (sym (ap (λ (v : PathView). v.prefix) dots.1)) prefix,
-      subst (IsSpanOf t) (sym (ap (λ (v : PathView). v.suffix) dots.1)) suffix,
-      subst (IsSpanOf t) (sym (ap (λ (v : PathView). v.before) dots.1)) h.1.0,
-      subst (AreIn t) (sym (ap (λ (v : PathView). v.events) dots.1)) h.1.1,
+      record {
+        prefix = subst (IsSpanOf t) (sym (ap (λ (v : PathView). v.prefix) dots.1)) prefix;
+        suffix = subst (IsSpanOf t) (sym (ap (λ (v : PathView). v.suffix) dots.1)) suffix;
+        before = subst (IsSpanOf t) (sym (ap (λ (v : PathView). v.before) dots.1)) h.1.0;
+        events = subst (AreIn t) (sym (ap (λ (v : PathView). v.events) dots.1)) h.1.1;
+      },
       let n = ap (λ (v : PathView). length v.events) dots.1 in omega arith,
     )
 
@@ -118,25 +120,38 @@ pub fits-in : (t : Text) (held left : InlineView) (new : Slots) → left ≡ rec
     → SlotsFit t new → NodeFits t (inline_node left)
 fits-in t held left new is h fits = subst (λ (v : InlineView). NodeFits t (inline_node v)) (sym is) (h.0, h.1, fits)
 
-stops_leaf : (n : Node) (s : Scalar) (spelling : Option Raw) (d : Decor) → n ≡ leaf s spelling d → Stops n
-stops_leaf n s spelling d e = subst Stops (sym e) tt
+-- a path stops there, and what is said of it is the same in an inline table as in a table
+record StopsAlike (n : Node) : Type 0 where
+  stops : Stops n
+  same : table_way_message dotted_role n ≡ way_message dotted_role n
 
-stops_list : (n : Node) (a : ArrayView) → n ≡ array_node a → Stops n
-stops_list n a e = subst Stops (sym e) tt
+alike_leaf : (n : Node) (s : Scalar) (spelling : Option Raw) (d : Decor) → n ≡ leaf s spelling d → StopsAlike n
+alike_leaf n s spelling d e = subst StopsAlike (sym e) (record { stops = tt; same = refl })
 
-stops_open : (o : Value-F Item Value Array ArrayOfTables InlineTable Table) → ((t : InlineTable) → roll-Value o ≡ values.InlineTable t → ⊥) → Stops (value_view (roll-Value o))
+alike_list : (n : Node) (a : ArrayView) → n ≡ array_node a → StopsAlike n
+alike_list n a e = subst StopsAlike (sym e) (record { stops = tt; same = refl })
+
+alike_open : (o : Value-F Item Value Array ArrayOfTables InlineTable Table) → ((t : InlineTable) → roll-Value o ≡ values.InlineTable t → ⊥) → StopsAlike (value_view (roll-Value o))
 unfolding roll-Value denote.Hole.Carrier.roll
-stops_open (Value-F.String f) h = stops_leaf _ _ _ _ (view-String f)
-stops_open (Value-F.Integer f) h = stops_leaf _ _ _ _ (view-Integer f)
-stops_open (Value-F.Float f) h = stops_leaf _ _ _ _ (view-Float f)
-stops_open (Value-F.Boolean f) h = stops_leaf _ _ _ _ (view-Boolean f)
-stops_open (Value-F.Datetime f) h = stops_leaf _ _ _ _ (view-Datetime f)
-stops_open (Value-F.Array a) h = stops_list _ _ (view-Array a)
-stops_open (Value-F.InlineTable t) h = absurd (h t refl)
+alike_open (Value-F.String f) h = alike_leaf _ _ _ _ (view-String f)
+alike_open (Value-F.Integer f) h = alike_leaf _ _ _ _ (view-Integer f)
+alike_open (Value-F.Float f) h = alike_leaf _ _ _ _ (view-Float f)
+alike_open (Value-F.Boolean f) h = alike_leaf _ _ _ _ (view-Boolean f)
+alike_open (Value-F.Datetime f) h = alike_leaf _ _ _ _ (view-Datetime f)
+alike_open (Value-F.Array a) h = alike_list _ _ (view-Array a)
+alike_open (Value-F.InlineTable t) h = absurd (h t refl)
+
+stops_alike : (v : Value) → ((t : InlineTable) → v ≡ values.InlineTable t → ⊥) → StopsAlike (value_view v)
+stops_alike v h = subst (λ (w : Value). StopsAlike (value_view w)) (rolled v) (alike_open (out-Value v) (λ t e. h t (sym (rolled v) ∙ e)))
 
 -- a value that is no inline table stops a path
 pub stops-other : (v : Value) → ((t : InlineTable) → v ≡ values.InlineTable t → ⊥) → Stops (value_view v)
-stops-other v h = subst (λ (w : Value). Stops (value_view w)) (rolled v) (stops_open (out-Value v) (λ t e. h t (sym (rolled v) ∙ e)))
+stops-other v h = (stops_alike v h).stops
+
+-- what is said of such a value, in a table and in an inline table
+pub same-way : (v : Value) → ((t : InlineTable) → v ≡ values.InlineTable t → ⊥)
+    → table_way_message dotted_role (value_view v) ≡ way_message dotted_role (value_view v)
+same-way v h = (stops_alike v h).same
 
 -- so does an item that is no value, where the key stands already
 pub stops-empty : (n : Node) → is_value_node n ≡ false → Stops n × (duplicate_key ≡ way_message dotted_role n)

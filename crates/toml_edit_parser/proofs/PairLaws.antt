@@ -16,7 +16,6 @@ use Rattle.toml_edit_model.specs.Faults.{Fault, recursion_limit, long_path, valu
 use Rattle.toml_edit_model.specs.Tree.{Raw, Node, Slots}
 use Rattle.toml_edit_model.specs.TreeOf.{spanned_form, span_of, decor_at, frame_leaf, value_start}
 use Rattle.toml_edit_model.specs.Conversions.{with_decor}
-use Rattle.toml_edit_laws.specs.InlineTree.{pair_path}
 use Rattle.toml_edit_laws.specs.Standing.{Stands}
 use Rattle.toml_edit_laws.proofs.common.StandingLaws.{stands-left, stands-right}
 use Rattle.toml_edit_laws.proofs.values.ValueFaults.{is_empty-nil}
@@ -389,9 +388,7 @@ value_place start f = omega arith
 pub pair-read : (source : Text) (f : Frame) (v : Value) (start level : ℕ) (more : List Event) (old new : Slots) (n : Node) (inner : List Event)
     (result : Result (Bor (List Event)) ParseFault) → long_path f.path ≡ []
     → IsRead v (value_at_byte start f) level (event After (value_at_byte start f + length (value_text v)) f.trailing ∷ more) n inner
-    → EndsPair source (pair_path spanned_form start f v)
-    (with_decor (decor_at spanned_form (start + value_start spanned_form f) f.after_equals (value_at_byte start f + length (value_text v)) f.trailing) n)
-    (shortened level more) old new result
+    → EndsPair source f v start (value_at_byte start f + length (value_text v)) n (shortened level more) old new result
     → ReadsPair source f v start level more old new result
 pair-read source f v start level more old new n inner (Ok r) short h e =
     record {

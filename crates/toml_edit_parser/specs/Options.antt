@@ -3,7 +3,7 @@ use Rattle.toml_edit_model.specs.Mode.{Mode}
 use Rattle.toml_edit_model.specs.Version.{Version}
 use Rattle.toml_edit_parser.specs.declared.options.ParseOptions.{ParseOptions}
 use Rattle.toml_edit_repr.specs.Modes as modes
-use Rattle.toml_edit_version.specs.Grammar.{grammar}
+use Rattle.toml_edit_syntax.specs.Grammar.{grammar}
 
 -- the version of the grammar that is read
 abbrev pub version_of : ParseOptions → Version

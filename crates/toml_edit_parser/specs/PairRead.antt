@@ -1,14 +1,16 @@
 -- What reading the pairs of an inline table or one of them does, by the events of the text.
-use Rattle.std.specs.Prelude.{◌≡◌, ◌⊎◌, ℕ, ◌+◌, Bool, true, false, List, [], ◌∷◌, ◌++◌, length, take, drop, Option, Some, None, option_map, option_and_then, max, codes, position, if◌then◌else◌, Result, Ok, Err}
+use Rattle.std.specs.Prelude.{◌≡◌, ◌≤◌, ◌<◌, ◌⊎◌, ℕ, suc, ◌+◌, ◌-◌, Bool, true, false, List, [], ◌∷◌, ◌++◌, length, take, drop, Option, Some, None, option_map, option_and_then, max, codes, position, if◌then◌else◌, Result, Ok, Err}
 use Rattle.std.specs.List.{AllByRecursion, last_or}
 use Rattle.std.specs.Borrow.{Bor}
 use Rattle.toml_edit_model.specs.Text.{Text, is_empty}
-use Rattle.toml_edit_model.specs.Syntax.{Segment, Frame, Value, Pairs, no_pairs, pair, IsSpelledSegment, ends_unspaced, path_text, pairs_text}
-use Rattle.toml_edit_model.specs.Paths.{Mention, pair_mentions}
+use Rattle.toml_edit_model.specs.Syntax.{Segment, Frame, Value, Pairs, ArePairs, IsFrame, IsValue, IsSpelledSegment, inline_table, no_pairs, pair, ends_unspaced, frame_text, nesting_limit, path_text, pairs_text, value_text}
+use Rattle.toml_edit_model.specs.Trivia.{IsWholeTrivia}
+use Rattle.toml_edit_model.specs.Conversions.{with_decor}
+use Rattle.toml_edit_model.specs.Paths.{Mention, Path, line_mentions, pair_mentions}
 use Rattle.toml_edit_model.specs.Accepted.{all_agree}
 use Rattle.toml_edit_model.specs.Faults.{duplicate_key, long_path, value_faults, pair_clashes, pairs_faults}
 use Rattle.toml_edit_model.specs.Tree.{Raw, span, Decor, Key, Node, inline, Slots, no_slots, unset}
-use Rattle.toml_edit_model.specs.TreeOf.{Entry, spanned_form, entries, AreEntrySlots}
+use Rattle.toml_edit_model.specs.TreeOf.{Entry, spanned_form, decor_at, entries, value_start, AreEntrySlots}
 use Rattle.toml_edit_laws.specs.Standing.{Stands}
 use Rattle.toml_edit_laws.specs.FlatTree.{with_slot}
 use Rattle.toml_edit_laws.specs.InlineTree.{node_at, path_fields, add_last, add_entry, clash_below, entry_clash, way_fault, pair_path, IsPairNode}
@@ -17,15 +19,16 @@ use Rattle.toml_edit_error.specs.Fault.{IfToml}
 use Rattle.toml_edit_error.specs.declared.toml_error.ParseFault.{ParseFault}
 use Rattle.toml_edit_syntax.specs.declared.event.Event.{Event}
 use Rattle.toml_edit_syntax.specs.declared.event.EventKind.{EventKind}
-use Rattle.toml_edit_syntax.specs.declared.event.EventKind.TheVariants.{AfterKey, Equals}
+use Rattle.toml_edit_syntax.specs.declared.event.EventKind.TheVariants.{After, AfterKey, Equals, InlineTableClose}
 use Rattle.toml_edit_syntax.specs.declared.event.Span.{Span}
-use Rattle.toml_edit_syntax.specs.ValueEvents.{event, path_events, shortened, value_at_byte}
+use Rattle.toml_edit_syntax.specs.ValueEvents.{event, close_events, pairs_events, path_events, shortened, value_at_byte, value_events}
+use Rattle.toml_edit_syntax.specs.Events.{IsSpanOf}
 use Rattle.toml_edit_parser.specs.declared.pairs.FrameSpans.{FrameSpans}
 use Rattle.toml_edit_parser.specs.declared.pairs.KeyPath.{KeyPath}
 use Rattle.toml_edit_parser.specs.declared.reader.Close.{Close}
 use Rattle.toml_edit_tree.specs.declared.value.Value as code
 use Rattle.toml_edit_tree.specs.Containers.{InlineView, inline_node}
-use Rattle.toml_edit_parser.specs.ValueRead.{span_at, spanned_raw, NamesOne}
+use Rattle.toml_edit_parser.specs.ValueRead.{span_at, spanned_raw, split_leading, AreIn, NamesOne}
 use Rattle.toml_edit_tree.specs.View.{value_view}
 use Rattle.toml_edit_model.specs.Roles.{dotted_role, may_meet_inline}
 use Rattle.toml_edit_model.specs.TableMentions.{kept}
@@ -123,6 +126,22 @@ path_of p = record {
   events = p.events.now;
 }
 
+-- the path of these events between two texts, which begins where the first of them ends
+abbrev pub path_between : Span → List Event → Span → PathView
+path_between prefix es suffix = record {
+  prefix = prefix;
+  suffix = suffix;
+  before = record { start = prefix.end; end = prefix.end };
+  events = es;
+}
+
+-- the spans of a path lie in the text
+pub record IsPathIn (t : Text) (p : KeyPath) : Type 0 where
+  pub prefix : IsSpanOf t p.prefix
+  pub suffix : IsSpanOf t p.suffix
+  pub before : IsSpanOf t p.before
+  pub events : AreIn t p.events.now
+
 -- the text before a dot, and the path after it
 abbrev pub split_dot : KeyPath → List Event → Option (Span × PathView)
 split_dot p (a ∷ b ∷ es) =
@@ -155,6 +174,11 @@ pub record IsEndOfPath (p : List Segment) : Type 0 where
   pub ends : ends_unspaced p ≡ true
   pub spelled : AllByRecursion IsSpelledSegment p
 
+-- A fact for where this path is the end of one of this entry, in the source from this byte on.
+abbrev pub IfPathNext : Text → KeyPath → Entry → List Segment → ℕ → Type 0 → Type 0
+IfPathNext source k e p start P =
+    IsEndOfPath p → Stands source start (path_text p) → IsPathAt e start p k → P
+
 -- ---- one pair
 
 -- what is in the way of a pair is named
@@ -185,6 +209,15 @@ AddsInside source m ms n old new (Err e) =
 abbrev pub IsPassed : Span → Mention Entry → Type 0
 IsPassed s m = (m.role ≡ dotted_role) × (s ≡ span_at m.start m.segment.spelled)
 
+-- what adding an item at the end of a path, whichever it is, below this key does to the item that
+-- is there
+abbrev pub AddsPathInside : {A : Type 0} → Text → Span → KeyPath → Node → Node → Node
+    → Result A ParseFault → Type 0
+AddsPathInside source key k n old new result =
+    (m : Mention Entry) (e : Entry) (p : List Segment) (start : ℕ) (above : Path)
+    → IsPassed key m → IfPathNext source k e p start
+    (AddsInside source m (line_mentions e start above p) n old new result)
+
 -- what adding a slot with this key does
 abbrev pub AddsLast : {A : Type 0} → Text → Span → Key → Node → Slots → Slots → Result A ParseFault
     → Type 0
@@ -201,12 +234,45 @@ AddsBelow k s ms n old new (Ok _) =
     (add_entry spanned_form ms n no_slots) ≡ Some new
 AddsBelow k s ms n old new (Err e) = IfToml e (λ r. ⊥)
 
+-- the item of a pair that begins at this byte, put between the texts around its value, which ends
+-- at `end`
+abbrev pub pair_item : ℕ → Frame → ℕ → Node → Node
+pair_item start f end n =
+    with_decor
+    (decor_at spanned_form (start + value_start spanned_form f) f.after_equals end f.trailing) n
+
+-- A fact for where the events begin with that of the text after the value of this pair, whose other
+-- parts these are.
+abbrev pub IfPairEnds : Text → FrameSpans → List Event → Frame → ℕ → ℕ → List Event → Type 0
+    → Type 0
+IfPairEnds source s es f start end more P =
+    IsFrame IsWholeTrivia f
+    → Stands source (start + length f.leading) (path_text f.path)
+    → parts_of s ≡ frame_parts start f
+    → es ≡ event After end f.trailing ∷ more → P
+
 -- what ending a pair with this item returns
-abbrev pub EndsPair : Text → List (Mention Entry) → Node → List Event → Slots → Slots
+abbrev pub EndsPair : Text → Frame → Value → ℕ → ℕ → Node → List Event → Slots → Slots
     → Result (Bor (List Event)) ParseFault → Type 0
-EndsPair source ms n more old new (Ok r) =
-    (r.now ≡ more) × (add_entry spanned_form ms n old ≡ Some new)
-EndsPair source ms n more old new (Err e) = IfToml e (NamesClash source (entry_clash ms old))
+EndsPair source f v start end n more old new (Ok r) =
+    (r.now ≡ more)
+    × (add_entry spanned_form (pair_path spanned_form start f v) (pair_item start f end n) old
+    ≡ Some new)
+EndsPair source f v start end n more old new (Err e) =
+    IfToml e (NamesClash source (entry_clash (pair_path spanned_form start f v) old))
+
+-- A fact for where the events begin with those of this pair after its leading text, which is at
+-- this span.
+abbrev pub IfPairNext : Text → Span → List Event → Frame → Value → ℕ → ℕ → List Event → Type 0
+    → Type 0
+IfPairNext source leading es f v start level more P =
+    IsFrame IsWholeTrivia f → IsValue v
+    → Stands source start (frame_text f (value_text v)) → level ≤ nesting_limit
+    → leading ≡ span_at start f.leading
+    → es ≡ key_events start f
+    ++ shortened level (value_events (value_at_byte start f) v
+    ++ (event After (value_at_byte start f + length (value_text v)) f.trailing ∷ more))
+    → P
 
 -- what reading a pair that begins at this byte does to the slots of those before it
 pub record AddsPair (f : Frame) (v : Value) (start level : ℕ) (more : List Event) (old new : Slots)
@@ -235,6 +301,26 @@ ReadsPair source f v start level more old new (Err e) =
 abbrev pub PairsStand : Text → ℕ → Pairs → Type 0
 PairsStand source start no_pairs = Unit {0}
 PairsStand source start (pair f v ps) = Stands source start (pairs_text (pair f v ps))
+
+-- A fact for where the events begin with those of these pairs, and no further one comes next.
+abbrev pub IfPairsNext : Text → List Event → Pairs → ℕ → ℕ → List Event → Type 0 → Type 0
+IfPairsNext source es ps start level more P =
+    ArePairs ps
+    → PairsStand source start ps
+    → level ≤ nesting_limit → split_leading (shortened level more) ≡ None
+    → es ≡ shortened level (pairs_events start ps ++ more) → P
+
+-- And with those of this inline table, after its opening brace, which is at `opening`.
+abbrev pub IfInlineNext : Text → ℕ → List Event → Pairs → Bool → Text → ℕ → ℕ → List Event
+    → Type 0 → Type 0
+IfInlineNext source opening es ps comma t start level more P =
+    ArePairs ps
+    → Stands source start (value_text (inline_table ps comma t))
+    → level < nesting_limit → opening ≡ start
+    → es ≡ shortened (suc level) (pairs_events (start + 1) ps
+    ++ (close_events InlineTableClose (codes "}")
+    (start + length (value_text (inline_table ps comma t)) - 1) comma t ++ more))
+    → P
 
 pub record ArePairsRead (ps : Pairs) (start level : ℕ) (more : List Event) (ss : Slots)
     (rest : List Event) : Type 0 where

@@ -3,8 +3,12 @@ use Rattle.std.specs.Prelude.{◌≡◌, ◌⊎◌, ℕ, ◌+◌, ◌==◌, if�
 use Rattle.std.specs.Borrow.{Bor}
 use Rattle.toml_edit_model.specs.Mode.{Mode, plain, exact, with_return}
 use Rattle.toml_edit_model.specs.Text.{Text, carriage_return}
-use Rattle.toml_edit_model.specs.Trivia.{IsNewline}
-use Rattle.toml_edit_model.specs.Syntax.{Frame, Value, Header, Statement, key_line, path_text, value_text, opening_brackets, closing_brackets, brackets_text, statement_text, newline_after}
+use Rattle.toml_edit_model.specs.Trivia.{IsLineEnd, IsNewline}
+use Rattle.toml_edit_model.specs.Scalars.{Scalar}
+use Rattle.toml_edit_model.specs.Spelling.{Spells}
+use Rattle.toml_edit_laws.specs.Standing.{Stands}
+use Rattle.toml_edit_model.specs.Syntax as syntax
+use Rattle.toml_edit_model.specs.Syntax.{Frame, Value, Header, Statement, IsFrame, IsHeader, IsValue, key_line, path_text, value_text, opening_brackets, closing_brackets, brackets_text, statement_text, newline_after}
 use Rattle.toml_edit_model.specs.Faults.{own_faults, long_path, value_faults}
 use Rattle.toml_edit_model.specs.Tree.{Node}
 use Rattle.toml_edit_model.specs.TreeOf.{spanned_in, frame_leaf, header_leaf, value_start, IsValueNode}
@@ -16,6 +20,8 @@ use Rattle.toml_edit_syntax.specs.declared.event.Span.{Span}
 use Rattle.toml_edit_syntax.specs.ValueEvents.{event, path_events, value_at_byte, value_events, shortened}
 use Rattle.toml_edit_parser.specs.declared.pairs.KeyPath.{KeyPath}
 use Rattle.toml_edit_parser.specs.declared.statement.HeaderSpans.{HeaderSpans}
+use Rattle.toml_edit_parser.specs.declared.statement.Reader.{Reader}
+use Rattle.toml_edit_repr.specs.Modes.{mode_of}
 use Rattle.toml_edit_parser.specs.PairRead.{key_events}
 use Rattle.toml_edit_parser.specs.PathRead.{IsPathFrom}
 use Rattle.toml_edit_parser.specs.ValueRead.{NamesOne, span_at}
@@ -44,6 +50,27 @@ line_behind start f v more =
     ++ (value_events (value_at_byte start f) v
     ++ (event LineEnd (value_at_byte start f + length (value_text v)) f.trailing ∷ more))
 
+-- A fact for where the events begin with those of this key line, after the text at this span.
+abbrev pub IfKeyLineNext : Text → Span → List Event → Frame → Value → Text → ℕ → List Event
+    → Type 0 → Type 0
+IfKeyLineNext t leading es f v end start more P =
+    IsFrame IsLineEnd f → IsValue v
+    → Stands t start (statement_text (key_line f v end))
+    → IsEnded t start (key_line f v end)
+    → leading ≡ span_at start f.leading → es ≡ shortened 0 (line_behind start f v more) → P
+
+-- And with that of the text after a value at the end of a line, where the value is a scalar at this
+-- span, and the statement's suffix is `suffix`.
+abbrev pub IfLineScalarNext : Reader → Span → List Event → Scalar → Text → ℕ → Text → Text
+    → List Event → Type 0 → Type 0
+IfLineScalarNext reader at es s t start after suffix more P =
+    Spells s t → Stands reader.source.now start t
+    → at ≡ span_at start t
+    → es ≡ shortened 0 (event LineEnd (start + length t) after ∷ more)
+    → suffix_span (mode_of reader.mode) reader.source.now (span_at (start + length t) after)
+    ≡ span_at (start + length t) suffix
+    → P
+
 -- ---- a header
 
 -- the events of a header after its opening brackets, and those after the header
@@ -59,6 +86,14 @@ header_behind start h more =
     ∷ event HeaderClose close (closing_brackets h.is_array)
     ∷ event LineEnd (close + length (closing_brackets h.is_array)) h.trailing
     ∷ more)
+
+-- A fact for where the events begin with those of this header, after its opening brackets.
+abbrev pub IfHeaderNext : Text → List Event → Header → Text → ℕ → List Event → Type 0 → Type 0
+IfHeaderNext t es h end start more P =
+    IsHeader h
+    → Stands t start (statement_text (syntax.header h end))
+    → IsEnded t start (syntax.header h end)
+    → es ≡ shortened 0 (header_behind start h more) → P
 
 -- ---- in a mode
 
@@ -113,3 +148,19 @@ module _ (mode : Mode) where
       → Result (HeaderSpans × Bor (List Event)) ParseFault → Type 0
   ReadsHeader t h end start more (Ok r) = IsHeaderRead h end start more r.0 r.1.now
   ReadsHeader t h end start more (Err e) = IfToml e (NamesOne t (long_path h.path))
+
+-- ---- any value
+
+-- What reading the value at the end of a line returns, whichever value the events begin with: it is
+-- in the source, before the text `after`, and the statement's suffix is `suffix`.
+abbrev pub ReadsAnyLineValue : Reader → Span → List Event → Node
+    → Result (Bor (List Event)) ParseFault → Type 0
+ReadsAnyLineValue reader before es n result =
+    (v : Value) (start : ℕ) (after suffix : Text) (more : List Event)
+    → IsValue v → Stands reader.source.now start (value_text v)
+    → es ≡ shortened 0
+    (value_events start v ++ (event LineEnd (start + length (value_text v)) after ∷ more))
+    → suffix_span (mode_of reader.mode) reader.source.now
+    (span_at (start + length (value_text v)) after)
+    ≡ span_at (start + length (value_text v)) suffix
+    → ReadsLineValue (mode_of reader.mode) reader.source.now v start before suffix more n result

@@ -1,9 +1,11 @@
 -- What reading a value, the elements of an array or one of them does, by the events of the text.
-use Rattle.std.specs.Prelude.{◌≡◌, ℕ, ◌+◌, Bool, true, false, List, [], ◌∷◌, ◌++◌, length, Contains, Option, Some, None, if◌then◌else◌, ◌==◌, Result, Ok, Err}
+use Rattle.std.specs.Prelude.{◌≡◌, ◌≤◌, ◌<◌, ℕ, suc, ◌+◌, ◌-◌, Bool, true, false, List, [], ◌∷◌, ◌++◌, length, codes, Contains, Option, Some, None, if◌then◌else◌, ◌==◌, Result, Ok, Err, IfOk}
 use Rattle.std.specs.List.{AllByRecursion}
 use Rattle.std.specs.Borrow.{Bor}
 use Rattle.toml_edit_model.specs.Text.{Text}
-use Rattle.toml_edit_model.specs.Syntax.{Around, Value, Elements, no_elements, element, value_text, elements_text}
+use Rattle.toml_edit_model.specs.Scalars as scalars
+use Rattle.toml_edit_model.specs.Spelling.{Spells}
+use Rattle.toml_edit_model.specs.Syntax.{Around, Value, Elements, AreElements, IsValue, array, no_elements, element, value_text, elements_text, nesting_limit}
 use Rattle.toml_edit_model.specs.Faults.{Fault, value_faults, elements_faults}
 use Rattle.toml_edit_model.specs.Tree.{Raw, owned, span, unset, Node, Items}
 use Rattle.toml_edit_model.specs.TreeOf.{spanned_form, decor_at, IsValueNode, AreElementNodes}
@@ -14,9 +16,9 @@ use Rattle.toml_edit_error.specs.Fault.{IfToml}
 use Rattle.toml_edit_error.specs.declared.toml_error.ParseFault.{ParseFault}
 use Rattle.toml_edit_syntax.specs.declared.event.Event.{Event}
 use Rattle.toml_edit_syntax.specs.declared.event.EventKind.{EventKind}
-use Rattle.toml_edit_syntax.specs.declared.event.EventKind.TheVariants.{Before, Scalar, Leading, Comma}
+use Rattle.toml_edit_syntax.specs.declared.event.EventKind.TheVariants.{After, ArrayClose, Before, Scalar, Leading, Comma}
 use Rattle.toml_edit_syntax.specs.declared.event.Span.{Span}
-use Rattle.toml_edit_syntax.specs.ValueEvents.{shortened}
+use Rattle.toml_edit_syntax.specs.ValueEvents.{event, value_events, elements_events, close_events, shortened}
 use Rattle.toml_edit_syntax.specs.Events.{IsSpanOf}
 use Rattle.toml_edit_tree.specs.declared.item.Item.{Item}
 use Rattle.toml_edit_parser.specs.declared.reader.Close.{Close}
@@ -89,7 +91,70 @@ abbrev pub ElementsStand : Text → ℕ → Elements → Type 0
 ElementsStand source start no_elements = Unit {0}
 ElementsStand source start (element a v es) = Stands source start (elements_text (element a v es))
 
+-- ---- what comes first
+
+-- A fact for where the events begin with those of this value, which is in the source, from this
+-- byte on, inside so many brackets.
+abbrev pub IfValueNext : Text → List Event → Value → ℕ → ℕ → List Event → Type 0 → Type 0
+IfValueNext source es v start level more P =
+    IsValue v → Stands source start (value_text v)
+    → level ≤ nesting_limit → es ≡ shortened level (value_events start v ++ more) → P
+
+-- And with those of this array, after its opening bracket, which is at `opening`.
+abbrev pub IfArrayNext : Text → ℕ → List Event → Elements → Bool → Text → ℕ → ℕ → List Event
+    → Type 0 → Type 0
+IfArrayNext source opening events es comma t start level more P =
+    AreElements es
+    → Stands source start (value_text (array es comma t)) → level < nesting_limit
+    → opening ≡ start
+    → events ≡ shortened (suc level) (elements_events (start + 1) es
+    ++ (close_events ArrayClose (codes "]")
+    (start + length (value_text (array es comma t)) - 1) comma t ++ more))
+    → P
+
+-- And with those of these elements, where no further one comes next.
+abbrev pub IfElementsNext : Text → List Event → Elements → ℕ → ℕ → List Event → Type 0 → Type 0
+IfElementsNext source events es start level more P =
+    AreElements es
+    → ElementsStand source start es
+    → level ≤ nesting_limit → split_before (shortened level more) ≡ None
+    → events ≡ shortened level (elements_events start es ++ more) → P
+
+-- And with those of the value and of the text after it, of an element whose text before it is at
+-- this span,
+abbrev pub IfElementNext : Text → Span → List Event → Around → Value → ℕ → ℕ → List Event → Type 0
+    → Type 0
+IfElementNext source before es a v start level more P =
+    IsValue v
+    → Stands source (start + length a.before) (value_text v) → level ≤ nesting_limit
+    → before ≡ span_at start a.before
+    → es ≡ shortened level (value_events (start + length a.before) v
+    ++ (event After (start + length a.before + length (value_text v)) a.after ∷ more))
+    → P
+
+-- or with that of the text after it alone, where the element is a scalar at a span.
+abbrev pub IfScalarNext : Text → Span → Span → List Event → Around → scalars.Scalar → Text → ℕ → ℕ
+    → List Event → Type 0 → Type 0
+IfScalarNext source before at es a s t start level more P =
+    Spells s t
+    → Stands source (start + length a.before) t → before ≡ span_at start a.before
+    → at ≡ span_at (start + length a.before) t
+    → es ≡ shortened level (event After (start + length a.before + length t) a.after ∷ more) → P
+
 -- ---- results
+
+-- Fewer events are left, in the text.
+abbrev pub Leaves : Text → List Event → Result (Bor (List Event)) ParseFault → Type 0
+Leaves t es result = IfOk result (λ r. AreIn t r.now × (length r.now < length es))
+
+-- Fewer events are left beside what was read.
+abbrev pub LeavesBeside : {A : Type 0} → Text → List Event
+    → Result (A × Bor (List Event)) ParseFault → Type 0
+LeavesBeside t es result = IfOk result (λ r. AreIn t r.1.now × (length r.1.now < length es))
+
+-- Some events are left, or all of them.
+abbrev pub LeavesRest : Text → List Event → Result (Bor (List Event)) ParseFault → Type 0
+LeavesRest t es result = IfOk result (λ r. AreIn t r.now × (length r.now ≤ length es))
 
 -- The value has no fault, and the item, put between what is around it, is the value's.
 pub record IsRead (v : Value) (start level : ℕ) (more : List Event) (n : Node)

@@ -10,16 +10,16 @@ ghost use Rattle.toml_edit_parser.specs.LoneValue.{IsLoneItemReading, IsLoneRead
 ghost use Rattle.toml_edit_parser.specs.Options.{version_of};
 ghost use Rattle.toml_edit_parser.specs.ValueRead.{AreIn, IsRead};
 ghost use Rattle.toml_edit_tree.specs.View.{item_view, value_view};
-ghost use Rattle.toml_edit_version.specs.Grammar.{grammar};
+ghost use Rattle.toml_edit_syntax.specs.Grammar.{grammar};
 ghost use Rattle.toml_edit_model.specs.OwnedForm.{NodeFits};
 
+use crate::fault::{Fault, refusal, refusal_of_all, refusal_with};
 use crate::options::ParseOptions;
-use crate::reader::{are_cut_short, read_value, refusal, refusal_of_all};
+use crate::reader::{are_cut_short, read_value};
 use std::alloc::Global;
 use toml_edit_error::ParseFault;
-use toml_edit_syntax::{Event, SyntaxFault, lone_events};
+use toml_edit_syntax::{Event, SyntaxFault, Version, late_part_of_value, lone_events};
 use toml_edit_tree::{Item, Value};
-use toml_edit_version::{Version, late_part_of_value};
 
 /// A type that can be parsed from a text that holds one value of it.
 ///
@@ -163,7 +163,12 @@ fn read_lone_text(alloc: Global, text: &str, version: Version) -> Result<Value, 
             read_lone(alloc, text, events.as_slice())
         }
         Err(SyntaxFault::Memory) => Err(ParseFault::Memory),
-        Err(SyntaxFault::Text(mistake, span)) => Err(refusal(alloc, text, mistake.message(), span)),
+        Err(SyntaxFault::Text(mistake, span)) => Err(refusal_with(
+            alloc,
+            text,
+            mistake.message(),
+            span,
+        )),
     }
 }
 
@@ -186,7 +191,7 @@ fn refuse_late(
 {
     match version {
         Version::V1_0 => match late_part_of_value(text, events) {
-            Some(span) => Err(refusal(alloc, text, "needs TOML 1.1", span)),
+            Some(span) => Err(refusal(alloc, text, Fault::NeedsLaterVersion, span)),
             None => Ok(()),
         },
         Version::V1_1 => Ok(()),
@@ -229,7 +234,7 @@ fn end_lone(
     ensures refused { IfErr result (λ e. IfToml e (IsLoneRefusal text.now)) }
 {
     if are_cut_short(events) {
-        return Err(refusal_of_all(alloc, text, "recursion limit"));
+        return Err(refusal_of_all(alloc, text));
     }
     value.undecorate();
     value.despan(alloc, text)?;

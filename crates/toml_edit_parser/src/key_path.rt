@@ -1,18 +1,17 @@
 //! The keys of a path, one after another.
-ghost use Rattle.std.specs.Prelude.{◌≡◌, ◌<◌, List, ℕ, length, IfErr, IfOk, IfSome};
-ghost use Rattle.toml_edit_model.specs.OwnedForm.{cut_out};
+ghost use Rattle.std.specs.Prelude.{◌<◌, List, ℕ, length, IfOk, IfSome};
 ghost use Rattle.toml_edit_model.specs.Syntax.{Segment, path_text};
 ghost use Rattle.toml_edit_model.specs.Tree.{Decor};
 ghost use Rattle.toml_edit_laws.specs.Standing.{Stands};
-ghost use Rattle.toml_edit_error.specs.Fault.{IfToml};
 ghost use Rattle.toml_edit_syntax.specs.Events.{IsSpanOf};
 ghost use Rattle.toml_edit_parser.specs.PairRead.{IsEndOfPath};
 ghost use Rattle.toml_edit_parser.specs.PathRead.{IsPathFrom, ReadsKey};
-ghost use Rattle.toml_edit_parser.specs.Listed.{IsListed};
 ghost use Rattle.toml_edit_parser.specs.ValueRead.{AreIn};
+ghost use Rattle.toml_edit_parser.specs.Listed.{BlamesOnly, GivesListed};
 
+use crate::fault::malformed;
 use crate::pairs::{KeyPath, last_key, passed_key, read_name, split_dot};
-use crate::reader::{refusal_at_end, split_first};
+use crate::reader::split_first;
 use std::alloc::Global;
 use toml_edit_error::ParseFault;
 use toml_edit_key::Key;
@@ -44,8 +43,8 @@ pub fn next_key<'a>(
     ensures key { (own : Decor) (p : List Segment) (start : ℕ) → IsEndOfPath p
         → Stands source.now start (path_text p)
         → IsPathFrom own start p path.entry → ReadsKey own start p result }
-    ensures input { IfErr result (λ e. IfToml e (λ r. r.input ≡ source.now)) }
-    ensures listed { IfErr result (λ e. IfToml e IsListed) }
+    ensures input { BlamesOnly source.now result }
+    ensures listed { GivesListed result }
     ensures span { IfOk result (λ r. IsSpanOf source.now r.span) }
     ensures rest { IfOk result
         (λ r. IfSome r.rest
@@ -53,7 +52,7 @@ pub fn next_key<'a>(
         × (length inside.events.now < length path.entry.events.now))) }
 {
     let Some((first, rest)) = split_first(path.events) else {
-        return Err(refusal_at_end(alloc, source, "expected a key"));
+        return Err(malformed(alloc, source));
     };
     let span = first.span;
     let name = read_name(alloc, source, span)?;

@@ -2,6 +2,7 @@
 //! parsing a lone value are here too, with their options.
 #![tactic(auto)]
 
+mod fault;
 pub mod from_str;
 mod key_path;
 mod options;
@@ -10,6 +11,8 @@ mod reader;
 mod slots;
 mod statement;
 
+#[doc(hidden)]
+pub use fault::{Fault, malformed, refusal, refusal_of_all, refusal_with};
 pub use from_str::{FromStr, FromStrWith};
 #[doc(hidden)]
 pub use key_path::{PathKey, next_key};
@@ -17,9 +20,9 @@ pub use options::ParseOptions;
 #[doc(hidden)]
 pub use pairs::KeyPath;
 #[doc(hidden)]
-pub use reader::{are_cut_short, raw, refusal, refusal_at_end, refusal_of_all, split_first};
+pub use reader::{are_cut_short, raw, split_first};
 #[doc(hidden)]
 pub use slots::{add_last, push_item};
 #[doc(hidden)]
-pub use statement::{HeaderSpans, put, read_header, read_key_line};
-pub use toml_edit_version::Version;
+pub use statement::{HeaderSpans, Reader, put, read_header, read_key_line};
+pub use toml_edit_syntax::Version;

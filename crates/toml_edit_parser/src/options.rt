@@ -4,10 +4,10 @@ ghost use Rattle.toml_edit_model.specs.Mode as model;
 ghost use Rattle.toml_edit_model.specs.Version.{v1_1};
 ghost use Rattle.toml_edit_parser.specs.Options.{mode_of, version_of};
 ghost use Rattle.toml_edit_repr.specs.Modes as modes;
-ghost use Rattle.toml_edit_version.specs.Grammar.{grammar};
+ghost use Rattle.toml_edit_syntax.specs.Grammar.{grammar};
 
 use toml_edit_repr::Mode;
-use toml_edit_version::Version;
+use toml_edit_syntax::Version;
 
 /// Options of parsing: the version of TOML, and whether line endings are kept.
 ///
@@ -78,7 +78,7 @@ impl ParseOptions {
     pub fn is_exact(self) -> bool
         ensures { result ≡ model.is_exact (mode_of self) }
     {
-        matches!(self.mode, Mode::Exact)
+        self.mode.is_exact()
     }
 
     /// Returns what happens to line endings.

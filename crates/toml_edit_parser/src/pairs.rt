@@ -1,42 +1,33 @@
 //! The pairs of inline tables, from their events to slots.
-ghost use Rattle.std.specs.Prelude.{◌≡◌, ◌+◌, ◌≤◌, ◌<◌, ◌++◌, ◌∷◌, ◌-◌, List, ℕ, suc, [], Bool, codes, length, None, Some, OnOk, IfErr, IfOk, IfSome, option_map, string_bytes, Contains};
+ghost use Rattle.std.specs.Prelude.{◌≡◌, ◌<◌, List, ℕ, [], Bool, length, None, Some, OnOk, IfOk, IfSome, option_map, string_bytes};
 ghost use Rattle.toml_edit_model.specs.Text.{Text};
-ghost use Rattle.toml_edit_model.specs.Messages.{fault_messages};
 ghost use Rattle.toml_edit_model.specs.Spelling.{SpellsKey};
 ghost use Rattle.toml_edit_model.specs.Syntax as syntax;
-ghost use Rattle.toml_edit_model.specs.Syntax.{Frame, Pairs, Segment, ArePairs, IsFrame, IsValue, path_text, frame_text, value_text, nesting_limit};
-ghost use Rattle.toml_edit_model.specs.Trivia.{IsWholeTrivia};
-ghost use Rattle.toml_edit_model.specs.Paths.{Path, Mention, line_mentions};
-ghost use Rattle.toml_edit_model.specs.Conversions.{with_decor};
+ghost use Rattle.toml_edit_model.specs.Syntax.{Frame, Pairs, Segment, inline_table};
+ghost use Rattle.toml_edit_model.specs.Paths.{Path, line_mentions};
 ghost use Rattle.toml_edit_model.specs.Tree.{inline, owned, unset};
-ghost use Rattle.toml_edit_model.specs.TreeOf.{Entry, spanned_form, decor_at, value_start};
-ghost use Rattle.toml_edit_laws.specs.InlineTree.{pair_path, path_fields, way_message};
-ghost use Rattle.toml_edit_laws.specs.Standing.{Stands};
-ghost use Rattle.toml_edit_error.specs.Fault.{IfToml};
+ghost use Rattle.toml_edit_model.specs.TreeOf.{Entry};
+ghost use Rattle.toml_edit_laws.specs.InlineTree.{path_fields};
 ghost use Rattle.toml_edit_slots.specs.Slots.{place};
 ghost use Rattle.toml_edit_syntax.specs.Events.{IsSpanOf};
-ghost use Rattle.toml_edit_syntax.specs.ValueEvents.{event, value_events, pairs_events, close_events, value_at_byte, shortened};
-ghost use Rattle.toml_edit_syntax.specs.declared.event.EventKind.TheVariants.{After, InlineTableClose};
 ghost use Rattle.toml_edit_tree.specs.Containers.{inline_node};
 ghost use Rattle.toml_edit_parser.specs.ScalarRead.{ReadsName};
 ghost use Rattle.toml_edit_parser.specs.PairRead as spec;
-ghost use Rattle.toml_edit_parser.specs.PairRead.{AddsBelow, AddsEntry, AddsInside, EndsInline, EndsPair, IsEndOfPath, IsPassed, IsPathAt, PairsStand, ReadsPair, ReadsPairs, key_with};
-ghost use Rattle.toml_edit_parser.specs.Listed.{IsListed};
-ghost use Rattle.toml_edit_parser.specs.ValueRead.{split_close, split_leading, span_at, spanned_raw, AreIn, ReadsValue};
+ghost use Rattle.toml_edit_parser.specs.PairRead.{AddsBelow, AddsEntry, AddsPathInside, EndsInline, EndsPair, ReadsPair, ReadsPairs, key_with, IfInlineNext, IfPairsNext, IfPairNext, IfPairEnds, IfPathNext, IsPathIn};
+ghost use Rattle.toml_edit_parser.specs.ValueRead.{split_close, split_leading, spanned_raw, AreIn, ReadsValue, Leaves, LeavesBeside, LeavesRest};
 ghost use Rattle.toml_edit_tree.specs.View.{inline_view, item_view, slots_view, value_view};
-ghost use Rattle.toml_edit_model.specs.Roles.{dotted_role};
 ghost use Rattle.toml_edit_model.specs.OwnedForm.{KeyFits, NodeFits, SlotsFit, cut_out};
+ghost use Rattle.toml_edit_parser.specs.Listed.{BlamesOnly, GivesListed};
 
-use crate::reader::{
-    Close, cut, raw, read_value, refusal, refusal_at_end, refusal_of_all, split_close, split_first,
-};
+use crate::fault::{Fault, malformed, refusal, refusal_of_all};
+use crate::reader::{Close, raw, read_value, split_close, split_first};
 use crate::slots::{add_last, push_item};
 use std::alloc::Global;
 use toml_edit_error::ParseFault;
 use toml_edit_key::Key;
 use toml_edit_repr::{Decor, RawString};
 use toml_edit_slots::Slots;
-use toml_edit_syntax::{Event, EventKind, NESTING_LIMIT, Span};
+use toml_edit_syntax::{Event, EventKind, NESTING_LIMIT, Span, cut};
 use toml_edit_token::decode_key;
 use toml_edit_tree::{InlineTable, Item, Value};
 
@@ -77,18 +68,12 @@ pub(crate) fn read_inline<'a>(
 ) -> Result<(Value, &'a [Event]), ParseFault>
     requires { AreIn source.now events.now }
     ensures value { (ps : Pairs) (comma : Bool) (t : Text) (start level : ℕ) (more : List Event)
-        → ArePairs ps
-        → Stands source.now start (value_text (syntax.inline_table ps comma t))
-        → level < nesting_limit → opening.start ≡ start
-        → events.now ≡ shortened (suc level) (pairs_events (start + 1) ps
-        ++ (close_events InlineTableClose (codes "}")
-        (start + length (value_text (syntax.inline_table ps comma t)) - 1) comma t ++ more))
-        → ReadsValue source.now (syntax.inline_table ps comma t) start level more result }
-    ensures input { IfErr result (λ e. IfToml e (λ r. r.input ≡ source.now)) }
-    ensures listed { IfErr result (λ e. IfToml e IsListed) }
+        → IfInlineNext source.now opening.start events.now ps comma t start level more
+        (ReadsValue source.now (inline_table ps comma t) start level more result) }
+    ensures input { BlamesOnly source.now result }
+    ensures listed { GivesListed result }
     ensures fits { IfOk result (λ r. NodeFits source.now (value_view r.0)) }
-    ensures rest { IfOk result
-        (λ r. AreIn source.now r.1.now × (length r.1.now < length events.now)) }
+    ensures rest { LeavesBeside source.now events.now result }
 {
     let mut slots = Slots::new(alloc);
     let rest = read_pairs(alloc, source, events, &mut slots)?;
@@ -105,15 +90,13 @@ fn read_pairs<'a>(
 ) -> Result<&'a [Event], ParseFault>
     requires spans { AreIn source.now events.now }
     requires first { slots.old ≡ [] }
-    ensures pairs { (ps : Pairs) (start level : ℕ) (more : List Event) → ArePairs ps
-        → PairsStand source.now start ps
-        → level ≤ nesting_limit → split_leading (shortened level more) ≡ None
-        → events.now ≡ shortened level (pairs_events start ps ++ more)
-        → ReadsPairs source.now ps start level more (slots_view slots.new) result }
-    ensures input { IfErr result (λ e. IfToml e (λ r. r.input ≡ source.now)) }
-    ensures listed { IfErr result (λ e. IfToml e IsListed) }
+    ensures pairs { (ps : Pairs) (start level : ℕ) (more : List Event)
+        → IfPairsNext source.now events.now ps start level more
+        (ReadsPairs source.now ps start level more (slots_view slots.new) result) }
+    ensures input { BlamesOnly source.now result }
+    ensures listed { GivesListed result }
     ensures fits { OnOk result (SlotsFit source.now (slots_view slots.new)) }
-    ensures rest { IfOk result (λ r. AreIn source.now r.now × (length r.now ≤ length events.now)) }
+    ensures rest { LeavesRest source.now events.now result }
 {
     let mut rest = events;
     'pairs: while let Some((leading, tail)) = split_leading(rest) {
@@ -134,25 +117,19 @@ fn read_pair<'a>(
     requires leading { IsSpanOf source.now leading }
     requires spans { AreIn source.now events.now }
     ensures pair { (f : Frame) (v : syntax.Value) (start level : ℕ) (more : List Event)
-        → IsFrame IsWholeTrivia f → IsValue v
-        → Stands source.now start (frame_text f (value_text v)) → level ≤ nesting_limit
-        → leading ≡ span_at start f.leading
-        → events.now ≡ spec.key_events start f
-        ++ shortened level (value_events (value_at_byte start f) v
-        ++ (event After (value_at_byte start f + length (value_text v)) f.trailing ∷ more))
-        → ReadsPair source.now f v start level more (slots_view slots.old)
-        (slots_view slots.new) result }
-    ensures input { IfErr result (λ e. IfToml e (λ r. r.input ≡ source.now)) }
-    ensures listed { IfErr result (λ e. IfToml e IsListed) }
+        → IfPairNext source.now leading events.now f v start level more (ReadsPair source.now f v
+        start level more (slots_view slots.old) (slots_view slots.new) result) }
+    ensures input { BlamesOnly source.now result }
+    ensures listed { GivesListed result }
     ensures fits { SlotsFit source.now (slots_view slots.old)
         → OnOk result (SlotsFit source.now (slots_view slots.new)) }
-    ensures rest { IfOk result (λ r. AreIn source.now r.now × (length r.now < length events.now)) }
+    ensures rest { Leaves source.now events.now result }
 {
     let Some((frame, rest)) = split_frame(leading, events) else {
-        return Err(refusal_at_end(alloc, source, "expected a key"));
+        return Err(malformed(alloc, source));
     };
     if MOST_PATH_EVENTS < frame.path.len() {
-        return Err(refusal_of_all(alloc, source, "recursion limit"));
+        return Err(refusal_of_all(alloc, source));
     }
     let (value, rest) = read_value(alloc, source, rest)?;
     let mut item = Item::Value(value);
@@ -235,33 +212,21 @@ fn end_pair<'a>(
     requires after_equals { IsSpanOf source.now frame.after_equals }
     requires spans { AreIn source.now events.now }
     ensures pair { (f : Frame) (v : syntax.Value) (start end : ℕ) (more : List Event)
-        → IsFrame IsWholeTrivia f
-        → Stands source.now (start + length f.leading) (path_text f.path)
-        → spec.parts_of frame.entry ≡ spec.frame_parts start f
-        → events.now ≡ event After end f.trailing ∷ more
-        → EndsPair source.now (pair_path spanned_form start f v)
-        (with_decor (decor_at spanned_form
-        (start + value_start spanned_form f) f.after_equals end f.trailing)
-        (item_view item.old))
-        more (slots_view slots.old) (slots_view slots.new) result }
-    ensures input { IfErr result (λ e. IfToml e (λ r. r.input ≡ source.now)) }
-    ensures listed { IfErr result (λ e. IfToml e IsListed) }
+        → IfPairEnds source.now frame.entry events.now f start end more
+        (EndsPair source.now f v start end (item_view item.old) more (slots_view slots.old)
+        (slots_view slots.new) result) }
+    ensures input { BlamesOnly source.now result }
+    ensures listed { GivesListed result }
     ensures fits { NodeFits source.now (item_view item.old)
         → SlotsFit source.now (slots_view slots.old)
         → OnOk result (SlotsFit source.now (slots_view slots.new)) }
-    ensures rest { IfOk result (λ r. AreIn source.now r.now × (length r.now < length events.now)) }
+    ensures rest { Leaves source.now events.now result }
 {
     let Some((after, rest)) = split_first(events) else {
-        return Err(refusal_at_end(alloc, source, "unclosed inline table"));
+        return Err(malformed(alloc, source));
     };
     item.decorate(raw(frame.after_equals), raw(after.span));
-    let start = frame.leading.end;
-    let path = KeyPath {
-        prefix: frame.leading,
-        suffix: frame.before_equals,
-        before: Span { start, end: start },
-        events: frame.path,
-    };
+    let path = path_behind(frame.leading, frame.path, frame.before_equals);
     add_entry(alloc, source, path, item, slots)?;
     Ok(rest)
 }
@@ -275,23 +240,19 @@ fn add_entry(
     item: &mut Item,
     slots: &mut Slots<Item>,
 ) -> Result<(), ParseFault>
-    requires prefix { IsSpanOf source.now path.prefix }
-    requires suffix { IsSpanOf source.now path.suffix }
-    requires before { IsSpanOf source.now path.before }
-    requires path { AreIn source.now path.events.now }
-    ensures entry { (e : Entry) (p : List Segment) (start : ℕ) (above : Path) → IsEndOfPath p
-        → Stands source.now start (path_text p)
-        → IsPathAt e start p path.entry
-        → AddsEntry source.now (line_mentions e start above p) (item_view item.old)
-        (slots_view slots.old) (slots_view slots.new) result }
+    requires path { IsPathIn source.now path }
+    ensures entry { (e : Entry) (p : List Segment) (start : ℕ) (above : Path)
+        → IfPathNext source.now path.entry e p start
+        (AddsEntry source.now (line_mentions e start above p) (item_view item.old)
+        (slots_view slots.old) (slots_view slots.new) result) }
     ensures fits { NodeFits source.now (item_view item.old)
         → SlotsFit source.now (slots_view slots.old)
         → OnOk result (SlotsFit source.now (slots_view slots.new)) }
-    ensures input { IfErr result (λ e. IfToml e (λ r. r.input ≡ source.now)) }
-    ensures listed { IfErr result (λ e. IfToml e IsListed) }
+    ensures input { BlamesOnly source.now result }
+    ensures listed { GivesListed result }
 {
     let Some((first, rest)) = split_first(path.events) else {
-        return Err(refusal_at_end(alloc, source, "expected a key"));
+        return Err(malformed(alloc, source));
     };
     let name = read_name(alloc, source, first.span)?;
     match split_dot(path, rest) {
@@ -307,7 +268,7 @@ fn add_entry(
             let key = passed_key(name, first.span, path.before, after);
             match slots.find(key.get()) {
                 Some(at) => add_inside(alloc, source, first.span, inside, item, slots.item_mut(at)),
-                None => add_below(alloc, source, key, first.span, inside, item, slots),
+                None => add_below(source, key, first.span, inside, item, slots),
             }
         }
     }
@@ -316,7 +277,6 @@ fn add_entry(
 /// Adds an item at the end of the rest of a path, below a new key.
 #[cycle(add)]
 fn add_below(
-    alloc: Global,
     source: &str,
     key: Key,
     span: Span,
@@ -325,21 +285,18 @@ fn add_below(
     slots: &mut Slots<Item>,
 ) -> Result<(), ParseFault>
     requires new { place key.name slots.old ≡ None }
-    requires prefix { IsSpanOf source.now path.prefix }
-    requires suffix { IsSpanOf source.now path.suffix }
-    requires before { IsSpanOf source.now path.before }
-    requires path { AreIn source.now path.events.now }
-    ensures entry { (e : Entry) (p : List Segment) (start : ℕ) (above : Path) → IsEndOfPath p
-        → Stands source.now start (path_text p)
-        → IsPathAt e start p path.entry
-        → AddsBelow key span (line_mentions e start above p) (item_view item.old)
-        (slots_view slots.old) (slots_view slots.new) result }
+    requires path { IsPathIn source.now path }
+    ensures entry { (e : Entry) (p : List Segment) (start : ℕ) (above : Path)
+        → IfPathNext source.now path.entry e p start
+        (AddsBelow key span (line_mentions e start above p) (item_view item.old)
+        (slots_view slots.old) (slots_view slots.new) result) }
     ensures fits { KeyFits source.now key → NodeFits source.now (item_view item.old)
         → SlotsFit source.now (slots_view slots.old)
         → OnOk result (SlotsFit source.now (slots_view slots.new)) }
-    ensures input { IfErr result (λ e. IfToml e (λ r. r.input ≡ source.now)) }
-    ensures listed { IfErr result (λ e. IfToml e IsListed) }
+    ensures input { BlamesOnly source.now result }
+    ensures listed { GivesListed result }
 {
+    let alloc = slots.allocator();
     let mut inner = Slots::new(alloc);
     add_entry(alloc, source, path, item, &mut inner)?;
     push_item(slots, key, path_item(span, inner))?;
@@ -357,24 +314,18 @@ fn add_inside(
     holder: &mut Item,
 ) -> Result<(), ParseFault>
     requires key { IsSpanOf source.now key }
-    requires prefix { IsSpanOf source.now path.prefix }
-    requires suffix { IsSpanOf source.now path.suffix }
-    requires before { IsSpanOf source.now path.before }
-    requires path { AreIn source.now path.events.now }
-    ensures entry { (m : Mention Entry) (e : Entry) (p : List Segment) (start : ℕ) (above : Path)
-        → IsPassed key m → IsEndOfPath p
-        → Stands source.now start (path_text p) → IsPathAt e start p path.entry
-        → AddsInside source.now m (line_mentions e start above p) (item_view item.old)
+    requires path { IsPathIn source.now path }
+    ensures entry { AddsPathInside source.now key path.entry (item_view item.old)
         (item_view holder.old) (item_view holder.new) result }
     ensures fits { NodeFits source.now (item_view item.old)
         → NodeFits source.now (item_view holder.old)
         → OnOk result (NodeFits source.now (item_view holder.new)) }
-    ensures input { IfErr result (λ e. IfToml e (λ r. r.input ≡ source.now)) }
-    ensures listed { IfErr result (λ e. IfToml e IsListed) }
+    ensures input { BlamesOnly source.now result }
+    ensures listed { GivesListed result }
 {
     match holder {
         Item::Value(value) => add_in_value(alloc, source, key, path, item, value),
-        _ => Err(refusal(alloc, source, "duplicate key", key)),
+        _ => Err(refusal(alloc, source, Fault::DuplicateKey, key)),
     }
 }
 
@@ -389,25 +340,19 @@ fn add_in_value(
     holder: &mut Value,
 ) -> Result<(), ParseFault>
     requires key { IsSpanOf source.now key }
-    requires prefix { IsSpanOf source.now path.prefix }
-    requires suffix { IsSpanOf source.now path.suffix }
-    requires before { IsSpanOf source.now path.before }
-    requires path { AreIn source.now path.events.now }
-    ensures entry { (m : Mention Entry) (e : Entry) (p : List Segment) (start : ℕ) (above : Path)
-        → IsPassed key m → IsEndOfPath p
-        → Stands source.now start (path_text p) → IsPathAt e start p path.entry
-        → AddsInside source.now m (line_mentions e start above p) (item_view item.old)
+    requires path { IsPathIn source.now path }
+    ensures entry { AddsPathInside source.now key path.entry (item_view item.old)
         (value_view holder.old) (value_view holder.new) result }
     ensures fits { NodeFits source.now (item_view item.old)
         → NodeFits source.now (value_view holder.old)
         → OnOk result (NodeFits source.now (value_view holder.new)) }
-    ensures input { IfErr result (λ e. IfToml e (λ r. r.input ≡ source.now)) }
-    ensures listed { IfErr result (λ e. IfToml e IsListed) }
+    ensures input { BlamesOnly source.now result }
+    ensures listed { GivesListed result }
 {
-    let message = extend_message(holder);
+    let fault = Fault::extending(holder);
     match holder {
         Value::InlineTable(table) => add_in_table(alloc, source, key, path, item, table),
-        _ => Err(refusal(alloc, source, message, key)),
+        _ => Err(refusal(alloc, source, fault, key)),
     }
 }
 
@@ -422,42 +367,19 @@ fn add_in_table(
     table: &mut InlineTable,
 ) -> Result<(), ParseFault>
     requires key { IsSpanOf source.now key }
-    requires prefix { IsSpanOf source.now path.prefix }
-    requires suffix { IsSpanOf source.now path.suffix }
-    requires before { IsSpanOf source.now path.before }
-    requires path { AreIn source.now path.events.now }
-    ensures entry { (m : Mention Entry) (e : Entry) (p : List Segment) (start : ℕ) (above : Path)
-        → IsPassed key m → IsEndOfPath p
-        → Stands source.now start (path_text p) → IsPathAt e start p path.entry
-        → AddsInside source.now m (line_mentions e start above p) (item_view item.old)
+    requires path { IsPathIn source.now path }
+    ensures entry { AddsPathInside source.now key path.entry (item_view item.old)
         (inline_node (inline_view table.old)) (inline_node (inline_view table.new)) result }
     ensures fits { NodeFits source.now (item_view item.old)
         → NodeFits source.now (inline_node (inline_view table.old))
         → OnOk result (NodeFits source.now (inline_node (inline_view table.new))) }
-    ensures input { IfErr result (λ e. IfToml e (λ r. r.input ≡ source.now)) }
-    ensures listed { IfErr result (λ e. IfToml e IsListed) }
+    ensures input { BlamesOnly source.now result }
+    ensures listed { GivesListed result }
 {
     if table.is_dotted() {
         add_entry(alloc, source, path, item, table.slots_mut())
     } else {
-        Err(refusal(alloc, source, "duplicate key", key))
-    }
-}
-
-/// Returns the message about a path that goes on through this value, unless that is a dotted inline
-/// table.
-fn extend_message(value: &Value) -> &'static str
-    ensures message { result.now ≡ way_message dotted_role (value_view value.now) }
-    ensures listed { Contains fault_messages result.now }
-{
-    match value {
-        Value::String(_) => "cannot extend value of type string with a dotted key",
-        Value::Integer(_) => "cannot extend value of type integer with a dotted key",
-        Value::Float(_) => "cannot extend value of type float with a dotted key",
-        Value::Boolean(_) => "cannot extend value of type boolean with a dotted key",
-        Value::Datetime(_) => "cannot extend value of type datetime with a dotted key",
-        Value::Array(_) => "cannot extend value of type array with a dotted key",
-        Value::InlineTable(_) => "duplicate key",
+        Err(refusal(alloc, source, Fault::DuplicateKey, key))
     }
 }
 
@@ -467,12 +389,26 @@ pub(crate) fn read_name(alloc: Global, source: &str, span: Span) -> Result<Strin
     requires { IsSpanOf source.now span }
     ensures name { (k : Text) → SpellsKey k (cut_out source.now span.start span.end)
         → ReadsName k result }
-    ensures input { IfErr result (λ e. IfToml e (λ r. r.input ≡ source.now)) }
-    ensures listed { IfErr result (λ e. IfToml e IsListed) }
+    ensures input { BlamesOnly source.now result }
+    ensures listed { GivesListed result }
 {
     match decode_key(alloc, cut(source, span))? {
         Some(name) => Ok(name),
-        None => Err(refusal(alloc, source, "expected a key", span)),
+        None => Err(malformed(alloc, source)),
+    }
+}
+
+/// Makes the path of these events, which begins where the text before it ends, with the text after
+/// it.
+pub(crate) fn path_behind<'a>(prefix: Span, events: &'a [Event], suffix: Span) -> KeyPath<'a>
+    ensures { spec.path_of result ≡ spec.path_between prefix events.now suffix }
+{
+    let start = prefix.end;
+    KeyPath {
+        prefix,
+        suffix,
+        before: Span { start, end: start },
+        events,
     }
 }
 
@@ -545,15 +481,14 @@ fn close_inline<'a>(
     ensures value { (close : Close) (more : List Event)
         → split_close events.now ≡ Some (close, more)
         → EndsInline opening.start close (slots_view slots) more result }
-    ensures input { IfErr result (λ e. IfToml e (λ r. r.input ≡ source.now)) }
-    ensures listed { IfErr result (λ e. IfToml e IsListed) }
+    ensures input { BlamesOnly source.now result }
+    ensures listed { GivesListed result }
     ensures fits { SlotsFit source.now (slots_view slots)
         → IfOk result (λ r. NodeFits source.now (value_view r.0)) }
-    ensures rest { IfOk result
-        (λ r. AreIn source.now r.1.now × (length r.1.now < length events.now)) }
+    ensures rest { LeavesBeside source.now events.now result }
 {
     let Some((close, rest)) = split_close(events) else {
-        return Err(refusal_at_end(alloc, source, "unclosed inline table"));
+        return Err(malformed(alloc, source));
     };
     Ok((inline_value(opening, close, slots), rest))
 }

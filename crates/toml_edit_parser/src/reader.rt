@@ -1,32 +1,29 @@
-//! Values from their events, and the errors of events that no value has.
-ghost use Rattle.std.specs.Prelude.{◌≡◌, ◌+◌, ◌≤◌, ◌<◌, ◌++◌, ◌∷◌, ◌-◌, List, ℕ, suc, [], Bool, codes, length, None, Some, OnOk, IfErr, IfOk, option_map};
+//! Values from their events.
+ghost use Rattle.std.specs.Prelude.{◌≡◌, ◌+◌, ◌++◌, ◌∷◌, List, ℕ, [], Bool, length, Some, OnOk, IfOk, option_map};
 ghost use Rattle.toml_edit_model.specs.Text.{Text};
-ghost use Rattle.toml_edit_model.specs.Faults.{recursion_limit};
-ghost use Rattle.toml_edit_model.specs.Version.{Version};
 ghost use Rattle.toml_edit_model.specs.Scalars.{Scalar};
 ghost use Rattle.toml_edit_model.specs.Spelling.{Spells};
 ghost use Rattle.toml_edit_model.specs.Syntax as syntax;
-ghost use Rattle.toml_edit_model.specs.Syntax.{Around, Elements, AreElements, IsValue, value_text, nesting_limit};
+ghost use Rattle.toml_edit_model.specs.Syntax.{Around, Elements};
 ghost use Rattle.toml_edit_model.specs.Conversions.{with_decor};
 ghost use Rattle.toml_edit_model.specs.TreeOf.{spanned_form, decor_at, span_of};
-ghost use Rattle.toml_edit_laws.specs.Standing.{Stands};
-ghost use Rattle.toml_edit_error.specs.Fault.{IfToml};
 ghost use Rattle.toml_edit_syntax.specs.Events.{IsSpanOf};
-ghost use Rattle.toml_edit_syntax.specs.ValueEvents.{are_deep, event, value_events, elements_events, close_events, shortened};
+ghost use Rattle.toml_edit_syntax.specs.ValueEvents.{are_deep, event};
 ghost use Rattle.toml_edit_parser.specs.ScalarRead.{ReadsScalar};
-ghost use Rattle.toml_edit_syntax.specs.declared.event.EventKind.TheVariants.{After, ArrayClose};
+ghost use Rattle.toml_edit_syntax.specs.declared.event.EventKind.TheVariants.{After};
 ghost use Rattle.toml_edit_tree.specs.Containers.{array_node};
 ghost use Rattle.toml_edit_parser.specs.ValueRead as spec;
-ghost use Rattle.toml_edit_parser.specs.Listed.{IsListed, IsListedIn, IsMessageIn};
-ghost use Rattle.toml_edit_parser.specs.ValueRead.{ElementsStand, span_at, AreIn, ReadsElement, ReadsElements, ReadsValue};
+ghost use Rattle.toml_edit_parser.specs.ValueRead.{span_at, AreIn, ReadsElement, ReadsElements, ReadsValue, IfArrayNext, IfElementsNext, IfElementNext, IfScalarNext, IfValueNext, Leaves, LeavesBeside, LeavesRest};
 ghost use Rattle.toml_edit_tree.specs.View.{array_view, items_view, value_view};
 ghost use Rattle.toml_edit_model.specs.OwnedForm.{ItemsFit, RawFits, NodeFits, cut_out};
+ghost use Rattle.toml_edit_parser.specs.Listed.{BlamesOnly, GivesListed};
 
+use crate::fault::{Fault, malformed, refusal, refusal_with};
 use crate::pairs::read_inline;
 use std::alloc::Global;
 use toml_edit_error::ParseFault;
 use toml_edit_repr::{Decor, Formatted, Mem, RawString};
-use toml_edit_syntax::{Event, EventKind, Span};
+use toml_edit_syntax::{Event, EventKind, Span, cut};
 use toml_edit_token::{decode_integer, decode_scalar, range_message};
 use toml_edit_tree::{Array, Item, Value};
 
@@ -49,14 +46,6 @@ pub fn are_cut_short(events: &[Event]) -> bool
         .any(|event| matches!(event.kind, EventKind::TooDeep))
 }
 
-/// Returns the bytes of the source at the span.
-pub(crate) fn cut(source: &str, span: Span) -> &str
-    requires { IsSpanOf source.now span }
-    ensures { result.now ≡ cut_out source.now span.start span.end }
-{
-    &source[span.start..span.end]
-}
-
 /// Makes a raw text of the span, empty if nothing is there.
 #[doc(hidden)]
 pub fn raw(span: Span) -> RawString
@@ -71,60 +60,7 @@ pub fn raw(span: Span) -> RawString
     }
 }
 
-/// Returns the error with this message about the span.
-#[doc(hidden)]
-#[cold]
-#[inline(never)]
-pub fn refusal(alloc: Global, source: &str, message: &str, span: Span) -> ParseFault
-    requires { IsSpanOf source.now span }
-    ensures report { IfToml result
-        (λ r. r ≡ record {
-          message = message.now;
-          span = Some (span.start, span.end);
-          input = source.now;
-        }) }
-    // It is an error of each version that has the message.
-    ensures listed { (version : Version) → IsMessageIn version message.now
-        → IfToml result (IsListedIn version) }
-{
-    toml_edit_error::refusal(alloc, source, message, Some((span.start, span.end)))
-}
-
-/// Returns the error with this message, about no part of the text.
-#[doc(hidden)]
-#[cold]
-#[inline(never)]
-pub fn refusal_of_all(alloc: Global, source: &str, message: &str) -> ParseFault
-    ensures report { IfToml result
-        (λ r. r ≡ record { message = message.now; span = None; input = source.now }) }
-    ensures listed { (version : Version) → message.now ≡ recursion_limit
-        → IfToml result (IsListedIn version) }
-{
-    toml_edit_error::refusal(alloc, source, message, None)
-}
-
-/// Returns the error with this message about the end of the text.
-#[doc(hidden)]
-#[cold]
-#[inline(never)]
-pub fn refusal_at_end(alloc: Global, source: &str, message: &str) -> ParseFault
-    ensures report { IfToml result
-        (λ r. r ≡ record {
-          message = message.now;
-          span = Some (length source.now, length source.now);
-          input = source.now;
-        }) }
-    ensures listed { (version : Version) → IsMessageIn version message.now
-        → IfToml result (IsListedIn version) }
-{
-    let end = source.len();
-    toml_edit_error::refusal(alloc, source, message, Some((end, end)))
-}
-
 /// Splits off the first event.
-///
-/// The lexer gives the events of the grammar alone, so most errors for others, such as `expected a
-/// value`, cannot occur.
 #[doc(hidden)]
 pub fn split_first(events: &[Event]) -> Option<(Event, &[Event])>
     ensures { option_map (λ p. (p.0, p.1.now)) result ≡ spec.split_first events.now }
@@ -190,14 +126,14 @@ pub(crate) fn read_scalar(alloc: Global, source: &str, span: Span) -> Result<Val
     ensures value { (s : Scalar) (t : Text) → cut_out source.now span.start span.end ≡ t
         → span.end ≡ span.start + length t
         → Spells s t → ReadsScalar source.now span.start s t result }
-    ensures input { IfErr result (λ e. IfToml e (λ r. r.input ≡ source.now)) }
-    ensures listed { IfErr result (λ e. IfToml e IsListed) }
+    ensures input { BlamesOnly source.now result }
+    ensures listed { GivesListed result }
     ensures fits { IfOk result (λ v. NodeFits source.now (value_view v)) }
 {
     let text = cut(source, span);
     match decode_scalar(alloc, text)? {
         Some(scalar) => Ok(Value::spanned(scalar, span.start, span.end, Decor::default())),
-        None => Err(refusal(alloc, source, range_message(text), span)),
+        None => Err(refusal_with(alloc, source, range_message(text), span)),
     }
 }
 
@@ -209,24 +145,22 @@ pub(crate) fn read_value<'a>(
     events: &'a [Event],
 ) -> Result<(Value, &'a [Event]), ParseFault>
     requires { AreIn source.now events.now }
-    ensures value { (v : syntax.Value) (start level : ℕ) (more : List Event) → IsValue v
-        → Stands source.now start (value_text v)
-        → level ≤ nesting_limit → events.now ≡ shortened level (value_events start v ++ more)
-        → ReadsValue source.now v start level more result }
-    ensures input { IfErr result (λ e. IfToml e (λ r. r.input ≡ source.now)) }
-    ensures listed { IfErr result (λ e. IfToml e IsListed) }
+    ensures value { (v : syntax.Value) (start level : ℕ) (more : List Event)
+        → IfValueNext source.now events.now v start level more
+        (ReadsValue source.now v start level more result) }
+    ensures input { BlamesOnly source.now result }
+    ensures listed { GivesListed result }
     ensures fits { IfOk result (λ r. NodeFits source.now (value_view r.0)) }
-    ensures rest { IfOk result
-        (λ r. AreIn source.now r.1.now × (length r.1.now < length events.now)) }
+    ensures rest { LeavesBeside source.now events.now result }
 {
     let Some((first, rest)) = split_first(events) else {
-        return Err(refusal_at_end(alloc, source, "expected a value"));
+        return Err(malformed(alloc, source));
     };
     match first.kind {
         EventKind::Scalar => Ok((read_scalar(alloc, source, first.span)?, rest)),
         EventKind::ArrayOpen => read_array(alloc, source, first.span, rest),
         EventKind::InlineTableOpen => read_inline(alloc, source, first.span, rest),
-        _ => Err(refusal(alloc, source, "recursion limit", first.span)),
+        _ => Err(refusal(alloc, source, Fault::RecursionLimit, first.span)),
     }
 }
 
@@ -256,18 +190,12 @@ fn read_array<'a>(
 ) -> Result<(Value, &'a [Event]), ParseFault>
     requires { AreIn source.now events.now }
     ensures value { (es : Elements) (comma : Bool) (t : Text) (start level : ℕ) (more : List Event)
-        → AreElements es
-        → Stands source.now start (value_text (syntax.array es comma t)) → level < nesting_limit
-        → opening.start ≡ start
-        → events.now ≡ shortened (suc level) (elements_events (start + 1) es
-        ++ (close_events ArrayClose (codes "]")
-        (start + length (value_text (syntax.array es comma t)) - 1) comma t ++ more))
-        → ReadsValue source.now (syntax.array es comma t) start level more result }
-    ensures input { IfErr result (λ e. IfToml e (λ r. r.input ≡ source.now)) }
-    ensures listed { IfErr result (λ e. IfToml e IsListed) }
+        → IfArrayNext source.now opening.start events.now es comma t start level more
+        (ReadsValue source.now (syntax.array es comma t) start level more result) }
+    ensures input { BlamesOnly source.now result }
+    ensures listed { GivesListed result }
     ensures fits { IfOk result (λ r. NodeFits source.now (value_view r.0)) }
-    ensures rest { IfOk result
-        (λ r. AreIn source.now r.1.now × (length r.1.now < length events.now)) }
+    ensures rest { LeavesBeside source.now events.now result }
 {
     let mut values = Vec::with_capacity(alloc, scalar_count(events))?;
     let rest = read_elements(alloc, source, events, &mut values)?;
@@ -284,15 +212,13 @@ fn read_elements<'a>(
 ) -> Result<&'a [Event], ParseFault>
     requires spans { AreIn source.now events.now }
     requires first { values.old.items ≡ [] }
-    ensures elements { (es : Elements) (start level : ℕ) (more : List Event) → AreElements es
-        → ElementsStand source.now start es
-        → level ≤ nesting_limit → spec.split_before (shortened level more) ≡ None
-        → events.now ≡ shortened level (elements_events start es ++ more)
-        → ReadsElements source.now es start level more values.new.items result }
-    ensures input { IfErr result (λ e. IfToml e (λ r. r.input ≡ source.now)) }
-    ensures listed { IfErr result (λ e. IfToml e IsListed) }
+    ensures elements { (es : Elements) (start level : ℕ) (more : List Event)
+        → IfElementsNext source.now events.now es start level more
+        (ReadsElements source.now es start level more values.new.items result) }
+    ensures input { BlamesOnly source.now result }
+    ensures listed { GivesListed result }
     ensures fits { OnOk result (ItemsFit source.now (items_view values.new.items)) }
-    ensures rest { IfOk result (λ r. AreIn source.now r.now × (length r.now ≤ length events.now)) }
+    ensures rest { LeavesRest source.now events.now result }
 {
     let mut rest = events;
     'elements: while let Some((before, tail)) = split_before(rest) {
@@ -321,21 +247,17 @@ fn read_scalar_element<'a>(
     requires span { IsSpanOf source.now span }
     requires spans { AreIn source.now events.now }
     ensures element { (a : Around) (s : Scalar) (t : Text) (start level : ℕ) (more : List Event)
-        → Spells s t
-        → Stands source.now (start + length a.before) t → before ≡ span_at start a.before
-        → span ≡ span_at (start + length a.before) t
-        → events.now ≡ shortened level
-        (event After (start + length a.before + length t) a.after ∷ more)
-        → ReadsElement source.now a
-        (syntax.scalar s t) start level more values.old.items values.new.items result }
-    ensures input { IfErr result (λ e. IfToml e (λ r. r.input ≡ source.now)) }
-    ensures listed { IfErr result (λ e. IfToml e IsListed) }
+        → IfScalarNext source.now before span events.now a s t start level more
+        (ReadsElement source.now a (syntax.scalar s t) start level more values.old.items
+        values.new.items result) }
+    ensures input { BlamesOnly source.now result }
+    ensures listed { GivesListed result }
     ensures fits { ItemsFit source.now (items_view values.old.items)
         → OnOk result (ItemsFit source.now (items_view values.new.items)) }
-    ensures rest { IfOk result (λ r. AreIn source.now r.now × (length r.now < length events.now)) }
+    ensures rest { Leaves source.now events.now result }
 {
     let Some((after, rest)) = split_first(events) else {
-        return Err(refusal_at_end(alloc, source, "unclosed array"));
+        return Err(malformed(alloc, source));
     };
     let text = cut(source, span);
     let decor = Decor::new(raw(before), raw(after.span));
@@ -351,7 +273,7 @@ fn read_scalar_element<'a>(
             put_value(values, Value::spanned(scalar, span.start, span.end, decor))?;
             Ok(rest)
         }
-        None => Err(refusal(alloc, source, range_message(text), span)),
+        None => Err(refusal_with(alloc, source, range_message(text), span)),
     }
 }
 
@@ -368,17 +290,13 @@ fn read_element<'a>(
     requires before { IsSpanOf source.now before }
     requires spans { AreIn source.now events.now }
     ensures element { (a : Around) (v : syntax.Value) (start level : ℕ) (more : List Event)
-        → IsValue v
-        → Stands source.now (start + length a.before) (value_text v) → level ≤ nesting_limit
-        → before ≡ span_at start a.before
-        → events.now ≡ shortened level (value_events (start + length a.before) v
-        ++ (event After (start + length a.before + length (value_text v)) a.after ∷ more))
-        → ReadsElement source.now a v start level more values.old.items values.new.items result }
-    ensures input { IfErr result (λ e. IfToml e (λ r. r.input ≡ source.now)) }
-    ensures listed { IfErr result (λ e. IfToml e IsListed) }
+        → IfElementNext source.now before events.now a v start level more
+        (ReadsElement source.now a v start level more values.old.items values.new.items result) }
+    ensures input { BlamesOnly source.now result }
+    ensures listed { GivesListed result }
     ensures fits { ItemsFit source.now (items_view values.old.items)
         → OnOk result (ItemsFit source.now (items_view values.new.items)) }
-    ensures rest { IfOk result (λ r. AreIn source.now r.now × (length r.now < length events.now)) }
+    ensures rest { Leaves source.now events.now result }
 {
     let (value, rest) = read_value(alloc, source, events)?;
     end_element(alloc, source, before, value, rest, values)
@@ -400,16 +318,16 @@ fn end_element<'a>(
         → events.now ≡ event After end c ∷ more
         → spec.EndsElement (with_decor (decor_at spanned_form start b end c)
         (value_view value)) more values.old.items values.new.items result }
-    ensures input { IfErr result (λ e. IfToml e (λ r. r.input ≡ source.now)) }
-    ensures listed { IfErr result (λ e. IfToml e IsListed) }
+    ensures input { BlamesOnly source.now result }
+    ensures listed { GivesListed result }
     ensures fits { NodeFits source.now (value_view value)
         → ItemsFit source.now (items_view values.old.items)
         → OnOk result (ItemsFit source.now (items_view values.new.items)) }
-    ensures rest { IfOk result (λ r. AreIn source.now r.now × (length r.now < length events.now)) }
+    ensures rest { Leaves source.now events.now result }
 {
     let Some((after, rest)) = split_first(events) else {
         drop(value);
-        return Err(refusal_at_end(alloc, source, "unclosed array"));
+        return Err(malformed(alloc, source));
     };
     put_value(values, value.decorated(raw(before), raw(after.span)))?;
     Ok(rest)
@@ -435,15 +353,14 @@ fn close_array<'a>(
     ensures value { (close : Close) (more : List Event)
         → spec.split_close events.now ≡ Some (close, more)
         → spec.EndsArray opening.start close (items_view values.items) more result }
-    ensures input { IfErr result (λ e. IfToml e (λ r. r.input ≡ source.now)) }
-    ensures listed { IfErr result (λ e. IfToml e IsListed) }
+    ensures input { BlamesOnly source.now result }
+    ensures listed { GivesListed result }
     ensures fits { ItemsFit source.now (items_view values.items)
         → IfOk result (λ r. NodeFits source.now (value_view r.0)) }
-    ensures rest { IfOk result
-        (λ r. AreIn source.now r.1.now × (length r.1.now < length events.now)) }
+    ensures rest { LeavesBeside source.now events.now result }
 {
     let Some((close, rest)) = split_close(events) else {
-        return Err(refusal_at_end(alloc, source, "unclosed array"));
+        return Err(malformed(alloc, source));
     };
     Ok((array_value(opening, close, values), rest))
 }

@@ -1,15 +1,14 @@
 //! Adding slots at the end of a table.
-ghost use Rattle.std.specs.Prelude.{◌≡◌, None, OnOk, IfErr};
+ghost use Rattle.std.specs.Prelude.{◌≡◌, None, OnOk};
 ghost use Rattle.toml_edit_model.specs.OwnedForm.{KeyFits, NodeFits, SlotsFit};
 ghost use Rattle.toml_edit_laws.specs.FlatTree.{with_slot};
-ghost use Rattle.toml_edit_error.specs.Fault.{IfToml};
 ghost use Rattle.toml_edit_slots.specs.Slots.{place};
 ghost use Rattle.toml_edit_syntax.specs.Events.{IsSpanOf};
 ghost use Rattle.toml_edit_tree.specs.View.{item_view, slots_view};
-ghost use Rattle.toml_edit_parser.specs.Listed.{IsListed};
 ghost use Rattle.toml_edit_parser.specs.PairRead.{AddsLast};
+ghost use Rattle.toml_edit_parser.specs.Listed.{BlamesOnly, GivesListed};
 
-use crate::reader::refusal;
+use crate::fault::{Fault, refusal};
 use std::alloc::{AllocError, Global};
 use std::mem;
 use toml_edit_error::ParseFault;
@@ -39,14 +38,14 @@ pub fn add_last(
     ensures fits { KeyFits source.now key → NodeFits source.now (item_view item.old)
         → SlotsFit source.now (slots_view slots.old)
         → OnOk result (SlotsFit source.now (slots_view slots.new)) }
-    ensures input { IfErr result (λ e. IfToml e (λ r. r.input ≡ source.now)) }
-    ensures listed { IfErr result (λ e. IfToml e IsListed) }
+    ensures input { BlamesOnly source.now result }
+    ensures listed { GivesListed result }
 {
     let item = mem::replace(item, Item::None);
     match slots.try_push(Slot { key, item }) {
         Ok(()) => Ok(()),
         Err(refused) => match refused.place() {
-            Some(_) => Err(refusal(alloc, source, "duplicate key", span)),
+            Some(_) => Err(refusal(alloc, source, Fault::DuplicateKey, span)),
             None => Err(ParseFault::from(AllocError)),
         },
     }

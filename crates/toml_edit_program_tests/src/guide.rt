@@ -1,6 +1,6 @@
 //! Each function of the guide, on documents whose texts before and after are written by hand.
 use std::alloc::{AllocError, Global};
-use toml_edit::{Array, Document, DocumentMut, Item, Mem, ParseFault, Table, Value};
+use toml_edit::{Array, Document, DocumentMut, Item, Mem, ParseFault, Renamed, Table, Value};
 use toml_edit_guide::adding::{
     add_dependency, add_element, add_table, push_line, set_default, try_insert,
 };
@@ -81,11 +81,11 @@ fn push_alan(alloc: Global, root: &mut Table) -> Mem<()> {
     }
 }
 
-fn rename_keys(alloc: Global, root: &mut Table) -> Mem<()> {
-    let is_renamed = rename(alloc, root, "b", "x")?;
-    let was_there = rename(alloc, root, "missing", "y")?;
-    let was_free = rename(alloc, root, "a", "c")?;
-    done(is_renamed && !was_there && !was_free)
+fn rename_keys(root: &mut Table) -> Mem<()> {
+    let is_done = rename(root, "b", "x")? == Renamed::Done;
+    let is_absent = rename(root, "missing", "y")? == Renamed::Absent;
+    let is_taken = rename(root, "a", "c")? == Renamed::Taken;
+    done(is_done && is_absent && is_taken)
 }
 
 fn sort_all(root: &mut Table) -> Mem<()> {
@@ -107,7 +107,7 @@ fn change(alloc: Global, root: &mut Table, name: &str) -> Mem<()> {
         "add lib" => add_table(alloc, root, "lib", "bench", Value::from(false)),
         "add bin" => add_element(alloc, root, "bin", Table::new(alloc)),
         "push" => push_alan(alloc, root),
-        "rename" => rename_keys(alloc, root),
+        "rename" => rename_keys(root),
         "sort" => sort_all(root),
         _ => Err(AllocError),
     }

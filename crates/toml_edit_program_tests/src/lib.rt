@@ -1,5 +1,6 @@
-//! Tests of programs that use the library: the functions of the guide, the first examples of the
-//! Rust crate's documentation, and prints and runs over streams that take little at a time or fail.
+//! Tests of programs that use the library: the functions of the guide, calls that only this library
+//! has, the first examples of the Rust crate's documentation, and prints and runs over streams that
+//! take little at a time or fail.
 #![tactic(auto)]
 
 #[cfg(test)]
@@ -8,6 +9,8 @@ mod examples;
 mod generic;
 #[cfg(test)]
 mod guide;
+#[cfg(test)]
+mod paths;
 #[cfg(test)]
 mod prints;
 #[cfg(test)]

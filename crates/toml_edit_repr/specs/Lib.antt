@@ -1,4 +1,4 @@
--- What the contracts of this crate cite.
+-- Cited by public contracts.
 pub mod Views
 pub mod Modes
 pub mod Sameness

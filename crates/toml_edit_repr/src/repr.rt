@@ -729,8 +729,7 @@ impl<T: ValueRepr> Formatted<T> {
         requires decor { DecorFits source.now self.old.decor }
         requires spelled { ∥ HasTrueSpelling (λ t. T.spells t self.old.value)
             (option_map (owned_raw source.now) self.old.repr) ∥₁ }
-        ensures ok { OnOk result (self.new ≡ record {
-          value = self.old.value;
+        ensures ok { OnOk result (self.new ≡ record self.old {
           repr = option_map (owned_raw source.now) self.old.repr;
           decor = owned_decor source.now self.old.decor;
         }) }

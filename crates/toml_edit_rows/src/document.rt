@@ -1,10 +1,10 @@
 //! Rows on the text of a document.
 use crate::program::Texts;
-use crate::{events, prints, run};
+use crate::{events, run};
 use serde_json::Value as Json;
 use toml_edit::{Document, DocumentMut, Mem, ParseFault, ParseOptions, SourceText, Version};
 use toml_edit_rows_read::steps::{Tries, word};
-use toml_edit_rows_read::{Answer, Row, refusal, steps};
+use toml_edit_rows_read::{Answer, Row, prints, refusal, steps};
 
 /// Answers rows on the text of a document.
 pub fn answer(row: Row<'_>, out: &mut Answer) {

@@ -9,7 +9,6 @@ mod date_time;
 mod document;
 mod events;
 mod key;
-mod prints;
 mod program;
 mod run;
 mod scalar;

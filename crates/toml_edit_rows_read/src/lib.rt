@@ -10,6 +10,7 @@ pub mod lines;
 pub mod list;
 pub mod make;
 mod out_of_memory;
+pub mod prints;
 pub mod refusal;
 mod report;
 mod row;
@@ -19,6 +20,5 @@ pub mod tell;
 pub mod value;
 
 pub use answer::Answer;
-pub use bites::Bites;
 pub use report::run;
 pub use row::{Program, Row, items_of, text_of};

@@ -1,12 +1,12 @@
 //! Rows on documents: those that are parsed, and empty ones.
 use crate::program::Tables;
-use crate::{indexing, prints, table};
+use crate::{indexing, table};
 use serde_json::Value as Json;
 use toml_edit::{
     Document, DocumentMut, Item, Mem, ParseFault, ParseOptions, RawString, SourceText, Table,
 };
 use toml_edit_rows_read::steps::{Asks, Tries, behind, copied, word};
-use toml_edit_rows_read::{Answer, Row, lines, refusal, steps};
+use toml_edit_rows_read::{Answer, Row, lines, prints, refusal, steps};
 
 /// Answers rows on the text of a document.
 pub fn answer(row: Row<'_>, out: &mut Answer) {

@@ -10,7 +10,6 @@ mod document;
 mod entry;
 mod indexing;
 mod item;
-mod prints;
 mod program;
 mod slots;
 mod table;

@@ -1,10 +1,10 @@
 //! Rows on documents that hold a value, or a table of either kind.
+use crate::item;
 use crate::program::Values;
-use crate::{item, prints};
 use serde_json::Value as Json;
 use toml_edit::{Document, DocumentMut, ParseFault};
 use toml_edit_rows_read::steps::{Tries, behind, word};
-use toml_edit_rows_read::{Answer, Row, refusal, steps};
+use toml_edit_rows_read::{Answer, Row, prints, refusal, steps};
 
 /// Answers rows on the text of a document.
 pub fn answer(row: Row<'_>, out: &mut Answer) {

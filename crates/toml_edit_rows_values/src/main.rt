@@ -11,7 +11,6 @@ mod inline_entry;
 mod inline_slot;
 mod inline_table;
 mod item;
-mod prints;
 mod program;
 mod table_like;
 mod value;

@@ -1,5 +1,5 @@
 -- Places in chains.
-use Rattle.std.proofs.Common.{◌≡◌, ℕ, zero, suc, ◌+◌, ◌-◌, ◌<◌, ◌≤◌, ◌≢◌, true, false, cond, List, [], ◌∷◌, ◌++◌, Some, None, length, remove, take, set, get_or, refl, sym, ap, subst, ◌∙◌, inl, inr, arith, slice_get, slice_index, nat_eq, length-set, length-take-le, length-append, ne_of_lt}
+use Rattle.std.proofs.Common.{◌≡◌, ℕ, zero, suc, ◌+◌, ◌-◌, ◌<◌, ◌≤◌, ◌≢◌, true, false, cond, List, [], ◌∷◌, ◌++◌, Some, None, length, remove, take, set, get_or, refl, sym, ap, subst, ◌∙◌, inl, inr, arith, slice_get, slice_index, nat_eq, length-set, length-take-le, length-append}
 use Rattle.std.proofs.lemmas.Bool.{cases_Bool, cases_lt, false≢true, eqb-true, eq-eqb}
 use Rattle.std.proofs.lemmas.Bool.Decides.{eqb_tells}
 use Rattle.std.proofs.lemmas.Cmp.{nat_list_eq_equiv}
@@ -208,27 +208,6 @@ chained-more c d us t x is heads next =
           let here : slice_get us i ≡ Some u = sym (get-first us (t ∷ []) i less) ∙ there in
           ap (λ l. get_or l i 0) next ∙ get_or_append_left c.next.items (x ∷ []) 0 i (subst (λ k. i < k) (sym is.long) less)
           ∙ is.next i u less here ∙ last (spot n u) i (omega (arith, less)) ∙ ap (λ m. last_in (length d.heads.items) vs (spot m u) i) (sym long);
-    }
-
--- one chain more is empty
-pub emptied : (xs : List ℕ) (k b : ℕ) → k < length xs → ((j : ℕ) → j < k → slice_index xs j ≡ 0) → b < k + 1 → slice_index (set xs k 0) b ≡ 0
-emptied xs k b within empty below =
-    elim (cases_lt b k) [
-      | inl less ↦ get_or-set_other xs k b 0 0 (ne_of_lt less) ∙ empty b less
-      | inr more ↦
-          let same : b ≡ k = omega (arith, more, below) in
-          ap (λ j. get_or (set xs k 0) j 0) same ∙ get_or-set_same xs k 0 0 within
-    ]
-
--- no text is chained where all chains are empty
-pub chained-none : (c : Chains) (us : List Text) → 0 < length c.heads.items → length c.next.items ≡ length us
-    → ((b : ℕ) → b < length c.heads.items → slice_index c.heads.items b ≡ 0) → IsChainedTo c us 0
-chained-none c us some long empty =
-    record {
-      some = some;
-      long = long;
-      heads = empty;
-      next = λ i u less there. absurd (omega (arith, less));
     }
 
 -- the last place is taken out of its chain

@@ -16,7 +16,7 @@ use Rattle.toml_edit_slots.specs.declared.index.Index.TheVariants.{Chained, Sort
 use Rattle.toml_edit_slots.proofs.IndexLaws.{place_in-is, some_after, some_place}
 use Rattle.toml_edit_slots.proofs.PlacesLaws.{texts-among}
 
-some_before : (o : Option ℕ) → is_some (option_map suc o) ≡ true → is_some o ≡ true
+pub some_before : (o : Option ℕ) → is_some (option_map suc o) ≡ true → is_some o ≡ true
 some_before None h = h
 some_before (Some j) h = refl
 
@@ -25,7 +25,7 @@ is_some_then None h = absurd (false≢true h)
 is_some_then (Some k) h = (k, refl)
 
 -- an index of some texts has room for others among them
-has_room : (x : Index) (us vs : List Text) → IsIndex x us → length vs ≤ length us
+pub has_room : (x : Index) (us vs : List Text) → IsIndex x us → length vs ≤ length us
     → ((t : Text) → is_some (place_in t vs) ≡ true → is_some (place_in t us) ≡ true) → HasRoom x vs
 has_room (Chained c) us vs is long among = (is.some, omega (arith, is.long, long))
 has_room (Sorted m) us vs is long among =

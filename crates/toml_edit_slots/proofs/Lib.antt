@@ -8,4 +8,5 @@ pub mod KeptLaws
 pub mod ClosureLaws
 pub mod SeenLaws
 pub mod OrderLaws
-pub mod EntryLaws
+pub mod MoveLaws
+pub mod RenameLaws

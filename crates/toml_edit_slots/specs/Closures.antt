@@ -1,4 +1,4 @@
--- What is said of closures that are called at slots.
+-- What a closure that is called at slots returns.
 use Rattle.std.specs.Prelude.{◌≡◌, Bool, List}
 use Rattle.std.specs.Borrow.{Bor}
 use Rattle.std.specs.Fn.{Shared, Mut, FnReturns, ComparesAs}

@@ -1,5 +1,5 @@
 -- The index of a table's slots.
-use Rattle.std.specs.Prelude.{◌≡◌, ℕ, ◌<◌, ◌≤◌, ◌⊎◌, Bool, true, false, List, [], ◌∷◌, ◌++◌, Option, None, Some, is_some, length, nat_eq, slice_get, if◌then◌else◌}
+use Rattle.std.specs.Prelude.{◌≡◌, ℕ, ◌<◌, ◌≤◌, ◌⊎◌, Bool, true, false, List, [], ◌∷◌, ◌++◌, Option, None, Some, is_some, length, nat_eq, slice_get, slice_set, if◌then◌else◌}
 use Rattle.std.specs.Global.{Box}
 use Rattle.std.specs.BTreeMap.{get, get_by_text}
 use Rattle.std.specs.Hash.DefaultHasher.{initial, write, finish}
@@ -88,3 +88,7 @@ HasRoom (Sorted m) us = HasTexts m us
 abbrev pub MayIndex : Option (Box Index) → List Text → Type 0
 MayIndex None us = length us ≤ 8
 MayIndex (Some m) us = HasRoom m.value us
+
+-- the same, once the text is in the place of any of these
+abbrev pub MayIndexRenamed : Option (Box Index) → Text → List Text → Type 0
+MayIndexRenamed o t us = (k : ℕ) → MayIndex o (slice_set us k t)

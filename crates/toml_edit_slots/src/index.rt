@@ -1,7 +1,7 @@
 //! The index of a table's slots: from the name of each key to the place of its slot.
 ghost use Rattle.std.specs.Prelude.{◌≡◌, ◌<◌, ◌≤◌, ◌++◌, ◌∷◌, [], None, Some, length, position, remove, IfOk, OnOk, OnErr};
 ghost use Rattle.toml_edit_slots.specs.Slots.{AreApart, is_at, names, place};
-ghost use Rattle.toml_edit_slots.specs.SlotIndex.{HasRoom, IsIndex, IsIndexed, IsIndexOf, IsRightBefore, HasTexts, MayIndex, with_text};
+ghost use Rattle.toml_edit_slots.specs.SlotIndex.{HasRoom, IsIndex, IsIndexed, IsIndexOf, IsRightBefore, HasTexts, MayIndex, MayIndexRenamed, with_text};
 
 use crate::chains::{Chains, hash_of};
 use crate::places::Places;
@@ -202,7 +202,28 @@ fn move_down<T>(places: &mut Places, entries: &[Slot<T>], gap: usize)
     }
 }
 
-/// Updates the index after its slots were sorted, or some of them removed. Allocates nothing.
+/// Adds a new name, which one of these slots is about to get. Fails only if memory runs out; the
+/// index then stays as it was.
+pub(crate) fn add_name<T>(
+    index: &mut Option<Box<Index>>,
+    alloc: Global,
+    entries: &[Slot<T>],
+    name: &str,
+) -> Mem<()>
+    requires apart { AreApart entries.now }
+    requires indexed { IsIndexed index.old (names entries.now) }
+    requires new { place name.now entries.now ≡ None }
+    ensures ok { OnOk result (MayIndexRenamed index.new name.now (names entries.now)) }
+    ensures err { OnErr result (IsIndexed index.new (names entries.now)) }
+{
+    if let Some(index) = index {
+        put_new_place(index, alloc, entries, name)?;
+    }
+    Ok(())
+}
+
+/// Updates the index after its slots were moved or renamed, or some of them removed. Allocates
+/// nothing.
 pub(crate) fn index_those<T>(index: &mut Option<Box<Index>>, entries: &[Slot<T>])
     requires apart { AreApart entries.now }
     requires named { MayIndex index.old (names entries.now) }

@@ -7,5 +7,5 @@ mod order;
 mod places;
 pub mod slots;
 
-pub use slots::entry::{Entry, OccupiedEntry, VacantEntry};
+pub use slots::rearrange::Renamed;
 pub use slots::{NoMemory, Refused, Slot, Slots};

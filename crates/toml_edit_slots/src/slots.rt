@@ -12,8 +12,8 @@ use toml_edit_key::Key;
 use toml_edit_repr::Mem;
 
 mod at;
-pub mod entry;
 mod insert;
+pub mod rearrange;
 mod unset;
 mod whole;
 
@@ -49,7 +49,7 @@ impl<T: Drop> From<NoMemory<T>> for AllocError {
     }
 }
 
-/// The error of [`Slots::try_push`], with the slot that was not added.
+/// The error of [`Slots::try_push`] and [`Slots::insert_at`], with the slot that was not added.
 #[derive(Debug, Drop)]
 pub enum Refused<T> {
     /// The slot at this place has the name already.

@@ -1,4 +1,4 @@
--- What the contracts of streams cite.
+-- Cited by public contracts.
 pub mod Watch
 pub mod Streams
 pub mod Sinks

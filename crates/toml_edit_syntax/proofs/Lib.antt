@@ -26,3 +26,4 @@ pub mod StatementDeep
 pub mod TooManyLaws
 pub mod StatementTurns
 pub mod StatementsLoop
+pub mod late

@@ -1,10 +1,16 @@
-pub mod Scanning
+-- Cited by public contracts.
 pub mod ValueEvents
-pub mod ValueReading
 pub mod Events
+pub mod Faults
+pub mod LoneEvents
+pub mod LateSpellings
+pub mod LateTrivia
+pub mod LateEvents
+pub mod Grammar
+-- Cited inside this crate alone.
+pub mod Scanning
+pub mod ValueReading
 pub mod Reading
 pub mod EventReading
-pub mod Faults
 pub mod Gives
-pub mod LoneEvents
 pub mod StatementReading

@@ -1,4 +1,7 @@
 //! Spans and events, the parts of a text in its order.
+ghost use Rattle.std.specs.Prelude.{◌≡◌};
+ghost use Rattle.toml_edit_model.specs.OwnedForm.{cut_out};
+ghost use Rattle.toml_edit_syntax.specs.Events.{IsSpanOf};
 
 /// A part of a text in bytes, from `start` up to `end`.
 #[derive(Clone, Copy, Debug, PartialEq, Eq)]
@@ -65,4 +68,12 @@ pub enum EventKind {
 pub struct Event {
     pub kind: EventKind,
     pub span: Span,
+}
+
+/// Returns the bytes of the source at the span.
+pub fn cut(source: &str, span: Span) -> &str
+    requires { IsSpanOf source.now span }
+    ensures { result.now ≡ cut_out source.now span.start span.end }
+{
+    &source[span.start..span.end]
 }

@@ -1,4 +1,4 @@
-//! From a text to events: its parts in order, with their spans.
+//! From a text to events: its parts in order, with their spans; and the parts that TOML 1.0 lacks.
 #![tactic(auto)]
 
 pub mod event;
@@ -8,9 +8,12 @@ pub mod lone_value;
 pub mod mistake;
 mod statement;
 mod value;
+mod version;
 
-pub use event::{Event, EventKind, Span};
+pub use event::{Event, EventKind, Span, cut};
 pub use lexer::{SyntaxFault, events};
 pub use lone_value::lone_events;
 pub use mistake::Mistake;
 pub use value::NESTING_LIMIT;
+pub use version::grammar::Version;
+pub use version::{late_part_of_statement, late_part_of_value};

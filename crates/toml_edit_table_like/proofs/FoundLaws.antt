@@ -127,9 +127,6 @@ get-found k es o apart is =
     ∙ ap (λ f. option_and_then (only is_item) (option_map (λ (s : model.Slot Node). s.item) f)) (lookup_slot-shown k es ∙ ap (option_map slot_shown) (sym is))
     ∙ in_slot o
 
-pub item_in-filled : (s : Slot Item) → is_item (item_view s.item) ≡ true → item_in (Some s) ≡ Some (item_view s.item)
-item_in-filled s e = rw e refl
-
 no_seen : model.Slot Node
 no_seen = record { key = new_key []; item = nothing }
 

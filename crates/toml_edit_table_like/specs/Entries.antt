@@ -1,10 +1,12 @@
 -- What the contracts of an entry of a table of either kind cite.
-use Rattle.std.specs.Prelude.{◌≡◌, List, [], Result}
+use Rattle.std.specs.Prelude.{◌≡◌, ℕ, Bool, List, [], Option, Result, slice_get}
 use Rattle.std.specs.Borrow.{Fml, MutBor, follows_if, name_if_ok}
 use denote.RattleType.{RattleType}
 use mir.Syntax.{named}
 use Rattle.toml_edit_model.specs.Keys.{new_key}
+use Rattle.toml_edit_model.specs.Slots as model
 use Rattle.toml_edit_model.specs.Tree.{Key, Node}
+use Rattle.toml_edit_slots.specs.Slots.{items_of}
 use Rattle.toml_edit_slots.specs.declared.slots.Slot.{Slot}
 use Rattle.toml_edit_table_like.specs.Putting.{with_item_put}
 use Rattle.toml_edit_table_like.specs.contracts.entry.TableLikeEntry as lent
@@ -31,6 +33,17 @@ module _ {X : Type 0} where
   -- the entry of another state of the table
   abbrev pub with_table : X → TableLikeEntry X → TableLikeEntry X
   with_table t e = record e { table = record e.table { now = t } }
+
+  -- whether its key has a slot, and the item there, by the slots of the table
+  abbrev pub is_occupied : (X → List (model.Slot Node)) → TableLikeEntry X → Bool
+  is_occupied slots_of e = model.has_slot (entry_key e).name (slots_of (entry_ref e).now)
+
+  abbrev pub item_of : (X → List (model.Slot Node)) → TableLikeEntry X → Option Node
+  item_of slots_of e = model.lookup (entry_key e).name (slots_of (entry_ref e).now)
+
+  -- the item at a place of the table
+  abbrev pub item_at : (X → List (Slot Item)) → TableLikeEntry X → ℕ → Option Item
+  item_at entries e at = slice_get (items_of (entries (entry_ref e).now)) at
 
 -- it is seen of an item that P holds of
 abbrev pub IsViewOf : (Item → Type 0) → Node → Type 0

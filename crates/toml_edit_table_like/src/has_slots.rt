@@ -12,11 +12,10 @@ ghost use Rattle.toml_edit_tree.specs.ContainerParts.{holding, table_holding};
 ghost use Rattle.toml_edit_tree.specs.SlotsOf.{inline_slots_of, slots_of as table_slots_of};
 ghost use Rattle.toml_edit_tree.specs.View.{item_view};
 
-use crate::find::filled_place;
 use toml_edit_key::KeyMut;
 use toml_edit_repr::Decor;
 use toml_edit_slots::Slots;
-use toml_edit_tree::{InlineTable, Item, Table};
+use toml_edit_tree::{InlineTable, Item, Table, filled_place};
 
 /// A type made of slots, which is what an [`AnyTable`](crate::AnyTable) has to be.
 ///

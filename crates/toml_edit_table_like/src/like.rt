@@ -7,14 +7,14 @@ ghost use Rattle.toml_edit_model.specs.Conversions.{formatted};
 ghost use Rattle.toml_edit_model.specs.Iterating.{filled, filled_pairs};
 ghost use Rattle.toml_edit_model.specs.Keys.{new_key};
 ghost use Rattle.toml_edit_model.specs.Lists.{slots_from};
-ghost use Rattle.toml_edit_model.specs.Slots.{AreApart, changed, has_slot, lookup, lookup_key, place, put, with_item, without};
+ghost use Rattle.toml_edit_model.specs.Slots.{AreApart, changed, has_slot, lookup, lookup_key, place, with_item, without};
 ghost use Rattle.toml_edit_model.specs.Sorting.{IsDeepReorder, sorted_slots};
 ghost use Rattle.toml_edit_model.specs.TableCalls.{get, get_slot};
 ghost use Rattle.toml_edit_model.specs.TableLike.{like_contains_key, like_get_values, like_inserted, like_old, LikeSorted};
 ghost use Rattle.toml_edit_table_like.specs.Entries.{entry_key, entry_ref};
 ghost use Rattle.toml_edit_table_like.specs.Kinds.{differences_of, stands_dotted, with_dotted};
 ghost use Rattle.toml_edit_table_like.specs.Lending.{with_item_under, LendsUnder};
-ghost use Rattle.toml_edit_table_like.specs.Putting.{with_item_put, LendsPut};
+ghost use Rattle.toml_edit_table_like.specs.Putting.{KeepsBeside, LendsPut, ShowsItemPut};
 ghost use Rattle.toml_edit_table_like.specs.SlotParts.{slot_item, slot_place, slot_ref, IsSlotOf, RestsIfAbsent};
 ghost use Rattle.toml_edit_tree.specs.Held.{held_left};
 ghost use Rattle.toml_edit_tree.specs.LineValues.{values_read};
@@ -23,7 +23,7 @@ ghost use Rattle.toml_edit_tree.specs.View.{item_view};
 ghost use Rattle.toml_edit_tree.specs.declared.item.Item.{Item};
 
 use crate::entry::EntryKey;
-use crate::find::{filled_len, filled_place, filled_slot};
+use crate::find::{filled_len, filled_slot};
 use crate::inline::insert_item;
 use crate::put::{place_for, place_for_key};
 use crate::{HasSlots, TableLikeEntry, TableLikeSlot};
@@ -31,7 +31,7 @@ use std::alloc::Global;
 use toml_edit_key::{Key, KeyMut};
 use toml_edit_repr::Mem;
 use toml_edit_slots::NoMemory;
-use toml_edit_tree::{InlineTable, Item, Iter, Table, Value};
+use toml_edit_tree::{InlineTable, Item, Iter, Table, Value, filled_place};
 
 /// A table of either kind: a [`Table`], an [`InlineTable`], or one that an item holds
 /// ([`TableRefMut`](crate::TableRefMut)).
@@ -242,14 +242,10 @@ pub trait AnyTable: HasSlots {
             (λ lent. item_view lent.now
             ≡ unwrap_or (lookup key.now (Self.slots_of self.old)) (item_view item)) }
         // What the table is after a write through the reference.
-        ensures leaves { (w : Item)
-            → Self.slots_of (with_item_put Self.entries Self.with_entries
-            (new_key key.now) w self.old)
-            ≡ put (with_item (item_view w)) (record { key = new_key key.now; item = item_view w })
-            (Self.slots_of self.old) }
-        ensures keeps { (w : Item)
-            → Self.beside (with_item_put Self.entries Self.with_entries
-            (new_key key.now) w self.old) ≡ Self.beside self.old }
+        ensures leaves { ShowsItemPut Self.slots_of Self.entries Self.with_entries
+            (new_key key.now) self.old }
+        ensures keeps { KeepsBeside Self.beside Self.entries Self.with_entries
+            (new_key key.now) self.old }
         ensures present { IsTrue (has_slot key.now (Self.slots_of self.old)) → IsOk result }
         ensures back { IfErr result (λ refused. refused.0 ≡ item) }
     {
@@ -275,13 +271,9 @@ pub trait AnyTable: HasSlots {
             (λ lent. item_view lent.now
             ≡ unwrap_or (lookup key.now.name (Self.slots_of self.old)) (item_view item)) }
         // What the table is after a write through the reference.
-        ensures leaves { (w : Item)
-            → Self.slots_of (with_item_put Self.entries Self.with_entries key.now w self.old)
-            ≡ put (with_item (item_view w)) (record { key = key.now; item = item_view w })
-            (Self.slots_of self.old) }
-        ensures keeps { (w : Item)
-            → Self.beside (with_item_put Self.entries Self.with_entries key.now w self.old)
-            ≡ Self.beside self.old }
+        ensures leaves { ShowsItemPut Self.slots_of Self.entries Self.with_entries key.now
+            self.old }
+        ensures keeps { KeepsBeside Self.beside Self.entries Self.with_entries key.now self.old }
         ensures present { IsTrue (has_slot key.now.name (Self.slots_of self.old)) → IsOk result }
         ensures back { IfErr result (λ refused. refused.0 ≡ item) }
     {

@@ -11,8 +11,9 @@ use toml_edit::{
 use toml_edit_stream::ReadFault;
 
 /// A path of 81 keys.
-const LONG_PATH: &str =
-    "a.a.a.a.a.a.a.a.a.a.a.a.a.a.a.a.a.a.a.a.a.a.a.a.a.a.a.a.a.a.a.a.a.a.a.a.a.a.a.a.a.a.a.a.a.a.a.a.a.a.a.a.a.a.a.a.a.a.a.a.a.a.a.a.a.a.a.a.a.a.a.a.a.a.a.a.a.a.a.a.a";
+const LONG_PATH: &str = "a.a.a.a.a.a.a.a.a.a.a.a.a.a.a.a.a.a.a.a.a.a.a.a.a.a.a.a.a.a.\
+    a.a.a.a.a.a.a.a.a.a.a.a.a.a.a.a.a.a.a.a.a.a.a.a.a.a.a.a.a.a.\
+    a.a.a.a.a.a.a.a.a.a.a.a.a.a.a.a.a.a.a.a.a";
 
 /// Returns `true` if it was made, and displays so.
 fn shows_made<T: Display + Drop>(alloc: Global, made: Option<T>, shown: &str) -> bool {

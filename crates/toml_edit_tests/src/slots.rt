@@ -3,6 +3,7 @@ use crate::holding::{holds_changed, holds_moved, no_memory};
 use crate::spans::is_done;
 use std::alloc::Global;
 use toml_edit::{Decor, Key, Mem, Slot, Slots};
+use toml_edit_slots::Renamed;
 
 fn is_next(slots: &Slots<u8>, name: &str, before: usize) -> bool {
     slots.find(name) == Some(before) && slots.len().checked_sub(before) == Some(1)
@@ -123,57 +124,93 @@ fn changes_slots(rt: HostRuntime) {
     assert!(rt; holds_changed(rt.alloc(), Slots::new(rt.alloc()), changes_all));
 }
 
-/// Returns `true` if the entry of `a` is read and changed.
-fn changes_entry(slots: &mut Slots<u8>) -> bool {
-    match slots.get_key_value_mut("a") {
-        Some(entry) => {
-            let mut entry = entry;
-            let is_replaced = entry.insert(2) == 1;
-            *entry.get_mut() = 3;
-            entry.leaf_decor_mut().clear();
-            entry.dotted_decor_mut().clear();
-            entry.fmt_key();
-            let mut key = entry.key_mut();
-            key.leaf_decor_mut().clear();
-            key.fmt();
-            let is_lent = key.get() == "a";
-            is_replaced && is_lent && *entry.get() == 3
-        }
-        None => false,
-    }
+/// Returns `true` if `b` is renamed in its place, also to its own name, and names that are taken or
+/// absent change nothing.
+fn renames(slots: &mut Slots<u8>) -> bool {
+    matches!(slots.rename("b", "z"), Ok(Renamed::Done))
+        && matches!(slots.rename("z", "z"), Ok(Renamed::Done))
+        && matches!(slots.rename("z", "a"), Ok(Renamed::Taken))
+        && matches!(slots.rename("b", "y"), Ok(Renamed::Absent))
+        && slots.find("z") == Some(1)
+        && slots.find("b").is_none()
+        && are_found(slots)
 }
 
-/// Returns `true` if the entry of `a` is removed.
-fn removes_entry(slots: &mut Slots<u8>) -> bool {
-    match slots.get_key_value_mut("a") {
-        Some(entry) => entry.key() == "a" && entry.remove() == 3,
-        None => false,
-    }
-}
-
-/// Returns `true` if an entry of a name, and one with a key's formatting, are filled.
-fn fills(alloc: Global, slots: &mut Slots<u8>) -> Mem<bool> {
-    let entry = slots.entry("b")?;
-    let made = *entry.or_insert_with(|| 2).map_err(no_memory)?;
-    let key = Key::from_text(alloc, "c")?;
-    let entry = slots.entry_format(&key)?;
-    Ok(made == 2 && *entry.or_insert(4).map_err(no_memory)? == 4)
-}
-
-/// Returns `true` if entries are filled, and one is changed and removed.
-fn enters_all(alloc: Global, slots: &mut Slots<u8>) -> bool {
-    is_done(fills(alloc, slots))
-        && matches!(slots.insert("a", 1), Ok(None))
-        && changes_entry(slots)
-        && removes_entry(slots)
-        && slots.get("b") == Some(&2)
-        && slots.get("c") == Some(&4)
-        && slots.len() == 2
+/// Returns `true` if a slot is renamed among two, and among those that have an index.
+fn renames_all(alloc: Global, slots: &mut Slots<u8>) -> bool {
+    let few = inserts(slots, "a") && inserts(slots, "b") && renames(slots);
+    slots.clear();
+    few && fills_all(alloc, slots) && renames(slots) && slots.len() == NAMES.len()
 }
 
 #[test]
-fn enters_slots(rt: HostRuntime) {
-    assert!(rt; holds_changed(rt.alloc(), Slots::new(rt.alloc()), enters_all));
+fn renames_slots(rt: HostRuntime) {
+    assert!(rt; holds_changed(rt.alloc(), Slots::new(rt.alloc()), renames_all));
+}
+
+fn moves_to(slots: &mut Slots<u8>, name: &str, at: usize) -> bool {
+    if at < slots.len() {
+        slots.move_to(name, at)
+    } else {
+        false
+    }
+}
+
+/// Returns `true` if slots are moved up and down, and a name that is absent moves nothing.
+fn moves_all(alloc: Global, slots: &mut Slots<u8>) -> bool {
+    let is_up = fills_all(alloc, slots) && moves_to(slots, "a", 2) && are_found(slots);
+    let is_in_order = slots.find("b") == Some(0) && slots.find("a") == Some(2);
+    let is_down = moves_to(slots, "t", 1) && slots.find("t") == Some(1) && are_found(slots);
+    let is_absent = !moves_to(slots, "z", 0) && slots.find("s") == Some(19);
+    is_up && is_in_order && is_down && is_absent && slots.len() == NAMES.len()
+}
+
+#[test]
+fn moves_slots(rt: HostRuntime) {
+    assert!(rt; holds_changed(rt.alloc(), Slots::new(rt.alloc()), moves_all));
+}
+
+/// Returns `true` if an item is inserted under a new key at the place, before the slot `next`.
+fn inserts_at(
+    alloc: Global,
+    slots: &mut Slots<u8>,
+    at: usize,
+    name: &str,
+    next: &str,
+) -> Mem<bool> {
+    let key = Key::from_text(alloc, name)?;
+    if slots.len() < at {
+        return Ok(false);
+    }
+    match slots.insert_at(at, key, 7) {
+        Ok(()) => Ok(slots.find(name) == Some(at) && slots.find(next) == at.checked_add(1)),
+        Err(_) => Ok(false),
+    }
+}
+
+/// Returns `true` if an insertion under a key that is there is refused, with its place.
+fn is_refused(alloc: Global, slots: &mut Slots<u8>, name: &str) -> Mem<bool> {
+    let key = Key::from_text(alloc, name)?;
+    let there = slots.find(name);
+    match slots.insert_at(0, key, 7) {
+        Ok(()) => Ok(false),
+        Err(refused) => Ok(there.is_some() && refused.place() == there),
+    }
+}
+
+/// Returns `true` if slots are inserted first and inside, and none under a key that is there.
+fn inserts_all(alloc: Global, slots: &mut Slots<u8>) -> bool {
+    fills_all(alloc, slots)
+        && is_done(inserts_at(alloc, slots, 0, "y", "a"))
+        && is_done(inserts_at(alloc, slots, 3, "z", "c"))
+        && is_done(is_refused(alloc, slots, "c"))
+        && are_found(slots)
+        && slots.len().checked_sub(2) == Some(NAMES.len())
+}
+
+#[test]
+fn inserts_slots_at_places(rt: HostRuntime) {
+    assert!(rt; holds_changed(rt.alloc(), Slots::new(rt.alloc()), inserts_all));
 }
 
 fn spelled(slots: &Slots<u8>) -> Option<&str> {

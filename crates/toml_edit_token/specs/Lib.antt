@@ -1,5 +1,6 @@
--- What the contracts of this crate cite.
+-- Cited by public contracts.
 pub mod Classes
+pub mod Decoded
+-- Cited inside this crate alone.
 pub mod Lanes
 pub mod BlockPieces
-pub mod Decoded

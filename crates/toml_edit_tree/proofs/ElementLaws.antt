@@ -4,13 +4,12 @@ use Rattle.std.proofs.lemmas.List.{map-set, map-append}
 use Rattle.std.proofs.lemmas.Option.{slice_get-get_or, slice_get_past}
 use Rattle.std.specs.Borrow.{Bor}
 use Rattle.toml_edit_model.specs.Text.{one}
-use Rattle.toml_edit_model.specs.Tree.{Decor, Node, nothing, leaf, list, inline, table, tables, node_decor, is_value_node}
+use Rattle.toml_edit_model.specs.Tree.{Decor, Node, nothing, node_decor, is_value_node}
 use Rattle.toml_edit_model.specs.Lists.{item_list, items_from, only}
-use Rattle.toml_edit_model.specs.Shown.{is_table_node}
 use Rattle.toml_edit_model.specs.ArrayCalls.{inserted_at, pushed, removed_at, replaced_at, value_at, written_at}
 use Rattle.toml_edit_model.specs.Conversions.{with_decor}
 use Rattle.toml_edit_laws.proofs.slots.Places.{changed_at-set}
-use Rattle.toml_edit_tree.specs.Containers.{table_in, table_node}
+use Rattle.toml_edit_tree.specs.Containers.{table_node}
 use Rattle.toml_edit_tree.specs.declared.item.Item.{Item}
 use Rattle.toml_edit_tree.specs.declared.table.Table.{Table}
 use Rattle.toml_edit_tree.specs.declared.value.Value.{Value}
@@ -116,14 +115,6 @@ there test xs i d h =
     ∙ ap (option_and_then (only test)) (get-map item_view xs i ∙ ap (option_map item_view) (slice_get-get_or xs i d h))
 
 -- ---- tables in items
-
-pub table_in-only : (n : Node) → option_map table_node (table_in n) ≡ only is_table_node n
-table_in-only nothing = refl
-table_in-only (leaf s spelling d) = refl
-table_in-only (list f xs) = refl
-table_in-only (inline f ss) = refl
-table_in-only (table f ss) = refl
-table_in-only (tables e xs) = refl
 
 pub table_seen : (o : Option (Bor Table)) → option_map (λ t. table_node (table_view t.now)) o ≡ option_map table_node (option_map (λ t. table_view t.now) o)
 table_seen None = refl

@@ -14,9 +14,6 @@ pub record Formats (items first : List Item) (at : ℕ) (is_first : Bool) : Type
   pub as_long : length items ≡ length first
   pub says : formatted_from true (map item_view first) ≡ map item_view done ++ formatted_from is_first (map item_view rest)
 
-pub none_formatted : (items : List Item) → Formats items items 0 true
-none_formatted items = record { done = []; rest = items; items_are = refl; done_long = refl; as_long = refl; says = refl }
-
 append-nil : {X : Type 0} (xs : List X) → xs ++ [] ≡ xs
 append-nil [] = refl
 append-nil (x ∷ xs) = ap (λ l. x ∷ l) (append-nil xs)

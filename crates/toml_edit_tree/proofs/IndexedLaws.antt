@@ -245,24 +245,6 @@ module _ (k : Text) (l m : List (model.Slot Node)) where
   slots-on (list f xs) is = absurd cc
   slots-on (tables e xs) is = absurd cc
 
--- an item without slots that is no placeholder is of the wrong kind
-pub wrong-kind : (k : Text) (n : Node) → None ≡ slots_in n → (n ≡ nothing → ⊥) → index_or_inserted k n ≡ None
-wrong-kind k nothing is full = absurd (full refl)
-wrong-kind k (leaf s spelling d) is full = refl
-wrong-kind k (list f xs) is full = refl
-wrong-kind k (tables e xs) is full = refl
-wrong-kind k (table f ss) is full = absurd cc
-wrong-kind k (inline f ss) is full = absurd cc
-
--- one with slots isn't
-pub right-kind : (k : Text) (l : List (model.Slot Node)) (n : Node) → Some l ≡ slots_in n → index_or_inserted k n ≡ None → ⊥
-right-kind k l (table f ss) is none = absurd cc
-right-kind k l (inline f ss) is none = absurd cc
-right-kind k l nothing is none = absurd cc
-right-kind k l (leaf s spelling d) is none = absurd cc
-right-kind k l (list f xs) is none = absurd cc
-right-kind k l (tables e xs) is none = absurd cc
-
 -- ---- the item of a key that is no placeholder
 
 -- behind two references, and of the slot that was looked up

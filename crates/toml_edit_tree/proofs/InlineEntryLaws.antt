@@ -83,9 +83,3 @@ value-found k t o apart is =
     ∙ lookup-those is_value_node k (shown (out-InlineTable t).items) apart
     ∙ ap (option_and_then (only is_value_node)) (lookup-shown k (out-InlineTable t).items ∙ ap (λ p. option_map item_view (option_map (λ (s : Slot Item). s.item) p)) (sym is))
     ∙ value-in o
-
--- a key with its item, where that is a value
-pub with_key : (k : Key) (b : Bool) (n : Node) (o : Option Node) → o ≡ cond b (Some n) None
-    → option_map (λ m. record { key = k; item = m }) o ≡ cond {A = Option (model.Slot Node)} b (Some (record { key = k; item = n })) None
-with_key k true n o e = ap (option_map (λ m. record { key = k; item = m })) e
-with_key k false n o e = ap (option_map (λ m. record { key = k; item = m })) e

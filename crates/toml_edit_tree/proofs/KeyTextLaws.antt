@@ -1,18 +1,13 @@
 -- The texts of dotted keys, key by key.
 use Rattle.std.proofs.Common.{◌≡◌, refl, sym, ap, ◌∙◌, true, false, List, [], ◌∷◌, ◌++◌, append_assoc}
 use Rattle.std.specs.Prelude.{codes}
-use Rattle.toml_edit_model.specs.Text.{Text, is_empty}
+use Rattle.toml_edit_model.specs.Text.{Text}
 use Rattle.toml_edit_model.specs.Syntax.{path_text}
 use Rattle.toml_edit_model.specs.Mode.{Mode}
 use Rattle.toml_edit_model.specs.Tree.{Decor, Key, Node, key_text, node_decor, shown_prefix, shown_suffix}
 use Rattle.toml_edit_model.specs.Print.{one_space, dot_prefix, dot_suffix, last_leaf, segments, segments_after, value_of}
 use Rattle.toml_edit_laws.proofs.common.Tests.{append-nil}
 use Rattle.toml_edit_tree.specs.Printing.{before_key, dotted_keys, line_start, node_text, pair_start}
-
--- keys with one more are not none
-pub some_keys : (ks : List Key) (k : Key) → is_empty (ks ++ (k ∷ [])) ≡ false
-some_keys [] k = refl
-some_keys (j ∷ ks) k = refl
 
 module _ (mode : Mode) where
   -- what stands before a key behind one more

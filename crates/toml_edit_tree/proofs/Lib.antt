@@ -30,3 +30,4 @@ pub mod SortLaws
 pub mod IndexedLaws
 pub mod SlotsInLaws
 pub mod LentLaws
+pub mod RearrangeLaws

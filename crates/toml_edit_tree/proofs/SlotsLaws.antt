@@ -1,26 +1,23 @@
 -- A clause on slots, as a table or an inline table shows it.
-use Rattle.std.proofs.Common.{◌≡◌, ℕ, zero, suc, ◌≤◌, Bool, true, false, not, List, [], ◌∷◌, Option, Some, None, cond, length, map, option_and_then, option_map, slice_get, is_some, refl, sym, ap, subst, ◌∙◌, ◌↔◌, inl, inr, arith, rules}
+use Rattle.std.proofs.Common.{◌≡◌, ℕ, zero, suc, Bool, true, false, not, List, [], ◌∷◌, Option, Some, None, cond, length, map, option_and_then, option_map, slice_get, is_some, refl, sym, ap, subst, ◌∙◌, ◌↔◌, inl, inr, rules}
 use Rattle.std.proofs.lemmas.Bool.{cases_Bool, false≢true}
 use Rattle.std.proofs.lemmas.Cmp.{nat_list_eq_equiv}
-use Rattle.std.proofs.lemmas.Option.{same_Some}
 use Rattle.std.specs.List.{AllByRecursion, IsDistinct}
 use Rattle.std.specs.Option.{option_map_or}
 use Rattle.std.specs.Prelude.{IsTrue}
-use Rattle.toml_edit_model.specs.Conversions.{formatted, with_decor}
-use Rattle.toml_edit_model.specs.Keys.{cleared_key}
 use Rattle.toml_edit_model.specs.Lists.{is_item, is_tables_node, slot_list}
 use Rattle.toml_edit_model.specs.Retaining.{RetainsBy}
 use Rattle.toml_edit_model.specs.Shown.{is_table_node}
 use Rattle.toml_edit_model.specs.Slots as model
 use Rattle.toml_edit_model.specs.Text.{Text, same_text}
-use Rattle.toml_edit_model.specs.Tree.{Key, Node, nothing, leaf, list, inline, table, tables, is_value_node, unset}
+use Rattle.toml_edit_model.specs.Tree.{Key, Node, nothing, leaf, list, inline, table, tables}
 use Rattle.toml_edit_laws.proofs.slots.Retains.{retains-seen}
 use Rattle.toml_edit_laws.proofs.slots.Views as views
 use Rattle.toml_edit_slots.specs.Seen.{pair_seen, seen}
-use Rattle.toml_edit_slots.specs.Slots.{is_at, items_of, lookup, lookup_slot, on_key, place, with_item}
+use Rattle.toml_edit_slots.specs.Slots.{is_at, lookup, lookup_slot, on_key, place}
 use Rattle.toml_edit_slots.specs.declared.slots.Slot.{Slot}
 use Rattle.toml_edit_tree.specs.Containers.{table_in, tables_in}
-use Rattle.toml_edit_tree.specs.SlotsOf.{formatted_slot, inline_slots_of, slot_taken, slots_of}
+use Rattle.toml_edit_tree.specs.SlotsOf.{inline_slots_of, slot_taken, slots_of}
 use Rattle.toml_edit_tree.specs.View.{fields_view, item_view, slots_view}
 use Rattle.toml_edit_tree.specs.declared.array.Array.{Array}
 use Rattle.toml_edit_tree.specs.declared.array_of_tables.ArrayOfTables.{ArrayOfTables}
@@ -261,48 +258,6 @@ extended-shown ps es fs e =
     ∙ ap (λ l. model.extended l (shown es)) (pairs-shown ps)
 
 -- ---- fmt
-
--- the slots before a place without decors
-abbrev pub formatted_upto : ℕ → List (model.Slot Node) → List (model.Slot Node)
-formatted_upto zero es = es
-formatted_upto (suc n) [] = []
-formatted_upto (suc n) (s ∷ es) = formatted_slot s ∷ formatted_upto n es
-
-pub formatted_upto-next : (n : ℕ) (es : List (model.Slot Node)) → model.changed_at n formatted_slot (formatted_upto n es) ≡ formatted_upto (suc n) es
-formatted_upto-next zero [] = refl
-formatted_upto-next zero (s ∷ es) = refl
-formatted_upto-next (suc n) [] = refl
-formatted_upto-next (suc n) (s ∷ es) = ap (λ l. formatted_slot s ∷ l) (formatted_upto-next n es)
-
-pub formatted_upto-all : (n : ℕ) (es : List (model.Slot Node)) → length es ≤ n → formatted_upto n es ≡ formatted es
-formatted_upto-all zero [] h = refl
-formatted_upto-all zero (s ∷ es) h = absurd (omega (arith, h))
-formatted_upto-all (suc n) [] h = refl
-formatted_upto-all (suc n) (s ∷ es) h = ap (λ l. formatted_slot s ∷ l) (formatted_upto-all n es (omega (arith, h)))
-
-pub formatted_upto-length : (n : ℕ) (es : List (model.Slot Node)) → length (formatted_upto n es) ≡ length es
-formatted_upto-length zero es = refl
-formatted_upto-length (suc n) [] = refl
-formatted_upto-length (suc n) (s ∷ es) = ap suc (formatted_upto-length n es)
-
--- a value and its key lose their decors
-pub formatted-value : (es : List (Slot Item)) (i : ℕ) (s : Slot Item) (x w : Item) → slice_get es i ≡ Some s → is_value_node (item_view s.item) ≡ true
-    → Some x ≡ slice_get (items_of (on_key i cleared_key es)) i → item_view w ≡ with_decor unset (item_view x)
-    → shown (with_item i w (on_key i cleared_key es)) ≡ model.changed_at i formatted_slot (shown es)
-formatted-value [] i s x w got value there made = refl
-formatted-value (r ∷ es) zero s x w got value there made =
-    let here : is_value_node (item_view r.item) ≡ true = ap (λ (y : Slot Item). is_value_node (item_view y.item)) (same_Some r s got) ∙ value in
-    rw here (ap (λ n. record { key = cleared_key r.key; item = n } ∷ shown es) (made ∙ ap (λ y. with_decor unset (item_view y)) (same_Some x r.item there)))
-formatted-value (r ∷ es) (suc i) s x w got value there made = ap (λ l. slot_shown r ∷ l) (formatted-value es i s x w got value there made)
-
--- another slot stays
-pub formatted-other : (es : List (Slot Item)) (i : ℕ) (s : Slot Item) → slice_get es i ≡ Some s → is_value_node (item_view s.item) ≡ false
-    → shown es ≡ model.changed_at i formatted_slot (shown es)
-formatted-other [] i s got other = refl
-formatted-other (r ∷ es) zero s got other =
-    let here : is_value_node (item_view r.item) ≡ false = ap (λ (y : Slot Item). is_value_node (item_view y.item)) (same_Some r s got) ∙ other in
-    rw here refl
-formatted-other (r ∷ es) (suc i) s got other = ap (λ l. slot_shown r ∷ l) (formatted-other es i s got other)
 
 pub length-on_key : (h : Key → Key) (es : List (Slot Item)) (i : ℕ) → length (on_key i h es) ≡ length es
 length-on_key h [] i = refl

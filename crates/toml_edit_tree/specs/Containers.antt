@@ -3,6 +3,7 @@
 use Rattle.std.specs.Prelude.{ℕ, ℤ, Bool, false, List, [], ◌∷◌, Option, Some, None, if◌then◌else◌}
 use Rattle.std.specs.declared.ops.Range.{Range}
 use Rattle.toml_edit_model.specs.Tree.{Raw, Decor, Key, Extent, unset, ArrayFields, InlineFields, TableFields, Node, list, inline, table, tables, Items, Slots, no_slots, slot, is_value_node}
+use Rattle.toml_edit_model.specs.TreeOf.{made_by_path, spanned_form}
 use Rattle.toml_edit_slots.specs.declared.slots.Slot as repr
 
 -- an array, and an inline table: what they have beside their slots, and those
@@ -93,6 +94,11 @@ spanned_inline comma trailing start end ss =
     }
 
 -- ---- tables
+
+-- what a parsed table has that a key implies, which stands from this byte of the source up to that
+-- one
+abbrev pub implied : Bool → ℕ → ℕ → TableFields
+implied dotted start end = made_by_path spanned_form dotted (Some (start, end))
 
 -- what is kept of a header: its decor, its place among the headers, and its brackets, from this
 -- byte of the source up to that one

@@ -1,3 +1,4 @@
+-- Cited by public contracts.
 pub mod View
 pub mod Held
 pub mod Printing
@@ -18,7 +19,6 @@ pub mod InlineSlots
 pub mod InlineParts
 pub mod InlineValues
 pub mod InlineLending
-pub mod Converting
 pub mod LineValues
 pub mod TableEntries
 pub mod InlineEntries
@@ -26,3 +26,5 @@ pub mod InlineSlotParts
 pub mod Sorts
 pub mod Indexed
 pub mod Faults
+-- Cited inside this crate alone.
+pub mod Converting

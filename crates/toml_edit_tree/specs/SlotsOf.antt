@@ -1,15 +1,13 @@
 -- The slots of a table and of an inline table as a list, and a slot that is read or taken out.
-use Rattle.std.specs.Prelude.{◌≡◌, Bool, List, map, String, string_bytes, if◌then◌else◌}
+use Rattle.std.specs.Prelude.{◌≡◌, Bool, List, map, String, string_bytes}
 use Rattle.std.specs.Borrow.{Bor}
 use Rattle.std.specs.Fn.{Shared}
 use Rattle.std.specs.Vec.Iter.{into_iter_items}
 use Rattle.std.specs.declared.alloc.Global.{Global}
-use Rattle.toml_edit_model.specs.Conversions.{with_decor}
-use Rattle.toml_edit_model.specs.Keys.{cleared_key}
 use Rattle.toml_edit_model.specs.Lists.{slot_list}
 use Rattle.toml_edit_model.specs.Slots.{Slot, extended, pairs}
 use Rattle.toml_edit_model.specs.Text.{Text}
-use Rattle.toml_edit_model.specs.Tree.{Key, Node, is_value_node, unset}
+use Rattle.toml_edit_model.specs.Tree.{Key, Node}
 use Rattle.toml_edit_slots.specs.Closures.{FnReturnsAtTwo}
 use Rattle.toml_edit_tree.specs.declared.inline_table.InlineTable.{InlineTable}
 use Rattle.toml_edit_tree.specs.declared.item.Item.{Item}
@@ -31,12 +29,6 @@ abbrev pub slot_taken : Key × Item → Slot Node
 slot_taken p = record { key = p.0; item = item_view p.1 }
 
 -- ---- what contracts say of slots that come and go
-
--- what is left of a slot by `fmt`
-abbrev pub formatted_slot : Slot Node → Slot Node
-formatted_slot s =
-    if is_value_node s.item then record { key = cleared_key s.key; item = with_decor unset s.item }
-    else s
 
 -- pairs came into the table, and nothing else of it changed
 abbrev pub AddsSlots : Table → List (Key × Item) → Table → Type 0

@@ -10,7 +10,7 @@ use Rattle.toml_edit_key.specs.KeyMutView.{lent_parts, with_parts}
 use Rattle.toml_edit_key.specs.contracts.key.KeyParts.{the_row as parts_row}
 use Rattle.toml_edit_key.specs.declared.key.KeyMut.{KeyMut}
 use Rattle.toml_edit_repr.specs.contracts.repr.Decor.{the_row as decor_row}
-use Rattle.toml_edit_slots.specs.Entries.{length-on_key, length-with_item}
+use Rattle.toml_edit_slots.specs.Lengths.{length-on_key, length-with_item}
 use Rattle.toml_edit_slots.specs.Slots.{items_of, with_item}
 use Rattle.toml_edit_slots.specs.declared.slots.Slot.{Slot}
 use Rattle.toml_edit_tree.specs.SlotsOf.{slots_of}

@@ -1,9 +1,12 @@
 -- A new table, and what a table lends of its slots.
-use Rattle.std.specs.Prelude.{ℕ, false, Option, None}
+use Rattle.std.specs.Prelude.{ℕ, List, false, Option, None}
 use Rattle.std.specs.Option.{option_map_or}
 use Rattle.std.specs.Borrow.{Lends, LendsIf, MutBor, Fml, follows}
+use Rattle.toml_edit_model.specs.Lists.{slots_from}
+use Rattle.toml_edit_model.specs.Slots.{Slot}
 use Rattle.toml_edit_model.specs.Text.{Text}
-use Rattle.toml_edit_model.specs.Tree.{Decor, Key, TableFields, unset}
+use Rattle.toml_edit_model.specs.Tree.{Decor, Key, Node, TableFields, unset}
+use Rattle.toml_edit_tree.specs.Containers.{TableView}
 use Rattle.toml_edit_key.specs.KeyMutView.{lent_parts, with_parts}
 use Rattle.toml_edit_key.specs.contracts.key.KeyParts.{the_row as parts_row}
 use Rattle.toml_edit_key.specs.declared.key.KeyMut.{KeyMut}
@@ -22,6 +25,10 @@ new_table = record {
   position = None;
   extent = None;
 }
+
+-- a new table of these slots
+abbrev pub new_table_of : List (Slot Node) → TableView
+new_table_of ss = record { fields = new_table; slots = slots_from ss }
 
 -- the table with another item in the slot of a key
 abbrev pub with_item_under : Text → Item → Table → Table

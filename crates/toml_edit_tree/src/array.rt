@@ -1,7 +1,7 @@
 //! Arrays: the type and its calls.
 ghost use Rattle.std.specs.Borrow.{sem};
 ghost use Rattle.std.specs.Iterator.{Drains, ExtendsWithItems, IsFinite};
-ghost use Rattle.std.specs.Prelude.{[], ◌<◌, ◌↔◌, ◌∷◌, ◌≡◌, ◌≤◌, IfErr, IfOk, IsPermutation, IsSome, IsTrue, List, OnErr, OnOk, Some, is_some, length, option_map, slice_get, true};
+ghost use Rattle.std.specs.Prelude.{[], ◌<◌, ◌↔◌, ◌∷◌, ◌≡◌, ◌≤◌, IfErr, IfOk, IsSome, IsTrue, List, OnErr, OnOk, Some, is_some, length, option_map, slice_get, true};
 ghost use Rattle.toml_edit_model.specs.ArrayCalls.{inserted_at, pushed, removed_at, replaced_at, value_at, written_at};
 ghost use Rattle.toml_edit_model.specs.Conversions.{element_decor, formatted_array, formatted_from, formatted_items, new_array, with_decor};
 ghost use Rattle.toml_edit_model.specs.Iterating.{values as values_seen};
@@ -11,7 +11,6 @@ ghost use Rattle.toml_edit_tree.specs.ContainerParts.{LendsArrayDecor, values_le
 ghost use Rattle.toml_edit_tree.specs.Containers.{array_node, array_with_comma, array_with_trailing, range_in, spanned_array};
 ghost use Rattle.toml_edit_tree.specs.ElementClosures.{SaysOfValue};
 ghost use Rattle.toml_edit_tree.specs.ElementParts.{AddsValues, HasValues};
-ghost use Rattle.toml_edit_tree.specs.ElementSorts.{SortsValuesAs, SortsValuesByKey};
 ghost use Rattle.toml_edit_tree.specs.Elements.{array_fields, items_of, listed};
 ghost use Rattle.toml_edit_tree.specs.ItemPlaces.{LendsArraySlot, LendsArraySlotIn, LendsValueAt, LendsValueIn, value_in_at, with_value_at};
 ghost use Rattle.toml_edit_tree.specs.View.{array_view, item_view, items_view, value_view};
@@ -25,7 +24,6 @@ use crate::item::Item;
 use crate::value::Value;
 pub use iter::{ArrayIntoIter, ArrayIter};
 use std::alloc::Global;
-use std::cmp::Ordering;
 use std::fmt;
 use std::ops::Range;
 use toml_edit_repr::{Decor, Mem, RawString};
@@ -33,6 +31,7 @@ use toml_edit_slots::NoMemory;
 use toml_edit_stream::{Printed, Sink, show};
 
 mod iter;
+mod sort;
 
 /// An array of values in brackets (TOML, "Array").
 ///
@@ -643,57 +642,6 @@ impl Array {
         retain_values(&mut self.values, keep);
     }
 
-    /// Sorts the values by `compare`. The sort is stable.
-    ///
-    /// Each value moves with its decor, so its comments and its line break move too. Slots without
-    /// a value come first. Where `compare` is not a strict weak order, the order is any, but no
-    /// value is lost.
-    ///
-    /// # Errors
-    ///
-    /// Returns an `AllocError` if out of memory.
-    ///
-    /// # Examples
-    ///
-    /// ```rust,ignore
-    /// array.sort_by(|a, b| a.as_str().cmp(&b.as_str()))
-    /// ```
-    ///
-    /// From `sort_strings` of the guide, docs/GUIDE.md.
-    pub fn sort_by<F: Fn(&Value, &Value) -> Ordering>(&mut self, compare: F) -> Mem<()>
-    where
-        F: Drop,
-        requires { F.IsAlwaysCallable compare }
-        ensures permutation { IsPermutation (items_of self.old) (items_of self.new) }
-        ensures sorted { OnOk result
-            (SortsValuesAs F.FnMut compare (items_of self.old) (items_of self.new)) }
-        ensures fields { array_fields self.new ≡ array_fields self.old }
-        ensures err { OnErr result (array_view self.new ≡ array_view self.old) }
-    {
-        sort_values(&mut self.values, compare)
-    }
-
-    /// Sorts the values by the keys that `key` returns for them. The sort is stable.
-    ///
-    /// Each value moves with its decor. Slots without a value come first.
-    ///
-    /// # Errors
-    ///
-    /// Returns an `AllocError` if out of memory.
-    pub fn sort_by_key<K: Ord, F: Fn(&Value) -> K>(&mut self, key: F) -> Mem<()>
-    where
-        K: Drop,
-        F: Drop,
-        requires { F.IsAlwaysCallable key }
-        ensures permutation { IsPermutation (items_of self.old) (items_of self.new) }
-        ensures sorted { OnOk result
-            (SortsValuesByKey F.FnMut K.cmp key (items_of self.old) (items_of self.new)) }
-        ensures fields { array_fields self.new ≡ array_fields self.old }
-        ensures err { OnErr result (array_view self.new ≡ array_view self.old) }
-    {
-        sort_values_by_key(&mut self.values, key)
-    }
-
     /// Adds the values at the end, one after another and each with its decor.
     ///
     /// # Errors
@@ -748,33 +696,6 @@ where
         (listed items.new.items) }
 {
     toml_edit_lists::retain(items, keep);
-}
-
-/// Sorts items by their values. Those without one come first.
-fn sort_values<F: Fn(&Value, &Value) -> Ordering>(items: &mut Vec<Item>, compare: F) -> Mem<()>
-where
-    F: Drop,
-    requires { F.IsAlwaysCallable compare }
-    ensures permutation { IsPermutation (listed items.old.items) (listed items.new.items) }
-    ensures sorted { OnOk result
-        (SortsValuesAs F.FnMut compare (listed items.old.items) (listed items.new.items)) }
-    ensures err { OnErr result (items_view items.new.items ≡ items_view items.old.items) }
-{
-    toml_edit_lists::sort_by(items, compare)
-}
-
-/// Sorts items by keys of their values. Those without one come first.
-fn sort_values_by_key<K: Ord, F: Fn(&Value) -> K>(items: &mut Vec<Item>, key: F) -> Mem<()>
-where
-    K: Drop,
-    F: Drop,
-    requires { F.IsAlwaysCallable key }
-    ensures permutation { IsPermutation (listed items.old.items) (listed items.new.items) }
-    ensures sorted { OnOk result
-        (SortsValuesByKey F.FnMut K.cmp key (listed items.old.items) (listed items.new.items)) }
-    ensures err { OnErr result (items_view items.new.items ≡ items_view items.old.items) }
-{
-    toml_edit_lists::sort_by_key(items, key)
 }
 
 /// Sets the decor of each value: nothing around the first, and one space before each of the others.

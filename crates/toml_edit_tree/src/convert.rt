@@ -5,7 +5,6 @@ ghost use Rattle.toml_edit_model.specs.Conversions.{into_table, into_tables, int
 ghost use Rattle.toml_edit_model.specs.Tree.{inline, is_value_node, list, unset};
 ghost use Rattle.toml_edit_tree.specs.Containers.{array_node, inline_node, table_node, tables_node};
 ghost use Rattle.toml_edit_tree.specs.Converting.{each_made, each_slot_made, formatted_elements, formatted_slots, in_new_form, inside_made, suits_tables, tables_made};
-ghost use Rattle.toml_edit_tree.specs.TableLending.{new_table};
 ghost use Rattle.toml_edit_tree.specs.View.{array_view, inline_view, item_view, items_view, slots_view, table_view, tables_view, value_view};
 
 use crate::array::Array;
@@ -140,7 +139,7 @@ impl InlineTable {
     {
         let mut slots = self.into_slots();
         format_slots(&mut slots);
-        table_of(slots)
+        Table::of_slots(slots)
     }
 }
 
@@ -261,20 +260,6 @@ fn bare_array(values: Vec<Item>) -> Array
 }
 
 // ---- to tables
-
-/// Makes a new table of these slots.
-fn table_of(slots: Slots<Item>) -> Table
-    ensures { table_view result ≡ record { fields = new_table; slots = slots_view slots } }
-{
-    Table {
-        slots,
-        decor: Decor::default(),
-        implicit: false,
-        dotted: false,
-        position: None,
-        span: None,
-    }
-}
 
 /// Converts an array into an array of tables, or returns it where that can't be.
 fn array_as_tables(array: Array) -> Result<ArrayOfTables, Array>

@@ -3,9 +3,9 @@
 ghost use Rattle.std.specs.Prelude.{◌<◌, ◌≡◌, IfOk, IfSome, IsOk, IsSome, IsTrue, OnErr, OnOk, Some, length, option_and_then, option_map, slice_get, string_bytes};
 ghost use Rattle.toml_edit_model.specs.Indexing as indexing;
 ghost use Rattle.toml_edit_model.specs.InlineCalls.{get_value};
-ghost use Rattle.toml_edit_model.specs.Slots.{changed, has_slot, lookup, place, with_item as with_item_seen};
+ghost use Rattle.toml_edit_model.specs.Slots.{AreApart, changed, has_slot, lookup, place, with_item as with_item_seen};
 ghost use Rattle.toml_edit_model.specs.TableCalls.{get, with_place};
-ghost use Rattle.toml_edit_slots.specs.Slots.{items_of, with_item};
+ghost use Rattle.toml_edit_slots.specs.Slots.{items_of, place as code_place, with_item};
 ghost use Rattle.toml_edit_tree.specs.Elements.{listed};
 ghost use Rattle.toml_edit_tree.specs.Indexed.{shown_slots, slots_put};
 ghost use Rattle.toml_edit_tree.specs.SlotsOf.{inline_slots_of, slots_of};
@@ -224,10 +224,12 @@ pub(crate) fn filled_item<'s>(slots: &'s Slots<Item>, key: &str) -> Option<&'s I
 }
 
 /// Finds the slot of the key, unless it is a placeholder.
-pub(crate) fn filled_place(slots: &Slots<Item>, key: &str) -> Option<usize>
+pub fn filled_place(slots: &Slots<Item>, key: &str) -> Option<usize>
     ensures held { option_map item_view (option_and_then (slice_get (items_of slots.now)) result)
         ≡ get key.now (shown_slots slots.now) }
+    ensures place { IfSome result (λ at. code_place key.now slots.now ≡ Some at) }
     ensures within { IfSome result (λ at. at < length slots.now) }
+    ensures apart { AreApart (shown_slots slots.now) }
 {
     let entries = slots.as_slice();
     let at = slots.find(key)?;

@@ -4,27 +4,24 @@ ghost use Rattle.std.specs.Borrow.{sem};
 ghost use Rattle.std.specs.Iterator.{Drains, ExtendsWithItems, IsFinite};
 ghost use Rattle.std.specs.Option.{option_copied};
 ghost use Rattle.std.specs.Prelude.{[], ◌<◌, ◌↔◌, ◌≡◌, IfErr, IfOk, IfSome, IsOk, IsSome, IsTrue, List, None, OnErr, OnOk, Some, length, map, option_and_then, option_map, slice_get, true};
-ghost use Rattle.toml_edit_laws.specs.InlineTree.{path_fields};
 ghost use Rattle.toml_edit_model.specs.Conversions.{formatted, into_value, new_inline};
 ghost use Rattle.toml_edit_model.specs.InlineCalls.{contains_value_key, get_value, old_slot, old_value, or_inserted_value, value_slot};
 ghost use Rattle.toml_edit_model.specs.Iterating.{value_pairs, valued};
 ghost use Rattle.toml_edit_model.specs.Keys.{new_key};
-ghost use Rattle.toml_edit_model.specs.Lists.{is_dotted_inline, slot_list, slots_from};
+ghost use Rattle.toml_edit_model.specs.Lists.{slot_list};
 ghost use Rattle.toml_edit_model.specs.Retaining.{RetainsBy};
 ghost use Rattle.toml_edit_model.specs.Slots.{AreApart, changed, extended, has_slot, inserted, inserted_formatted, lookup, lookup_key, put, with_item, without};
-ghost use Rattle.toml_edit_model.specs.Sorting.{IsDeepReorder, IsDeepSort, name_lt, sorted_slots};
 ghost use Rattle.toml_edit_model.specs.TableCalls.{get, get_slot};
 ghost use Rattle.toml_edit_model.specs.Tree.{Key, is_value_node, no_slots};
 ghost use Rattle.toml_edit_slots.specs.Slots.{items_of, place};
 ghost use Rattle.toml_edit_tree.specs.ContainerParts.{LendsInlineDecor, LendsInlineSlots, holding, pairs_left};
-ghost use Rattle.toml_edit_tree.specs.Containers.{inline_node, inline_with_comma, inline_with_dotted, inline_with_trailing, range_in, spanned_inline};
+ghost use Rattle.toml_edit_tree.specs.Containers.{inline_node, inline_with_comma, inline_with_dotted, inline_with_trailing};
 ghost use Rattle.toml_edit_tree.specs.ElementClosures.{KeepsOnly};
 ghost use Rattle.toml_edit_tree.specs.InlineLending.{LendsPut, LendsValueUnder, value_put, with_value_at, with_value_under};
 ghost use Rattle.toml_edit_tree.specs.InlineParts.{AddsValues, SaysOfNamed, SaysOfPair};
 ghost use Rattle.toml_edit_tree.specs.InlineSlots.{inline_fields, value_taken};
 ghost use Rattle.toml_edit_tree.specs.InlineValues.{has_value_at, value_at};
 ghost use Rattle.toml_edit_tree.specs.SlotsOf.{inline_slots_of, slot_read, slot_taken};
-ghost use Rattle.toml_edit_tree.specs.Sorts.{AnswersPairs, SortsInlineAs};
 ghost use Rattle.toml_edit_tree.specs.View.{inline_view, item_view, slots_view, value_view};
 ghost use Rattle.toml_edit_tree.specs.declared.inline_table.InlineTable.{out-InlineTable};
 ghost use Rattle.toml_edit_tree.specs.declared.value.Value.{Value};
@@ -37,11 +34,8 @@ use crate::value::Value;
 pub use entry::{InlineEntry, InlineOccupiedEntry, InlineVacantEntry};
 pub use iter::{InlineTableIntoIter, InlineTableIter};
 pub use slot::InlineSlotMut;
-use sort::{compare_values, sort_slots};
 use std::alloc::Global;
-use std::cmp::Ordering;
 use std::fmt;
-use std::ops::Range;
 use toml_edit_key::Key;
 use toml_edit_repr::{Decor, Mem, RawString};
 use toml_edit_slots::{NoMemory, Slot, Slots};
@@ -49,8 +43,10 @@ use toml_edit_stream::{Printed, Sink, show};
 
 mod entry;
 mod iter;
+mod rearrange;
 mod slot;
 mod sort;
+mod spans;
 
 /// A table in braces, which is a value (TOML, "Inline Table").
 ///
@@ -141,9 +137,8 @@ impl InlineTable {
     ) -> Mem<InlineTable>
         requires { (it : U.IntoIter) → U.into_iter_gives pairs it
             → U.IntoIter.can_next it × IsFinite (U.IntoIter.remaining it) }
-        ensures { IfOk result
-            (λ table. (it : U.IntoIter) × (ps : List (Key × Value)) × U.into_iter_gives pairs it
-            × Drains U.IntoIter.next_gives it ps
+        ensures { IfOk result (λ table. (it : U.IntoIter) × (ps : List (Key × Value))
+            × U.into_iter_gives pairs it × Drains U.IntoIter.next_gives it ps
             × (inline_slots_of table ≡ extended (map value_taken ps) [])
             × (inline_fields table ≡ new_inline)) }
     {
@@ -151,48 +146,6 @@ impl InlineTable {
         match table.extend(pairs) {
             Ok(()) => Ok(table),
             Err(refused) => Err(refused),
-        }
-    }
-
-    /// Makes an inline table of these slots that spans the bytes from `start` to `end` of the
-    /// source, with what is after the last pair.
-    #[doc(hidden)]
-    pub fn spanned(
-        items: Slots<Item>,
-        trailing_comma: bool,
-        trailing: RawString,
-        start: usize,
-        end: usize,
-    ) -> InlineTable
-        ensures { inline_view result
-            ≡ spanned_inline trailing_comma trailing start end (slots_view items) }
-    {
-        InlineTable {
-            items,
-            decor: Decor::default(),
-            dotted: false,
-            trailing,
-            trailing_comma,
-            is_read: true,
-            span: (start, end),
-        }
-    }
-
-    /// Makes the dotted inline table that a key implies, which spans the bytes from `start` to
-    /// `end` of the source.
-    #[doc(hidden)]
-    pub fn below_key(items: Slots<Item>, start: usize, end: usize) -> InlineTable
-        ensures { inline_view result
-            ≡ record { fields = path_fields (Some (start, end)); slots = slots_view items } }
-    {
-        InlineTable {
-            items,
-            decor: Decor::default(),
-            dotted: true,
-            trailing: RawString::default(),
-            trailing_comma: false,
-            is_read: true,
-            span: (start, end),
         }
     }
 }
@@ -243,67 +196,6 @@ impl InlineTable {
         ensures { inline_view self.new ≡ inline_with_trailing trailing (inline_view self.old) }
     {
         self.trailing = trailing;
-    }
-
-    /// Sorts the slots by the bytes of the names of their keys, and those of dotted inline tables
-    /// inside likewise.
-    ///
-    /// Each slot moves with its decors, so its comments and its line break move too. Inline tables
-    /// in braces inside keep their order of slots.
-    ///
-    /// # Errors
-    ///
-    /// Returns an `AllocError` if out of memory. Some of the inline tables may be sorted then and
-    /// others not, but no slot is lost.
-    pub fn sort_values(&mut self) -> Mem<()>
-        ensures reorders { IsDeepReorder is_dotted_inline (inline_slots_of self.old)
-            (inline_slots_of self.new) }
-        ensures sorted { OnOk result
-            (IsDeepSort is_dotted_inline name_lt (inline_slots_of self.old)
-            (inline_slots_of self.new)) }
-        // The order of names is a lawful one, so exactly one list is in order.
-        ensures in_order { OnOk result
-            (inline_slots_of self.new
-            ≡ sorted_slots is_dotted_inline (slots_from (inline_slots_of self.old))) }
-        ensures fields { inline_fields self.new ≡ inline_fields self.old }
-    {
-        sort_slots(
-            &mut self.items,
-            &|key: &Key, _: &Item, other: &Key, _: &Item| key.cmp(other),
-        )
-    }
-
-    /// Sorts the slots by `compare`, and those of dotted inline tables inside likewise. The sort is
-    /// stable.
-    ///
-    /// The closure is passed the key and the value of two slots. Slots without a value come first.
-    /// Where the closure is not a strict weak order, the order is any.
-    ///
-    /// # Errors
-    ///
-    /// Returns an `AllocError` if out of memory. Some of the inline tables may be sorted then and
-    /// others not, but no slot is lost.
-    pub fn sort_values_by<F: Fn(&Key, &Value, &Key, &Value) -> Ordering>(
-        &mut self,
-        compare: F,
-    ) -> Mem<()>
-    where
-        F: Drop,
-        requires { F.IsAlwaysCallable compare }
-        ensures reorders { IsDeepReorder is_dotted_inline (inline_slots_of self.old)
-            (inline_slots_of self.new) }
-        ensures sorted { OnOk result
-            (SortsInlineAs F.FnMut compare (inline_slots_of self.old) (inline_slots_of self.new)) }
-        ensures fields { inline_fields self.new ≡ inline_fields self.old }
-    {
-        sort_slots(
-            &mut self.items,
-            &|key: &Key, item: &Item, other_key: &Key, other: &Item| -> Ordering
-                requires { F.IsAlwaysCallable compare }
-                ensures { AnswersPairs F.FnMut compare (slot_taken (key.now, item.now))
-                    (slot_taken (other_key.now, other.now)) result }
-            { compare_values(key, item, other_key, other, &compare) },
-        )
     }
 
     /// Returns `true` if the inline table is written by dotted keys (TOML, "Keys").
@@ -357,20 +249,6 @@ impl InlineTable {
     {
         let at = self.items.find(key)?;
         Some(&self.items.as_slice()[at].key)
-    }
-
-    /// Returns the byte range of the inline table in the source, both braces included.
-    ///
-    /// A dotted one spans its key. It is `None` for an inline table that was made, and in a
-    /// `DocumentMut`: read it before `into_mut`.
-    pub fn span(&self) -> Option<Range<usize>>
-        ensures { result ≡ range_in (inline_view self.now).fields.extent }
-    {
-        if !self.is_read {
-            return None;
-        }
-        let (start, end) = self.span;
-        Some(start..end)
     }
 
     /// Copies the inline table, with all spellings, decors and spans.

@@ -15,6 +15,7 @@ pub mod inline_table;
 pub mod item;
 mod lines;
 mod order;
+mod positions;
 mod sort;
 pub mod table;
 pub mod value;
@@ -23,6 +24,8 @@ pub use array::{Array, ArrayIntoIter, ArrayIter};
 pub use array_of_tables::{ArrayOfTables, ArrayOfTablesIntoIter, ArrayOfTablesIter};
 #[doc(hidden)]
 pub use encode::{Bare, Path, put_path, put_table_lines, table_has_lines};
+#[doc(hidden)]
+pub use index::filled_place;
 pub use index::{Index, IndexFault};
 pub use inline_table::{
     InlineEntry, InlineOccupiedEntry, InlineSlotMut, InlineTable, InlineTableIntoIter,

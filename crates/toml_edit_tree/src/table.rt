@@ -6,20 +6,18 @@ ghost use Rattle.std.specs.Option.{option_copied, option_map_or};
 ghost use Rattle.std.specs.Prelude.{[], ◌<◌, ◌↔◌, ◌≡◌, Bool, IfErr, IfOk, IfSome, IsOk, IsSome, IsTrue, List, OnErr, OnOk, Some, false, length, map, option_and_then, option_map, slice_get};
 ghost use Rattle.toml_edit_model.specs.Conversions.{formatted, table_display};
 ghost use Rattle.toml_edit_model.specs.Iterating.{filled, filled_pairs};
-ghost use Rattle.toml_edit_model.specs.Lists.{is_item, slots_from};
-ghost use Rattle.toml_edit_model.specs.OwnedForm.{DecorFits, SlotsFit, owned_fields, owned_slots};
+ghost use Rattle.toml_edit_model.specs.Lists.{is_item};
 ghost use Rattle.toml_edit_model.specs.Retaining.{RetainsBy};
 ghost use Rattle.toml_edit_model.specs.Slots.{AreApart, changed, extended, has_slot, inserted, inserted_formatted, lookup, lookup_key, lookup_slot, pairs, those, with_item, without};
 ghost use Rattle.toml_edit_model.specs.TableCalls.{contains_key, contains_table, contains_tables, contains_value, get, get_slot};
-ghost use Rattle.toml_edit_model.specs.Tree.{Key, Node, SlotsAreWellMade, no_slots};
-ghost use Rattle.toml_edit_model.specs.TreeOf.{made_by_path, root_fields, spanned_form};
+ghost use Rattle.toml_edit_model.specs.Tree.{Key, Node, no_slots};
 ghost use Rattle.toml_edit_slots.specs.Slots.{items_of, place};
 ghost use Rattle.toml_edit_tree.specs.ContainerParts.{LendsTableDecor, LendsTableSlots, table_holding};
-ghost use Rattle.toml_edit_tree.specs.Containers.{headed, range_in, table_node, table_with_dotted, table_with_implicit, table_with_position};
+ghost use Rattle.toml_edit_tree.specs.Containers.{table_node, table_with_dotted, table_with_implicit, table_with_position};
 ghost use Rattle.toml_edit_tree.specs.Held.{held_left};
 ghost use Rattle.toml_edit_tree.specs.Indexed.{LendsMade, item_put, lent_under, written_under};
 ghost use Rattle.toml_edit_tree.specs.SlotsOf.{AddsSlots, SaysOfItem, slot_read, slot_taken, slots_of};
-ghost use Rattle.toml_edit_tree.specs.TableLending.{LendsHeld, new_table, with_item_under};
+ghost use Rattle.toml_edit_tree.specs.TableLending.{LendsHeld, new_table, new_table_of, with_item_under};
 ghost use Rattle.toml_edit_tree.specs.View.{fields_view, item_view, slots_view, table_slots, table_view};
 ghost use Rattle.toml_edit_tree.specs.declared.index.IndexFault.TheVariants.{Memory};
 ghost use Rattle.toml_edit_tree.specs.declared.item.Item.{Item};
@@ -27,7 +25,6 @@ ghost use Rattle.toml_edit_tree.specs.declared.table.Table.{out-Table};
 
 use crate::convert::format_slots;
 use crate::copy::copy_table;
-use crate::despan::despan_table;
 use crate::encode::put_table_lines;
 use crate::index::{IndexFault, filled_item, place_under};
 use crate::item::Item;
@@ -35,7 +32,6 @@ pub use entry::{Entry, OccupiedEntry, VacantEntry};
 pub use iter::{IntoIter, Iter};
 use std::alloc::Global;
 use std::fmt;
-use std::ops::Range;
 use toml_edit_key::Key;
 use toml_edit_repr::{Decor, Mem, Mode};
 use toml_edit_slots::{NoMemory, Slot, Slots};
@@ -43,6 +39,8 @@ use toml_edit_stream::{Printed, Sink, show};
 
 pub mod entry;
 mod iter;
+mod rearrange;
+mod spans;
 
 /// A table that headers or dotted keys define, or the root of a document (TOML, "Table").
 ///
@@ -119,20 +117,15 @@ impl Table {
     pub fn from_iter<U: IntoIterator<Item = (Key, Item)>>(alloc: Global, pairs: U) -> Mem<Table>
         requires { (it : U.IntoIter) → U.into_iter_gives pairs it
             → U.IntoIter.can_next it × IsFinite (U.IntoIter.remaining it) }
-        ensures { IfOk result
-            (λ table. (it : U.IntoIter) × (xs : List (Key × Item)) × U.into_iter_gives pairs it
-            × Drains U.IntoIter.next_gives it xs
-            × (table_view table
-            ≡ record {
-              fields = new_table;
-              slots = slots_from (extended (map slot_taken xs) []);
-            })) }
+        ensures { IfOk result (λ table. (it : U.IntoIter) × (xs : List (Key × Item))
+            × U.into_iter_gives pairs it × Drains U.IntoIter.next_gives it xs
+            × (table_view table ≡ new_table_of (extended (map slot_taken xs) []))) }
     {
         Ok(Table::of_slots(Slots::from_iter(alloc, pairs)?))
     }
 
     /// Makes a new table of these slots.
-    fn of_slots(slots: Slots<Item>) -> Table
+    pub(crate) fn of_slots(slots: Slots<Item>) -> Table
         ensures { table_view result ≡ record { fields = new_table; slots = slots_view slots } }
     {
         Table {
@@ -142,65 +135,6 @@ impl Table {
             dotted: false,
             position: None,
             span: None,
-        }
-    }
-
-    /// Makes the root of a parsed document of these slots.
-    #[doc(hidden)]
-    pub fn root(slots: Slots<Item>) -> Table
-        ensures fields { fields_view result ≡ root_fields spanned_form }
-        ensures slots { table_slots result ≡ slots_view slots }
-    {
-        Table {
-            slots,
-            decor: Decor::default(),
-            implicit: false,
-            dotted: false,
-            position: None,
-            span: Some((0, 0)),
-        }
-    }
-
-    /// Makes the table that a path implies: below a dotted key, or below a key of a header before
-    /// the last. The key spans the bytes from `start` to `end` of the source.
-    #[doc(hidden)]
-    pub fn passed(slots: Slots<Item>, dotted: bool, start: usize, end: usize) -> Table
-        ensures { table_view result
-            ≡ record {
-              fields = made_by_path spanned_form dotted (Some (start, end));
-              slots = slots_view slots;
-            } }
-    {
-        Table {
-            slots,
-            decor: Decor::default(),
-            implicit: true,
-            dotted,
-            position: None,
-            span: Some((start, end)),
-        }
-    }
-
-    /// Makes the table of a header, whose brackets span the bytes from `start` to `end` of the
-    /// source. `position` counts headers.
-    #[doc(hidden)]
-    pub fn headed(
-        slots: Slots<Item>,
-        decor: Decor,
-        position: isize,
-        start: usize,
-        end: usize,
-    ) -> Table
-        ensures { table_view result
-            ≡ record { fields = headed decor position start end; slots = slots_view slots } }
-    {
-        Table {
-            slots,
-            decor,
-            implicit: false,
-            dotted: false,
-            position: Some(position),
-            span: Some((start, end)),
         }
     }
 }
@@ -334,37 +268,6 @@ impl Table {
     {
         let at = self.slots.find(key)?;
         Some(&self.slots.as_slice()[at].key)
-    }
-
-    /// Returns the byte range of the header in the source, both brackets included.
-    ///
-    /// A table that has no header of its own spans the key that implied it, and the root has an
-    /// empty range. It is `None` for a table that was made, and in a `DocumentMut`: read it before
-    /// `into_mut`.
-    pub fn span(&self) -> Option<Range<usize>>
-        ensures { result ≡ range_in (fields_view self.now).extent }
-    {
-        let (start, end) = self.span?;
-        Some(start..end)
-    }
-
-    /// Replaces each span of `source` by the text there.
-    ///
-    /// # Errors
-    ///
-    /// Returns an `AllocError` if out of memory. Some spans may be left then, so the document has
-    /// to be dropped.
-    #[doc(hidden)]
-    pub fn despan(&mut self, alloc: Global, source: &str) -> Mem<()>
-        requires decor { DecorFits source.now (fields_view self.old).decor }
-        requires slots { SlotsFit source.now (table_slots self.old) }
-        requires spelled { ∥ SlotsAreWellMade (owned_slots source.now (table_slots self.old)) ∥₁ }
-        ensures fields { OnOk result
-            (fields_view self.new ≡ owned_fields source.now (fields_view self.old)) }
-        ensures slots { OnOk result
-            (table_slots self.new ≡ owned_slots source.now (table_slots self.old)) }
-    {
-        despan_table(self, alloc, source)
     }
 
     /// Copies the table, with all spellings, decors, spans and positions.

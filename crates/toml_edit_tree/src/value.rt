@@ -26,8 +26,8 @@ use crate::encode::{put_array, put_inline};
 use crate::inline_table::InlineTable;
 use crate::item::Item;
 use std::alloc::Global;
-use std::fmt;
 use std::ops::Range;
+use std::{fmt, mem};
 use toml_edit_datetime::{Date, Datetime, FloatText, Time};
 use toml_edit_key::Key;
 use toml_edit_repr::{Decor, Formatted, Mem, RawString};
@@ -121,9 +121,8 @@ impl Value {
     pub fn from_pairs<U: IntoIterator<Item = (Key, Value)>>(alloc: Global, pairs: U) -> Mem<Value>
         requires { (it : U.IntoIter) → U.into_iter_gives pairs it
             → U.IntoIter.can_next it × IsFinite (U.IntoIter.remaining it) }
-        ensures { IfOk result
-            (λ value. (it : U.IntoIter) × (ps : List (Key × Value)) × U.into_iter_gives pairs it
-            × Drains U.IntoIter.next_gives it ps
+        ensures { IfOk result (λ value. (it : U.IntoIter) × (ps : List (Key × Value))
+            × U.into_iter_gives pairs it × Drains U.IntoIter.next_gives it ps
             × (value_view value
             ≡ inline new_inline (slots_from (extended (map value_taken ps) [])))) }
     {
@@ -396,6 +395,21 @@ impl Value {
             Value::Array(array) => array.decor_mut(),
             Value::InlineTable(table) => table.decor_mut(),
         }
+    }
+
+    /// Replaces the value by `new` under its own decor, and returns the old value with that of
+    /// `new`.
+    ///
+    /// So the comments and the spaces around the value stay.
+    pub fn replace_with(&mut self, new: Value) -> Value
+        ensures new { value_view self.new
+            ≡ with_decor (node_decor (value_view self.old)) (value_view new) }
+        ensures old { value_view result
+            ≡ with_decor (node_decor (value_view new)) (value_view self.old) }
+    {
+        let mut new = new;
+        mem::swap(self.decor_mut(), new.decor_mut());
+        mem::replace(self, new)
     }
 
     /// Returns the value with `prefix` before it and `suffix` after it, in place of its decor.

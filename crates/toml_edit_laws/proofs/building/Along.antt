@@ -1,14 +1,13 @@
 -- Other slots put at the keys of a block, and those that are there.
 use Rattle.std.proofs.Common.{◌≡◌, refl, sym, ◌∙◌, ap, inl, inr, List, [], ◌∷◌, Option, Some, None}
-use Rattle.std.specs.Prelude.{option_map, option_and_then}
+use Rattle.std.specs.Prelude.{option_and_then}
 use Rattle.std.proofs.lemmas.Bool.{cases_Bool}
 use Rattle.toml_edit_model.specs.Text.{Text, same_text}
 use Rattle.toml_edit_model.specs.Tree.{Node, nothing, leaf, list, inline, table, tables, Items, no_items, item, Slots, no_slots, slot}
 use Rattle.toml_edit_laws.specs.InlineTree.{node_at, with_node}
-use Rattle.toml_edit_laws.specs.Building.{last_slots, block_slots, slots_along, change_along}
+use Rattle.toml_edit_laws.specs.Building.{last_slots, block_slots, slots_along}
 use Rattle.toml_edit_laws.specs.AddPath.{put_last, put_in, put_under, put_along}
 use Rattle.toml_edit_laws.proofs.common.OptionSteps.{bind_some, some-is}
-use Rattle.toml_edit_laws.proofs.building.Descent.{along_lens}
 
 -- ---- the item of a key
 
@@ -163,13 +162,3 @@ put_same (k ∷ ks) ss old h =
     ap (put_under k (put_along ks old) ss) at
     ∙ ap (λ (m : Node). with_node k m ss) (in-put-same (put_along ks old) n us within (put_same ks us old further))
     ∙ node-put-same k n ss at
-
--- A change of slots that were put there is put there.
-pub change_put : (ks : List Text) (change : Slots → Option Slots) (x ss old : Slots) → slots_along ks ss ≡ Some old
-    → change_along ks change (put_along ks x ss) ≡ option_map (λ new. put_along ks new ss) (change x)
-change_put ks change x ss old h =
-    along_lens ks change (put_along ks x ss) x (along_put ks x ss old h) ∙ by_change (change x)
-  where
-    by_change : (o : Option Slots) → option_map (λ (new : Slots). put_along ks new (put_along ks x ss)) o ≡ option_map (λ (new : Slots). put_along ks new ss) o
-    by_change None = refl
-    by_change (Some new) = ap (λ (us : Slots). Some us) (put_put ks x new ss)

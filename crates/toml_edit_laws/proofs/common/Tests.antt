@@ -41,10 +41,6 @@ pub or-right : (a b : Bool) → (a || b) ≡ false → b ≡ false
 or-right false b h = h
 or-right true b h = cc
 
-pub not-or : (a b : Bool) → not (a || b) ≡ (not a && not b)
-not-or true b = refl
-not-or false b = refl
-
 pub not-true : (a : Bool) → not a ≡ true → a ≡ false
 not-true true h = sym h
 not-true false h = refl

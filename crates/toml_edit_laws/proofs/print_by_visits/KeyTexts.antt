@@ -1,5 +1,5 @@
 -- The texts of dotted keys, key by key.
-use Rattle.std.proofs.Common.{◌≡◌, refl, sym, ap, ◌∙◌, true, false, Bool, List, [], ◌∷◌, ◌++◌, Option, None, Some, append_assoc, suc, ◌-◌, length, map, slice_get, arith}
+use Rattle.std.proofs.Common.{◌≡◌, refl, sym, ap, ◌∙◌, true, false, Bool, List, [], ◌∷◌, ◌++◌, Option, None, Some, append_assoc}
 use Rattle.std.specs.Prelude.{codes}
 use Rattle.toml_edit_model.specs.Mode.{Mode}
 use Rattle.toml_edit_model.specs.Text.{Text}
@@ -28,13 +28,6 @@ goes_on s d p t u e r = simp append_assoc
 abbrev pub leaf_of : {A : Type 0} → (A → Key) → Option A → Decor
 leaf_of view None = unset
 leaf_of view (Some k) = (view k).leaf
-
-pub last_leaf-is : {A : Type 0} (view : A → Key) (ks : List A) → last_leaf (map view ks) ≡ leaf_of view (slice_get ks (length ks - 1))
-last_leaf-is view [] = refl
-last_leaf-is view (k ∷ []) = refl
-last_leaf-is view (k ∷ l ∷ rest) =
-    let e : length (k ∷ l ∷ rest) - 1 ≡ suc (length (l ∷ rest) - 1) = omega arith in
-    last_leaf-is view (l ∷ rest) ∙ sym (ap (λ n. leaf_of view (slice_get (k ∷ l ∷ rest) n)) e)
 
 in_order : (a d b t s e v n : Text) → a ++ ((d ++ (b ++ t)) ++ (s ++ (e ++ (v ++ n)))) ≡ (a ++ (d ++ (b ++ (t ++ (s ++ e))))) ++ (v ++ n)
 in_order a d b t s e v n = simp append_assoc

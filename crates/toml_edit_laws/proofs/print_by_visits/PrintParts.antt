@@ -217,7 +217,3 @@ module _ (mode : Mode) where
       ++ ((if t.root.is_dotted then [] else x)
       ++ (headers_text mode (begins t.root t.slots) (sorted_by by_place (headed_tables t.root t.slots)) ++ (shown_suffix mode [] t.root.decor ++ shown_raw mode t.trailing))))
       (sym (lines-are mode t.slots []))
-
--- the five texts, as they are written one by one
-pub in_five : (a b c d e : Text) → (((a ++ b) ++ c) ++ d) ++ e ≡ a ++ (b ++ (c ++ (d ++ e)))
-in_five a b c d e = simp append_assoc

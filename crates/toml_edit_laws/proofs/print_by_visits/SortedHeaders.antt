@@ -8,11 +8,9 @@ use Rattle.std.specs.Ordering.{int_cmp, is_lt}
 use Rattle.std.proofs.lemmas.Fn.{always_returns_same}
 use Rattle.std.proofs.lemmas.List.Sorted.{ranks_by}
 use denote.Ref.{Bor}
-use Rattle.toml_edit_model.specs.HeaderOrder.{PlacedVisit, comes_before}
 use Rattle.toml_edit_laws.specs.PrintByVisits.{Headed, by_place}
 use Rattle.toml_edit_laws.proofs.common.OrderLaws.{sorted-alike, sorted-image}
 use Rattle.toml_edit_laws.proofs.print_by_visits.StableSort.{sorted-by_place, stable-sort}
-use Rattle.toml_edit_laws.proofs.common.Visits.{before-total, before-trans}
 use Rattle.toml_edit_laws.proofs.common.Each.{trivially}
 use Rattle.toml_edit_model.specs.Order.{sorted_by}
 
@@ -50,24 +48,6 @@ module _ {A : Type 0} (le : A → A → Bool)
       ∙ sorted-alike (λ x. Unit {0}) (λ a b. not (below b a)) le (λ a b p q. twice (le a b)) xs (trivially xs)
 
 -- ---- the order of headers, the root first
-
-abbrev pub header_below : PlacedVisit → PlacedVisit → Bool
-header_below g h = not (comes_before h g)
-
-pub header_below-order : IsStrictWeakOrder header_below
-header_below-order = below-order comes_before before-trans before-total
-
-pub in-header-order : (xs ys : List PlacedVisit) → IsSortedBy header_below ys → IsStableBy header_below xs ys → ys ≡ sorted_by comes_before xs
-in-header-order xs ys up stable = stable-sort-by comes_before before-trans before-total xs ys up stable
-
--- from the clauses of `sort_by`, where each call answers `Less` just where the first comes before the second and not the other way round
-pub in-header-order-by : {F : Type 0} {g : Mut F (Bor PlacedVisit × (Bor PlacedVisit × Unit {0})) Ordering} {f : F} (xs ys : List PlacedVisit)
-    → IsSortedByClosure g f ys → IsStableByClosure g f xs ys
-    → ((a : Bor PlacedVisit × (Bor PlacedVisit × Unit {0})) (r : Ordering) (f' : F) → Called g f a r f' → (is_lt r ≡ header_below a.0.now a.1.0.now) × (f' ≡ f))
-    → ys ≡ sorted_by comes_before xs
-in-header-order-by {g = g} {f = f} xs ys up stable calls =
-    let compares = always_returns_same g (λ a r. is_lt r ≡ header_below a.0.now a.1.0.now) f calls in
-    in-header-order xs ys (up header_below header_below-order compares) (stable header_below header_below-order compares)
 
 -- ---- tables with places, below the root
 

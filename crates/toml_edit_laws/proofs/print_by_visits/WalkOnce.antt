@@ -73,16 +73,6 @@ step b c w s v =
     then w
     else record { tables = if c then w.tables ++ (head_of (s, v) ∷ []) else w.tables; seen = s }
 
-seen-step : (b c : Bool) (w : Walked) (s : ℤ) (v : Visit) → (step b c w s v).seen ≡ (if b then w.seen else s)
-seen-step true c w s v = refl
-seen-step false c w s v = refl
-
-pub seen-is : (vs : List Visit) (w : Walked) → (enter_all vs w).seen ≡ seen_after w.seen vs
-seen-is [] w = refl
-seen-is (v ∷ vs) w =
-    seen-is vs (enter_visit w v)
-    ∙ ap (λ z. seen_after z vs) (seen-step v.fields.is_dotted (shows_header (place_of w.seen v, v)) w (place_of w.seen v) v)
-
 one-more : (c : Bool) (w : Walked) (s : ℤ) (v : Visit) (rest : List PlacedVisit)
     → (if c then w.tables ++ (head_of (s, v) ∷ []) else w.tables) ++ shown_heads rest
     ≡ w.tables ++ map head_of (if c then (s, v) ∷ filter shows_header rest else filter shows_header rest)
@@ -105,6 +95,3 @@ tables-are (v ∷ vs) w = tables-step v.fields.is_dotted w (place_of w.seen v) v
 pub walked-tables : (ss : Slots) (p : Path) (ks : List Key) (w : Walked)
     → (walked ss ks w).tables ≡ w.tables ++ shown_heads (places_from w.seen (slots_walk ss p ks))
 walked-tables ss p ks w = ap (λ (u : Walked). u.tables) (walked-is ss p ks w) ∙ tables-are (slots_walk ss p ks) w
-
-pub walked-seen : (ss : Slots) (p : Path) (ks : List Key) (w : Walked) → (walked ss ks w).seen ≡ seen_after w.seen (slots_walk ss p ks)
-walked-seen ss p ks w = ap (λ (u : Walked). u.seen) (walked-is ss p ks w) ∙ seen-is (slots_walk ss p ks) w

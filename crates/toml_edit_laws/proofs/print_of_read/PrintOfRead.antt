@@ -12,11 +12,11 @@ use Rattle.toml_edit_model.specs.Text.{Text, one, is_empty}
 use Rattle.toml_edit_model.specs.Syntax.{Header, Statement, header, Document, IsDocument, IsHeader, open_statements, AreStatements, document_text, key_line}
 use Rattle.toml_edit_model.specs.Paths.{Step, at_key, at_element, Path, Mention, Source, Placed, start_context, placed, all_mentions}
 use Rattle.toml_edit_model.specs.Accepted.{is_accepted}
-use Rattle.toml_edit_model.specs.Normal.{is_line, ordered, normal_statement, normal_in, normal_text_in, has_open_end, normal_last, normal, normal_text}
+use Rattle.toml_edit_model.specs.Normal.{is_line, ordered, normal_statement, normal_in, normal_text_in, has_open_end, normal_last}
 use Rattle.toml_edit_model.specs.Tree.{Tree, TableFields, shown_prefix, shown_suffix, shown_raw, owned}
-use Rattle.toml_edit_model.specs.TreeOf.{owned_in, IsTreeOf, root_fields, owned_form}
+use Rattle.toml_edit_model.specs.TreeOf.{owned_in, IsTreeOf, root_fields}
 use Rattle.toml_edit_model.specs.HeaderOrder.{Visit, slots_walk, is_root, in_header_order}
-use Rattle.toml_edit_model.specs.Print.{Line, lines_of, table_lines, line_statement, Printed, printed_line, printed_header, printed_table, printed, statements_of, print_in, add_before, final_of, document_in, leaves_open, open_last, written_statements, print, printed_document}
+use Rattle.toml_edit_model.specs.Print.{Line, lines_of, table_lines, line_statement, Printed, printed_line, printed_header, printed_table, printed, statements_of, print_in, add_before, final_of, document_in, leaves_open, open_last, written_statements}
 use Rattle.toml_edit_laws.proofs.print_of_read.NoVisits.{numbered}
 use Rattle.toml_edit_laws.proofs.common.Members.{Among, among-left, among-right, all-among, all-of-among}
 use Rattle.toml_edit_laws.proofs.mentions.KeptOrder.{HaveOneHeader}
@@ -295,11 +295,3 @@ module _ (mode : Mode) where
       sym (document-text mode (has_open_end d.statements) t) ∙ ap document_text (printed_normal d is_document accepted t is)
 
 -- ---- in the plain mode
-
-pub plain_printed_normal : (d : Document) → IsDocument d → is_accepted d ≡ true → (t : Tree) → IsTreeOf owned_form d t → printed_document t ≡ normal d
-unfolding normal
-plain_printed_normal d is_document accepted t is = printed_normal plain d is_document accepted t is
-
-pub plain_print_normal : (d : Document) → IsDocument d → is_accepted d ≡ true → (t : Tree) → IsTreeOf owned_form d t → print t ≡ normal_text d
-unfolding print normal_text
-plain_print_normal d is_document accepted t is = print_normal plain d is_document accepted t is

@@ -3,7 +3,6 @@ use Rattle.std.proofs.Common.{◌≡◌, refl, [], ◌∷◌, true, false, inl, 
 use Rattle.toml_edit_model.specs.Mode.{Mode}
 use Rattle.toml_edit_model.specs.Scalars.{boolean}
 use Rattle.toml_edit_model.specs.Syntax.{scalar, key_line, Document}
-use Rattle.toml_edit_model.specs.Accepted.{is_accepted}
 use Rattle.toml_edit_model.specs.Meaning.{Fact, fact, a_table, a_scalar, SameFacts, meaning}
 use Rattle.toml_edit_model.specs.Shown.{shown_meaning}
 use Rattle.toml_edit_model.specs.Tree.{owned, no_slots, Tree}
@@ -12,10 +11,6 @@ use Rattle.toml_edit_laws.proofs.common.Members.{from-contained, to-contained}
 
 pub odd : Document
 odd = record { has_mark = false; statements = key_line (record { leading = []; path = []; before_equals = []; after_equals = []; trailing = [] }) (scalar (boolean true) (codes "true")) [] ∷ []; final = [] }
-
-pub odd-accepted : is_accepted odd ≡ true
-unfolding is_accepted odd
-odd-accepted = refl
 
 module _ (mode : Mode) where
   pub odd-tree : Tree

@@ -1,7 +1,7 @@
 -- What reads as a string of several lines is one, and such a string is read again.
-use Rattle.std.proofs.Common.{◌≡◌, ◌⊎◌, ℕ, true, false, not, ◌==◌, ◌&&◌, ◌||◌, List, [], ◌∷◌, ◌++◌, length, slice_index, Some, refl, sym, ap, ◌∙◌, inl, inr, arith, append-nil, eqb-true}
+use Rattle.std.proofs.Common.{◌≡◌, ◌⊎◌, ℕ, true, false, not, ◌==◌, ◌&&◌, ◌||◌, List, [], ◌∷◌, ◌++◌, length, slice_index, Some, refl, ap, ◌∙◌, inl, inr, arith, eqb-true}
 use Rattle.std.specs.List.{flat_map, AllByRecursion, list_all}
-use Rattle.std.proofs.lemmas.Bool.{and_parts, ne_eqb, false≢true}
+use Rattle.std.proofs.lemmas.Bool.{and_parts, ne_eqb}
 use Rattle.std.proofs.lemmas.Bool.Decides.{nat_tests}
 use Rattle.toml_edit_model.specs.Text.{Text}
 use Rattle.toml_edit_model.specs.Trivia.{Each}
@@ -53,10 +53,6 @@ block-opens_before v spelled rest (inr is) =
     let e = form_opens ℕ (λ x. is_literal x ≡ true) (λ j. ⊥) (λ p. false) (λ x. x ∷ []) (λ x. x ∷ []) 39 literal_part_at literal_law v spelled rest is in
     rw (one_kind (spelled ++ rest) e, e) refl
 
--- the same with nothing behind it
-pub block-opens : (v spelled : Text) → SpellsMultilineBasic v spelled ⊎ SpellsMultilineLiteral v spelled → opens_block spelled ≡ true
-block-opens v spelled is = ap opens_block (sym (append-nil spelled)) ∙ block-opens_before v spelled [] is
-
 -- such a string is read again in front of no quote
 pub block_again : (v spelled rest : Text) → SpellsMultilineBasic v spelled ⊎ SpellsMultilineLiteral v spelled → ends_block rest ≡ true → block_at (spelled ++ rest) ≡ Some (v, rest)
 unfolding block_at
@@ -86,7 +82,3 @@ literal_opens_none (x ∷ w) rest each stop =
 pub line-opens_none : (w t rest : Text) → SpellsBasic w t ⊎ SpellsLiteral w t → ends_block rest ≡ true → opens_block (t ++ rest) ≡ false
 line-opens_none w t rest (inl (parts, each, says, whole)) stop = ap (λ (x : Text). opens_block (x ++ rest)) whole ∙ basic_opens_none parts rest each stop
 line-opens_none w t rest (inr (each, whole)) stop = ap (λ (x : Text). opens_block (x ++ rest)) whole ∙ literal_opens_none w rest each stop
-
--- no text is spelled both so and on one line
-pub block-no_line : (v w t : Text) → SpellsMultilineBasic v t ⊎ SpellsMultilineLiteral v t → SpellsBasic w t ⊎ SpellsLiteral w t → ⊥
-block-no_line v w t block line = false≢true (sym (line-opens_none w t [] line refl) ∙ block-opens_before v t [] block)

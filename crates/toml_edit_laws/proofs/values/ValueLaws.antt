@@ -5,17 +5,11 @@ use Rattle.toml_edit_model.specs.Text.{Text}
 use Rattle.toml_edit_model.specs.Syntax.{Value, value_text, IsValue, keeps_ranges}
 use Rattle.toml_edit_model.specs.Accepted.{has_agreeing_pairs}
 use Rattle.toml_edit_model.specs.Tree.{Node, IsWellMade}
-use Rattle.toml_edit_model.specs.TreeOf.{Form, spanned_in, owned_in, IsValueNode}
+use Rattle.toml_edit_model.specs.TreeOf.{spanned_in, owned_in, IsValueNode}
 use Rattle.toml_edit_laws.specs.Standing.{Stands}
-use Rattle.toml_edit_laws.proofs.values.SomeNode.{one_item}
 use Rattle.toml_edit_laws.proofs.values.ValueOwned as owned
 use Rattle.toml_edit_laws.proofs.values.ValueMade.{made_well}
 use Rattle.toml_edit_model.specs.OwnedForm.{owned_node}
-
--- In each form a value has one item.
-pub one_node : (v : Value) (form : Form) (i : ℕ) (before after : Text)
-    → (n : Node) × IsValueNode form v i before after n × ((m : Node) → IsValueNode form v i before after m → m ≡ n)
-one_node v form i before after = one_item form v i before after
 
 module _ (mode : Mode) where
   -- What its spans cut makes the item of the same value with owned texts.

@@ -42,6 +42,3 @@ value_item (inline_table ps comma t) form i before after (inline f ss) h =
 value_item (inline_table ps comma t) form i before after nothing h = absurd h
 value_item (inline_table ps comma t) form i before after (table f ss) h = absurd h
 value_item (inline_table ps comma t) form i before after (tables e xs) h = absurd h
-
-pub value_shown : (v : Value) (form : Form) (i : ℕ) (before after : Text) (n : Node) → IsValueNode form v i before after n → is_shown n ≡ true
-value_shown v form i before after n h = (value_item v form i before after n h).shown

@@ -18,6 +18,7 @@ use Rattle.toml_edit_model.specs.Lists.{slot_list, slots_from, items_from, on_sl
 use Rattle.toml_edit_model.specs.Conversions.{new_table, with_decor, formatted, formatted_items, formatted_array, made_value, into_tables, value_display, table_display}
 use Rattle.toml_edit_model.specs.Iterating.{table_values}
 use Rattle.toml_edit_model.specs.ArrayCalls.{pushed, replaced_at, removed_at}
+use Rattle.toml_edit_model.specs.Positions.{slots_without_positions}
 use Rattle.toml_edit_model.specs.Sorting.{sorted_slots}
 use Rattle.toml_edit_model.specs.Indexing.{Index, number, text, indexed, with_indexed, index_or_inserted, item_under}
 use Rattle.toml_edit_model.specs.examples.Parts.{line, head, document, a, b, c, x, pair_of, one_value, two_value, three_value, plain_int, owned_decor, plain_list}
@@ -352,3 +353,14 @@ first_emptied : shows_as (at_item (codes "a") (with_indexed (number 0) nothing)
     (codes "[[a]]\nx = 2\n") true ≡ all_four
 unfolding print meaning shown_meaning is_accepted
 first_emptied = refl
+
+-- ---- positions
+
+-- `[a]`, `[b]`, `[a.c]`: without their positions the headers print in the order of the tree
+forgotten_positions : print
+    (let t = read (document (head false (a ∷ []) ∷ head false (b ∷ []) ∷ head false (a ∷ c ∷ [])
+    ∷ [])) in
+    record t { slots = slots_without_positions t.slots })
+    ≡ codes "[a]\n[a.c]\n[b]\n"
+unfolding print
+forgotten_positions = refl

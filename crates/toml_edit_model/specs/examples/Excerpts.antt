@@ -54,7 +54,8 @@ excerpt_in_element = refl
 
 excerpt_overflow : excerpt (codes "x = 9223372036854775808\n") (Some (4, 23))
     (codes "integer number overflowed")
-    ≡ codes "TOML parse error at line 1, column 5\n  |\n1 | x = 9223372036854775808\n  |     ^^^^^^^^^^^^^^^^^^^\ninteger number overflowed\n"
+    ≡ codes "TOML parse error at line 1, column 5\n  |\n1 | x = 9223372036854775808\n"
+    ++ codes "  |     ^^^^^^^^^^^^^^^^^^^\ninteger number overflowed\n"
 unfolding digits
 excerpt_overflow = refl
 

@@ -5,6 +5,7 @@ use Rattle.toml_edit_model.specs.Text.{Text, one}
 use Rattle.toml_edit_model.specs.Tree.{owned, Key, Node, nothing, inline, table, tables, no_items, no_slots, slot}
 use Rattle.toml_edit_model.specs.Keys.{new_key, reset_key, cleared_key}
 use Rattle.toml_edit_model.specs.Slots.{Slot, on_key, with_item, changed_at, names, place, lookup, lookup_key, pairs, changed, inserted, inserted_formatted, or_inserted, extended, without, retained}
+use Rattle.toml_edit_model.specs.Rearranging.{renamed_key, is_free, renamed_slot, inserted_slot, moved_slot}
 use Rattle.toml_edit_model.specs.Lists.{is_item}
 use Rattle.toml_edit_model.specs.Iterating.{filled, filled_pairs, value_pairs}
 use Rattle.toml_edit_model.specs.Conversions.{new_inline, formatted}
@@ -96,6 +97,60 @@ nothing_removed = refl
 
 retained_one : retained (λ t n. n == 2) two ≡ one (at (kept b) 2)
 retained_one = refl
+
+-- ---- other names and other places
+
+-- the decors stay, and the spelling doesn't
+key_renamed : renamed_key c (kept a) ≡ record (new_key c) { leaf = owned_decor (codes "# x\n") [] }
+key_renamed = refl
+
+-- a new name is free, and so is the slot's own one; that of another slot isn't
+free_names : is_free a c two ∷ is_free a a two ∷ is_free a b two ∷ []
+    ≡ true ∷ true ∷ false ∷ []
+free_names = refl
+
+-- the slot keeps its place and its item
+renamed_first : renamed_slot a c two ≡ at (renamed_key c (kept a)) 1 ∷ at (kept b) 2 ∷ []
+renamed_first = refl
+
+renamed_to_itself : renamed_slot b b two ≡ at (kept a) 1 ∷ at (renamed_key b (kept b)) 2 ∷ []
+renamed_to_itself = refl
+
+renamed_to_another : renamed_slot a b two ≡ two
+renamed_to_another = refl
+
+nothing_renamed : renamed_slot c (codes "d") two ≡ two
+nothing_renamed = refl
+
+-- at the first place, at one inside, after the others
+inserted_first : inserted_slot 0 (at (kept c) 3) two ≡ at (kept c) 3 ∷ two
+inserted_first = refl
+
+inserted_between : inserted_slot 1 (at (kept c) 3) two
+    ≡ at (kept a) 1 ∷ at (kept c) 3 ∷ at (kept b) 2 ∷ []
+inserted_between = refl
+
+inserted_last : inserted_slot 2 (at (kept c) 3) two ≡ two ++ one (at (kept c) 3)
+inserted_last = refl
+
+-- up, down, to its own place; a slot that isn't there moves nothing
+abbrev three : List (Slot ℕ)
+three = two ++ one (at (kept c) 3)
+
+moved_up : moved_slot a 2 three ≡ at (kept b) 2 ∷ at (kept c) 3 ∷ at (kept a) 1 ∷ []
+moved_up = refl
+
+moved_down : moved_slot c 0 three ≡ at (kept c) 3 ∷ two
+moved_down = refl
+
+moved_inside : moved_slot a 1 three ≡ at (kept b) 2 ∷ at (kept a) 1 ∷ at (kept c) 3 ∷ []
+moved_inside = refl
+
+not_moved : moved_slot b 1 three ≡ three
+not_moved = refl
+
+nothing_moved : moved_slot (codes "d") 0 three ≡ three
+nothing_moved = refl
 
 -- ---- slots of a table
 

@@ -1,5 +1,5 @@
 -- Each exit of the functions that read values.
-use Rattle.std.proofs.Common.{suc, ◌+◌, ◌*◌, ◌-◌, ◌∷◌, ◌++◌, length, ap, subst, ◌∙◌, arith, codes, ◌≡◌, ◌<◌, ◌≤◌, sym, lit<, refl, inl, inr}
+use Rattle.std.proofs.Common.{suc, ◌+◌, ◌*◌, ◌-◌, ◌∷◌, ◌++◌, length, ap, subst, ◌∙◌, arith, codes, ◌≡◌, ◌<◌, ◌≤◌, sym, lit<, refl, inr}
 use Rattle.std.proofs.lemmas.Result.{err_from_is_err_and}
 use Rattle.toml_edit_model.specs.Version.{v1_1}
 use Rattle.toml_edit_model.specs.Syntax.{array, value_text, inline_table}
@@ -348,20 +348,8 @@ pairs::read_pair-returns-clause-rest t c =
     let parts = frame-in s c.args.leading c.args.events.now (parts_of c.in-Some.frame) c.in-Some.rest.now c.in-Some.ensures c.requires.1.1.1 in
     fewer-still s c.in-Some.rest.now c.in_ok-value.rest.now c.args.events.now c.end_pair-ended.result parts.fewer c.in_ok-value.ensures.rest.1 c.end_pair-ended.ensures.rest
 
-pub reader::read_value-returns-in_default-clause-listed : goal.reader::read_value-returns-in_default-clause-listed
-reader::read_value-returns-in_default-clause-listed t c = c.refusal_at_end.ensures.listed v1_1 (inl (3, lit< tt, refl))
-
-pub pairs::read_pair-returns-in_default-clause-listed : goal.pairs::read_pair-returns-in_default-clause-listed
-pairs::read_pair-returns-in_default-clause-listed t c = c.refusal_at_end.ensures.listed v1_1 (inl (1, lit< tt, refl))
-
 pub pairs::read_pair-returns-then-frame-gt-MOST_PATH_EVENTS-clause-listed : goal.pairs::read_pair-returns-then-frame-gt-MOST_PATH_EVENTS-clause-listed
-pairs::read_pair-returns-then-frame-gt-MOST_PATH_EVENTS-clause-listed t c = c.refusal_of_all.ensures.listed v1_1 refl
-
-pub reader::read_value-returns-in_default-clause-input : goal.reader::read_value-returns-in_default-clause-input
-reader::read_value-returns-in_default-clause-input t c = mapped c.refusal_at_end.result _ _ (λ r known. ap (λ (x : Report). x.input) known) c.refusal_at_end.ensures.report
-
-pub pairs::read_pair-returns-in_default-clause-input : goal.pairs::read_pair-returns-in_default-clause-input
-pairs::read_pair-returns-in_default-clause-input t c = mapped c.refusal_at_end.result _ _ (λ r known. ap (λ (x : Report). x.input) known) c.refusal_at_end.ensures.report
+pairs::read_pair-returns-then-frame-gt-MOST_PATH_EVENTS-clause-listed t c = c.refusal_of_all.ensures.listed v1_1
 
 pub pairs::read_pair-returns-then-frame-gt-MOST_PATH_EVENTS-clause-input : goal.pairs::read_pair-returns-then-frame-gt-MOST_PATH_EVENTS-clause-input
 pairs::read_pair-returns-then-frame-gt-MOST_PATH_EVENTS-clause-input t c = mapped c.refusal_of_all.result _ _ (λ r known. ap (λ (x : Report). x.input) known) c.refusal_of_all.ensures.report

@@ -1,12 +1,12 @@
 //! The methods of an entry of a table of either kind.
 ghost use Rattle.std.specs.Borrow.{sem};
 ghost use Rattle.std.specs.Option.{unwrap_or, UnwrapsOrElse};
-ghost use Rattle.std.specs.Prelude.{◌≡◌, ◌<◌, IfErr, IfOk, IfSome, IsOk, IsTrue, None, OnErr, Some, length, option_map, slice_get};
-ghost use Rattle.toml_edit_model.specs.Slots.{has_slot, lookup, place as place_seen, put, with_item, AreApart};
-ghost use Rattle.toml_edit_slots.specs.Slots.{items_of, place};
-ghost use Rattle.toml_edit_table_like.specs.Entries.{entry_key, entry_ref, with_table, EntryLends, IsViewOf};
+ghost use Rattle.std.specs.Prelude.{◌≡◌, ◌<◌, IfErr, IfOk, IfSome, IsOk, IsTrue, None, OnErr, Some, length, option_map};
+ghost use Rattle.toml_edit_model.specs.Slots.{place as place_seen, AreApart};
+ghost use Rattle.toml_edit_slots.specs.Slots.{place};
+ghost use Rattle.toml_edit_table_like.specs.Entries.{entry_key, entry_ref, is_occupied, item_at, item_of, with_table, EntryLends, IsViewOf};
 ghost use Rattle.toml_edit_table_like.specs.Lending.{with_item_at};
-ghost use Rattle.toml_edit_table_like.specs.Putting.{with_item_put};
+ghost use Rattle.toml_edit_table_like.specs.Putting.{with_item_put, KeepsBeside, ShowsItemPut};
 ghost use Rattle.toml_edit_tree.specs.View.{item_view};
 ghost use Rattle.toml_edit_tree.specs.declared.item.Item.{Item};
 
@@ -29,16 +29,14 @@ impl<'a, T: HasSlots> TableLikeEntry<'a, T> {
 
     /// Returns `true` if the key has a slot, which may be a placeholder.
     pub fn is_occupied(&self) -> bool
-        ensures { result ≡ has_slot (entry_key self.now).name
-            (T.slots_of (entry_ref self.now).now) }
+        ensures { result ≡ is_occupied T.slots_of self.now }
     {
         self.find().is_some()
     }
 
     /// Returns the item of the key, a placeholder too, or `None` if the key is missing.
     pub fn get(&self) -> Option<&Item>
-        ensures { option_map (λ x. item_view x.now) result
-            ≡ lookup (entry_key self.now).name (T.slots_of (entry_ref self.now).now) }
+        ensures { option_map (λ x. item_view x.now) result ≡ item_of T.slots_of self.now }
     {
         self.table.as_slots().get(self.key())
     }
@@ -56,21 +54,13 @@ impl<'a, T: HasSlots> TableLikeEntry<'a, T> {
         ensures* writes_back { sem 𝓛 (EntryLends T.row T.entries T.with_entries self.entry result) }
         ensures item { IfOk result
             (λ lent. item_view lent.now
-            ≡ unwrap_or (lookup (entry_key self.old).name (T.slots_of (entry_ref self.old).now))
-            (item_view item)) }
+            ≡ unwrap_or (item_of T.slots_of self.old) (item_view item)) }
         // What the table is after a write through the reference.
-        ensures leaves { (w : Item)
-            → T.slots_of (with_item_put T.entries T.with_entries (entry_key self.old) w
-            (entry_ref self.old).now)
-            ≡ put (with_item (item_view w))
-            (record { key = entry_key self.old; item = item_view w })
-            (T.slots_of (entry_ref self.old).now) }
-        ensures keeps { (w : Item)
-            → T.beside (with_item_put T.entries T.with_entries (entry_key self.old) w
-            (entry_ref self.old).now) ≡ T.beside (entry_ref self.old).now }
-        ensures present { IsTrue
-            (has_slot (entry_key self.old).name (T.slots_of (entry_ref self.old).now))
-            → IsOk result }
+        ensures leaves { ShowsItemPut T.slots_of T.entries T.with_entries (entry_key self.old)
+            (entry_ref self.old).now }
+        ensures keeps { KeepsBeside T.beside T.entries T.with_entries (entry_key self.old)
+            (entry_ref self.old).now }
+        ensures present { IsTrue (is_occupied T.slots_of self.old) → IsOk result }
         ensures back { IfErr result (λ refused. refused.0 ≡ item) }
     {
         match self.place(item) {
@@ -95,26 +85,17 @@ impl<'a, T: HasSlots> TableLikeEntry<'a, T> {
     ) -> Result<&mut Item, NoMemory<Item>>
     where
         F: Drop,
-        requires { lookup (entry_key self.old).name (T.slots_of (entry_ref self.old).now) ≡ None
-            → F.pre default }
+        requires { item_of T.slots_of self.old ≡ None → F.pre default }
         ensures* writes_back { sem 𝓛 (EntryLends T.row T.entries T.with_entries self.entry result) }
         ensures item { IfOk result
-            (λ lent. UnwrapsOrElse
-            (lookup (entry_key self.old).name (T.slots_of (entry_ref self.old).now))
+            (λ lent. UnwrapsOrElse (item_of T.slots_of self.old)
             (IsViewOf (F.post default)) (item_view lent.now)) }
         // What the table is after a write through the reference.
-        ensures leaves { (w : Item)
-            → T.slots_of (with_item_put T.entries T.with_entries (entry_key self.old) w
-            (entry_ref self.old).now)
-            ≡ put (with_item (item_view w))
-            (record { key = entry_key self.old; item = item_view w })
-            (T.slots_of (entry_ref self.old).now) }
-        ensures keeps { (w : Item)
-            → T.beside (with_item_put T.entries T.with_entries (entry_key self.old) w
-            (entry_ref self.old).now) ≡ T.beside (entry_ref self.old).now }
-        ensures present { IsTrue
-            (has_slot (entry_key self.old).name (T.slots_of (entry_ref self.old).now))
-            → IsOk result }
+        ensures leaves { ShowsItemPut T.slots_of T.entries T.with_entries (entry_key self.old)
+            (entry_ref self.old).now }
+        ensures keeps { KeepsBeside T.beside T.entries T.with_entries (entry_key self.old)
+            (entry_ref self.old).now }
+        ensures present { IsTrue (is_occupied T.slots_of self.old) → IsOk result }
         ensures back { IfErr result (λ refused. F.post default refused.0) }
     {
         match self.place_with(default) {
@@ -140,23 +121,15 @@ impl<'a, T: HasSlots> TableLikeEntry<'a, T> {
         ensures same { self.new ≡ with_table (entry_ref self.new).now self.old }
         ensures within { IfOk result (λ at. at < length (T.entries (entry_ref self.new).now)) }
         ensures item { IfOk result
-            (λ at. option_map item_view
-            (slice_get (items_of (T.entries (entry_ref self.new).now)) at)
-            ≡ Some (unwrap_or (lookup (entry_key self.old).name
-            (T.slots_of (entry_ref self.old).now)) (item_view item))) }
+            (λ at. option_map item_view (item_at T.entries self.new at)
+            ≡ Some (unwrap_or (item_of T.slots_of self.old) (item_view item))) }
         ensures rest { IfOk result
             (λ at. (w : Item) → with_item_at T.entries T.with_entries at w (entry_ref self.new).now
             ≡ with_item_put T.entries T.with_entries (entry_key self.old) w
             (entry_ref self.old).now) }
-        ensures leaves { (w : Item)
-            → T.slots_of (with_item_put T.entries T.with_entries (entry_key self.old) w
-            (entry_ref self.old).now)
-            ≡ put (with_item (item_view w))
-            (record { key = entry_key self.old; item = item_view w })
-            (T.slots_of (entry_ref self.old).now) }
-        ensures present { IsTrue
-            (has_slot (entry_key self.old).name (T.slots_of (entry_ref self.old).now))
-            → IsOk result }
+        ensures leaves { ShowsItemPut T.slots_of T.entries T.with_entries (entry_key self.old)
+            (entry_ref self.old).now }
+        ensures present { IsTrue (is_occupied T.slots_of self.old) → IsOk result }
         ensures back { IfErr result (λ refused. refused.0 ≡ item) }
         ensures err { OnErr result ((entry_ref self.new).now ≡ (entry_ref self.old).now) }
     {
@@ -171,28 +144,20 @@ impl<'a, T: HasSlots> TableLikeEntry<'a, T> {
     fn place_with<F: FnOnce() -> Item>(&mut self, default: F) -> Result<usize, NoMemory<Item>>
     where
         F: Drop,
-        requires { lookup (entry_key self.old).name (T.slots_of (entry_ref self.old).now) ≡ None
-            → F.pre default }
+        requires { item_of T.slots_of self.old ≡ None → F.pre default }
         ensures same { self.new ≡ with_table (entry_ref self.new).now self.old }
         ensures within { IfOk result (λ at. at < length (T.entries (entry_ref self.new).now)) }
         ensures item { IfOk result
-            (λ at. IfSome (slice_get (items_of (T.entries (entry_ref self.new).now)) at)
-            (λ x. UnwrapsOrElse
-            (lookup (entry_key self.old).name (T.slots_of (entry_ref self.old).now))
+            (λ at. IfSome (item_at T.entries self.new at)
+            (λ x. UnwrapsOrElse (item_of T.slots_of self.old)
             (IsViewOf (F.post default)) (item_view x))) }
         ensures rest { IfOk result
             (λ at. (w : Item) → with_item_at T.entries T.with_entries at w (entry_ref self.new).now
             ≡ with_item_put T.entries T.with_entries (entry_key self.old) w
             (entry_ref self.old).now) }
-        ensures leaves { (w : Item)
-            → T.slots_of (with_item_put T.entries T.with_entries (entry_key self.old) w
-            (entry_ref self.old).now)
-            ≡ put (with_item (item_view w))
-            (record { key = entry_key self.old; item = item_view w })
-            (T.slots_of (entry_ref self.old).now) }
-        ensures present { IsTrue
-            (has_slot (entry_key self.old).name (T.slots_of (entry_ref self.old).now))
-            → IsOk result }
+        ensures leaves { ShowsItemPut T.slots_of T.entries T.with_entries (entry_key self.old)
+            (entry_ref self.old).now }
+        ensures present { IsTrue (is_occupied T.slots_of self.old) → IsOk result }
         ensures back { IfErr result (λ refused. F.post default refused.0) }
         ensures err { OnErr result ((entry_ref self.new).now ≡ (entry_ref self.old).now) }
     {

@@ -6,14 +6,13 @@ ghost use Rattle.toml_edit_table_like.specs.Refs.{ref_node, ref_slots};
 use super::TableRefMut;
 use super::change::{format_in, insert_in, remove_in, set_dotted_in, sort_in};
 use super::made_of::own_slots_mut;
-use crate::find::filled_place;
 use crate::put::{place_for, place_for_key};
 use crate::{AnyTable, AsTableLike, HasSlots, TableRef};
 use std::alloc::Global;
 use toml_edit_key::Key;
 use toml_edit_repr::Mem;
 use toml_edit_slots::NoMemory;
-use toml_edit_tree::{Item, Value};
+use toml_edit_tree::{Item, Value, filled_place};
 
 impl<'a> TableRefMut<'a> {
     /// Returns a shared reference to the table.

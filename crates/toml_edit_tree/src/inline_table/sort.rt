@@ -1,10 +1,11 @@
 //! Sorting the slots of an inline table and of the dotted inline tables inside it.
-ghost use Rattle.std.specs.Prelude.{IsPermutation, OnOk};
-ghost use Rattle.toml_edit_model.specs.Lists.{is_dotted_inline};
-ghost use Rattle.toml_edit_model.specs.Sorting.{IsDeepReorder, ReordersItem};
+ghost use Rattle.std.specs.Prelude.{◌≡◌, IsPermutation, OnOk};
+ghost use Rattle.toml_edit_model.specs.Lists.{is_dotted_inline, slots_from};
+ghost use Rattle.toml_edit_model.specs.Sorting.{IsDeepReorder, IsDeepSort, ReordersItem, name_lt, sorted_slots};
 ghost use Rattle.toml_edit_tree.specs.Containers.{inline_node};
-ghost use Rattle.toml_edit_tree.specs.SlotsOf.{slot_taken};
-ghost use Rattle.toml_edit_tree.specs.Sorts.{AnswersPairs, SortsDeeplyAs, SortsItemAs, items_seen};
+ghost use Rattle.toml_edit_tree.specs.InlineSlots.{inline_fields};
+ghost use Rattle.toml_edit_tree.specs.SlotsOf.{inline_slots_of, slot_taken};
+ghost use Rattle.toml_edit_tree.specs.Sorts.{AnswersPairs, SortsDeeplyAs, SortsInlineAs, SortsItemAs, items_seen};
 ghost use Rattle.toml_edit_tree.specs.View.{inline_view, item_view, value_view};
 
 use crate::inline_table::InlineTable;
@@ -15,6 +16,69 @@ use std::cmp::Ordering;
 use toml_edit_key::Key;
 use toml_edit_repr::Mem;
 use toml_edit_slots::Slots;
+
+impl InlineTable {
+    /// Sorts the slots by the bytes of the names of their keys, and those of dotted inline tables
+    /// inside likewise.
+    ///
+    /// Each slot moves with its decors, so its comments and its line break move too. Inline tables
+    /// in braces inside keep their order of slots.
+    ///
+    /// # Errors
+    ///
+    /// Returns an `AllocError` if out of memory. Some of the inline tables may be sorted then and
+    /// others not, but no slot is lost.
+    pub fn sort_values(&mut self) -> Mem<()>
+        ensures reorders { IsDeepReorder is_dotted_inline (inline_slots_of self.old)
+            (inline_slots_of self.new) }
+        ensures sorted { OnOk result
+            (IsDeepSort is_dotted_inline name_lt (inline_slots_of self.old)
+            (inline_slots_of self.new)) }
+        // The order of names is a lawful one, so exactly one list is in order.
+        ensures in_order { OnOk result
+            (inline_slots_of self.new
+            ≡ sorted_slots is_dotted_inline (slots_from (inline_slots_of self.old))) }
+        ensures fields { inline_fields self.new ≡ inline_fields self.old }
+    {
+        sort_slots(
+            &mut self.items,
+            &|key: &Key, _: &Item, other: &Key, _: &Item| key.cmp(other),
+        )
+    }
+
+    /// Sorts the slots by `compare`, and those of dotted inline tables inside likewise. The sort is
+    /// stable.
+    ///
+    /// The closure is passed the key and the value of two slots. Slots without a value come first.
+    /// Where the closure is not a strict weak order, the order is any.
+    ///
+    /// # Errors
+    ///
+    /// Returns an `AllocError` if out of memory. Some of the inline tables may be sorted then and
+    /// others not, but no slot is lost.
+    pub fn sort_values_by<F: Fn(&Key, &Value, &Key, &Value) -> Ordering>(
+        &mut self,
+        compare: F,
+    ) -> Mem<()>
+    where
+        F: Drop,
+        requires { F.IsAlwaysCallable compare }
+        ensures reorders { IsDeepReorder is_dotted_inline (inline_slots_of self.old)
+            (inline_slots_of self.new) }
+        ensures sorted { OnOk result
+            (SortsInlineAs F.FnMut compare (inline_slots_of self.old) (inline_slots_of self.new)) }
+        ensures fields { inline_fields self.new ≡ inline_fields self.old }
+    {
+        sort_slots(
+            &mut self.items,
+            &|key: &Key, item: &Item, other_key: &Key, other: &Item| -> Ordering
+                requires { F.IsAlwaysCallable compare }
+                ensures { AnswersPairs F.FnMut compare (slot_taken (key.now, item.now))
+                    (slot_taken (other_key.now, other.now)) result }
+            { compare_values(key, item, other_key, other, &compare) },
+        )
+    }
+}
 
 /// Compares two slots by the closure where both have a value. One without a value is less.
 pub(crate) fn compare_values<F: Fn(&Key, &Value, &Key, &Value) -> Ordering>(

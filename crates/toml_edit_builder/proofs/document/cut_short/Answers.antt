@@ -1,7 +1,6 @@
 -- A text whose events are cut short.
-use Rattle.std.proofs.Common.{refl}
 use Rattle.toml_edit_tree.specs.View.{slots_view}
-use Rattle.toml_edit_version.specs.Grammar.{grammar}
+use Rattle.toml_edit_syntax.specs.Grammar.{grammar}
 use Rattle.toml_edit_repr.specs.Modes.{mode_of}
 use Rattle.toml_edit_builder.proofs.WholeLaws.{no_cut, not_refused, refusal_is, short_refusal}
 use Rattle.toml_edit_builder.proofs.document.cut_short.Goals as goal
@@ -15,7 +14,7 @@ pub returns-in-Ok-clause-refused : goal.returns-in-Ok-clause-refused
 returns-in-Ok-clause-refused c =
     short_refusal (mode_of c.args.mode) (grammar c.args.version) c.args.source.now c.args.events.items c.requires.cut _ c.refusal_of_all.result c.requires.short
     (no_cut (mode_of c.args.mode) (grammar c.args.version) c.args.source.now c.args.events.items c.requires.cut (slots_view c.in-Ok.field-0.0) c.in-Ok.field-0.1 c.in-Ok.ensures.built c.requires.short)
-    c.refusal_of_all.ensures.report (c.refusal_of_all.ensures.listed (grammar c.args.version) refl)
+    c.refusal_of_all.ensures.report (c.refusal_of_all.ensures.listed (grammar c.args.version))
 
 pub returns-clause-every : goal.returns-clause-every
 returns-clause-every c =

@@ -3,7 +3,7 @@ use Rattle.std.proofs.Common.{ap, inr, ◌∙◌}
 use Rattle.std.specs.Prelude.{Err}
 use Rattle.std.proofs.lemmas.Result.{err_from_is_err_and}
 use Rattle.toml_edit_tree.specs.View.{slots_view}
-use Rattle.toml_edit_version.specs.Grammar.{grammar}
+use Rattle.toml_edit_syntax.specs.Grammar.{grammar}
 use Rattle.toml_edit_repr.specs.Modes.{mode_of}
 use Rattle.toml_edit_builder.proofs.WholeLaws.{parsed, not_refused, refusal_is}
 use Rattle.toml_edit_builder.proofs.document.read_all.Goals as goal

@@ -1,7 +1,7 @@
 -- The loops over statements, turn by turn.
 use Rattle.std.proofs.Common.{sym, ap, refl, ◌∙◌, arith}
 use Rattle.toml_edit_tree.specs.declared.item.Item.TheVariants as items
-use Rattle.toml_edit_version.specs.Grammar.{grammar}
+use Rattle.toml_edit_syntax.specs.Grammar.{grammar}
 use Rattle.toml_edit_tree.specs.View.{slots_view}
 use Rattle.toml_edit_repr.specs.Modes.{mode_of}
 use Rattle.toml_edit_builder.proofs.LoopLaws.{held_first, at_start, next, is-whole, stands-here, ends-here, more, goes_on, refused, ended, built}

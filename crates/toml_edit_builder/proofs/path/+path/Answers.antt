@@ -11,6 +11,7 @@ use Rattle.toml_edit_tree.specs.declared.item.Item.{Item, the_lemmas}
 use Rattle.toml_edit_tree.specs.Containers.{table_node, tables_node}
 use Rattle.toml_edit_tree.specs.View.{item_view, items_view, slots_view, table_view, tables_view, value_view}
 use Rattle.toml_edit_parser.specs.declared.key_path.PathKey.{PathKey}
+use Rattle.toml_edit_parser.specs.Faults.{fault_message}
 use Rattle.toml_edit_tree.specs.declared.value.Value.{Value}
 use Rattle.toml_edit_builder.specs.TableRead.{addition_for}
 use Rattle.toml_edit_builder.proofs.ItemLaws.{last-at, last-set, no-items, tables-set, tables-is, value-node, view-None, view-Value}
@@ -24,22 +25,22 @@ add_path-returns-in_err-key-clause-added t c =
     λ mode s ms head at.
     let q = err_from_is_err_and c.from_residual.result c.from_residual.ensures.1 in
     rw (q.1, q.2) (mapped c.in_err-key.field-0.0 (λ r. ⊥) _ (λ r none. absurd none)
-    (refused-key mode c.args.source.now c.in_err-key.field-0.0 s ms c.args.path c.in_err-key.ensures.key at))
+    (refused-key mode c.args.adding.now.source.now c.in_err-key.field-0.0 s ms c.args.path c.in_err-key.ensures.key at))
 
 pub add_path-returns-in-None-clause-added : goal.add_path-returns-in-None-clause-added
 add_path-returns-in-None-clause-added t c =
     λ mode s ms head at.
     let k : PathKey = c.in_ok-key.field-0 in
-    last-here mode c.args.source.now c.put_last.result s ms k (addition_for c.args.kind (item_view c.args.item.now)) (slots_view c.args.slots.now) _
-    (step-of mode c.args.source.now s ms c.args.path k c.in_ok-key.ensures.key at) c.in-None.is (λ m is. c.put_last.ensures.put mode s m head is)
+    last-here mode c.args.adding.now.source.now c.put_last.result s ms k (addition_for c.args.adding.now.kind (item_view c.args.item.now)) (slots_view c.args.slots.now) _
+    (step-of mode c.args.adding.now.source.now s ms c.args.path k c.in_ok-key.ensures.key at) c.in-None.is (λ m is. c.put_last.ensures.put mode s m head is)
 
 pub add_path-returns-in-None-find-clause-added : goal.add_path-returns-in-None-find-clause-added
 add_path-returns-in-None-find-clause-added t c =
     λ mode s ms head at.
     let k : PathKey = c.in_ok-key.field-0 in
     let es = c.args.slots.now in
-    new-here mode c.args.source.now c.add_below.result s ms k c.in-Some.inside (addition_for c.args.kind (item_view c.args.item.now)) (slots_view es) _
-    (step-of mode c.args.source.now s ms c.args.path k c.in_ok-key.ensures.key at) c.in-Some.is
+    new-here mode c.args.adding.now.source.now c.add_below.result s ms k c.in-Some.inside (addition_for c.args.adding.now.kind (item_view c.args.item.now)) (slots_view es) _
+    (step-of mode c.args.adding.now.source.now s ms c.args.path k c.in_ok-key.ensures.key at) c.in-Some.is
     (node-none k.key.name es (sym (c.in-None-find.ensures.place ∙ ap (λ (x : Text). place x es) c.get.ensures.name)))
     (λ q path. c.add_below.ensures.added mode s q head path)
 
@@ -49,9 +50,9 @@ add_path-returns-in-Some-find-clause-added t c =
     let k : PathKey = c.in_ok-key.field-0 in
     let es = c.args.slots.now in
     let here = sym (c.in-Some-find.ensures.place ∙ ap (λ (x : Text). place x es) c.get.ensures.name) in
-    there-here mode c.args.source.now c.add_in_item.result s ms k c.in-Some.inside (addition_for c.args.kind (item_view c.args.item.now))
+    there-here mode c.args.adding.now.source.now c.add_in_item.result s ms k c.in-Some.inside (addition_for c.args.adding.now.kind (item_view c.args.item.now))
     (item_view c.item_mut.result.now) (item_view c.add_in_item.new.holder) (slots_view es) _
-    (step-of mode c.args.source.now s ms c.args.path k c.in_ok-key.ensures.key at) c.in-Some.is
+    (step-of mode c.args.adding.now.source.now s ms c.args.path k c.in_ok-key.ensures.key at) c.in-Some.is
     (node-some k.key.name es c.in-Some-find.at c.item_mut.result.now here c.item_mut.ensures.item)
     (with-place k.key.name es c.in-Some-find.at c.add_in_item.new.holder here)
     (λ m q is path. c.add_in_item.ensures.added mode s m q k.key head is path)
@@ -63,13 +64,13 @@ add_below-returns-in_err-add_path-clause-added t c =
     λ mode s ms head at.
     let q = err_from_is_err_and c.from_residual.result c.from_residual.ensures.1 in
     rw (q.1, q.2) (mapped c.in_err-add_path.field-0.0 (λ r. ⊥) _ (λ r none. absurd none)
-    (below-refused c.args.source.now c.in_err-add_path.field-0.0 (addition_for c.args.kind (item_view c.args.item.now)) ms _ (ap slots_view c.new-inner.ensures)
+    (below-refused c.args.adding.now.source.now c.in_err-add_path.field-0.0 (addition_for c.args.adding.now.kind (item_view c.args.item.now)) ms _ (ap slots_view c.new-inner.ensures)
     (c.in_err-add_path.ensures.added mode s ms head at)))
 
 pub add_below-returns-clause-added : goal.add_below-returns-clause-added
 add_below-returns-clause-added t c =
     λ mode s ms head at.
-    below-put mode c.args.kind (item_view c.args.item.now) ms c.args.key c.args.span (slots_view c.args.slots.now) _ (slots_view c.add_path.new.slots) _ c.is_line.result
+    below-put mode c.args.adding.now.kind (item_view c.args.item.now) ms c.args.key c.args.span (slots_view c.args.slots.now) _ (slots_view c.add_path.new.slots) _ c.is_line.result
     (item_view c.passed_item.result) (ap slots_view c.new-inner.ensures) (c.in_ok-add_path.ensures.added mode s ms head at) c.is_line.ensures c.passed_item.ensures
     c.in_ok-push_item.ensures
 
@@ -90,18 +91,18 @@ add_in_item-returns-in-ArrayOfTables-clause-added t c =
 pub add_in_item-returns-in-Value-clause-added : goal.add_in_item-returns-in-Value-clause-added
 add_in_item-returns-in-Value-clause-added t c =
     λ mode s m ms k head is at.
-    let a = addition_for c.args.kind (item_view c.args.item.now) in
+    let a = addition_for c.args.adding.now.kind (item_view c.args.item.now) in
     let seen = ap item_view c.in-Value.is ∙ view-Value c.in-Value.value in
-    stopped mode c.args.source.now c.extend_message.result.now c.refusal.result s _ m (item_view c.args.holder.now) k c.args.span _
+    stopped mode c.args.adding.now.source.now (fault_message c.extending.result) c.refusal.result s _ m (item_view c.args.holder.now) k c.args.span _
     (rw seen (value-stops a m (path_clash a ms) _ (value-node c.in-Value.value))) is
-    (c.extend_message.ensures.message m.role is.role ∙ ap (λ (x : Value). table_way_message m.role (value_view x)) c.in-Value.value-is ∙ ap (table_way_message m.role) (sym seen)) c.refusal.ensures.report
+    (c.extending.ensures.message m.role is.role ∙ ap (λ (x : Value). table_way_message m.role (value_view x)) c.in-Value.value-is ∙ ap (table_way_message m.role) (sym seen)) c.refusal.ensures.report
 
 pub add_in_item-returns-in-None-clause-added : goal.add_in_item-returns-in-None-clause-added
 add_in_item-returns-in-None-clause-added t c =
     λ mode s m ms k head is at.
-    let a = addition_for c.args.kind (item_view c.args.item.now) in
+    let a = addition_for c.args.adding.now.kind (item_view c.args.item.now) in
     let seen = ap item_view c.in-None.is ∙ view-None in
-    stopped mode c.args.source.now duplicate_key c.duplicate_key.result s _ m (item_view c.args.holder.now) k c.args.span _
+    stopped mode c.args.adding.now.source.now duplicate_key c.duplicate_key.result s _ m (item_view c.args.holder.now) k c.args.span _
     (rw seen (nothing-stops a m (path_clash a ms))) is (sym (ap (table_way_message m.role) seen)) c.duplicate_key.ensures.report
 
 pub add_in_table-returns-then-not-is_implicit-clause-added : goal.add_in_table-returns-then-not-is_implicit-clause-added
@@ -109,8 +110,8 @@ add_in_table-returns-then-not-is_implicit-clause-added t c =
     λ mode s m ms k head is at.
     let n = item_view c.args.item.now in
     let held = table_view c.args.table.now in
-    stopped mode c.args.source.now duplicate_key c.duplicate_key.result s _ m (table_node held) k c.args.span _
-    (header-stops c.args.kind n m (path_clash (addition_for c.args.kind n) ms) held (sym c.is_line.ensures ∙ c.if-is_line.true)
+    stopped mode c.args.adding.now.source.now duplicate_key c.duplicate_key.result s _ m (table_node held) k c.args.span _
+    (header-stops c.args.adding.now.kind n m (path_clash (addition_for c.args.adding.now.kind n) ms) held (sym c.is_line.ensures ∙ c.if-is_line.true)
     (sym c.is_implicit.ensures ∙ c.if-not-is_implicit.true)) is refl c.duplicate_key.ensures.report
 
 pub add_in_table-returns-clause-added : goal.add_in_table-returns-clause-added
@@ -121,11 +122,11 @@ add_in_table-returns-clause-added t c =
     let told = c.add_path.ensures.added mode s ms head at in
     elim c.if-is_line.branch [
       | add_in_table-then-is_line+else-not-is_implicit w ↦
-          line-in mode c.args.source.now c.add_path.result c.args.kind n m ms (table_view c.args.table.now) (table_view c.if-is_line.table) _ _ new
+          line-in mode c.args.adding.now.source.now c.add_path.result c.args.adding.now.kind n m ms (table_view c.args.table.now) (table_view c.if-is_line.table) _ _ new
           (sym c.is_line.ensures ∙ w.if-is_line.true) (sym w.is_implicit.ensures ∙ w.if-not-is_implicit.false)
           (ap table_view w.table-is ∙ w.set_dotted.ensures) c.slots_mut.ensures.slots (c.slots_mut.ensures.others c.add_path.new.slots) told
       | add_in_table-else-is_line w ↦
-          header-in mode c.args.source.now c.add_path.result c.args.kind n m ms (table_view c.args.table.now) _ _ new
+          header-in mode c.args.adding.now.source.now c.add_path.result c.args.adding.now.kind n m ms (table_view c.args.table.now) _ _ new
           (sym c.is_line.ensures ∙ w.if-is_line.false) (c.slots_mut.ensures.slots ∙ ap (λ v. (table_view v).slots) w.table-is)
           (c.slots_mut.ensures.others c.add_path.new.slots ∙ ap (λ v. record { fields = (table_view v).fields; slots = new }) w.table-is) told
     ]
@@ -135,8 +136,8 @@ add_in_tables-returns-then-is_line-clause-added t c =
     λ mode s m ms k head is at.
     let n = item_view c.args.item.now in
     let held = tables_view c.args.tables.now in
-    stopped mode c.args.source.now duplicate_key c.duplicate_key.result s _ m (tables_node held) k c.args.span _
-    (tables-stop c.args.kind n m (path_clash (addition_for c.args.kind n) ms) held (sym c.is_line.ensures ∙ c.if-is_line.true)) is refl c.duplicate_key.ensures.report
+    stopped mode c.args.adding.now.source.now duplicate_key c.duplicate_key.result s _ m (tables_node held) k c.args.span _
+    (tables-stop c.args.adding.now.kind n m (path_clash (addition_for c.args.adding.now.kind n) ms) held (sym c.is_line.ensures ∙ c.if-is_line.true)) is refl c.duplicate_key.ensures.report
 
 pub add_in_tables-returns-in-None-clause-added : goal.add_in_tables-returns-in-None-clause-added
 add_in_tables-returns-in-None-clause-added t c =
@@ -145,8 +146,8 @@ add_in_tables-returns-in-None-clause-added t c =
     let held = tables_view c.args.tables.now in
     let v = c.args.tables.now.values in
     let len : vec_len v ≡ length v.items = omega (arith, v.ok.0) in
-    stopped mode c.args.source.now duplicate_key c.duplicate_key-in-None.result s _ m (tables_node held) k c.args.span _
-    (empty-stops c.args.kind n m (path_clash (addition_for c.args.kind n) ms) held (sym c.is_line.ensures ∙ c.if-is_line.false)
+    stopped mode c.args.adding.now.source.now duplicate_key c.duplicate_key-in-None.result s _ m (tables_node held) k c.args.span _
+    (empty-stops c.args.adding.now.kind n m (path_clash (addition_for c.args.adding.now.kind n) ms) held (sym c.is_line.ensures ∙ c.if-is_line.false)
     (tables-is c.args.tables.now ∙ ap items_view (no-items v.items (λ h. absurd (let e = c.in-None.ensures.variant.1 (omega (arith, len, h)) in cc))))) is refl c.duplicate_key-in-None.ensures.report
 
 pub add_in_tables-returns-in-Some-clause-added : goal.add_in_tables-returns-in-Some-clause-added
@@ -156,7 +157,7 @@ add_in_tables-returns-in-Some-clause-added t c =
     let y = c.add_in_element.new.holder in
     let len : vec_len v ≡ length v.items = omega (arith, v.ok.0) in
     let held = tables_view c.args.tables.now in
-    tables-in mode c.args.source.now c.add_in_element.result c.args.kind (item_view c.args.item.now) m ms held _ (item_view c.in-Some.last.now) (item_view y)
+    tables-in mode c.args.adding.now.source.now c.add_in_element.result c.args.adding.now.kind (item_view c.args.item.now) m ms held _ (item_view c.in-Some.last.now) (item_view y)
     (sym c.is_line.ensures ∙ c.if-is_line.false)
     (ap last_item (tables-is c.args.tables.now) ∙ last-at v.items c.in-Some.last.now (omega (arith, c.in-Some.ensures.variant.0 refl))
     ∙ ap (λ (x : Item). Some (item_view x)) (ap (λ (i : ℕ). get_or v.items (i - 1) c.in-Some.last.now) (sym len) ∙ sym c.in-Some.ensures.value))
@@ -172,9 +173,9 @@ add_in_element-returns-in-Table-clause-added t c =
 pub add_in_slots-returns-clause-added : goal.add_in_slots-returns-clause-added
 add_in_slots-returns-clause-added t c =
     λ mode s ms head at.
-    in-slots mode c.args.source.now c.add_path.result (addition_for c.args.kind (item_view c.args.item.now)) ms (table_view c.args.table.now) _
+    in-slots mode c.args.adding.now.source.now c.add_path.result (addition_for c.args.adding.now.kind (item_view c.args.item.now)) ms (table_view c.args.table.now) _
     (slots_view c.slots_mut.result.now) (slots_view c.add_path.new.slots) c.slots_mut.ensures.slots (c.slots_mut.ensures.others c.add_path.new.slots)
     (c.add_path.ensures.added mode s ms head at)
 
 pub add_in_item-returns-in-Value-clause-listed : goal.add_in_item-returns-in-Value-clause-listed
-add_in_item-returns-in-Value-clause-listed t c = c.refusal.ensures.listed v1_1 (inr c.extend_message.ensures.listed)
+add_in_item-returns-in-Value-clause-listed t c = c.refusal.ensures.listed v1_1 (inr c.extending.ensures.listed)

@@ -1,8 +1,7 @@
 -- A path of one event is one key; another goes the long way.
-use Rattle.std.proofs.Common.{◌<◌, length, Option, subst, arith, lit<, refl, inl}
+use Rattle.std.proofs.Common.{◌<◌, length, Option, subst, arith}
 use Rattle.std.specs.Prelude.{IfSome}
 use Rattle.std.proofs.lemmas.Result.{err_from_is_err_and}
-use Rattle.toml_edit_model.specs.Version.{v1_1}
 use Rattle.toml_edit_laws.specs.AddPath.{a_value}
 use Rattle.toml_edit_tree.specs.View.{item_view, slots_view}
 use Rattle.toml_edit_parser.specs.declared.key_path.PathKey.{PathKey}
@@ -37,6 +36,3 @@ returns-in-Some-clause-added c =
 
 pub returns-then-path-ne1-clause-added : goal.returns-then-path-ne1-clause-added
 returns-then-path-ne1-clause-added c = λ mode s ms at. c.add_path.ensures.added mode s ms tt at
-
-pub returns-in-Some-clause-listed : goal.returns-in-Some-clause-listed
-returns-in-Some-clause-listed c = c.refusal_at_end.ensures.listed v1_1 (inl (1, lit< tt, refl))

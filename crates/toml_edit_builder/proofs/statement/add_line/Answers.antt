@@ -12,7 +12,7 @@ use Rattle.toml_edit_builder.proofs.statement.add_line.Goals as goal
 pub returns-in_err-path-clause-line : goal.returns-in_err-path-clause-line
 returns-in_err-path-clause-line c =
     λ b f v end more is stands ended held leading e.
-    let t = c.args.source.now in
+    let t = c.args.reader.now.source.now in
     let s = key_line f v end in
     let q = err_from_is_err_and c.from_residual.result c.from_residual.ensures.1 in
     rw (q.1, q.2) (own-named t (own_faults b.start s) (table_way_faults (clash_at b s)) c.in_err-path.field-0.0
@@ -21,18 +21,18 @@ returns-in_err-path-clause-line c =
 pub returns-in_err-add_value-clause-line : goal.returns-in_err-add_value-clause-line
 returns-in_err-add_value-clause-line c =
     λ b f v end more is stands ended held leading e.
-    let t = c.args.source.now in
+    let t = c.args.reader.now.source.now in
     let s = key_line f v end in
     let q = err_from_is_err_and c.from_residual-in_err-add_value.result c.from_residual-in_err-add_value.ensures.1 in
     let read = c.in_ok-path.ensures.line f v end b.start more is.0 is.1 stands ended leading e in
-    rw (q.1, q.2) (line-stopped (mode_of c.args.mode) b f v end c.args.building.now held t c.in_err-add_value.field-0.0
-    (c.in_err-add_value.ensures.added (mode_of c.args.mode) (source_at b s) (mentions_at b s) (line-path (mode_of c.args.mode) t b f v end is stands c.in_ok-path.path read.path_is)))
+    rw (q.1, q.2) (line-stopped (mode_of c.args.reader.now.mode) b f v end c.args.building.now held t c.in_err-add_value.field-0.0
+    (c.in_err-add_value.ensures.added (mode_of c.args.reader.now.mode) (source_at b s) (mentions_at b s) (line-path (mode_of c.args.reader.now.mode) t b f v end is stands c.in_ok-path.path read.path_is)))
 
 pub returns-clause-line : goal.returns-clause-line
 returns-clause-line c =
     λ b f v end more is stands ended held leading e.
-    let t = c.args.source.now in
+    let t = c.args.reader.now.source.now in
     let s = key_line f v end in
     let read = c.in_ok-path.ensures.line f v end b.start more is.0 is.1 stands ended leading e in
-    line-is-added (mode_of c.args.mode) b f v end c.args.building.now held more _ c.in_ok-path.path _ _ is read
-    (c.in_ok-add_value.ensures.added (mode_of c.args.mode) (source_at b s) (mentions_at b s) (line-path (mode_of c.args.mode) t b f v end is stands c.in_ok-path.path read.path_is)) refl refl refl
+    line-is-added (mode_of c.args.reader.now.mode) b f v end c.args.building.now held more _ c.in_ok-path.path _ _ is read
+    (c.in_ok-add_value.ensures.added (mode_of c.args.reader.now.mode) (source_at b s) (mentions_at b s) (line-path (mode_of c.args.reader.now.mode) t b f v end is stands c.in_ok-path.path read.path_is)) refl refl refl

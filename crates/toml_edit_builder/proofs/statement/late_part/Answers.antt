@@ -1,7 +1,7 @@
 -- What the version lacks.
 use Rattle.std.proofs.Common.{ap}
 use Rattle.toml_edit_model.specs.Version.{is_of_version}
-use Rattle.toml_edit_version.specs.Grammar.{grammar}
+use Rattle.toml_edit_syntax.specs.Grammar.{grammar}
 use Rattle.toml_edit_builder.proofs.VersionLaws.{late_named, early_statement}
 use Rattle.toml_edit_builder.proofs.statement.late_part.Goals as goal
 

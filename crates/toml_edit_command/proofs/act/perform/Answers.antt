@@ -1,6 +1,7 @@
 -- What stops the action on the document that was read stops the command.
 use Rattle.std.proofs.lemmas.Result.{IfErr-weaker}
-use Rattle.toml_edit_command.specs.Steps.{Outcome, StopsActing, StopsDoing, action_of}
+use Rattle.toml_edit_command.specs.Run.{written}
+use Rattle.toml_edit_command.specs.Steps.{StopsActing, StopsDoing, action_of}
 use Rattle.toml_edit_command.specs.Written.{held}
 use Rattle.toml_edit_parser.specs.Options.{mode_of, version_of}
 use Rattle.toml_edit_command.proofs.Ends.{done-at-end, stops-at-end, stops-doing}
@@ -8,11 +9,7 @@ use Rattle.toml_edit_command.proofs.act.perform.Goals as goal
 
 pub returns-in-Ok-clause-err : goal.returns-in-Ok-clause-err
 returns-in-Ok-clause-err g c =
-    let s : Outcome = record {
-      old = g.O.Output.contents c.args.output.now;
-      new = g.O.Output.contents c.act-done.new.output;
-      failed = g.O.Output.has_failed c.act-done.new.output;
-    } in
+    let s = written g.O.Output.contents g.O.Output.has_failed c.args.output.now c.act-done.new.output in
     IfErr-weaker c.act-done.result (StopsActing (action_of c.args.command) (held c.in-Ok.document) s)
     (StopsDoing (mode_of c.args.options) (version_of c.args.options) (action_of c.args.command) (g.I.Input.remaining c.args.input.now)
     (g.I.Input.has_failed c.read_document.new.input) s)

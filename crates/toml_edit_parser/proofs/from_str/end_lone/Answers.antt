@@ -1,5 +1,5 @@
 -- A value that was read, in owned form.
-use Rattle.std.proofs.Common.{sym, ap, ◌∙◌, subst, refl}
+use Rattle.std.proofs.Common.{sym, ap, ◌∙◌, subst}
 use Rattle.toml_edit_model.specs.Version.{v1_1}
 use Rattle.toml_edit_model.specs.Tree.{Node, unset, IsWellMade}
 use Rattle.toml_edit_tree.specs.View.{value_view}
@@ -19,7 +19,7 @@ returns-then-are_cut_short-clause-refused c =
     refused_whole c.args.text.now _ _ c.refusal_of_all.result
     (no_value c.args.text.now c.args.events.now c.requires.cut (value_view c.args.value.now) c.requires.read.0 c.requires.read.1
     (sym c.are_cut_short.ensures ∙ c.if-are_cut_short.true)) c.refusal_of_all.ensures.report
-    (c.refusal_of_all.ensures.listed v1_1 refl)
+    (c.refusal_of_all.ensures.listed v1_1)
     (brackets_refused c.args.text.now c.args.events.now c.refusal_of_all.result c.requires.cut (sym c.are_cut_short.ensures ∙ c.if-are_cut_short.true))
 
 pub despan-requires-clause-fits : goal.despan-requires-clause-fits

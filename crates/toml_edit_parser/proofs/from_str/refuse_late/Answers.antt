@@ -4,8 +4,8 @@ use Rattle.std.proofs.lemmas.Bool.{false≢true}
 use Rattle.toml_edit_model.specs.Version.{is_value_of, v1_0}
 use Rattle.toml_edit_laws.proofs.versions.LateValues.{value_of_none}
 use Rattle.toml_edit_error.specs.Fault.{IfToml}
-use Rattle.toml_edit_version.specs.declared.grammar.Version.{Version}
-use Rattle.toml_edit_version.specs.Grammar.{grammar}
+use Rattle.toml_edit_syntax.specs.declared.version.grammar.Version.{Version}
+use Rattle.toml_edit_syntax.specs.Grammar.{grammar}
 use Rattle.toml_edit_parser.proofs.LoneValueLaws.{stands}
 use Rattle.toml_edit_parser.proofs.VersionLaws.{late_refused, not_early}
 use Rattle.toml_edit_parser.specs.LoneValue.{IsLoneRefusalIn}

@@ -1,8 +1,5 @@
-use Rattle.std.proofs.Common.{string_bytes, lit<, refl, inl, arith, ap}
+use Rattle.std.proofs.Common.{string_bytes, arith}
 use Rattle.std.proofs.lemmas.Result.{err_from_is_err_and}
-use Rattle.toml_edit_model.specs.Version.{v1_1}
-use Rattle.toml_edit_error.specs.Report.{Report}
-use Rattle.toml_edit_parser.proofs.ReadLaws.{mapped}
 use Rattle.toml_edit_parser.proofs.KeyPathLaws.{behind-dot-in, last-read, name-refused, passed-read}
 use Rattle.toml_edit_parser.proofs.SplitLaws.{first_in}
 use Rattle.toml_edit_parser.proofs.key_path.next_key.Goals as goal
@@ -27,9 +24,6 @@ returns-in-Some-split_dot-clause-key c =
     c.in-Some-split_dot.after c.in-Some-split_dot.inside
     (record { are = are; stands = stands; at = at; split = c.in-Some.ensures }) c.in_ok-name.ensures.name c.in-Some-split_dot.ensures c.passed_key-key.ensures.key
 
-pub returns-in_default-clause-listed : goal.returns-in_default-clause-listed
-returns-in_default-clause-listed c = c.refusal_at_end.ensures.listed v1_1 (inl (1, lit< tt, refl))
-
 pub returns-in-Some-split_dot-clause-span : goal.returns-in-Some-split_dot-clause-span
 returns-in-Some-split_dot-clause-span c =
     (first_in c.args.source.now c.args.path.events.now c.in-Some.first c.in-Some.rest.now c.in-Some.ensures c.requires).0
@@ -40,6 +34,3 @@ returns-in-Some-split_dot-clause-rest c =
     let dot = behind-dot-in c.args.source.now c.args.path c.in-Some-split_dot.after c.in-Some-split_dot.inside c.in-Some.rest.now
     c.in-Some-split_dot.ensures first.1 in
     (dot.0, omega (arith, first.2, dot.1))
-
-pub returns-in_default-clause-input : goal.returns-in_default-clause-input
-returns-in_default-clause-input c = mapped c.refusal_at_end.result _ _ (λ r known. ap (λ (x : Report). x.input) known) c.refusal_at_end.ensures.report

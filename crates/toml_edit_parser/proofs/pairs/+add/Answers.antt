@@ -1,9 +1,10 @@
 -- Each exit of the descent along a path.
-use Rattle.std.proofs.Common.{List, refl, ap, sym, subst, ◌∙◌, arith, rules, Some, string_bytes, lit<, inl, inr}
+use Rattle.std.proofs.Common.{List, refl, ap, sym, subst, ◌∙◌, arith, rules, Some, string_bytes, lit<, inr}
 use Rattle.std.proofs.lemmas.Result.{err_from_is_err_and}
 use Rattle.toml_edit_model.specs.Version.{v1_1}
 use Rattle.toml_edit_model.specs.Faults.{duplicate_key}
 use Rattle.toml_edit_model.specs.Paths.{line_mentions}
+use Rattle.toml_edit_model.specs.Roles.{dotted_role}
 use Rattle.toml_edit_model.specs.Text.{Text}
 use Rattle.toml_edit_model.specs.Tree.{Key, Slots}
 use Rattle.toml_edit_slots.specs.declared.slots.Slot as repr
@@ -12,8 +13,9 @@ use Rattle.toml_edit_tree.specs.declared.item.Item.{Item, the_lemmas}
 use Rattle.toml_edit_tree.specs.Containers.{inline_node}
 use Rattle.toml_edit_tree.specs.View.{inline_view, item_view, slots_view, value_view}
 use Rattle.toml_edit_error.specs.Report.{Report}
+use Rattle.toml_edit_parser.specs.Faults.{fault_message}
 use Rattle.toml_edit_parser.proofs.ReadLaws.{mapped}
-use Rattle.toml_edit_parser.proofs.DescentLaws.{below-refused, dot_in, fits-below, fits-found, fits-in, fits-put, name-refused, no-value, on_ok, stops-empty, stops-other, went-in}
+use Rattle.toml_edit_parser.proofs.DescentLaws.{below-refused, dot_in, fits-below, fits-found, fits-in, fits-put, name-refused, no-value, on_ok, same-way, stops-empty, stops-other, went-in}
 use Rattle.toml_edit_parser.proofs.EntryLaws.{below-added, inside-added, last-added, some-key, stopped}
 use Rattle.toml_edit_parser.proofs.SplitLaws.{first_in}
 use Rattle.toml_edit_parser.proofs.pairs.+add.Goals as goal
@@ -42,27 +44,27 @@ add_entry-returns-in-None-clause-fits t c =
     λ item slots.
     let source = c.args.source.now in
     let asked = c.requires.1.1 in
-    let first = first_in source c.args.path.events.now c.in-Some.first c.in-Some.rest.now c.in-Some.ensures asked.1.1.1 in
-    c.add_last.ensures.fits (c.last_key.ensures.fits source first.0 asked.0 asked.1.0 asked.1.1.0) item slots
+    let first = first_in source c.args.path.events.now c.in-Some.first c.in-Some.rest.now c.in-Some.ensures asked.events in
+    c.add_last.ensures.fits (c.last_key.ensures.fits source first.0 asked.prefix asked.suffix asked.before) item slots
 
 pub add_entry-add_inside-requires : goal.add_entry-add_inside-requires
 add_entry-add_inside-requires t c =
     let source = c.args.source.now in
     let asked = c.requires.1.1 in
-    let first = first_in source c.args.path.events.now c.in-Some.first c.in-Some.rest.now c.in-Some.ensures asked.1.1.1 in
+    let first = first_in source c.args.path.events.now c.in-Some.first c.in-Some.rest.now c.in-Some.ensures asked.events in
     let dot = dot_in source c.args.path c.in-Some-split_dot.after c.in-Some-split_dot.inside c.in-Some.rest.now c.in-Some-split_dot.ensures first.1
-    asked.0 asked.1.0 in
-    (omega (arith, c.requires.1.0, first.2, dot.5), (first.0, (dot.1, (dot.2, (dot.3, dot.4)))))
+    asked.prefix asked.suffix in
+    (omega (arith, c.requires.1.0, first.2, dot.2), (first.0, dot.1))
 
 pub add_entry-add_below-requires : goal.add_entry-add_below-requires
 add_entry-add_below-requires t c =
     let source = c.args.source.now in
     let asked = c.requires.1.1 in
-    let first = first_in source c.args.path.events.now c.in-Some.first c.in-Some.rest.now c.in-Some.ensures asked.1.1.1 in
+    let first = first_in source c.args.path.events.now c.in-Some.first c.in-Some.rest.now c.in-Some.ensures asked.events in
     let dot = dot_in source c.args.path c.in-Some-split_dot.after c.in-Some-split_dot.inside c.in-Some.rest.now c.in-Some-split_dot.ensures first.1
-    asked.0 asked.1.0 in
+    asked.prefix asked.suffix in
     let new = sym (c.in-None-find.ensures.place ∙ ap (λ (x : Text). place x c.args.slots.now) c.get.ensures.name) in
-    (omega (arith, c.requires.1.0, first.2, dot.5), (new, (dot.1, (dot.2, (dot.3, dot.4)))))
+    (omega (arith, c.requires.1.0, first.2, dot.2), (new, dot.1))
 
 pub add_entry-returns-in-Some-find-clause-entry : goal.add_entry-returns-in-Some-find-clause-entry
 add_entry-returns-in-Some-find-clause-entry t c =
@@ -98,10 +100,10 @@ add_entry-returns-in-None-find-clause-fits t c =
     λ item slots.
     let source = c.args.source.now in
     let asked = c.requires.1.1 in
-    let first = first_in source c.args.path.events.now c.in-Some.first c.in-Some.rest.now c.in-Some.ensures asked.1.1.1 in
+    let first = first_in source c.args.path.events.now c.in-Some.first c.in-Some.rest.now c.in-Some.ensures asked.events in
     let dot = dot_in source c.args.path c.in-Some-split_dot.after c.in-Some-split_dot.inside c.in-Some.rest.now c.in-Some-split_dot.ensures first.1
-    asked.0 asked.1.0 in
-    c.add_below.ensures.fits (c.passed_key-key.ensures.fits source first.0 asked.1.1.0 dot.0) item slots
+    asked.prefix asked.suffix in
+    c.add_below.ensures.fits (c.passed_key-key.ensures.fits source first.0 asked.before dot.0) item slots
 
 -- ---- below a new key
 
@@ -153,8 +155,9 @@ add_in_value-returns-in-InlineTable-clause-entry t c =
 pub add_in_value-returns-in_default-clause-entry : goal.add_in_value-returns-in_default-clause-entry
 add_in_value-returns-in_default-clause-entry t c =
     λ m e p start above passed are stands at.
-    stopped c.args.source.now c.args.key m (line_mentions e start above p) (value_view c.args.holder.now) c.extend_message-message.result.now c.refusal.result passed
-    (stops-other c.args.holder.now c.in_default.not-InlineTable) c.extend_message-message.ensures.message c.refusal.ensures.report
+    stopped c.args.source.now c.args.key m (line_mentions e start above p) (value_view c.args.holder.now) (fault_message c.extending-fault.result) c.refusal.result passed
+    (stops-other c.args.holder.now c.in_default.not-InlineTable)
+    (c.extending-fault.ensures.message dotted_role refl ∙ same-way c.args.holder.now c.in_default.not-InlineTable) c.refusal.ensures.report
 
 pub add_inside-returns-in_default-clause-entry : goal.add_inside-returns-in_default-clause-entry
 add_inside-returns-in_default-clause-entry t c =
@@ -169,20 +172,14 @@ add_inside-returns-in-Value-clause-entry t c =
     let told = c.add_in_value.ensures.entry m e p start above passed are stands at in
     search (rules, the_lemmas)
 
-pub add_entry-returns-in_default-clause-listed : goal.add_entry-returns-in_default-clause-listed
-add_entry-returns-in_default-clause-listed t c = c.refusal_at_end.ensures.listed v1_1 (inl (1, lit< tt, refl))
-
 pub add_inside-returns-in_default-clause-listed : goal.add_inside-returns-in_default-clause-listed
 add_inside-returns-in_default-clause-listed t c = c.refusal.ensures.listed v1_1 (inr (0, lit< tt, refl))
 
 pub add_in_value-returns-in_default-clause-listed : goal.add_in_value-returns-in_default-clause-listed
-add_in_value-returns-in_default-clause-listed t c = c.refusal.ensures.listed v1_1 (inr c.extend_message-message.ensures.listed)
+add_in_value-returns-in_default-clause-listed t c = c.refusal.ensures.listed v1_1 (inr c.extending-fault.ensures.listed)
 
 pub add_in_table-returns-else-is_dotted-clause-listed : goal.add_in_table-returns-else-is_dotted-clause-listed
 add_in_table-returns-else-is_dotted-clause-listed t c = c.refusal.ensures.listed v1_1 (inr (0, lit< tt, refl))
-
-pub add_entry-returns-in_default-clause-input : goal.add_entry-returns-in_default-clause-input
-add_entry-returns-in_default-clause-input t c = mapped c.refusal_at_end.result _ _ (λ r known. ap (λ (x : Report). x.input) known) c.refusal_at_end.ensures.report
 
 pub add_inside-returns-in_default-clause-input : goal.add_inside-returns-in_default-clause-input
 add_inside-returns-in_default-clause-input t c = mapped c.refusal.result _ _ (λ r known. ap (λ (x : Report). x.input) known) c.refusal.ensures.report

@@ -1,8 +1,6 @@
-use Rattle.std.proofs.Common.{◌∙◌, lit<, refl, inl, ap}
-use Rattle.toml_edit_model.specs.Version.{v1_1}
+use Rattle.std.proofs.Common.{◌∙◌}
 use Rattle.toml_edit_tree.specs.View.{slots_view, value_view}
-use Rattle.toml_edit_error.specs.Report.{Report}
-use Rattle.toml_edit_parser.proofs.ReadLaws.{same_closes, mapped}
+use Rattle.toml_edit_parser.proofs.ReadLaws.{same_closes}
 use Rattle.toml_edit_parser.proofs.ReadFits.{close_in}
 use Rattle.toml_edit_parser.proofs.InlineLaws.{fits-inline, made_inline}
 use Rattle.toml_edit_parser.proofs.pairs.close_inline.Goals as goal
@@ -17,9 +15,3 @@ pub returns-clause-fits : goal.returns-clause-fits
 returns-clause-fits c =
     λ fits. fits-inline c.args.source.now (value_view c.inline_value.result) c.args.opening.start c.in-Some.close (slots_view c.args.slots) c.inline_value.ensures
     (close_in c.args.source.now c.args.events.now c.in-Some.close c.in-Some.rest.now c.in-Some.ensures c.requires).0 fits
-
-pub returns-in_default-clause-listed : goal.returns-in_default-clause-listed
-returns-in_default-clause-listed c = c.refusal_at_end.ensures.listed v1_1 (inl (7, lit< tt, refl))
-
-pub returns-in_default-clause-input : goal.returns-in_default-clause-input
-returns-in_default-clause-input c = mapped c.refusal_at_end.result _ _ (λ r known. ap (λ (x : Report). x.input) known) c.refusal_at_end.ensures.report

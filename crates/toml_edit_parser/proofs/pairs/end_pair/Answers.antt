@@ -1,19 +1,19 @@
-use Rattle.std.proofs.Common.{◌≡◌, ◌+◌, [], length, Some, sym, ap, subst, ◌∙◌, lit<, refl, inl}
+use Rattle.std.proofs.Common.{◌≡◌, ◌+◌, [], length, Some, sym, ap, subst, ◌∙◌, arith}
 use Rattle.std.proofs.lemmas.Result.{err_from_is_err_and}
-use Rattle.toml_edit_model.specs.Version.{v1_1}
 use Rattle.toml_edit_model.specs.Conversions.{with_decor}
 use Rattle.toml_edit_model.specs.Tree.{Node}
-use Rattle.toml_edit_model.specs.TreeOf.{spanned_form, entry_of}
+use Rattle.toml_edit_model.specs.TreeOf.{spanned_form, entry_of, frame_leaf}
 use Rattle.toml_edit_laws.specs.InlineTree.{add_entry, pair_path}
+use Rattle.toml_edit_syntax.specs.Events.{IsSpanOf}
 use Rattle.toml_edit_syntax.specs.declared.event.Event.{Event}
-use Rattle.toml_edit_parser.specs.PairRead.{FrameParts}
-use Rattle.toml_edit_parser.specs.ValueRead.{spanned_raw, split_first}
+use Rattle.toml_edit_parser.specs.PairRead.{FrameParts, PathView}
+use Rattle.toml_edit_parser.specs.ValueRead.{spanned_raw, split_first, AreIn}
 use Rattle.toml_edit_tree.specs.View.{item_view, slots_view}
-use Rattle.toml_edit_error.specs.Report.{Report}
-use Rattle.toml_edit_parser.proofs.PairLaws.{key-decor, path-begins, path-ends, value-decor}
+use Rattle.toml_edit_parser.proofs.PairLaws.{key-decor, path-ends, value-decor}
 use Rattle.toml_edit_parser.proofs.ReadFits.{fits-with_decor}
-use Rattle.toml_edit_parser.proofs.ReadLaws.{same_parts, mapped}
+use Rattle.toml_edit_parser.proofs.ReadLaws.{same_parts}
 use Rattle.toml_edit_parser.proofs.SplitLaws.{first_in}
+use Rattle.toml_edit_parser.proofs.StatementLaws.{path-from}
 use Rattle.toml_edit_parser.proofs.pairs.end_pair.Goals as goal
 use Rattle.toml_edit_model.specs.OwnedForm.{NodeFits}
 
@@ -26,11 +26,11 @@ returns-clause-pair c =
     c.raw-2.ensures.raw (ap (λ (x : Event). x.span) first.0)
     ) in
     let own = key-decor start f _ _ (ap (λ (q : FrameParts). spanned_raw q.leading) parts) (ap (λ (q : FrameParts). spanned_raw q.before_equals) parts) in
-    let at = path-begins start f.leading f.path c.args.frame.leading is.1 (ap (λ (q : FrameParts). q.leading) parts) in (
+    let path = path-from (frame_leaf spanned_form start f) start f.leading f.path c.args.frame.leading c.args.frame.before_equals c.args.frame.path.now
+    c.path_behind-path.result is.1 c.path_behind-path.ensures own (ap (λ (q : FrameParts). q.leading) parts) (ap (λ (q : FrameParts). q.path) parts) in (
       first.1,
       subst (λ (n : Node). add_entry spanned_form (pair_path spanned_form start f v) n (slots_view c.args.slots.now) ≡ Some (slots_view c.add_entry.new.slots)) item
-          (c.in_ok-add_entry.ensures.entry (entry_of spanned_form start f v) f.path (start + length f.leading) [] (path-ends f.path is.1) stands
-          (own, at, ap (λ (q : FrameParts). q.path) parts)),
+          (c.in_ok-add_entry.ensures.entry (entry_of spanned_form start f v) f.path (start + length f.leading) [] (path-ends f.path is.1) stands path),
     )
 
 pub returns-in_err-add_entry-clause-pair : goal.returns-in_err-add_entry-clause-pair
@@ -38,9 +38,9 @@ returns-in_err-add_entry-clause-pair c =
     λ f v start end more is stands parts e.
     let p = err_from_is_err_and c.from_residual.result c.from_residual.ensures.1 in
     let own = key-decor start f _ _ (ap (λ (q : FrameParts). spanned_raw q.leading) parts) (ap (λ (q : FrameParts). spanned_raw q.before_equals) parts) in
-    let at = path-begins start f.leading f.path c.args.frame.leading is.1 (ap (λ (q : FrameParts). q.leading) parts) in
-    rw (p.1, p.2) (c.in_err-add_entry.ensures.entry (entry_of spanned_form start f v) f.path (start + length f.leading) [] (path-ends f.path is.1) stands
-    (own, at, ap (λ (q : FrameParts). q.path) parts))
+    let path = path-from (frame_leaf spanned_form start f) start f.leading f.path c.args.frame.leading c.args.frame.before_equals c.args.frame.path.now
+    c.path_behind-path.result is.1 c.path_behind-path.ensures own (ap (λ (q : FrameParts). q.leading) parts) (ap (λ (q : FrameParts). q.path) parts) in
+    rw (p.1, p.2) (c.in_err-add_entry.ensures.entry (entry_of spanned_form start f v) f.path (start + length f.leading) [] (path-ends f.path is.1) stands path)
 
 pub returns-clause-fits : goal.returns-clause-fits
 returns-clause-fits c =
@@ -55,8 +55,16 @@ returns-clause-rest c =
     let behind = first_in c.args.source.now c.args.events.now c.in-Some.after c.in-Some.rest.now c.in-Some.ensures c.requires.spans in
     (behind.1, behind.2)
 
-pub returns-in_default-clause-listed : goal.returns-in_default-clause-listed
-returns-in_default-clause-listed c = c.refusal_at_end.ensures.listed v1_1 (inl (7, lit< tt, refl))
-
-pub returns-in_default-clause-input : goal.returns-in_default-clause-input
-returns-in_default-clause-input c = mapped c.refusal_at_end.result _ _ (λ r known. ap (λ (x : Report). x.input) known) c.refusal_at_end.ensures.report
+pub add_entry-requires : goal.add_entry-requires
+add_entry-requires c =
+    let t = c.args.source.now in
+    let is = c.path_behind-path.ensures in
+    record {
+      path = record {
+        prefix = subst (IsSpanOf t) (sym (ap (λ (v : PathView). v.prefix) is)) c.requires.leading;
+        suffix = subst (IsSpanOf t) (sym (ap (λ (v : PathView). v.suffix) is)) c.requires.before_equals;
+        before = subst (IsSpanOf t) (sym (ap (λ (v : PathView). v.before) is))
+            (record { start = c.requires.leading.end; end = c.requires.leading.end; order = omega arith });
+        events = subst (AreIn t) (sym (ap (λ (v : PathView). v.events) is)) c.requires.path;
+      };
+    }

@@ -1,8 +1,5 @@
-use Rattle.std.proofs.Common.{◌≡◌, IsSomeAnd, string_bytes, sym, subst, lit<, refl, inl, ap}
-use Rattle.toml_edit_model.specs.Version.{v1_1}
+use Rattle.std.proofs.Common.{◌≡◌, IsSomeAnd, string_bytes, sym, subst}
 use Rattle.toml_edit_model.specs.Spelling.{SpellsKey}
-use Rattle.toml_edit_error.specs.Report.{Report}
-use Rattle.toml_edit_parser.proofs.ReadLaws.{mapped}
 use Rattle.toml_edit_parser.proofs.pairs.read_name.Goals as goal
 
 pub returns-in-Some-clause-name : goal.returns-in-Some-clause-name
@@ -14,9 +11,3 @@ pub returns-in-None-clause-name : goal.returns-in-None-clause-name
 returns-in-None-clause-name c =
     λ k h. let told = c.in_ok-name.ensures.only k (subst (SpellsKey k) (sym c.cut.ensures) h) in
     absurd (subst (λ o. IsSomeAnd o (λ s. k ≡ string_bytes s)) c.in-None.is told)
-
-pub returns-in-None-clause-listed : goal.returns-in-None-clause-listed
-returns-in-None-clause-listed c = c.refusal.ensures.listed v1_1 (inl (1, lit< tt, refl))
-
-pub returns-in-None-clause-input : goal.returns-in-None-clause-input
-returns-in-None-clause-input c = mapped c.refusal.result _ _ (λ r known. ap (λ (x : Report). x.input) known) c.refusal.ensures.report

@@ -1,8 +1,6 @@
-use Rattle.std.proofs.Common.{◌∙◌, lit<, refl, inl, ap}
-use Rattle.toml_edit_model.specs.Version.{v1_1}
+use Rattle.std.proofs.Common.{◌∙◌}
 use Rattle.toml_edit_tree.specs.View.{items_view, value_view}
-use Rattle.toml_edit_error.specs.Report.{Report}
-use Rattle.toml_edit_parser.proofs.ReadLaws.{same_closes, mapped}
+use Rattle.toml_edit_parser.proofs.ReadLaws.{same_closes}
 use Rattle.toml_edit_parser.proofs.ReadFits.{close_in, fits-array}
 use Rattle.toml_edit_parser.proofs.ArrayLaws.{made_array}
 use Rattle.toml_edit_parser.proofs.reader.close_array.Goals as goal
@@ -17,9 +15,3 @@ pub returns-clause-fits : goal.returns-clause-fits
 returns-clause-fits c =
     λ fits. fits-array c.args.source.now (value_view c.array_value.result) c.args.opening.start c.in-Some.close (items_view c.args.values.items) c.array_value.ensures
     (close_in c.args.source.now c.args.events.now c.in-Some.close c.in-Some.rest.now c.in-Some.ensures c.requires).0 fits
-
-pub returns-in_default-clause-listed : goal.returns-in_default-clause-listed
-returns-in_default-clause-listed c = c.refusal_at_end.ensures.listed v1_1 (inl (6, lit< tt, refl))
-
-pub returns-in_default-clause-input : goal.returns-in_default-clause-input
-returns-in_default-clause-input c = mapped c.refusal_at_end.result _ _ (λ r known. ap (λ (x : Report). x.input) known) c.refusal_at_end.ensures.report

@@ -1,10 +1,7 @@
-use Rattle.std.proofs.Common.{List, sym, subst, ◌∙◌, lit<, refl, inl, ap}
-use Rattle.toml_edit_model.specs.Version.{v1_1}
+use Rattle.std.proofs.Common.{List, sym, subst, ◌∙◌}
 use Rattle.toml_edit_model.specs.Tree.{Node}
 use Rattle.toml_edit_tree.specs.declared.item.Item.{Item}
 use Rattle.toml_edit_tree.specs.View.{items_view, value_view}
-use Rattle.toml_edit_error.specs.Report.{Report}
-use Rattle.toml_edit_parser.proofs.ReadLaws.{mapped}
 use Rattle.toml_edit_parser.proofs.ReadFits.{fits-item, fits-with_decor}
 use Rattle.toml_edit_parser.proofs.SplitLaws.{first_in}
 use Rattle.toml_edit_parser.proofs.ViewLaws.{view-Value}
@@ -20,9 +17,3 @@ returns-clause-fits c =
     let P : Node → Type 0 = λ n. NodeFits t n in
     let Q : List Item → Type 0 = λ xs. ItemsFit t (items_view xs) in
     subst Q (sym c.in_ok-put_value.ensures) (fits-item t c.args.values.now.items _ items (subst P (sym (view-Value c.decorated.result ∙ c.decorated.ensures)) put))
-
-pub returns-in_default-clause-listed : goal.returns-in_default-clause-listed
-returns-in_default-clause-listed c = c.refusal_at_end.ensures.listed v1_1 (inl (6, lit< tt, refl))
-
-pub returns-in_default-clause-input : goal.returns-in_default-clause-input
-returns-in_default-clause-input c = mapped c.refusal_at_end.result _ _ (λ r known. ap (λ (x : Report). x.input) known) c.refusal_at_end.ensures.report

@@ -49,19 +49,19 @@ returns-in-None-clause-value c =
     let past : is_in_range s text ≡ false =
     subst (λ (o : Option code.Scalar). MatchOption o (is_in_range s text ≡ false) (λ x. s ≡ scalar_view x)) c.in-None.is (c.in_ok-scalar.ensures.only s own) in
     let told : c.range_message.result.now ≡ range_message s = c.range_message.ensures.message s own past in
-    mapped c.refusal.result _ _
+    mapped c.refusal_with.result _ _
     (λ r known. (
       ap (λ (x : Report). x.input) known,
       ap (is_in_range s) (sym text_is) ∙ past,
       ap fault_of known ∙ ap (fault_at place.start place.end) told ∙ ap (λ (n : ℕ). fault_at place.start n (range_message s)) end_is,
     ))
-    c.refusal.ensures.report
+    c.refusal_with.ensures.report
 
 pub returns-in-None-clause-listed : goal.returns-in-None-clause-listed
-returns-in-None-clause-listed c = c.refusal.ensures.listed v1_1 (inr c.range_message.ensures.listed)
+returns-in-None-clause-listed c = c.refusal_with.ensures.listed v1_1 (inr c.range_message.ensures.listed)
 
 pub returns-in-None-clause-input : goal.returns-in-None-clause-input
-returns-in-None-clause-input c = mapped c.refusal.result _ _ (λ r known. ap (λ (x : Report). x.input) known) c.refusal.ensures.report
+returns-in-None-clause-input c = mapped c.refusal_with.result _ _ (λ r known. ap (λ (x : Report). x.input) known) c.refusal_with.ensures.report
 
 pub returns-in-Some-clause-fits : goal.returns-in-Some-clause-fits
 returns-in-Some-clause-fits c =

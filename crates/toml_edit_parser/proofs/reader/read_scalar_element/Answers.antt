@@ -1,5 +1,5 @@
 -- The scalar that is put, and what its text is refused with.
-use Rattle.std.proofs.Common.{rules, w64, to_z, of_z, ◌≡◌, ℤ, ◌+◌, false, true, length, Option, Some, sym, ap, subst, ◌∙◌, lit<, refl, inl, inr}
+use Rattle.std.proofs.Common.{rules, w64, to_z, of_z, ◌≡◌, ℤ, ◌+◌, false, true, length, Option, Some, sym, ap, subst, ◌∙◌, inr}
 use Rattle.std.specs.Prelude.{IfSome, MatchOption}
 use Rattle.toml_edit_model.specs.Version.{v1_1}
 use Rattle.toml_edit_model.specs.Text.{Text}
@@ -103,17 +103,11 @@ returns-in-None-clause-element c =
     let own = subst (λ (x : Text). Spells s x) (sym text_is) spells in
     let past : is_in_range s text ≡ false =
     subst (λ (o : Option code.Scalar). MatchOption o (is_in_range s text ≡ false) (λ x. s ≡ scalar_view x)) c.in-None.is (c.in_ok-scalar.ensures.only s own) in
-    scalar_refusal c.args.source.now s t at place c.range_message.result.now c.refusal.result place_is
-    (ap (is_in_range s) (sym text_is) ∙ past) (c.range_message.ensures.message s own past) c.refusal.ensures.report
-
-pub returns-in_default-clause-listed : goal.returns-in_default-clause-listed
-returns-in_default-clause-listed c = c.refusal_at_end.ensures.listed v1_1 (inl (6, lit< tt, refl))
+    scalar_refusal c.args.source.now s t at place c.range_message.result.now c.refusal_with.result place_is
+    (ap (is_in_range s) (sym text_is) ∙ past) (c.range_message.ensures.message s own past) c.refusal_with.ensures.report
 
 pub returns-in-None-clause-listed : goal.returns-in-None-clause-listed
-returns-in-None-clause-listed c = c.refusal.ensures.listed v1_1 (inr c.range_message.ensures.listed)
-
-pub returns-in_default-clause-input : goal.returns-in_default-clause-input
-returns-in_default-clause-input c = mapped c.refusal_at_end.result _ _ (λ r known. ap (λ (x : Report). x.input) known) c.refusal_at_end.ensures.report
+returns-in-None-clause-listed c = c.refusal_with.ensures.listed v1_1 (inr c.range_message.ensures.listed)
 
 pub returns-in-None-clause-input : goal.returns-in-None-clause-input
-returns-in-None-clause-input c = mapped c.refusal.result _ _ (λ r known. ap (λ (x : Report). x.input) known) c.refusal.ensures.report
+returns-in-None-clause-input c = mapped c.refusal_with.result _ _ (λ r known. ap (λ (x : Report). x.input) known) c.refusal_with.ensures.report

@@ -1,5 +1,5 @@
 -- A header, by its parts.
-use Rattle.std.proofs.Common.{◌≡◌, ◌<◌, List, length, drop, sym, ap, subst, ◌∙◌, refl, arith, lit<, inl}
+use Rattle.std.proofs.Common.{◌≡◌, ◌<◌, List, length, drop, sym, ap, subst, ◌∙◌, refl, arith}
 use Rattle.std.proofs.lemmas.List.{take_rest}
 use Rattle.toml_edit_model.specs.Version.{v1_1}
 use Rattle.toml_edit_syntax.specs.declared.event.Event.{Event}
@@ -38,7 +38,7 @@ returns-then-path-gt-MOST_PATH_EVENTS-clause-header c =
     λ h end start more is stands ended e.
     let first = header-first start h more c.args.events.now c.in-Some.opening c.in-Some.inside.now e c.in-Some.ensures in
     let parts = header-path start h (shortened 0 more) c.in-Some.inside.now c.in-Some-path_end.end_of_path first.1 c.in-Some-path_end.ensures.place in
-    path-too-long c.args.source.now h.path (key_at start h) c.refusal_of_all.result is.1
+    path-too-long c.args.reader.now.source.now h.path (key_at start h) c.refusal_of_all.result is.1
     (subst (λ (es : List Event). 238 < length es) (c.split_at.ensures.front ∙ parts.0) c.if-path-gt-MOST_PATH_EVENTS.true)
     c.refusal_of_all.ensures.report
 
@@ -47,19 +47,19 @@ returns-clause-header c =
     λ h end start more is stands ended e.
     let first = header-first start h more c.args.events.now c.in-Some.opening c.in-Some.inside.now e c.in-Some.ensures in
     let parts = header-path start h (shortened 0 more) c.in-Some.inside.now c.in-Some-path_end.end_of_path first.1 c.in-Some-path_end.ensures.place in
-    header-read (mode_of c.args.mode) c.args.source.now h end start more c.in-Some.opening _ c.split_at.result.0.now c.split_at.result.1.now _ _ is.1 stands ended first.0 (c.split_at.ensures.front ∙ parts.0)
+    header-read (mode_of c.args.reader.now.mode) c.args.reader.now.source.now h end start more c.in-Some.opening _ c.split_at.result.0.now c.split_at.result.1.now _ _ is.1 stands ended first.0 (c.split_at.ensures.front ∙ parts.0)
     (c.split_at.ensures.back ∙ parts.1) c.if-path-gt-MOST_PATH_EVENTS.false c.path_behind.ensures refl c.suffix.ensures refl
 
 pub returns-clause-path : goal.returns-clause-path
 returns-clause-path c =
-    let s = c.args.source.now in
+    let s = c.args.reader.now.source.now in
     let inside = (first_in s c.args.events.now c.in-Some.opening c.in-Some.inside.now c.in-Some.ensures c.requires.spans).1 in
     let path = in_take s c.in-Some-path_end.end_of_path c.in-Some.inside.now inside in
     subst (AreIn s) (sym (ap (λ (v : PathView). v.events) c.path_behind.ensures ∙ c.split_at.ensures.front)) path
 
 pub returns-clause-rest : goal.returns-clause-rest
 returns-clause-rest c =
-    let s = c.args.source.now in
+    let s = c.args.reader.now.source.now in
     let n = c.in-Some-path_end.end_of_path in
     let inside = first_in s c.args.events.now c.in-Some.opening c.in-Some.inside.now c.in-Some.ensures c.requires.spans in
     let behind : AreIn s c.split_at.result.1.now = subst (AreIn s) (sym c.split_at.ensures.back) (in_drop s n c.in-Some.inside.now inside.1) in
@@ -73,31 +73,13 @@ returns-clause-rest c =
 
 pub suffix-requires : goal.suffix-requires
 suffix-requires c =
-    let s = c.args.source.now in
+    let s = c.args.reader.now.source.now in
     let inside = first_in s c.args.events.now c.in-Some.opening c.in-Some.inside.now c.in-Some.ensures c.requires.spans in
     let behind : AreIn s c.split_at.result.1.now = subst (AreIn s) (sym c.split_at.ensures.back) (in_drop s c.in-Some-path_end.end_of_path c.in-Some.inside.now inside.1) in
     third-in s c.split_at.result.1.now _ c.in-len3-up.len_at_least behind
 
-pub returns-in_default-clause-listed : goal.returns-in_default-clause-listed
-returns-in_default-clause-listed c = c.refusal_at_end.ensures.listed v1_1 (inl (1, lit< tt, refl))
-
-pub returns-in_default-path_end-clause-listed : goal.returns-in_default-path_end-clause-listed
-returns-in_default-path_end-clause-listed c = c.refusal_at_end-in_default-path_end.ensures.listed v1_1 (inl (1, lit< tt, refl))
-
-pub returns-in_default-behind-clause-listed : goal.returns-in_default-behind-clause-listed
-returns-in_default-behind-clause-listed c = c.refusal_at_end-in_default-behind.ensures.listed v1_1 (inl (1, lit< tt, refl))
-
 pub returns-then-path-gt-MOST_PATH_EVENTS-clause-listed : goal.returns-then-path-gt-MOST_PATH_EVENTS-clause-listed
-returns-then-path-gt-MOST_PATH_EVENTS-clause-listed c = c.refusal_of_all.ensures.listed v1_1 refl
-
-pub returns-in_default-clause-input : goal.returns-in_default-clause-input
-returns-in_default-clause-input c = mapped c.refusal_at_end.result _ _ (λ r known. ap (λ (x : Report). x.input) known) c.refusal_at_end.ensures.report
-
-pub returns-in_default-path_end-clause-input : goal.returns-in_default-path_end-clause-input
-returns-in_default-path_end-clause-input c = mapped c.refusal_at_end-in_default-path_end.result _ _ (λ r known. ap (λ (x : Report). x.input) known) c.refusal_at_end-in_default-path_end.ensures.report
-
-pub returns-in_default-behind-clause-input : goal.returns-in_default-behind-clause-input
-returns-in_default-behind-clause-input c = mapped c.refusal_at_end-in_default-behind.result _ _ (λ r known. ap (λ (x : Report). x.input) known) c.refusal_at_end-in_default-behind.ensures.report
+returns-then-path-gt-MOST_PATH_EVENTS-clause-listed c = c.refusal_of_all.ensures.listed v1_1
 
 pub returns-then-path-gt-MOST_PATH_EVENTS-clause-input : goal.returns-then-path-gt-MOST_PATH_EVENTS-clause-input
 returns-then-path-gt-MOST_PATH_EVENTS-clause-input c = mapped c.refusal_of_all.result _ _ (λ r known. ap (λ (x : Report). x.input) known) c.refusal_of_all.ensures.report

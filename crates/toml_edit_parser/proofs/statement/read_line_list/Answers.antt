@@ -1,7 +1,6 @@
 -- A value of any kind, between the texts around it.
-use Rattle.std.proofs.Common.{◌+◌, List, ◌∷◌, length, sym, ap, subst, ◌∙◌, arith, lit<, refl, inl}
+use Rattle.std.proofs.Common.{◌+◌, List, ◌∷◌, length, sym, ap, subst, ◌∙◌, arith}
 use Rattle.std.proofs.lemmas.Result.{err_from_is_err_and}
-use Rattle.toml_edit_model.specs.Version.{v1_1}
 use Rattle.toml_edit_model.specs.Conversions.{with_decor}
 use Rattle.toml_edit_model.specs.Syntax.{value_text}
 use Rattle.toml_edit_model.specs.Tree.{Node}
@@ -14,8 +13,7 @@ use Rattle.toml_edit_tree.specs.declared.item.Item.{Item}
 use Rattle.toml_edit_repr.specs.Modes.{mode_of}
 use Rattle.toml_edit_parser.specs.StatementParts.{suffix_span}
 use Rattle.toml_edit_parser.specs.ValueRead.{IsRead, split_first}
-use Rattle.toml_edit_error.specs.Report.{Report}
-use Rattle.toml_edit_parser.proofs.ReadLaws.{same_parts, mapped}
+use Rattle.toml_edit_parser.proofs.ReadLaws.{same_parts}
 use Rattle.toml_edit_parser.proofs.SplitLaws.{first_in}
 use Rattle.toml_edit_parser.proofs.StatementLaws.{line-value}
 use Rattle.toml_edit_parser.proofs.ViewLaws.{view-Value}
@@ -40,20 +38,14 @@ returns-clause-value c =
     let h = c.in_ok-value.ensures.value v start 0 behind is stands (omega arith) e in
     let P : Node → Type 0 = λ n. IsRead v start 0 behind n c.in_ok-value.rest.now in
     let last = same_parts c.in-Some.end _ c.in-Some.rest.now _ (c.in-Some.ensures ∙ ap split_first h.rest_is) in
-    line-value (mode_of c.args.mode) v start c.args.before after suffix more _ _ c.raw.result c.raw-2.result c.suffix.result c.in_ok-value.rest.now c.in-Some.rest.now
+    line-value (mode_of c.args.reader.now.mode) v start c.args.before after suffix more _ _ c.raw.result c.raw-2.result c.suffix.result c.in_ok-value.rest.now c.in-Some.rest.now
     (subst P (sym (view-Value c.in_ok-value.value)) h) c.raw.ensures.raw c.raw-2.ensures.raw
-    (c.suffix.ensures ∙ ap (λ (x : Event). suffix_span (mode_of c.args.mode) c.args.source.now x.span) last.0 ∙ counted)
+    (c.suffix.ensures ∙ ap (λ (x : Event). suffix_span (mode_of c.args.reader.now.mode) c.args.reader.now.source.now x.span) last.0 ∙ counted)
     (c.decorate.ensures ∙ ap (λ (x : Item). with_decor (both_sides c.raw.result c.raw-2.result) (item_view x)) c.put.ensures) last.1
 
 pub returns-clause-rest : goal.returns-clause-rest
 returns-clause-rest c =
-    let behind = first_in c.args.source.now c.in_ok-value.rest.now c.in-Some.end c.in-Some.rest.now c.in-Some.ensures c.in_ok-value.ensures.rest.0 in
+    let behind = first_in c.args.reader.now.source.now c.in_ok-value.rest.now c.in-Some.end c.in-Some.rest.now c.in-Some.ensures c.in_ok-value.ensures.rest.0 in
     let two = c.in_ok-value.ensures.rest.1 in
     let three = behind.2 in
     (behind.1, omega (arith, two, three))
-
-pub returns-in_default-clause-listed : goal.returns-in_default-clause-listed
-returns-in_default-clause-listed c = c.refusal_at_end.ensures.listed v1_1 (inl (4, lit< tt, refl))
-
-pub returns-in_default-clause-input : goal.returns-in_default-clause-input
-returns-in_default-clause-input c = mapped c.refusal_at_end.result _ _ (λ r known. ap (λ (x : Report). x.input) known) c.refusal_at_end.ensures.report

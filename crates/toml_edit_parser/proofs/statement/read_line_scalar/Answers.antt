@@ -1,5 +1,5 @@
 -- The scalar that is put, and what its text is refused with.
-use Rattle.std.proofs.Common.{◌≡◌, false, true, Option, Some, sym, ap, subst, ◌∙◌, lit<, refl, inl, inr}
+use Rattle.std.proofs.Common.{◌≡◌, false, true, Option, Some, sym, ap, subst, ◌∙◌, inr}
 use Rattle.std.specs.Prelude.{IfSome, MatchOption}
 use Rattle.toml_edit_model.specs.Version.{v1_1}
 use Rattle.toml_edit_model.specs.Text.{Text}
@@ -29,7 +29,7 @@ returns-in-Some-2-clause-value c =
     λ s t start after suffix more spells stands place_is events_are counted.
     let place = c.args.span in
     let text = c.cut-text.result.now in
-    let text_is = c.cut-text.ensures ∙ place_cut c.args.source.now place start t place_is stands in
+    let text_is = c.cut-text.ensures ∙ place_cut c.args.reader.now.source.now place start t place_is stands in
     let read = c.in_ok-scalar.ensures in
     let is = c.in-Some-2.is in
     let same : s ≡ scalar_view c.in-Some-2.scalar =
@@ -45,13 +45,13 @@ returns-in-Some-2-clause-value c =
     ∙ ap (λ (x : Span). record { prefix = Some (spanned_raw c.args.before); suffix = Some (spanned_raw x) }) c.suffix.ensures in
     let view =
     c.spanned-value.ensures ∙ ap (λ (x : scalars.Scalar). leaf x (Some (span place.start place.end)) c.new-decor.result) (sym same) in
-    subst (λ (x : Item). IsLineValue (mode_of c.args.mode) (syntax.scalar s t) start c.args.before suffix more (item_view x) c.in-Some.rest.now) (sym c.put.ensures)
-    (scalar_put (mode_of c.args.mode) c.args.source.now s t start c.args.before after suffix more place c.in-Some.end c.args.events.now c.in-Some.rest.now
+    subst (λ (x : Item). IsLineValue (mode_of c.args.reader.now.mode) (syntax.scalar s t) start c.args.before suffix more (item_view x) c.in-Some.rest.now) (sym c.put.ensures)
+    (scalar_put (mode_of c.args.reader.now.mode) c.args.reader.now.source.now s t start c.args.before after suffix more place c.in-Some.end c.args.events.now c.in-Some.rest.now
     c.spanned-value.result c.new-decor.result spells place_is events_are c.in-Some.ensures counted fits view decor)
 
 pub returns-in-Some-2-clause-rest : goal.returns-in-Some-2-clause-rest
 returns-in-Some-2-clause-rest c =
-    let p = first_in c.args.source.now c.args.events.now c.in-Some.end c.in-Some.rest.now c.in-Some.ensures c.requires.spans in
+    let p = first_in c.args.reader.now.source.now c.args.events.now c.in-Some.end c.in-Some.rest.now c.in-Some.ensures c.requires.spans in
     (p.1, p.2)
 
 pub returns-in-None-clause-value : goal.returns-in-None-clause-value
@@ -59,21 +59,15 @@ returns-in-None-clause-value c =
     λ s t start after suffix more spells stands place_is events_are counted.
     let place = c.args.span in
     let text = c.cut-text.result.now in
-    let text_is = c.cut-text.ensures ∙ place_cut c.args.source.now place start t place_is stands in
+    let text_is = c.cut-text.ensures ∙ place_cut c.args.reader.now.source.now place start t place_is stands in
     let own = subst (λ (x : Text). Spells s x) (sym text_is) spells in
     let past : is_in_range s text ≡ false =
     subst (λ (o : Option code.Scalar). MatchOption o (is_in_range s text ≡ false) (λ x. s ≡ scalar_view x)) c.in-None.is (c.in_ok-scalar.ensures.only s own) in
-    scalar_refusal c.args.source.now s t start place c.range_message.result.now c.refusal.result place_is
-    (ap (is_in_range s) (sym text_is) ∙ past) (c.range_message.ensures.message s own past) c.refusal.ensures.report
-
-pub returns-in_default-clause-listed : goal.returns-in_default-clause-listed
-returns-in_default-clause-listed c = c.refusal_at_end.ensures.listed v1_1 (inl (4, lit< tt, refl))
+    scalar_refusal c.args.reader.now.source.now s t start place c.range_message.result.now c.refusal_with.result place_is
+    (ap (is_in_range s) (sym text_is) ∙ past) (c.range_message.ensures.message s own past) c.refusal_with.ensures.report
 
 pub returns-in-None-clause-listed : goal.returns-in-None-clause-listed
-returns-in-None-clause-listed c = c.refusal.ensures.listed v1_1 (inr c.range_message.ensures.listed)
-
-pub returns-in_default-clause-input : goal.returns-in_default-clause-input
-returns-in_default-clause-input c = mapped c.refusal_at_end.result _ _ (λ r known. ap (λ (x : Report). x.input) known) c.refusal_at_end.ensures.report
+returns-in-None-clause-listed c = c.refusal_with.ensures.listed v1_1 (inr c.range_message.ensures.listed)
 
 pub returns-in-None-clause-input : goal.returns-in-None-clause-input
-returns-in-None-clause-input c = mapped c.refusal.result _ _ (λ r known. ap (λ (x : Report). x.input) known) c.refusal.ensures.report
+returns-in-None-clause-input c = mapped c.refusal_with.result _ _ (λ r known. ap (λ (x : Report). x.input) known) c.refusal_with.ensures.report

@@ -18,7 +18,9 @@ returns-in_err-at c =
     record {
       held = ap (λ o. option_map item_view (option_and_then (slice_get (items_of es)) o)) c.from_residual.ensures
           ∙ sym (get-found k es None (apart-first es c.as_slice-entries.ensures.apart) (sym (ap (option_and_then (slice_get es)) c.in_err-at.was) ∙ c.find.ensures.slot));
+      place = rw c.from_residual.ensures tt;
       within = rw c.from_residual.ensures tt;
+      apart = apart-first es c.as_slice-entries.ensures.apart;
     }
 
 pub returns-then-is_none : goal.returns-then-is_none
@@ -32,7 +34,9 @@ returns-then-is_none c =
     record {
       held = sym (get-found k es (Some s) (apart-first es c.as_slice-entries.ensures.apart) (sym got ∙ sym (ap (option_and_then (slice_get es)) c.in_ok-at.was) ∙ c.find.ensures.slot)
           ∙ ap (λ (x : Slot _). only is_item (item_view x.item)) c.index-entries-at.is ∙ ap (only is_item) (c.is_none.ensures.0 c.if-is_none.true));
+      place = tt;
       within = tt;
+      apart = apart-first es c.as_slice-entries.ensures.apart;
     }
 
 pub returns-else-is_none : goal.returns-else-is_none
@@ -48,5 +52,7 @@ returns-else-is_none c =
     record {
       held = ap (option_map item_view) (item-at es at s got)
           ∙ sym (get-found k es (Some s) (apart-first es c.as_slice-entries.ensures.apart) (sym got ∙ sym (ap (option_and_then (slice_get es)) c.in_ok-at.was) ∙ c.find.ensures.slot) ∙ held_in-full s full);
+      place = sym c.find.ensures.place ∙ c.in_ok-at.was;
       within = c.in_ok-at.ensures.within;
+      apart = apart-first es c.as_slice-entries.ensures.apart;
     }

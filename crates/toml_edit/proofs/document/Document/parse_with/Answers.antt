@@ -3,7 +3,7 @@ use Rattle.std.proofs.Common.{sym, ◌∙◌, ap, rules}
 use Rattle.toml_edit_model.specs.Mode.{is_exact}
 use Rattle.toml_edit_repr.specs.Modes as modes
 use Rattle.toml_edit_tree.specs.View.{slots_view}
-use Rattle.toml_edit_version.specs.Grammar.{grammar}
+use Rattle.toml_edit_syntax.specs.Grammar.{grammar}
 use Rattle.toml_edit.specs.Roots.{table-is}
 use Rattle.toml_edit.proofs.OverLaws.{parsed-later, read-as, root-over, root-reading-in}
 use Rattle.toml_edit.proofs.document.Document.parse_with.Goals as goal

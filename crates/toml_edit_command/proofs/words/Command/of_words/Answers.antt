@@ -14,4 +14,4 @@ pub returns-in-Ok-clause-version : goal.returns-in-Ok-clause-version
 returns-in-Ok-clause-version c = ap (λ q. q.version) c.options_of.ensures
 
 pub returns-in-Err-clause-stops : goal.returns-in-Err-clause-stops
-returns-in-Err-clause-stops c = subst (λ q. StopsInWords q c.in-Err.stop) c.options_of.ensures c.in-Err.ensures.stops
+returns-in-Err-clause-stops c = subst (λ q. StopsInWords q c.in-Err.error) c.options_of.ensures c.in-Err.ensures.stops

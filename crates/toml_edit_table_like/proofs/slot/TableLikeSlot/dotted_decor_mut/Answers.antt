@@ -1,6 +1,6 @@
 -- A decor of the key of a slot, to be changed.
 use Rattle.std.proofs.Common.{length, refl, arith, ap, ◌∙◌, slice_get}
-use Rattle.toml_edit_slots.specs.Entries.{length-on_key}
+use Rattle.toml_edit_slots.specs.Lengths.{length-on_key}
 use Rattle.toml_edit_slots.specs.Slots.{on_key}
 use Rattle.toml_edit_table_like.proofs.SlotLaws.{key_written, part-of-key, slot_of}
 use Rattle.toml_edit_table_like.proofs.slot.TableLikeSlot.dotted_decor_mut.Goals as goal

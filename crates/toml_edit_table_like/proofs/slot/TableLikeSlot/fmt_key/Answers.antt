@@ -1,7 +1,7 @@
 -- The key of a slot with its default spelling.
 use Rattle.std.proofs.Common.{◌<◌, length, sym, ap, subst, ◌∙◌}
 use Rattle.toml_edit_model.specs.Keys.{reset_key}
-use Rattle.toml_edit_slots.specs.Entries.{length-on_key}
+use Rattle.toml_edit_slots.specs.Lengths.{length-on_key}
 use Rattle.toml_edit_slots.specs.Slots.{on_key}
 use Rattle.toml_edit_table_like.proofs.slot.TableLikeSlot.fmt_key.Goals as goal
 

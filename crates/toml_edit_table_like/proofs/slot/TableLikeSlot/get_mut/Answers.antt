@@ -1,6 +1,6 @@
 -- The item of a slot, to be changed.
 use Rattle.std.proofs.Common.{length, refl, arith, ap, ◌∙◌}
-use Rattle.toml_edit_slots.specs.Entries.{length-with_item}
+use Rattle.toml_edit_slots.specs.Lengths.{length-with_item}
 use Rattle.toml_edit_slots.specs.Slots.{with_item}
 use Rattle.toml_edit_table_like.proofs.SlotLaws.{item_written, slot_of}
 use Rattle.toml_edit_table_like.proofs.slot.TableLikeSlot.get_mut.Goals as goal

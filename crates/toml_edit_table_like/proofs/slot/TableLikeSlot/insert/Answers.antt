@@ -1,6 +1,6 @@
 -- Another item in a slot.
 use Rattle.std.proofs.Common.{◌<◌, length, sym, ap, subst, ◌∙◌}
-use Rattle.toml_edit_slots.specs.Entries.{length-with_item}
+use Rattle.toml_edit_slots.specs.Lengths.{length-with_item}
 use Rattle.toml_edit_slots.specs.Slots.{with_item}
 use Rattle.toml_edit_table_like.proofs.slot.TableLikeSlot.insert.Goals as goal
 

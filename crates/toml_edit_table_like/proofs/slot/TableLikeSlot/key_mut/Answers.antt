@@ -1,7 +1,7 @@
 -- The key of a slot, to be changed.
 use Rattle.std.proofs.Common.{length, refl, arith, ap, ◌∙◌}
 use Rattle.toml_edit_key.specs.KeyMutView.{with_parts}
-use Rattle.toml_edit_slots.specs.Entries.{length-on_key}
+use Rattle.toml_edit_slots.specs.Lengths.{length-on_key}
 use Rattle.toml_edit_slots.specs.Slots.{on_key}
 use Rattle.toml_edit_table_like.proofs.SlotLaws.{key_written}
 use Rattle.toml_edit_table_like.proofs.slot.TableLikeSlot.key_mut.Goals as goal

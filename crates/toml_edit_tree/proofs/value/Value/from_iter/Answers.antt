@@ -1,10 +1,10 @@
 -- The array of the values that came, as a value.
-use Rattle.std.proofs.Common.{ap, sym, map, ◌∙◌}
+use Rattle.std.proofs.Common.{ap, sym, ◌∙◌}
 use Rattle.toml_edit_laws.proofs.slots.Lists.{items_from-list}
 use Rattle.toml_edit_model.specs.Conversions.{new_array}
 use Rattle.toml_edit_model.specs.Lists.{items_from}
 use Rattle.toml_edit_model.specs.Tree.{list}
-use Rattle.toml_edit_tree.specs.View.{array_view, value_view}
+use Rattle.toml_edit_tree.specs.View.{array_view}
 use Rattle.toml_edit_tree.proofs.ViewLaws.{view-Array}
 use Rattle.toml_edit_tree.proofs.value.Value.from_iter.Goals as goal
 

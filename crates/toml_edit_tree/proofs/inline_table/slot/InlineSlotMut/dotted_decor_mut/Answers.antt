@@ -1,6 +1,6 @@
 -- A decor of the key of a slot, to be changed.
 use Rattle.std.proofs.Common.{refl, arith, ◌∙◌, slice_get}
-use Rattle.toml_edit_slots.specs.Entries.{length-on_key}
+use Rattle.toml_edit_slots.specs.Lengths.{length-on_key}
 use Rattle.toml_edit_tree.specs.declared.inline_table.InlineTable.{out-InlineTable}
 use Rattle.toml_edit_tree.proofs.LentLaws.{inline_key-keeps, inline_key-leaves}
 use Rattle.toml_edit_tree.proofs.InlineSlotLaws.{slot_key_written}

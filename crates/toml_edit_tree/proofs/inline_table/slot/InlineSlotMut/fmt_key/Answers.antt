@@ -1,7 +1,7 @@
 -- The key of a slot with its default spelling.
 use Rattle.std.proofs.Common.{ap, ◌∙◌}
 use Rattle.toml_edit_model.specs.Keys.{reset_key}
-use Rattle.toml_edit_slots.specs.Entries.{length-on_key}
+use Rattle.toml_edit_slots.specs.Lengths.{length-on_key}
 use Rattle.toml_edit_tree.specs.declared.inline_table.InlineTable.{out-InlineTable}
 use Rattle.toml_edit_tree.specs.InlineSlots.{inline_fields}
 use Rattle.toml_edit_tree.specs.SlotsOf.{inline_slots_of}

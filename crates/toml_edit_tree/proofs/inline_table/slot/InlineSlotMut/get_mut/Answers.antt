@@ -1,6 +1,6 @@
 -- The item of a slot, to be changed.
 use Rattle.std.proofs.Common.{refl, arith}
-use Rattle.toml_edit_slots.specs.Entries.{length-with_item}
+use Rattle.toml_edit_slots.specs.Lengths.{length-with_item}
 use Rattle.toml_edit_tree.specs.declared.inline_table.InlineTable.{out-InlineTable}
 use Rattle.toml_edit_tree.proofs.LentLaws.{inline_item-keeps, inline_item-leaves}
 use Rattle.toml_edit_tree.proofs.InlineSlotLaws.{slot_written}

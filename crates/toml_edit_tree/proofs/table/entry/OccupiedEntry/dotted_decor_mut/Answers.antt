@@ -1,6 +1,6 @@
 -- A decor of the key of an entry, to be changed.
 use Rattle.std.proofs.Common.{refl, arith, ◌∙◌, slice_get}
-use Rattle.toml_edit_slots.specs.Entries.{length-on_key}
+use Rattle.toml_edit_slots.specs.Lengths.{length-on_key}
 use Rattle.toml_edit_tree.specs.declared.table.Table.{out-Table}
 use Rattle.toml_edit_tree.proofs.LentLaws.{key-keeps, key-leaves}
 use Rattle.toml_edit_tree.proofs.TableEntryLaws.{key_written, part-of-key}

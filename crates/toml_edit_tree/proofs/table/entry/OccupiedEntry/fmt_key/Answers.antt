@@ -1,7 +1,7 @@
 -- The key of an entry with its default spelling.
 use Rattle.std.proofs.Common.{ap, ◌∙◌}
 use Rattle.toml_edit_model.specs.Keys.{reset_key}
-use Rattle.toml_edit_slots.specs.Entries.{length-on_key}
+use Rattle.toml_edit_slots.specs.Lengths.{length-on_key}
 use Rattle.toml_edit_tree.specs.declared.table.Table.{out-Table}
 use Rattle.toml_edit_tree.specs.SlotsOf.{slots_of}
 use Rattle.toml_edit_tree.proofs.LentLaws.{key-leaves}

@@ -1,6 +1,6 @@
 -- The item of an entry, to be changed.
 use Rattle.std.proofs.Common.{refl, arith}
-use Rattle.toml_edit_slots.specs.Entries.{length-with_item}
+use Rattle.toml_edit_slots.specs.Lengths.{length-with_item}
 use Rattle.toml_edit_tree.specs.declared.table.Table.{out-Table}
 use Rattle.toml_edit_tree.proofs.LentLaws.{item-keeps, item-leaves}
 use Rattle.toml_edit_tree.proofs.TableEntryLaws.{item_written}

@@ -1,6 +1,6 @@
 -- Another item in the slot of an entry.
 use Rattle.std.proofs.Common.{ap, ◌∙◌, slice_get}
-use Rattle.toml_edit_slots.specs.Entries.{length-with_item}
+use Rattle.toml_edit_slots.specs.Lengths.{length-with_item}
 use Rattle.toml_edit_slots.specs.Slots.{items_of}
 use Rattle.toml_edit_tree.specs.declared.table.Table.{out-Table}
 use Rattle.toml_edit_tree.specs.SlotsOf.{slots_of}

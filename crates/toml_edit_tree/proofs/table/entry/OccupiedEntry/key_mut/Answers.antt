@@ -1,7 +1,7 @@
 -- The key of an entry, to be changed.
 use Rattle.std.proofs.Common.{refl, arith}
 use Rattle.toml_edit_key.specs.KeyMutView.{with_parts}
-use Rattle.toml_edit_slots.specs.Entries.{length-on_key}
+use Rattle.toml_edit_slots.specs.Lengths.{length-on_key}
 use Rattle.toml_edit_tree.specs.declared.table.Table.{out-Table}
 use Rattle.toml_edit_tree.proofs.LentLaws.{key-keeps, key-leaves}
 use Rattle.toml_edit_tree.proofs.TableEntryLaws.{key_written}

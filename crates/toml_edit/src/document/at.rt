@@ -1,0 +1,71 @@
+//! Access to items by paths of keys.
+ghost use Rattle.std.specs.Prelude.{◌≡◌, IfErr, option_map};
+ghost use Rattle.toml_edit_laws.specs.Commands.{item_at, remove_at, set_at};
+ghost use Rattle.toml_edit_tree.specs.View.{item_view, value_view};
+ghost use Rattle.toml_edit_change.specs.Changes.{Changes, names};
+ghost use Rattle.toml_edit_change.specs.declared.fault.ChangeFault.TheVariants.{NoSuchPath};
+ghost use Rattle.toml_edit.specs.DocumentView.{IsPrintedAs, tree_owned};
+
+use super::DocumentMut;
+use toml_edit_change::ChangeFault;
+use toml_edit_key::Key;
+use toml_edit_tree::{Item, Value};
+
+/// # Paths
+///
+/// A path leads down from the root, a key at a time. In a table or an inline table, a key is looked
+/// up by its name. In an array or an array of tables, its name is the number of an element in
+/// decimal digits, counted from 0, without leading zeros. [`Key::parse`] makes a path of a text.
+impl DocumentMut {
+    /// Returns the item at `path`, or `None` if there is none.
+    ///
+    /// Placeholders are not found, nor are elements of an array that are no values and of an array
+    /// of tables that are no tables. The empty path leads to the root.
+    pub fn get_at(&self, path: &[Key]) -> Option<&Item>
+        ensures { option_map (λ x. item_view x.now) result
+            ≡ item_at (names path.now) (tree_owned self.now) }
+    {
+        toml_edit_change::get(self.as_item(), path)
+    }
+
+    /// Puts the value at `path`.
+    ///
+    /// A value that is there is replaced, and its decor stays; a placeholder is filled. A missing
+    /// key is added at the end of its table, with inline tables down to the value if more are
+    /// missing. So comments and spacing stay, and only the statement with the path changes, or one
+    /// is added: see [`laws::replaced`](crate::laws::replaced) and
+    /// [`laws::added`](crate::laws::added).
+    ///
+    /// # Errors
+    ///
+    /// Fails with [`ChangeFault::NoSuchPath`] if a key names no element, with
+    /// [`ChangeFault::WrongKind`] for a table or an array of tables at the end of the path or a
+    /// scalar before it, and with [`ChangeFault::Memory`] if out of memory.
+    pub fn set_at(&mut self, path: &[Key], value: Value) -> Result<(), ChangeFault>
+        ensures changes { Changes
+            (set_at (names path.now) (value_view value) (tree_owned self.old))
+            (tree_owned self.old) (tree_owned self.new) result }
+        ensures printed { IsPrintedAs self.new self.old }
+    {
+        let alloc = self.as_table().slots.allocator();
+        toml_edit_change::set(alloc, self.as_table_mut(), path, value)
+    }
+
+    /// Removes the item at `path`: the slot of a table with its key, the value of an array, or the
+    /// table of an array of tables. Takes no memory.
+    ///
+    /// The comments in the decors of what is removed go with it, and all others stay. See
+    /// [`laws::removed`](crate::laws::removed).
+    ///
+    /// # Errors
+    ///
+    /// Fails with [`ChangeFault::NoSuchPath`] if there is no such item, and with no other fault.
+    pub fn remove_at(&mut self, path: &[Key]) -> Result<(), ChangeFault>
+        ensures changes { Changes (remove_at (names path.now) (tree_owned self.old))
+            (tree_owned self.old) (tree_owned self.new) result }
+        ensures fault { IfErr result (λ fault. fault ≡ NoSuchPath) }
+        ensures printed { IsPrintedAs self.new self.old }
+    {
+        toml_edit_change::remove(self.as_table_mut(), path)
+    }
+}

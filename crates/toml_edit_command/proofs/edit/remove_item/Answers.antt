@@ -1,9 +1,0 @@
--- The document's tree is what `remove` makes of it.
-use Rattle.toml_edit_change.specs.Changes.{names}
-use Rattle.toml_edit_command.proofs.Trees.{remove-root}
-use Rattle.toml_edit_command.proofs.edit.remove_item.Goals as goal
-
-pub returns-clause-changes : goal.returns-clause-changes
-returns-clause-changes c =
-    remove-root c.args.document.now c.as_table_mut.result.now c.remove.new.root c.as_table_mut.ensures.fields c.as_table_mut.ensures.slots
-    (names c.args.path.now) c.remove.result c.remove.ensures.changes

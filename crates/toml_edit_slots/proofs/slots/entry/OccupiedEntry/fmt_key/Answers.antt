@@ -1,9 +1,0 @@
--- The key of an entry with its default spelling.
-use Rattle.toml_edit_model.specs.Keys.{reset_key}
-use Rattle.toml_edit_slots.specs.Entries.{length-on_key}
-use Rattle.toml_edit_slots.proofs.slots.entry.OccupiedEntry.fmt_key.Goals as goal
-
-pub invariant_of-self : goal.invariant_of-self
-invariant_of-self g c =
-    let o = c.args.self.now in
-    record { within = rw (c.fmt_key.ensures, length-on_key reset_key o.slots.now o.at) o.within }
