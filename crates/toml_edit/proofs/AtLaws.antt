@@ -1,5 +1,5 @@
 -- The tree of a document whose root was changed.
-use Rattle.std.proofs.Common.{◌≡◌, refl, sym, ap, ◌∙◌, rules, true, false, List, [], ◌∷◌, Result, Ok, Err}
+use Rattle.std.proofs.Common.{◌≡◌, refl, sym, ap, ◌∙◌, rules, true, false, List, [], ◌∷◌, Option, Some, None, Result, Ok, Err}
 use Rattle.toml_edit_model.specs.Text.{Text}
 use Rattle.toml_edit_model.specs.Tree.{Raw, Node, nothing, leaf, list, inline, table, tables, TableFields, Slots, Tree}
 use Rattle.toml_edit_model.specs.Slots.{Slot, lookup_slot}
@@ -10,7 +10,9 @@ use Rattle.toml_edit_tree.specs.View.{fields_view, item_view, table_slots, tree_
 use Rattle.toml_edit_tree.specs.declared.item.Item.{the_lemmas}
 use Rattle.toml_edit_tree.specs.declared.item.Item.TheVariants as items
 use Rattle.toml_edit_tree.specs.declared.table.Table.{Table}
+use Rattle.toml_edit_change.specs.Calls.{Change, ChangesFound, item_inside, replaced_at, replaced_below}
 use Rattle.toml_edit_change.specs.Changes.{Changes}
+use Rattle.toml_edit_change.specs.Headed.{set_at_with_headers, set_headed_below}
 use Rattle.toml_edit_change.specs.declared.fault.ChangeFault.{ChangeFault}
 use Rattle.toml_edit_change.specs.declared.fault.ChangeFault.TheVariants.{NoSuchPath, WrongKind, Memory}
 use Rattle.toml_edit.specs.DocumentView.{tree_owned}
@@ -40,6 +42,18 @@ module _ (t u : Tree) (trailing : u.trailing ≡ t.trailing) where
   set-done (k ∷ path) v h =
       ap (mapped (with_slots t)) h
       ∙ ap done (slots-change (change_slot true k (set_below v path) (slot_list t.slots) (lookup_slot k (slot_list t.slots))) h)
+
+  pub headers-done : (path : List Text) (v : Node) → set_headed_below v path (root_item t) ≡ done (root_item u) → set_at_with_headers path v t ≡ done u
+  headers-done [] v h = cc
+  headers-done (k ∷ path) v h =
+      ap (mapped (with_slots t)) h
+      ∙ ap done (slots-change (change_slot true k (set_headed_below v path) (slot_list t.slots) (lookup_slot k (slot_list t.slots))) h)
+
+  pub replaced-done : (path : List Text) (m n : Node) → item_inside path (root_item t) ≡ Some n → replaced_below path m (root_item t) ≡ done (root_item u) → replaced_at path m t ≡ done u
+  replaced-done [] m n there h = absurd cc
+  replaced-done (k ∷ path) m n there h =
+      ap (mapped (with_slots t)) h
+      ∙ ap done (slots-change (change_slot false k (replaced_below path m) (slot_list t.slots) (lookup_slot k (slot_list t.slots))) h)
 
   pub remove-done : (path : List Text) → remove_below path (root_item t) ≡ done (root_item u) → remove_at path t ≡ done u
   remove-done [] h = cc
@@ -102,3 +116,28 @@ module _ (d : DocumentMut) (t w : Table) (fields : fields_view t ≡ (tree_owned
       (λ h. remove-done (tree_owned d) (tree_view w d.trailing) (sym (trailing-at (item_view d.root) d.trailing)) path (ap (remove_below path) (sym was) ∙ h)
       ∙ ap done is)
       (λ q h. ap (mapped (with_slots (tree_owned d))) (ap (remove_below path) (sym was) ∙ h))
+
+  pub headers-root : (path : List Text) (v : Node) (r : Result (Unit {0}) ChangeFault) → Changes (set_headed_below v path (node_of t)) (node_of t) (node_of w) r
+      → Changes (set_at_with_headers path v (tree_owned d)) (tree_owned d) (tree_under (items.Table w) d.trailing) r
+  headers-root path v r =
+      changed r (set_headed_below v path (node_of t)) (set_at_with_headers path v (tree_owned d))
+      (λ h. headers-done (tree_owned d) (tree_view w d.trailing) (sym (trailing-at (item_view d.root) d.trailing)) path v (ap (set_headed_below v path) (sym was) ∙ h)
+      ∙ ap done is)
+      (λ q h. ap (mapped (with_slots (tree_owned d))) (ap (set_headed_below v path) (sym was) ∙ h))
+
+  -- and so is what a closure does to an item below it
+  pub change-root : {F R : Type 0} (g : Change F R) (f : F) (path : List Text) (r : Option R)
+      → ChangesFound g f (item_inside path (node_of t)) (λ left. replaced_below path left (node_of t)) (node_of t) (node_of w) r
+      → ChangesFound g f (item_inside path (root_item (tree_owned d))) (λ left. replaced_at path left (tree_owned d)) (tree_owned d) (tree_under (items.Table w) d.trailing) r
+  change-root g f path None h = (ap (item_inside path) (sym was) ∙ h.0, stays h.1)
+  change-root g f path (Some r) h =
+      let found : item_inside path (root_item (tree_owned d)) ≡ Some (item_view h.item) = ap (item_inside path) (sym was) ∙ h.found_it in
+      record {
+        item = h.item;
+        left = h.left;
+        found_it = found;
+        returned = h.returned;
+        put_back = replaced-done (tree_owned d) (tree_view w d.trailing) (sym (trailing-at (item_view d.root) d.trailing)) path (item_view h.left) (item_view h.item) found
+            (ap (replaced_below path (item_view h.left)) (sym was) ∙ h.put_back)
+            ∙ ap done is;
+      }

@@ -22,3 +22,5 @@ pub use Rattle.toml_edit_tree.specs as tree
 pub use Rattle.toml_edit_table_like.specs as table_like
 pub use Rattle.toml_edit_parser.specs as parser
 pub use Rattle.toml_edit_change.specs as change
+pub use Rattle.toml_edit_fits.specs as fits
+pub use Rattle.toml_edit_edits.specs as edits

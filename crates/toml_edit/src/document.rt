@@ -7,7 +7,7 @@ use crate::root::table_of;
 use std::alloc::Global;
 use toml_edit_builder as builder;
 use toml_edit_error::ParseFault;
-use toml_edit_fits::tree_fits;
+use toml_edit_fits::{Misfit, first_misfit, tree_fits};
 use toml_edit_parser::ParseOptions;
 use toml_edit_repr::{Mem, Mode, RawString};
 use toml_edit_tree::{Item, Iter, Table};
@@ -412,8 +412,10 @@ impl Drop for DocumentMut {
 }
 
 impl DocumentMut {
-    ghost use Rattle.std.specs.Prelude.{◌≡◌, ◌↔◌, ◌⊎◌, if◌then◌else◌, IfOk, IfErr, IsOk, IsErrOf, IsTrue, string_bytes};
+    ghost use Rattle.std.specs.Prelude.{◌≡◌, ◌↔◌, ◌⊎◌, if◌then◌else◌, IfOk, IfErr, IsNone, IsOk, IsErrOf, IsTrue, option_map, slice_get, string_bytes};
     ghost use Rattle.toml_edit_model.specs.Fits.{FitsIn};
+    ghost use Rattle.toml_edit_fits.specs.Misfits.{misfits};
+    ghost use Rattle.toml_edit_fits.specs.MisfitViews.{misfit_view};
     ghost use Rattle.toml_edit_model.specs.Tree.{SlotsAreWellMade};
     ghost use Rattle.toml_edit_model.specs.Mode as model;
     ghost use Rattle.toml_edit_model.specs.Syntax.{Document as Cut};
@@ -693,6 +695,25 @@ impl DocumentMut {
         ensures free { IsOk result }
     {
         Ok(tree_fits(self.mode, self.as_table(), &self.trailing))
+    }
+
+    /// Returns the first place where the document doesn't fit, or `None` if it [fits](Self::fits).
+    ///
+    /// What a table or a value has of its own comes before what is below it, and the lines of a
+    /// table come before the tables below it. Headers that are printed too early come last, in the
+    /// order of the tree. Takes memory only for the path of the place.
+    ///
+    /// # Errors
+    ///
+    /// Returns an `AllocError` if out of memory.
+    pub fn first_misfit(&self, alloc: Global) -> Mem<Option<Misfit>>
+        ensures fits { IfOk result
+            (λ misfit. IsNone misfit ↔ FitsIn (mode_owned self.now) (tree_owned self.now)) }
+        ensures first { IfOk result
+            (λ misfit. option_map misfit_view misfit
+            ≡ slice_get (misfits (mode_owned self.now) (tree_owned self.now)) 0) }
+    {
+        first_misfit(alloc, self.mode, self.as_table(), &self.trailing)
     }
 }
 

@@ -64,7 +64,7 @@
 //!   [`DocumentMut::set_exact`] keep line endings.
 //! - **Fits.** A document *fits* if its print is valid TOML that means what the tree shows. Parsed
 //!   documents fit. An edit can break that, by a decor that is no whitespace and no comment, say;
-//!   [`DocumentMut::fits`] checks it.
+//!   [`DocumentMut::fits`] checks it, and [`DocumentMut::first_misfit`] says where it is broken.
 #![tactic(auto)]
 
 pub mod document;
@@ -81,10 +81,13 @@ pub use document::{Document, DocumentMut, PrintFault, SourceText};
 pub use item::value;
 pub use toml_edit_change::ChangeFault;
 pub use toml_edit_datetime::{Date, Datetime, DatetimeFault, FloatText, Offset, Time};
-pub use toml_edit_error::{ParseFault, TomlError};
+pub use toml_edit_error::{Excerpt, ParseFault, TomlError, line_column};
+pub use toml_edit_fits::{FitRule, Misfit};
 pub use toml_edit_key::{Key, KeyMut};
 pub use toml_edit_parser::{FromStr, FromStrWith, ParseOptions, Version};
-pub use toml_edit_repr::{Decor, Formatted, Mem, RawString, Repr, ScalarValue, ValueRepr};
+pub use toml_edit_repr::{
+    CommentFault, Comments, Decor, Formatted, Mem, RawString, Repr, ScalarValue, ValueRepr,
+};
 pub use toml_edit_slots::{NoMemory, Refused, Renamed, Slot, Slots};
 pub use toml_edit_stream::{Broken, Input, Output, Printed, Sink, Watched};
 pub use toml_edit_table_like::{

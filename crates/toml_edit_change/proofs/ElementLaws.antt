@@ -63,12 +63,12 @@ table-kind nothing = refl
 
 -- ---- one element
 
-nodes-set : (xs : List Item) (i : ℕ) (y : Item) → nodes (set xs i y) ≡ written_at i (item_view y) (nodes xs)
+pub nodes-set : (xs : List Item) (i : ℕ) (y : Item) → nodes (set xs i y) ≡ written_at i (item_view y) (nodes xs)
 nodes-set [] i y = refl
 nodes-set (x ∷ xs) zero y = refl
 nodes-set (x ∷ xs) (suc i) y = ap (λ ns. item_view x ∷ ns) (nodes-set xs i y)
 
-nodes-same : (xs : List Item) (i : ℕ) (d : Item) → i < length xs → written_at i (item_view (get_or xs i d)) (nodes xs) ≡ nodes xs
+pub nodes-same : (xs : List Item) (i : ℕ) (d : Item) → i < length xs → written_at i (item_view (get_or xs i d)) (nodes xs) ≡ nodes xs
 nodes-same [] i d h = absurd (omega arith)
 nodes-same (x ∷ xs) zero d h = refl
 nodes-same (x ∷ xs) (suc i) d h = ap (λ ns. item_view x ∷ ns) (nodes-same xs i d (omega arith))
@@ -80,7 +80,7 @@ nodes-removed (x ∷ xs) zero = refl
 nodes-removed (x ∷ xs) (suc i) = ap (λ ns. item_view x ∷ ns) (nodes-removed xs i)
 
 -- the element that stands where the text names one
-element-is : (is : Node → Bool) (k : Text) (xs : List Item) (i : ℕ) (d : Item) → Some i ≡ place_named is k (nodes xs) → i < length xs
+pub element-is : (is : Node → Bool) (k : Text) (xs : List Item) (i : ℕ) (d : Item) → Some i ≡ place_named is k (nodes xs) → i < length xs
     → element_of is k (nodes xs) ≡ Some (i, item_view (get_or xs i d))
 element-is is k xs i d h inside =
     let m = map_some (element_of is k (nodes xs)) (λ (x : ℕ × Node). x.0) i (sym h) in

@@ -5,3 +5,5 @@ pub mod SlotLaws
 pub mod ChangeLaws
 pub mod ViewLaws
 pub mod FoundLaws
+pub mod HeaderLaws
+pub mod AlterLaws

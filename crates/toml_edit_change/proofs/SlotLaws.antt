@@ -75,7 +75,7 @@ unchanged : (k : Text) (f : model.Slot Node → model.Slot Node) (es : List (Slo
 unchanged k f [] h = refl
 unchanged k f (e ∷ es) h = rw (h 0 e refl) (ap (λ (r : List (model.Slot Node)). keyed e.key (item_view e.item) ∷ r) (unchanged k f es (λ at r g. h (suc at) r g)))
 
-pairs-with : (k : Text) (es : List (Slot Item)) (at : ℕ) (y : Item) → IsFirstOfName es → place k es ≡ Some at
+pub pairs-with : (k : Text) (es : List (Slot Item)) (at : ℕ) (y : Item) → IsFirstOfName es → place k es ≡ Some at
     → shown_slots (with_item at y es) ≡ changed k (model.with_item (item_view y)) (shown_slots es)
 pairs-with k [] at y first h = absurd cc
 pairs-with k (e ∷ es) at y first h = by_test (is_at k e) refl at h (λ j same. pairs-with k es j y (first-later e es first) same)
@@ -98,7 +98,7 @@ pairs-with k (e ∷ es) at y first h = by_test (is_at k e) refl at h (λ j same.
     by_test true same (suc at) g f = absurd cc
     by_test false same at g f = by_place (place k es) at g f
 
-with-same : (es : List (Slot Item)) (at : ℕ) (x : Item) → Some x ≡ slice_get (items_of es) at → with_item at x es ≡ es
+pub with-same : (es : List (Slot Item)) (at : ℕ) (x : Item) → Some x ≡ slice_get (items_of es) at → with_item at x es ≡ es
 with-same [] at x h = refl
 with-same (e ∷ es) zero x h = ap (λ (y : Item). record { key = e.key; item = y } ∷ es) (some-is x e.item h)
 with-same (e ∷ es) (suc at) x h = ap (λ r. e ∷ r) (with-same es at x h)

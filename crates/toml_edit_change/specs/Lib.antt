@@ -1,4 +1,8 @@
 -- Cited by public contracts.
+pub mod Calls
 pub mod Changes
 pub mod Elements
 pub mod Faults
+pub mod Headed
+-- Worked examples: nothing cites them.
+pub mod examples

@@ -1,14 +1,18 @@
-//! Finding an item by a path of keys, putting a value there, and removing it.
+//! Finding an item by a path of keys, putting a value there, changing it, and removing it.
 #![tactic(auto)]
 
+mod alter;
 mod element;
 mod fault;
 mod find;
+mod headers;
 mod put;
 mod take;
 
+pub use alter::change;
 pub use element::number_of;
 pub use fault::ChangeFault;
 pub use find::get;
+pub use headers::set_with_headers;
 pub use put::set;
 pub use take::remove;

@@ -88,7 +88,7 @@ fn set_in_item(
 
 /// Puts the value at the path below a value.
 #[cycle(set)]
-fn set_in_value(
+pub(crate) fn set_in_value(
     alloc: Global,
     holder: &mut Value,
     key: &Key,
@@ -222,7 +222,7 @@ fn set_in_slots(
 
 /// Puts the value in the item's place, in the decor of the value there. Fails with `WrongKind`
 /// alone.
-fn set_here(item: &mut Item, value: &mut Item) -> Result<(), ChangeFault>
+pub(crate) fn set_here(item: &mut Item, value: &mut Item) -> Result<(), ChangeFault>
     ensures { Changes (set_here (item_view value.old) (item_view item.old)) (item_view item.old)
         (item_view item.new) result }
 {
@@ -304,7 +304,7 @@ fn wrap(alloc: Global, key: &str, value: &mut Item) -> Mem<()>
 
 /// Pushes the item under a new key of this name. What is left in its place is unspecified. If out
 /// of memory, the slots are unchanged.
-fn push_new(slots: &mut Slots<Item>, key: &str, item: &mut Item) -> Mem<()>
+pub(crate) fn push_new(slots: &mut Slots<Item>, key: &str, item: &mut Item) -> Mem<()>
     requires { place key.now slots.old ≡ None }
     ensures made { OnOk result
         (shown_slots slots.new

@@ -84,13 +84,13 @@ module _ (version : Version) where
       (¬ (IsUtf8 bytes) → Tells encoding_line s)
       × (IsUtf8 bytes → (shown : Text) × IsExcerptOf bytes shown × Tells shown s)
 
--- What was left to read is not accepted, and it is told why.
+-- What was left to read is not accepted, and the reason is added to the output held.
 abbrev pub TellsRefusal : Request → Option Text → OutputChange → Type 0
 TellsRefusal q known s =
     IfSome known (λ bytes. IsNotAccepted q.version bytes × TellsFault q.version bytes s)
 
 -- ---- 2: mistaken
 
--- The line of the mistake that is made is told.
+-- The line of the mistake that is made is added to it.
 abbrev pub TellsMistake : Request → Option Text → OutputChange → Type 0
 TellsMistake q known s = (m : CommandError) × IsMistaken q known m × Tells (mistake_line m) s

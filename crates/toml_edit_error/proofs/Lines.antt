@@ -67,7 +67,7 @@ pub newlines-one : (t : Text) → IsOneLine t → newlines t ≡ 0
 newlines-one [] one = refl
 newlines-one (c ∷ t) one = newlines-inside c t (one 0 (omega arith)) ∙ newlines-one t (tail_of c t one)
 
-first_line-append : (x y : Text) → IsOneLine x → first_line (x ++ y) ≡ x ++ first_line y
+pub first_line-append : (x y : Text) → IsOneLine x → first_line (x ++ y) ≡ x ++ first_line y
 first_line-append [] y one = refl
 first_line-append (c ∷ x) y one =
     first_line-inside c (x ++ y) (one 0 (omega arith)) ∙ ap (λ l. c ∷ l) (first_line-append x y (tail_of c x one))
@@ -122,6 +122,11 @@ cut_content h y lt =
     ap (λ t. line_at (newlines t) (t ++ y)) whole
     ∙ split_content (take k h) (get_or h k 0) b y stop one
     ∙ ap (λ n. drop n h ++ first_line y) from
+
+pub last_line-one : (h : Text) → IsOneLine (last_line h)
+last_line-one h =
+    let b : ℕ = length h - last_line_size h in
+    λ j l. ap inside (get_or-drop b h j 0) ∙ last_inside h (b + j) (omega arith) (omega (arith, length-drop b h))
 
 -- a line that is cut in two: what stands before the cut behind the last newline, and after it before the first
 pub line_at-cut : (h y : Text) → line_at (newlines h) (h ++ y) ≡ last_line h ++ first_line y

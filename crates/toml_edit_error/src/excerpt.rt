@@ -1,33 +1,48 @@
-//! Writing the excerpt of a text that an error shows.
-ghost use Rattle.std.specs.Prelude.{◌≡◌, ◌≤◌, ◌+◌, ◌++◌, Some, codes, decimal, length, replicate, slice_index};
+//! Writing an excerpt of a text, as an error shows one.
+ghost use Rattle.std.specs.Prelude.{◌≡◌, ◌≤◌, ◌+◌, ◌++◌, codes, decimal, length, replicate, slice_index};
 ghost use Rattle.std.specs.Fmt.{WritesOnOk};
-ghost use Rattle.toml_edit_model.specs.Excerpt.{excerpt_at, spaces};
+ghost use Rattle.toml_edit_model.specs.Excerpt.{spaces};
 ghost use Rattle.toml_edit_model.specs.Text.{newline};
 ghost use Rattle.toml_edit_error.specs.Place.{place_text};
-ghost use Rattle.toml_edit_error.specs.Report.{SpanIsIn};
 
 use crate::place::Place;
 use std::fmt;
 use std::fmt::{Formatter, Write};
 
-/// Writes the line of `text` that the bytes from `start` up to `end` begin in, with its number and
-/// with marks below it, and then the message.
+/// An excerpt of a text under a title of the caller's, which marks a span and says something of it.
 ///
-/// Each line ends in a line feed (LF).
-pub fn write_excerpt<W: Write>(
-    f: &mut Formatter<W>,
-    text: &str,
-    start: usize,
-    end: usize,
-    message: &str,
-) -> fmt::Result
-    requires { ∥ SpanIsIn text.now (Some (start, end)) ∥₁ }
-    ensures { WritesOnOk W.write_str_gives f.old result
-        (excerpt_at text.now start end message.now) f.new }
-{
-    let place = Place::of(text, start, end);
-    write_place(f, &place)?;
-    write_message(f, message)
+/// `Display` writes it as it writes a [`TomlError`](crate::TomlError) under `TOML parse error`: the
+/// title with the line and the column of the span, the line of the text that it begins in, with
+/// marks below the characters of the span, and then the message. Each line ends in a line feed
+/// (LF).
+///
+/// Any span will do. Lines and columns are those of [`line_column`](crate::line_column); a span
+/// that ends before it begins has one mark.
+#[derive(Clone, Copy, Debug, Drop)]
+pub struct Excerpt<'a> {
+    /// What stands before the line and the column.
+    pub title: &'a str,
+    /// The text.
+    pub source: &'a str,
+    /// The bytes of the text that are marked, from the first number up to the second.
+    pub span: (usize, usize),
+    /// What is said of the span.
+    pub message: &'a str,
+}
+
+impl fmt::Display for Excerpt<'_> {
+    ghost use Rattle.std.specs.Prelude.{Some};
+    ghost use Rattle.toml_edit_model.specs.Excerpt.{excerpt_under};
+
+    ghost output = { λ e. Some
+        (excerpt_under e.title.now e.source.now e.span.0 e.span.1 e.message.now) };
+
+    fn fmt<W: fmt::Write>(&self, f: &mut fmt::Formatter<W>) -> fmt::Result {
+        let (start, end) = self.span;
+        let place = Place::of(self.source, start, end);
+        write_place(f, self.title, &place)?;
+        write_message(f, self.message)
+    }
 }
 
 /// Writes the message, and a line feed (LF).
@@ -38,17 +53,17 @@ pub fn write_message<W: Write>(f: &mut Formatter<W>, message: &str) -> fmt::Resu
     f.write_str("\n")
 }
 
-/// Writes the line and the column, the line itself, and the marks below it.
-fn write_place<W: Write>(f: &mut Formatter<W>, place: &Place<'_>) -> fmt::Result
+/// Writes the title with the line and the column, the line itself, and the marks below it.
+fn write_place<W: Write>(f: &mut Formatter<W>, title: &str, place: &Place<'_>) -> fmt::Result
     ensures { WritesOnOk W.write_str_gives f.old result
-        (place_text place.now.line place.now.column place.now.before.now place.now.after.now
+        (place_text title.now place.now.line place.now.column place.now.content.now
         place.now.marks) f.new }
 {
     let width = digit_count(place.line) + 1;
     writeln!(
         f,
-        "TOML parse error at line {}, column {}",
-        place.line, place.column
+        "{} at line {}, column {}",
+        title, place.line, place.column
     )?;
     write_gutter(f, width)?;
     f.write_str("\n")?;
@@ -60,9 +75,9 @@ fn write_place<W: Write>(f: &mut Formatter<W>, place: &Place<'_>) -> fmt::Result
 /// Writes the number of the line, and the line.
 fn write_line<W: Write>(f: &mut Formatter<W>, place: &Place<'_>) -> fmt::Result
     ensures { WritesOnOk W.write_str_gives f.old result
-        (decimal place.now.line ++ (codes " | " ++ (place.now.before.now ++ (place.now.after.now ++ newline)))) f.new }
+        (decimal place.now.line ++ (codes " | " ++ (place.now.content.now ++ newline))) f.new }
 {
-    writeln!(f, "{} | {}{}", place.line, place.before, place.after)
+    writeln!(f, "{} | {}", place.line, place.content)
 }
 
 /// Writes `width` spaces and a bar, so that the bars of all lines are below one another.

@@ -1,9 +1,11 @@
 //! Errors of parsing.
-ghost use Rattle.std.specs.Prelude.{◌≡◌, ◌↔◌, IfOk, IsTrue, option_map, string_bytes};
+ghost use Rattle.std.specs.Prelude.{◌≡◌, ◌↔◌, IfOk, IsTrue, option_map, string_bytes, suc};
+ghost use Rattle.toml_edit_model.specs.Excerpt.{position_in};
 ghost use Rattle.toml_edit_error.specs.Fault.{IfToml};
 ghost use Rattle.toml_edit_error.specs.Report.{SpanIsIn, report};
 
-use crate::excerpt::{write_excerpt, write_message};
+use crate::excerpt::{Excerpt, write_message};
+use crate::place::line_column;
 use std::alloc::{AllocError, AllocFailed, Global};
 use std::error::Error;
 use std::fmt;
@@ -104,6 +106,27 @@ impl TomlError {
         self.parts.span.map(|(start, end)| start..end)
     }
 
+    /// Returns the line in which the span begins, from 1, or `None` if there is no span.
+    pub fn line(&self) -> Option<usize>
+        ensures { result
+            ≡ option_map (λ s. suc (position_in self.now.input s.0).line) self.now.span }
+    {
+        let (start, _) = self.parts.span?;
+        Some(line_column(self.parts.input.as_str(), start).0)
+    }
+
+    /// Returns the column at which the span begins, from 1 and in characters, or `None` if there is
+    /// no span.
+    ///
+    /// For the line and the column of any byte of a text, see [`line_column`].
+    pub fn column(&self) -> Option<usize>
+        ensures { result
+            ≡ option_map (λ s. suc (position_in self.now.input s.0).column) self.now.span }
+    {
+        let (start, _) = self.parts.span?;
+        Some(line_column(self.parts.input.as_str(), start).1)
+    }
+
     /// Returns an equal copy, with its message, its span and its text.
     ///
     /// # Errors
@@ -166,7 +189,7 @@ impl Hash for TomlError {
 ///
 /// Without a span it writes the message alone. Each line ends in a line feed (LF), and lines and
 /// columns count from 1, columns in characters. For the message alone, see
-/// [`message`](TomlError::message).
+/// [`message`](TomlError::message); for a title of your own, [`Excerpt`].
 impl fmt::Display for TomlError {
     ghost use Rattle.std.specs.Prelude.{Some};
     ghost use Rattle.toml_edit_model.specs.Excerpt.{excerpt};
@@ -175,14 +198,14 @@ impl fmt::Display for TomlError {
 
     fn fmt<W: fmt::Write>(&self, f: &mut fmt::Formatter<W>) -> fmt::Result {
         match self.parts.span {
-            Some((start, end)) => {
-                write_excerpt(
-                    f,
-                    self.parts.input.as_str(),
-                    start,
-                    end,
-                    self.parts.message.as_str(),
-                )
+            Some(span) => {
+                let excerpt = Excerpt {
+                    title: "TOML parse error",
+                    source: self.parts.input.as_str(),
+                    span,
+                    message: self.parts.message.as_str(),
+                };
+                excerpt.fmt(f)
             }
             None => write_message(f, self.parts.message.as_str()),
         }

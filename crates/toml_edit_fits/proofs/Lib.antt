@@ -7,3 +7,6 @@ pub mod OrderLaws
 pub mod FitsLaws
 pub mod ApartLaws
 pub mod MadeLaws
+pub mod MisfitLaws
+pub mod FirstLaws
+pub mod EarlyLaws

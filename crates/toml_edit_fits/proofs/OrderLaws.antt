@@ -27,7 +27,7 @@ use Rattle.toml_edit_fits.proofs.LatePaths.{in-slots-node, below-late, slots-lat
 abbrev pub heads : ℤ → List Visit → List PlacedVisit
 heads seen vs = filter shows_header (places_from seen vs)
 
-places-append : (vs us : List Visit) (seen : ℤ) → places_from seen (vs ++ us) ≡ places_from seen vs ++ places_from (seen_after seen vs) us
+pub places-append : (vs us : List Visit) (seen : ℤ) → places_from seen (vs ++ us) ≡ places_from seen vs ++ places_from (seen_after seen vs) us
 places-append [] us seen = refl
 places-append (v ∷ vs) us seen = by_dot v.fields.is_dotted (λ s. places-append vs us s)
   where
@@ -37,10 +37,10 @@ places-append (v ∷ vs) us seen = by_dot v.fields.is_dotted (λ s. places-appen
     by_dot true ih = ih seen
     by_dot false ih = ap (λ ps. (place_of seen v, v) ∷ ps) (ih (place_of seen v))
 
-heads-append : (vs us : List Visit) (seen : ℤ) → heads seen (vs ++ us) ≡ heads seen vs ++ heads (seen_after seen vs) us
+pub heads-append : (vs us : List Visit) (seen : ℤ) → heads seen (vs ++ us) ≡ heads seen vs ++ heads (seen_after seen vs) us
 heads-append vs us seen = ap (filter shows_header) (places-append vs us seen) ∙ filter-append shows_header (places_from seen vs) (places_from (seen_after seen vs) us)
 
-seen-append : (vs us : List Visit) (seen : ℤ) → seen_after seen (vs ++ us) ≡ seen_after (seen_after seen vs) us
+pub seen-append : (vs us : List Visit) (seen : ℤ) → seen_after seen (vs ++ us) ≡ seen_after (seen_after seen vs) us
 seen-append [] us seen = refl
 seen-append (v ∷ vs) us seen = seen-append vs us (if v.fields.is_dotted then seen else place_of seen v)
 
@@ -75,11 +75,11 @@ later-later (Some x) (Some y) z = by_tests (int_le y z) (int_le x y) refl refl
         let away : int_le x z ≡ false = grind (arith, ints, e, f) in
         ap (λ d. if d then Some y else Some x) f ∙ sym (ap (λ d. if d then Some z else Some x) away)
 
-latest-highest : (xs : List PlacedVisit) (a b : Option ℤ) → latest a (highest_after b xs) ≡ highest_after (latest a b) xs
+pub latest-highest : (xs : List PlacedVisit) (a b : Option ℤ) → latest a (highest_after b xs) ≡ highest_after (latest a b) xs
 latest-highest [] a b = refl
 latest-highest (x ∷ xs) a b = latest-highest xs a (later b x.0) ∙ ap (λ o. highest_after o xs) (later-later a b x.0)
 
-reach-later : (high : Option ℤ) (x z : ℤ) → (reaches (later high x) z ≡ true) ↔ ((reaches high z ≡ true) × (int_le x z ≡ true))
+pub reach-later : (high : Option ℤ) (x z : ℤ) → (reaches (later high x) z ≡ true) ↔ ((reaches high z ≡ true) × (int_le x z ≡ true))
 reach-later None x z = (λ h. (refl, h), λ h. h.1)
 reach-later (Some y) x z = by_test (int_le y x) refl
   where
@@ -104,7 +104,7 @@ reach-through (Some y) x z h g = int_le-trans y x z h g
 abbrev pub marks_after : Marks → List Visit → Marks
 marks_after m vs = marks_of (seen_after m.seen vs) (highest_after m.highest (heads m.seen vs))
 
-marks-append : (m : Marks) (vs us : List Visit) → marks_after (marks_after m vs) us ≡ marks_after m (vs ++ us)
+pub marks-append : (m : Marks) (vs us : List Visit) → marks_after (marks_after m vs) us ≡ marks_after m (vs ++ us)
 marks-append m vs us =
     ap (λ s. marks_of s (highest_after (highest_after m.highest (heads m.seen vs)) (heads (seen_after m.seen vs) us))) (sym (seen-append vs us m.seen))
     ∙ ap (marks_of (seen_after m.seen (vs ++ us)))

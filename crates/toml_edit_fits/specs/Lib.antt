@@ -1,4 +1,8 @@
+-- Cited by public contracts.
+pub mod Misfits
+pub mod MisfitViews
 -- Cited inside this crate alone.
 pub mod TriviaTests
 pub mod FitTests
 pub mod OrderTests
+pub mod EarlyTests

@@ -13,7 +13,7 @@ use toml_edit_repr::{Mode, RawString};
 use toml_edit_tree::Table;
 
 /// Returns the marks before the tables below the root.
-fn root_marks(root: &Table) -> Marks
+pub(crate) fn root_marks(root: &Table) -> Marks
     ensures { result ≡ tests.root_marks (fields_view root.now) }
 {
     let seen = if root.is_dotted() {

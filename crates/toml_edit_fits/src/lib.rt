@@ -1,8 +1,14 @@
 //! Checking whether a document fits: whether its print is accepted and means what the tree shows.
+//! Where it does not fit, the first such place is found.
 #![tactic(auto)]
 
+mod find_order;
+mod find_table;
+mod find_value;
+mod first;
 mod fits;
 mod invariants;
+mod misfit;
 mod order;
 mod route;
 mod table;
@@ -10,4 +16,7 @@ mod trivia;
 mod value;
 
 #[doc(hidden)]
+pub use first::first_misfit;
+#[doc(hidden)]
 pub use fits::tree_fits;
+pub use misfit::{FitRule, Misfit};

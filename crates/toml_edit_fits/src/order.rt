@@ -27,7 +27,7 @@ fn reaches(low: Option<isize>, place: isize) -> bool
 }
 
 /// Returns the later of two places, if there are two.
-fn later(high: Option<isize>, place: isize) -> Option<isize>
+pub(crate) fn later(high: Option<isize>, place: isize) -> Option<isize>
     ensures { result ≡ tests.later high place }
 {
     match high {
@@ -43,7 +43,7 @@ fn later(high: Option<isize>, place: isize) -> Option<isize>
 }
 
 /// Returns the later of two places, of those that there are.
-fn latest(high: Option<isize>, other: Option<isize>) -> Option<isize>
+pub(crate) fn latest(high: Option<isize>, other: Option<isize>) -> Option<isize>
     ensures { result ≡ tests.latest high other }
 {
     match other {
@@ -53,7 +53,7 @@ fn latest(high: Option<isize>, other: Option<isize>) -> Option<isize>
 }
 
 /// Returns the place of a table that is not dotted: its position, or the one last seen.
-fn place_in(marks: Marks, table: &Table) -> isize
+pub(crate) fn place_in(marks: Marks, table: &Table) -> isize
     ensures { result ≡ tests.place_in marks (fields_view table.now) }
 {
     table.position().unwrap_or(marks.seen)
@@ -61,7 +61,12 @@ fn place_in(marks: Marks, table: &Table) -> isize
 
 /// Enters a table, in an element whose header has the place `low`, if it is in one. Returns `None`
 /// if its header is too late, or comes before one that it has to follow.
-fn enter(is_element: bool, low: Option<isize>, marks: Marks, table: &Table) -> Option<Marks>
+pub(crate) fn enter(
+    is_element: bool,
+    low: Option<isize>,
+    marks: Marks,
+    table: &Table,
+) -> Option<Marks>
     ensures { result ≡ tests.enter is_element low marks (fields_view table.now)
         (table_slots table.now) }
 {

@@ -34,7 +34,7 @@ fn brackets_fit(mode: Mode, decor: &Decor) -> bool
 
 /// Returns `true` if the decors in and around a header suit their places, and its path has few
 /// enough keys.
-fn header_fits(mode: Mode, route: Route, key: &Key, decor: &Decor) -> bool
+pub(crate) fn header_fits(mode: Mode, route: Route, key: &Key, decor: &Decor) -> bool
     ensures { result ≡ tests.header_fits (mode_of mode) route key.now decor.now }
 {
     key_fits(mode, route, key)

@@ -1,4 +1,5 @@
 -- Laws that proofs of the guide share.
+pub mod AddLaws
 pub mod EditLaws
 pub mod ExchangeLaws
 pub mod FaultLaws

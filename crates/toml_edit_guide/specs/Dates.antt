@@ -26,3 +26,7 @@ year_in n = option_map (λ d. d.year) (option_and_then (λ d. d.date) (datetime_
 abbrev pub SetsSpelled : Text → Text → List (Slot Node) → List (Slot Node) → Type 0
 SetsSpelled t text old new =
     (d : Datetime) × SpellsInRange (datetime d) text × (new ≡ inserted t (leaf (datetime d) None unset) old)
+
+-- the text spells no date-time, or one that does not exist
+abbrev pub SpellsNoDate : Text → Type 0
+SpellsNoDate text = (d : Datetime) → SpellsInRange (datetime d) text → ⊥

@@ -1,7 +1,10 @@
--- How integers are spelled.
-use Rattle.std.specs.Prelude.{Option, None}
+-- How integers are spelled, and a value that a text spells.
+use Rattle.std.specs.Prelude.{◌≡◌, List, Option, None}
 use Rattle.toml_edit.specs.model.Scalars.{integer}
+use Rattle.toml_edit.specs.model.Slots.{Slot, inserted}
+use Rattle.toml_edit.specs.model.Text.{Text}
 use Rattle.toml_edit.specs.model.Tree.{Node, Raw, leaf}
+use Rattle.toml_edit.specs.parser.LoneValue.{IsLoneItemReading}
 
 -- the spelling of an integer, if it has its own
 abbrev pub integer_spelling : Node → Option Raw
@@ -12,3 +15,7 @@ integer_spelling n = None
 abbrev pub in_decimal : Node → Node
 in_decimal (leaf (integer z) spelling d) = leaf (integer z) None d
 in_decimal n = n
+
+-- the value that the text spells was inserted under the name, and the other slots stay
+abbrev pub SetsRead : Text → Text → List (Slot Node) → List (Slot Node) → Type 0
+SetsRead t text old new = (x : Node) × IsLoneItemReading text x × (new ≡ inserted t x old)

@@ -1,10 +1,11 @@
 //! Adding values, tables and elements.
 ghost use Rattle.std.specs.Prelude.{◌≡◌, ◌-◌, IfErr, IfNone, IfOk, IfSome, IsNone, IsOk, IsTrue, OnErr, OnOk, Some, is_some, length, option_map, string_bytes, true};
 ghost use Rattle.std.specs.Option.{option_copied};
-ghost use Rattle.toml_edit_guide.specs.Adds.{defaulted, described, slot_made, OnlySets};
+ghost use Rattle.toml_edit_guide.specs.Adds.{defaulted, described, dotted_inline, implicit_table, inline_of_one, slot_made, table_of_one, OnlySets};
 ghost use Rattle.toml_edit_guide.specs.Elements.{with_element, with_last};
 ghost use Rattle.toml_edit_guide.specs.Lines.{after_last, before_last, indent_of, side_text, with_line, without_suffix};
 ghost use Rattle.toml_edit.specs.model.ArrayCalls.{value_at};
+ghost use Rattle.toml_edit.specs.model.Conversions.{new_table};
 ghost use Rattle.toml_edit.specs.model.Slots.{changed_at, has_slot, inserted, on_item};
 ghost use Rattle.toml_edit.specs.model.Text.{newline};
 ghost use Rattle.toml_edit.specs.model.Tree.{owned};
@@ -13,7 +14,7 @@ ghost use Rattle.toml_edit.specs.tree.Elements.{array_fields, items_of};
 ghost use Rattle.toml_edit.specs.tree.InlineEntries.{inline_key, inline_value};
 ghost use Rattle.toml_edit.specs.tree.SlotsOf.{inline_slots_of, slots_of};
 ghost use Rattle.toml_edit.specs.tree.TableEntries.{entry_item, entry_key, entry_place, entry_ref};
-ghost use Rattle.toml_edit.specs.tree.View.{array_view, item_view, table_view};
+ghost use Rattle.toml_edit.specs.tree.View.{array_view, item_view, table_view, value_view};
 ghost use Rattle.toml_edit.specs.tree.declared.index.IndexFault.TheVariants.{Memory};
 ghost use Rattle.toml_edit.specs.tree.declared.table.entry.Entry.TheVariants.{Occupied};
 
@@ -56,7 +57,8 @@ pub fn add_dependency(
 
 /// Adds a table with one value, whose header comes after the existing ones.
 pub fn add_table(alloc: Global, root: &mut Table, name: &str, key: &str, value: Value) -> Mem<()>
-    ensures ok { OnOk result (OnlySets name.now (slots_of root.old) (slots_of root.new)) }
+    ensures ok { OnOk result (slots_of root.new ≡ inserted name.now
+        (table_of_one new_table key.now (value_view value)) (slots_of root.old)) }
     ensures err { OnErr result (root.new ≡ root.old) }
 {
     let mut table = Table::new(alloc);
@@ -73,7 +75,9 @@ pub fn add_nested(
     inner: &str,
     table: Table,
 ) -> Mem<()>
-    ensures ok { OnOk result (OnlySets outer.now (slots_of root.old) (slots_of root.new)) }
+    ensures ok { OnOk result (slots_of root.new ≡ inserted outer.now
+        (table_of_one implicit_table inner.now (table_node (table_view table)))
+        (slots_of root.old)) }
     ensures err { OnErr result (root.new ≡ root.old) }
 {
     let mut above = Table::new(alloc);
@@ -91,7 +95,8 @@ pub fn add_dotted(
     inner: &str,
     value: Value,
 ) -> Mem<()>
-    ensures ok { OnOk result (OnlySets outer.now (inline_slots_of table.old) (inline_slots_of table.new)) }
+    ensures ok { OnOk result (inline_slots_of table.new ≡ inserted outer.now
+        (inline_of_one dotted_inline inner.now (value_view value)) (inline_slots_of table.old)) }
     ensures err { OnErr result (inline_slots_of table.new ≡ inline_slots_of table.old) }
 {
     let mut below = InlineTable::new(alloc);

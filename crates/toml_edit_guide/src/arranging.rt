@@ -2,16 +2,15 @@
 ghost use Rattle.std.specs.Prelude.{◌≡◌, ◌∷◌, IfOk, IsPermutation, OnErr, OnOk};
 ghost use Rattle.toml_edit_guide.specs.Sorts.{string_lt};
 ghost use Rattle.toml_edit.specs.model.Keys.{new_key};
-ghost use Rattle.toml_edit.specs.model.Rearranging.{renamed_key, renamed_slot};
+ghost use Rattle.toml_edit.specs.model.Rearranging.{renamed_key};
 ghost use Rattle.toml_edit.specs.model.Slots.{keyed, without};
 ghost use Rattle.toml_edit.specs.model.Sorting.{IsArraySort};
-ghost use Rattle.toml_edit.specs.slots.Renaming.{renaming};
 ghost use Rattle.toml_edit.specs.tree.Elements.{items_of};
 ghost use Rattle.toml_edit.specs.tree.SlotsOf.{slots_of};
 ghost use Rattle.toml_edit.specs.tree.View.{array_view, fields_view, item_view};
 
 use std::alloc::{AllocError, Global};
-use toml_edit::{Array, Item, Key, Mem, Renamed, Table};
+use toml_edit::{Array, Item, Key, Mem, Table};
 
 /// Inserts an item under a new key before all others. An existing slot of the key is removed.
 pub fn insert_first(alloc: Global, table: &mut Table, name: &str, item: Item) -> Mem<()>
@@ -38,16 +37,6 @@ pub fn renamed(alloc: Global, key: &Key, name: &str) -> Mem<Key>
     let dotted = key.dotted_decor().clone(alloc)?;
     let key = Key::from_text(alloc, name)?;
     Ok(key.with_leaf_decor(leaf).with_dotted_decor(dotted))
-}
-
-/// Renames a key, which keeps its place, its comments and its item.
-pub fn rename(table: &mut Table, old: &str, new: &str) -> Mem<Renamed>
-    ensures told { IfOk result (λ told. told ≡ renaming old.now new.now (slots_of table.old)) }
-    ensures slots { OnOk result
-        (slots_of table.new ≡ renamed_slot old.now new.now (slots_of table.old)) }
-    ensures err { OnErr result (table.new ≡ table.old) }
-{
-    table.rename(old, new)
 }
 
 /// Sorts the strings of an array.

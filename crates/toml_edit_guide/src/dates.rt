@@ -1,6 +1,6 @@
 //! Dates, times and floats.
-ghost use Rattle.std.specs.Prelude.{◌≡◌, ◌↔◌, IfOk, IfSome, IsSome, IsTrue, None, OnErr, option_map};
-ghost use Rattle.toml_edit_guide.specs.Dates.{in_utc, year_in, SetsSpelled};
+ghost use Rattle.std.specs.Prelude.{◌≡◌, ◌↔◌, IfOk, IfSome, IsFalse, IsSome, IsTrue, None, OnErr, option_map};
+ghost use Rattle.toml_edit_guide.specs.Dates.{in_utc, year_in, SetsSpelled, SpellsNoDate};
 ghost use Rattle.toml_edit.specs.datetime.DatetimeView.{datetime_view};
 ghost use Rattle.toml_edit.specs.model.Scalars.{float};
 ghost use Rattle.toml_edit.specs.model.Spelling.{IsFloat};
@@ -33,6 +33,8 @@ pub fn year_of(value: &Value) -> Option<u16>
 pub fn set_date_time(table: &mut Table, key: &str, text: &str) -> Mem<bool>
     ensures set { IfOk result (λ is_set. IsTrue is_set
         → SetsSpelled key.now text.now (slots_of table.old) (slots_of table.new)) }
+    ensures refused { IfOk result (λ is_set. IsFalse is_set
+        → SpellsNoDate text.now × (table.new ≡ table.old)) }
     ensures err { OnErr result (table.new ≡ table.old) }
 {
     match text.parse::<Datetime>() {

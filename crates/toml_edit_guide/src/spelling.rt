@@ -1,9 +1,10 @@
 //! The spelling of values, and the comments of keys.
-ghost use Rattle.std.specs.Prelude.{◌≡◌, IfOk, OnErr, OnOk, is_some, option_and_then, option_map};
-ghost use Rattle.toml_edit_guide.specs.Adds.{OnlySets};
+ghost use Rattle.std.specs.Prelude.{◌≡◌, IfErr, IfOk, OnErr, OnOk, is_some, option_and_then, option_map};
 ghost use Rattle.toml_edit_guide.specs.Comments.{commented, with_prefix};
-ghost use Rattle.toml_edit_guide.specs.Spellings.{in_decimal, integer_spelling};
+ghost use Rattle.toml_edit_guide.specs.Spellings.{in_decimal, integer_spelling, SetsRead};
+ghost use Rattle.toml_edit.specs.error.Fault.{IfToml};
 ghost use Rattle.toml_edit.specs.model.Slots.{changed_at, on_key, place};
+ghost use Rattle.toml_edit.specs.parser.LoneValue.{IsLoneRefusal};
 ghost use Rattle.toml_edit.specs.repr.Views.{text_of};
 ghost use Rattle.toml_edit.specs.tree.SlotsOf.{slots_of};
 ghost use Rattle.toml_edit.specs.tree.TableEntries.{entry_place, entry_ref};
@@ -41,7 +42,9 @@ pub fn set_spelled(
     key: &str,
     text: &str,
 ) -> Result<(), ParseFault>
-    ensures ok { OnOk result (OnlySets key.now (slots_of table.old) (slots_of table.new)) }
+    ensures ok { OnOk result
+        (SetsRead key.now text.now (slots_of table.old) (slots_of table.new)) }
+    ensures refused { IfErr result (λ e. IfToml e (IsLoneRefusal text.now)) }
     ensures err { OnErr result (table.new ≡ table.old) }
 {
     let item = Item::from_str(alloc, text)?;

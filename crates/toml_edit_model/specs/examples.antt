@@ -27,3 +27,4 @@ pub mod Containers
 pub mod Sorts
 pub mod Retained
 pub mod Calls
+pub mod Comments

@@ -120,7 +120,7 @@ pub fits-in : (t : Text) (held left : InlineView) (new : Slots) → left ≡ rec
     → SlotsFit t new → NodeFits t (inline_node left)
 fits-in t held left new is h fits = subst (λ (v : InlineView). NodeFits t (inline_node v)) (sym is) (h.0, h.1, fits)
 
--- a path stops there, and what is said of it is the same in an inline table as in a table
+-- a path stops there, and its message is the same in an inline table as in a table
 record StopsAlike (n : Node) : Type 0 where
   stops : Stops n
   same : table_way_message dotted_role n ≡ way_message dotted_role n
@@ -148,7 +148,7 @@ stops_alike v h = subst (λ (w : Value). StopsAlike (value_view w)) (rolled v) (
 pub stops-other : (v : Value) → ((t : InlineTable) → v ≡ values.InlineTable t → ⊥) → Stops (value_view v)
 stops-other v h = (stops_alike v h).stops
 
--- what is said of such a value, in a table and in an inline table
+-- the message of such a value, in a table and in an inline table
 pub same-way : (v : Value) → ((t : InlineTable) → v ≡ values.InlineTable t → ⊥)
     → table_way_message dotted_role (value_view v) ≡ way_message dotted_role (value_view v)
 same-way v h = (stops_alike v h).same

@@ -4,7 +4,7 @@ use toml_edit::{Array, Document, DocumentMut, Item, Mem, ParseFault, Renamed, Ta
 use toml_edit_guide::adding::{
     add_dependency, add_element, add_table, push_line, set_default, try_insert,
 };
-use toml_edit_guide::arranging::{insert_first, rename, sort_strings};
+use toml_edit_guide::arranging::{insert_first, sort_strings};
 use toml_edit_guide::changing::set_value;
 use toml_edit_guide::documents::{print_if_fits, read_exactly, read_strictly, report};
 use toml_edit_guide::editing::{set_string, set_version};
@@ -13,6 +13,7 @@ use toml_edit_guide::fault::EditFault;
 use toml_edit_guide::normalizing::{normalize, reload};
 use toml_edit_guide::reading::{integer_at, names, span_at};
 use toml_edit_guide::removing::remove_key;
+use toml_edit_guide::rename;
 use toml_edit_tests::holding::is_text;
 
 const SERVER: &str = "title = 'x'\n\n# two servers\n[server]\nport = 80  # http\nhost = 'a'\n";

@@ -1,16 +1,11 @@
-//! Tests of programs that use the library: the functions of the guide, calls that only this library
-//! has, the first examples of the Rust crate's documentation, and prints and runs over streams that
-//! take little at a time or fail.
+//! Tests of programs that use the library: the functions of the guide, and prints and runs over
+//! streams that take little at a time or fail.
 #![tactic(auto)]
 
-#[cfg(test)]
-mod examples;
 #[cfg(test)]
 mod generic;
 #[cfg(test)]
 mod guide;
-#[cfg(test)]
-mod paths;
 #[cfg(test)]
 mod prints;
 #[cfg(test)]

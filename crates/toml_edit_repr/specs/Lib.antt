@@ -6,3 +6,6 @@ pub mod SamenessLaws
 pub mod Shown
 pub mod RawView
 pub mod LendingParts
+pub mod Comments
+pub mod CommentsLeft
+pub mod CommentPlaces

@@ -4,6 +4,7 @@
 //! The crates of keys, containers and documents build on this one.
 #![tactic(auto)]
 
+pub mod comments;
 pub mod float_datetime;
 pub mod mode;
 pub mod raw_string;
@@ -11,6 +12,7 @@ pub mod repr;
 pub mod string_integer_boolean;
 pub mod write;
 
+pub use comments::{CommentFault, Comments};
 pub use mode::Mode;
 pub use raw_string::{Mem, RawString};
 pub use repr::{Decor, Formatted, Repr, ScalarValue, ValueRepr, clone_spelling, despan_spelling};

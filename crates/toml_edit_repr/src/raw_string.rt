@@ -1,8 +1,8 @@
 //! Raw texts of a document: texts of their own, or spans of the source.
-ghost use Rattle.std.specs.Prelude.{◌≡◌, ◌↔◌, [], IsOk, IsTrue, IfOk, OnOk, OnErr, string_bytes};
+ghost use Rattle.std.specs.Prelude.{◌≡◌, ◌↔◌, [], IsOk, IsSome, IsTrue, IfOk, IfSome, OnOk, OnErr, string_bytes};
 ghost use Rattle.std.specs.Option.{option_copied};
 ghost use Rattle.toml_edit_model.specs.Tree.{owned, span};
-ghost use Rattle.toml_edit_model.specs.OwnedForm.{RawFits, owned_raw};
+ghost use Rattle.toml_edit_model.specs.OwnedForm.{RawFits, cut_out, owned_raw};
 
 use arrayvec::ArrayString;
 use std::alloc::{AllocError, Global};
@@ -168,6 +168,20 @@ impl RawString {
         }
     }
 
+    /// Returns the text: its own, or for a span the bytes of `source` that it covers.
+    ///
+    /// Returns `None` for a span that does not lie in `source`, or that begins or ends inside a
+    /// character of it.
+    pub fn text_in<'a>(&'a self, source: &'a str) -> Option<&'a str>
+        ensures some { IsSome result ↔ RawFits source.now self.now }
+        ensures text { IfSome result (λ text. owned text.now ≡ owned_raw source.now self.now) }
+    {
+        match &self.inner {
+            Inner::Span(start, end) => covered(source, *start, *end),
+            _ => self.as_str(),
+        }
+    }
+
     /// Replaces a span of `source` by the text that it cuts.
     ///
     /// # Errors
@@ -199,6 +213,19 @@ impl RawString {
     {
         *self = RawString::from_longer(alloc, text)?;
         Ok(())
+    }
+}
+
+/// Returns the bytes of the source from `start` up to `end`, or `None` where they are no text.
+fn covered(source: &str, start: usize, end: usize) -> Option<&str>
+    ensures some { IsSome result ↔ RawFits source.now (span start end) }
+    ensures text { IfSome result (λ text. text.now ≡ cut_out source.now start end) }
+{
+    // Not `get`, which promises nothing of where an empty range lies.
+    if start <= end && source.is_char_boundary(start) && source.is_char_boundary(end) {
+        Some(&source[start..end])
+    } else {
+        None
     }
 }
 

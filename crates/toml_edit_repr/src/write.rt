@@ -36,7 +36,7 @@ pub fn spelling_text(spelling: Option<&Repr>) -> Option<&str>
 }
 
 /// Returns the text of a side of a decor, or `None` if it is unset or a span.
-fn side_text(side: Option<&RawString>) -> Option<&str>
+pub(crate) fn side_text(side: Option<&RawString>) -> Option<&str>
     ensures { option_copied result ≡ option_and_then text_of (option_copied side.entry) }
 {
     side?.as_str()

@@ -2,7 +2,9 @@
 use crate::program::Texts;
 use crate::{events, run};
 use serde_json::Value as Json;
-use toml_edit::{Document, DocumentMut, Mem, ParseFault, ParseOptions, SourceText, Version};
+use toml_edit::{
+    Document, DocumentMut, Mem, ParseFault, ParseOptions, SourceText, Version, line_column,
+};
 use toml_edit_rows_read::steps::{Tries, word};
 use toml_edit_rows_read::{Answer, Row, prints, refusal, steps};
 
@@ -12,11 +14,25 @@ pub fn answer(row: Row<'_>, out: &mut Answer) {
         "events" => events::all(row.text(), out),
         "last_event" => events::last(row.text(), out),
         "every_cut_ends" => run::every_cut_ends(row.text(), out),
+        "line_columns" => line_columns(row.text(), out),
         "from_str_prints" | "from_str_at" | "from_str_error" => {
             steps::read::<Texts, _>(DocumentMut::from_str(out.alloc, row.text()), row, out);
         }
         "document_from_str_prints" => owned(Document::from_str(out.alloc, row.text()), row, out),
         _ => read(Document::parse(out.alloc, row.text()), row, out),
+    }
+}
+
+/// Writes the line and the column of each byte of the text, of its end, and of a byte beyond.
+fn line_columns(text: &str, out: &mut Answer) {
+    let mut between = "";
+    for byte in 0..=text.len().saturating_add(1) {
+        let (line, column) = line_column(text, byte);
+        out.text(between);
+        out.shown(&line);
+        out.text(":");
+        out.shown(&column);
+        between = " ";
     }
 }
 

@@ -44,6 +44,7 @@ fn ask_array(array: &Array, words: &[Json], out: &mut Answer) {
         "len" => out.shown(&array.len()),
         "is_empty" => out.truth(array.is_empty()),
         "iter" => values(array, out),
+        "line_comment" => out.text_or_none(array.line_comment(index(words))),
         _ => ask_array_end(array, words, out),
     }
 }

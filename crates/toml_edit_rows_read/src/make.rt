@@ -60,14 +60,27 @@ fn said_value(text: &str, out: &mut Answer) -> Option<Value> {
     }
 }
 
+/// Makes the key that the text spells, if it is one.
+pub fn lone_key(text: &str, out: &mut Answer) -> Option<Key> {
+    read(Key::from_str(out.alloc, text), out)
+}
+
 /// Makes the key that the first word is, if it is one. Two more words are its leaf decor.
 pub fn key(words: &[Json], out: &mut Answer) -> Option<Key> {
-    let mut key = read(Key::from_str(out.alloc, word(words, 0)), out)?;
+    let mut key = lone_key(word(words, 0), out)?;
     if words.len() < 3 || decorate(key.leaf_decor_mut(), words, out) {
         return Some(key);
     }
     drop(key);
     None
+}
+
+/// Makes the path that the text spells, if it is one. The empty text is the empty path.
+pub fn path(text: &str, out: &mut Answer) -> Option<Vec<Key>> {
+    if text.is_empty() {
+        return Some(Vec::new(out.alloc));
+    }
+    read(Key::parse(out.alloc, text), out)
 }
 
 /// Sets both sides of a decor to the second and the third word, if there is memory for them.

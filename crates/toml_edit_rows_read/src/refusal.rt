@@ -16,6 +16,8 @@ fn error_answer(error: &TomlError, question: &str, out: &mut Answer) {
         "is_refused" => out.truth(true),
         "refused" => out.text(error.message()),
         "at" | "from_str_at" => out.span(error.span()),
+        "line" => out.shown_or_none(error.line().as_ref()),
+        "column" => out.shown_or_none(error.column().as_ref()),
         "error" | "from_str_error" => out.shown(error),
         _ => {
             out.text("refused: ");
@@ -37,9 +39,14 @@ pub fn none(question: &str, out: &mut Answer) {
 pub fn of_accepted(question: &str, out: &mut Answer) {
     match question {
         "is_refused" => out.truth(false),
-        "refused" | "at" | "error" | "fault" | "from_str_at" | "from_str_error" => {
-            out.text("not refused");
-        }
+        "refused"
+        | "at"
+        | "line"
+        | "column"
+        | "error"
+        | "fault"
+        | "from_str_at"
+        | "from_str_error" => out.text("not refused"),
         _ => out.no_such(question),
     }
 }

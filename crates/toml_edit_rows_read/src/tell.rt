@@ -3,7 +3,8 @@ use crate::answer::Answer;
 use std::fmt::Debug;
 use std::mem;
 use toml_edit_key::Key;
-use toml_edit_slots::NoMemory;
+use toml_edit_repr::Mem;
+use toml_edit_slots::{NoMemory, Refused, Renamed, Slot};
 use toml_edit_tree::{Item, Table, Value};
 
 /// A type whose values can be written to an answer.
@@ -88,6 +89,36 @@ pub fn tell_old<T: Told + Debug + Drop>(old: Result<Option<T>, NoMemory<T>>, out
         Ok(old) => tell_taken(old, out),
         Err(refused) => out.given_back(refused),
     }
+}
+
+/// Writes what a renaming has done, if there was memory for it.
+pub fn tell_renamed(renamed: Mem<Renamed>, out: &mut Answer) {
+    match renamed {
+        Ok(renamed) => out.debugged(&renamed),
+        Err(_) => out.refuse(),
+    }
+}
+
+/// Writes the slot that was not inserted, and the place of the slot that has its name.
+pub fn tell_inserted(inserted: Result<(), Refused<Slot<Item>>>, out: &mut Answer) {
+    match inserted {
+        Ok(()) => {}
+        Err(Refused::Present(at, slot)) => {
+            out.text("present at ");
+            out.shown(&at);
+            out.text(": ");
+            tell_slot(&slot.key, &slot.item, out);
+            drop(slot);
+        }
+        Err(Refused::NoMemory(slot)) => give_back(slot, out),
+    }
+}
+
+/// Notes that memory ran out for the insertion of a slot.
+fn give_back(slot: Slot<Item>, out: &mut Answer) {
+    let Slot { key, item } = slot;
+    drop(key);
+    out.given_back(NoMemory(item));
 }
 
 /// Writes the slot that was found, if one was.

@@ -3,7 +3,7 @@ use crate::answer::Answer;
 use crate::steps::{Asks, behind, copied, word};
 use crate::{date_time, list, scalar};
 use serde_json::Value as Json;
-use toml_edit_repr::{Decor, RawString};
+use toml_edit_repr::{CommentFault, Comments, Decor, RawString};
 use toml_edit_tree::Value;
 
 /// Makes a step with the value. The answer to a call that changes it is empty.
@@ -33,16 +33,50 @@ pub fn change_decor(decor: &mut Decor, words: &[Json], out: &mut Answer) {
             }
         }
         "clear" => decor.clear(),
-        call => out.no_such(call),
+        _ => change_comments(decor, words, out),
     }
 }
 
-/// Answers a question on a decor.
+/// Changes the comments of a decor, or answers a question on it.
+fn change_comments(decor: &mut Decor, words: &[Json], out: &mut Answer) {
+    let comment = word(words, 1);
+    match word(words, 0) {
+        "set_comment_after" if words.len() < 2 => {
+            commented(decor.set_comment_after(out.alloc, None), out);
+        }
+        "set_comment_after" => commented(decor.set_comment_after(out.alloc, Some(comment)), out),
+        "add_comment_before" => commented(decor.add_comment_before(out.alloc, comment), out),
+        "remove_comments_before" => out.done(decor.remove_comments_before(out.alloc)),
+        side => ask_decor(decor, side, out),
+    }
+}
+
+/// Writes why the comment is refused, if it is. Notes it if memory ran out.
+fn commented(changed: Result<(), CommentFault>, out: &mut Answer) {
+    match changed {
+        Ok(()) => {}
+        Err(CommentFault::Text) => out.shown(&CommentFault::Text),
+        Err(CommentFault::Memory) => out.refuse(),
+    }
+}
+
+/// Answers a question on a side of a decor, or on its comments.
 pub fn ask_decor(decor: &Decor, side: &str, out: &mut Answer) {
     match side {
         "prefix" => out.raw(decor.prefix()),
         "suffix" => out.raw(decor.suffix()),
+        "comments_before" => comments(decor.comments_before(), out),
+        "comment_after" => out.text_or_none(decor.comment_after()),
         _ => out.no_such(side),
+    }
+}
+
+/// Writes the comments in order.
+fn comments(comments: Comments<'_>, out: &mut Answer) {
+    for comment in comments {
+        out.text("<");
+        out.text(comment);
+        out.text(">");
     }
 }
 

@@ -1,6 +1,6 @@
 //! Rows on documents: those that are parsed, and empty ones.
 use crate::program::Tables;
-use crate::{indexing, table};
+use crate::{at, indexing, misfit, table};
 use serde_json::Value as Json;
 use toml_edit::{
     Document, DocumentMut, Item, Mem, ParseFault, ParseOptions, RawString, SourceText, Table,
@@ -107,6 +107,7 @@ impl Tries<DocumentMut> for Tables {
             "clone" => copied::<Tables, _>(document.clone(out.alloc), rest, out),
             "as_table_mut" => table::change(document.as_table_mut(), rest, out),
             "index_or_insert" => indexing::go_into(document, words, out),
+            "set_at" | "set_at_with_headers" | "remove_at" => at::change(document, words, out),
             "set_exact" => document.set_exact(is_true(words)),
             "set_open_end" => document.set_open_end(is_true(words)),
             "set_trailing" => {
@@ -144,6 +145,8 @@ fn ask(document: &DocumentMut, words: &[Json], out: &mut Answer) {
         "to_string" => out.shown(document),
         "print" => out.made(document.print(out.alloc)),
         "as_item" => table::ask_item(document.as_item(), behind(words, 1), out),
+        "get_at" => at::ask(document, words, out),
+        "first_misfit" => misfit::tell(document.first_misfit(out.alloc), out),
         _ => table::ask(document.as_table(), words, out),
     }
 }

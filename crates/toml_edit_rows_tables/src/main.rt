@@ -5,12 +5,15 @@
 //! of rows that hold.
 #![tactic(auto)]
 
+mod at;
 mod convert;
 mod document;
 mod entry;
 mod indexing;
 mod item;
+mod misfit;
 mod program;
+mod rearrange;
 mod slots;
 mod table;
 mod tables;

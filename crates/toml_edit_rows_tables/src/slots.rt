@@ -1,6 +1,6 @@
 //! Questions on the slots of a table, and steps that change them.
 use crate::program::Tables;
-use crate::{convert, entry};
+use crate::{convert, entry, rearrange};
 use serde_json::Value as Json;
 use std::mem;
 use toml_edit::{Item, Key, Mem, Table};
@@ -53,6 +53,7 @@ pub fn change(table: &mut Table, words: &[Json], out: &mut Answer) {
         "sort_values" => out.done(table.sort_values()),
         "sort_values_by" => out.done(sort_by_type(table)),
         "extend" | "from_iter" => add_pair(table, words, out),
+        "rename" | "move_to" | "insert_at" => rearrange::change(table, words, out),
         _ => entry::change(table, words, out),
     }
 }

@@ -246,6 +246,7 @@ fn change_here(table: &mut Table, words: &[Json], out: &mut Answer) {
         "set_implicit" => table.set_implicit(word(words, 1) == "true"),
         "set_dotted" => table.set_dotted(word(words, 1) == "true"),
         "set_position" => table.set_position(word(words, 1).parse::<isize>().ok()),
+        "forget_positions" => table.forget_positions(),
         "decor_mut" => value::change_decor(table.decor_mut(), behind(words, 1), out),
         "index_or_insert" => indexing::go_down(table, words, out),
         _ => slots::change(table, words, out),

@@ -1,10 +1,12 @@
 //! Steps that change arrays.
+use crate::lines;
 use serde_json::Value as Json;
 use std::alloc::Global;
 use std::cmp::Ordering;
 use toml_edit::{Array, Mem, Value};
 use toml_edit_rows_read::steps::{behind, index, word};
 use toml_edit_rows_read::tell::{set_none, tell_given, write};
+use toml_edit_rows_read::value::change_decor;
 use toml_edit_rows_read::{Answer, list, make};
 
 /// Makes a step with an array, if there is one.
@@ -34,8 +36,10 @@ fn change(array: &mut Array, words: &[Json], out: &mut Answer) {
             put_at(array, words, make::value(behind(words, 2), out), out);
         }
         "remove" => remove(array, index(words), out),
+        "push_line" | "insert_line" | "remove_line" => lines::change(array, words, out),
         "get_mut" => lend(array, words, make::value(behind(words, 2), out), out),
         "slot_at_mut" => set_none(array.slot_at_mut(index(words)), out),
+        "element_decor_mut" => change_decor_of(array.get_mut(index(words)), behind(words, 2), out),
         _ => list::change_array(array, words, out),
     }
 }
@@ -43,6 +47,14 @@ fn change(array: &mut Array, words: &[Json], out: &mut Answer) {
 /// Writes a value over the one at a place, if there is one.
 fn lend(array: &mut Array, words: &[Json], made: Option<Value>, out: &mut Answer) {
     write(array.get_mut(index(words)), made, out);
+}
+
+/// Changes the decor of a value, if there is one.
+fn change_decor_of(value: Option<&mut Value>, words: &[Json], out: &mut Answer) {
+    match value {
+        Some(value) => change_decor(value.decor_mut(), words, out),
+        None => out.text("none"),
+    }
 }
 
 fn push(array: &mut Array, words: &[Json], out: &mut Answer) {

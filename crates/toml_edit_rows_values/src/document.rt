@@ -2,13 +2,23 @@
 use crate::item;
 use crate::program::Values;
 use serde_json::Value as Json;
-use toml_edit::{Document, DocumentMut, ParseFault};
+use toml_edit::{Document, DocumentMut, ParseFault, ParseOptions};
 use toml_edit_rows_read::steps::{Tries, behind, word};
 use toml_edit_rows_read::{Answer, Row, prints, refusal, steps};
 
 /// Answers rows on the text of a document.
 pub fn answer(row: Row<'_>, out: &mut Answer) {
     owned(Document::parse(out.alloc, row.text()), row, out);
+}
+
+/// Answers rows on the text of a document whose line endings are kept.
+pub fn exact(row: Row<'_>, out: &mut Answer) {
+    let options = ParseOptions::new().exact(true);
+    owned(
+        Document::parse_with(out.alloc, row.text(), options),
+        row,
+        out,
+    );
 }
 
 /// Answers a question on the document after it owns its texts.

@@ -1,5 +1,5 @@
 //! Steps that change inline tables.
-use crate::{inline_entry, table_like};
+use crate::{inline_entry, rearrange, table_like};
 use serde_json::Value as Json;
 use toml_edit::{InlineTable, Mem, Value};
 use toml_edit_rows_read::steps::{behind, word};
@@ -27,6 +27,7 @@ fn change(table: &mut InlineTable, words: &[Json], out: &mut Answer) {
         "fmt" => table.fmt(),
         "sort_values" => out.done(table.sort_values()),
         "sort_values_by" => out.done(sort_by_type(table)),
+        "rename" | "move_to" | "insert_at" => rearrange::change(table, words, out),
         "like" => table_like::change_inline(table, behind(words, 1), out),
         "get_or_insert" | "get_mut" => lend(table, words, make::value(behind(words, 2), out), out),
         _ => inline_entry::change(table, words, out),

@@ -11,7 +11,9 @@ mod inline_entry;
 mod inline_slot;
 mod inline_table;
 mod item;
+mod lines;
 mod program;
+mod rearrange;
 mod table_like;
 mod value;
 

@@ -4,7 +4,14 @@ use toml_edit::{DocumentMut, Table};
 use toml_edit_rows_read::make::{self, Reads};
 use toml_edit_rows_read::{Answer, Program, Row};
 
-const KINDS: [&str; 5] = ["text", "item", "value", "array", "inline_table"];
+const KINDS: [&str; 6] = [
+    "text",
+    "exact_text",
+    "item",
+    "value",
+    "array",
+    "inline_table",
+];
 
 /// The program that tries rows on values.
 pub struct Values;
@@ -17,6 +24,7 @@ impl Program for Values {
     fn answer(row: Row<'_>, out: &mut Answer) {
         match row.kind {
             "text" => document::answer(row, out),
+            "exact_text" => document::exact(row, out),
             "item" => item::answer(row, out),
             _ => value::answer(row, out),
         }

@@ -4,7 +4,8 @@ use crate::{array, inline_table};
 use serde_json::Value as Json;
 use toml_edit::{Array, FromStr, InlineTable, Value};
 use toml_edit_rows_read::steps::{Tries, behind, word};
-use toml_edit_rows_read::{Answer, Row, refusal, steps, value};
+use toml_edit_rows_read::tell::tell_given;
+use toml_edit_rows_read::{Answer, Row, make, refusal, steps, value};
 
 /// Answers rows on a value.
 pub fn answer(row: Row<'_>, out: &mut Answer) {
@@ -37,6 +38,15 @@ pub fn change(value: &mut Value, words: &[Json], out: &mut Answer) {
     match word(words, 0) {
         "as_array_mut" => array::change_found(value.as_array_mut(), rest, out),
         "as_inline_table_mut" => inline_table::change_found(value.as_inline_table_mut(), rest, out),
+        "replace_with" => replace(value, make::value(rest, out), out),
         _ => value::change(value, words, out),
+    }
+}
+
+/// Writes the value that was replaced.
+fn replace(value: &mut Value, made: Option<Value>, out: &mut Answer) {
+    match made {
+        Some(new) => tell_given(value.replace_with(new), out),
+        None => out.text("no value"),
     }
 }

@@ -16,6 +16,7 @@ pub mod InPlace
 pub mod ValueLines
 pub mod LineValueLaws
 pub mod ElementLaws
+pub mod ArrayLineLaws
 pub mod RetainLaws
 pub mod HoldsLaws
 pub mod SortsLaws

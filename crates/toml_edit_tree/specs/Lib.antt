@@ -7,6 +7,7 @@ pub mod Containers
 pub mod ContainerParts
 pub mod TableLending
 pub mod Elements
+pub mod ArrayLines
 pub mod ElementHolds
 pub mod ElementLending
 pub mod ItemParts

@@ -31,6 +31,8 @@ use toml_edit_slots::NoMemory;
 use toml_edit_stream::{Printed, Sink, show};
 
 mod iter;
+mod line_texts;
+mod lines;
 mod sort;
 
 /// An array of values in brackets (TOML, "Array").
@@ -153,7 +155,8 @@ impl Array {
     ///
     /// The trailing comma and what is before the closing bracket are removed, and so is each
     /// comment between values. Spellings stay, and so does what is inside values and around the
-    /// array.
+    /// array. [`insert_line`](Self::insert_line) and [`remove_line`](Self::remove_line) change an
+    /// array with one value a line and keep its comments.
     pub fn fmt(&mut self)
         ensures items { items_of self.new ≡ formatted_items (items_of self.old) }
         ensures fields { array_fields self.new ≡ formatted_array (array_fields self.old) }
@@ -414,8 +417,8 @@ impl Array {
 
     /// Adds `value` at the end, with its decor.
     ///
-    /// An unset prefix prints as one space, or as nothing before the first value. To write it on a
-    /// line of its own, see `push_line` of the guide.
+    /// An unset prefix prints as one space, or as nothing before the first value. In an array with
+    /// one value a line, [`push_line`](Self::push_line) writes it on a line of its own.
     ///
     /// # Errors
     ///

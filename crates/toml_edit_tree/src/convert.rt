@@ -22,7 +22,8 @@ impl Item {
     /// array.
     ///
     /// The items below them are converted too. A value is returned as it is. Of a table, the decors
-    /// of keys and values are unset and the header is dropped, so its comments are removed.
+    /// of keys and values are unset and the header is dropped, so its comments are removed: read
+    /// them first by [`Decor::comments_before`] and [`Decor::comment_after`].
     ///
     /// # Errors
     ///
@@ -103,7 +104,8 @@ impl Table {
     ///
     /// Each item is made a value, as by [`Item::make_value`]. The decors of the values and of their
     /// keys are unset, and the decor, the position and the flags of the table are dropped, so its
-    /// comments are removed. Spellings stay.
+    /// comments are removed: read them first by [`Decor::comments_before`] and
+    /// [`Decor::comment_after`]. Spellings stay.
     pub fn into_inline_table(self) -> InlineTable
         ensures { inline_node (inline_view result) ≡ made_value (table_node (table_view self)) }
     {
@@ -132,8 +134,10 @@ impl InlineTable {
     /// Converts the inline table into a table of its slots.
     ///
     /// The decors of the values and of their keys are unset, and all else of the inline table is
-    /// dropped: its decor, what is before the closing brace, and the flag `dotted`. Spellings stay,
-    /// and so do inline tables inside. The table has no position.
+    /// dropped: its decor, what is before the closing brace, and the flag `dotted`. So its comments
+    /// are removed. To keep those above its key and after it, move them to the decor of the header,
+    /// as `give_header` of the guide does. Spellings stay, and so do inline tables inside. The
+    /// table has no position.
     pub fn into_table(self) -> Table
         ensures { table_node (table_view result) ≡ made_table (inline_node (inline_view self)) }
     {

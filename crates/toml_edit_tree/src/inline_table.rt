@@ -154,7 +154,8 @@ impl InlineTable {
 impl InlineTable {
     /// Unsets the decor of each value and of its key, so that they print with default whitespace.
     ///
-    /// Comments there are removed. Spellings stay, and so do the trailing comma, what is before the
+    /// Comments there are removed: read them first by [`Decor::comments_before`] and
+    /// [`Decor::comment_after`]. Spellings stay, and so do the trailing comma, what is before the
     /// closing brace, and all inside values.
     pub fn fmt(&mut self)
         ensures slots { inline_slots_of self.new ≡ formatted (inline_slots_of self.old) }
@@ -506,10 +507,10 @@ impl InlineTable {
 
     /// Inserts `value` under `key` and returns the value that it replaces, if any.
     ///
-    /// An existing key keeps its place, but its spelling is reset and its decor unset. To keep
-    /// them, write through [`get_mut`](Self::get_mut). A new key is added at the end. An old item
-    /// that is no value is made one, as by [`Item::into_value`], and a placeholder is returned as
-    /// `None`.
+    /// An existing key keeps its place, but its spelling is reset and its decor unset, and comments
+    /// in that decor and in the old value's go. To keep them, use [`Value::replace_with`] on what
+    /// [`get_mut`](Self::get_mut) returns. A new key is added at the end. An old item that is no
+    /// value is made one, as by [`Item::into_value`], and a placeholder is returned as `None`.
     ///
     /// # Errors
     ///

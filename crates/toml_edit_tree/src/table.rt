@@ -143,7 +143,9 @@ impl Table {
 impl Table {
     /// Unsets the decor of each value and of its key, so that they print with default whitespace.
     ///
-    /// Comments there are removed. Spellings stay, and so does all inside values and tables.
+    /// Comments there are removed: read them first by [`Decor::comments_before`] and
+    /// [`Decor::comment_after`], and write them back by [`Decor::add_comment_before`] and
+    /// [`Decor::set_comment_after`]. Spellings stay, and so does all inside values and tables.
     pub fn fmt(&mut self)
         ensures slots { slots_of self.new ≡ formatted (slots_of self.old) }
         ensures fields { fields_view self.new ≡ fields_view self.old }
@@ -531,8 +533,8 @@ impl Table {
     ///
     /// An existing key keeps its place, but its spelling is reset and its decor unset, so the
     /// comment above it goes. The comment after the old value goes with that value. To keep them,
-    /// write through [`get_mut`](Self::get_mut). A new key is added at the end. A placeholder is
-    /// returned as `Some(Item::None)`.
+    /// use [`Value::replace_with`] on what [`get_mut`](Self::get_mut) returns. A new key is added
+    /// at the end. A placeholder is returned as `Some(Item::None)`.
     ///
     /// To insert only what is missing, use [`entry`](Self::entry).
     ///

@@ -1,8 +1,10 @@
 //! Access to items by paths of keys.
 ghost use Rattle.std.specs.Prelude.{◌≡◌, IfErr, option_map};
-ghost use Rattle.toml_edit_laws.specs.Commands.{item_at, remove_at, set_at};
+ghost use Rattle.toml_edit_laws.specs.Commands.{item_at, remove_at, root_item, set_at};
 ghost use Rattle.toml_edit_tree.specs.View.{item_view, value_view};
+ghost use Rattle.toml_edit_change.specs.Calls.{ChangesFound, item_inside, replaced_at};
 ghost use Rattle.toml_edit_change.specs.Changes.{Changes, names};
+ghost use Rattle.toml_edit_change.specs.Headed.{set_at_with_headers};
 ghost use Rattle.toml_edit_change.specs.declared.fault.ChangeFault.TheVariants.{NoSuchPath};
 ghost use Rattle.toml_edit.specs.DocumentView.{IsPrintedAs, tree_owned};
 
@@ -49,6 +51,55 @@ impl DocumentMut {
     {
         let alloc = self.as_table().slots.allocator();
         toml_edit_change::set(alloc, self.as_table_mut(), path, value)
+    }
+
+    /// Puts the value at `path`, as [`set_at`](Self::set_at) does, but makes tables with headers
+    /// where tables are missing.
+    ///
+    /// If keys before the last are missing in a table, a table is added at its end, with further
+    /// tables down to the value. The last of them has a header, and those above it are implicit: in
+    /// an empty document, `tool.x.y` makes the header `[tool.x]` and the line of `y`. The header is
+    /// printed after that of the table before it in the tree, with an empty line between. A
+    /// placeholder before the last key is filled with such tables. Below an array or an inline
+    /// table, missing tables are inline, as there is no other kind there.
+    ///
+    /// # Errors
+    ///
+    /// Fails with [`ChangeFault::NoSuchPath`] if a key names no element, with
+    /// [`ChangeFault::WrongKind`] for a table or an array of tables at the end of the path or a
+    /// scalar before it, and with [`ChangeFault::Memory`] if out of memory. The document is
+    /// unchanged then.
+    pub fn set_at_with_headers(&mut self, path: &[Key], value: Value) -> Result<(), ChangeFault>
+        ensures changes { Changes
+            (set_at_with_headers (names path.now) (value_view value) (tree_owned self.old))
+            (tree_owned self.old) (tree_owned self.new) result }
+        ensures printed { IsPrintedAs self.new self.old }
+    {
+        let alloc = self.as_table().slots.allocator();
+        toml_edit_change::set_with_headers(alloc, self.as_table_mut(), path, value)
+    }
+
+    /// Calls the closure on the item at `path`, and returns its result, or `None` if there is no
+    /// such item. Nothing else changes.
+    ///
+    /// The item is found as by [`get_at`](Self::get_at), but for the root, which stays a table: the
+    /// empty path leads to no item. Takes no memory itself. A closure that may fail returns a
+    /// `Result`, and what it has changed by then stays.
+    ///
+    /// The closure may leave an item of any kind, and nothing adapts it: where a value takes the
+    /// place of a table, say, its key keeps the decor that it had in the header. See
+    /// [`fits`](Self::fits) for whether the document then prints as it should.
+    pub fn change_at<R, F: FnOnce(&mut Item) -> R>(&mut self, path: &[Key], change: F) -> Option<R>
+    where
+        F: Drop,
+        requires { F.IsAlwaysCallable change }
+        ensures changes { ChangesFound F.FnOnce change
+            (item_inside (names path.now) (root_item (tree_owned self.old)))
+            (λ left. replaced_at (names path.now) left (tree_owned self.old))
+            (tree_owned self.old) (tree_owned self.new) result }
+        ensures printed { IsPrintedAs self.new self.old }
+    {
+        toml_edit_change::change(self.as_table_mut(), path, change)
     }
 
     /// Removes the item at `path`: the slot of a table with its key, the value of an array, or the

@@ -356,11 +356,11 @@ first_emptied = refl
 
 -- ---- positions
 
--- `[a]`, `[b]`, `[a.c]`: without their positions the headers print in the order of the tree
+-- `[a.b.c]`, `[a.x]`, `[a.b]`: without their positions the headers print in the order of the tree
 forgotten_positions : print
-    (let t = read (document (head false (a ∷ []) ∷ head false (b ∷ []) ∷ head false (a ∷ c ∷ [])
-    ∷ [])) in
+    (let t = read (document (head false (a ∷ b ∷ c ∷ []) ∷ head false (a ∷ x ∷ [])
+    ∷ head false (a ∷ b ∷ []) ∷ [])) in
     record t { slots = slots_without_positions t.slots })
-    ≡ codes "[a]\n[a.c]\n[b]\n"
+    ≡ codes "[a.x]\n[a.b]\n[a.b.c]\n"
 unfolding print
 forgotten_positions = refl

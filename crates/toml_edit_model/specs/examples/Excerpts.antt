@@ -2,7 +2,7 @@
 use Rattle.std.specs.Prelude.{◌≡◌, refl, ℕ, Bool, true, ◌&&◌, ◌==◌, [], ◌∷◌, ◌++◌, List, codes, Some, None}
 use Rattle.std.specs.Fmt.{digits}
 use Rattle.toml_edit_model.specs.Text.{Text}
-use Rattle.toml_edit_model.specs.Excerpt.{position_in, excerpt}
+use Rattle.toml_edit_model.specs.Excerpt.{position_in, excerpt, excerpt_under}
 use Rattle.toml_edit_model.specs.examples.Parts.{all_true}
 
 abbrev positions : List Bool
@@ -11,6 +11,11 @@ positions =
     ∷ is_at (codes "Hello") 5 0 5
     ∷ is_at (codes "Hello\nWorld\n") 2 0 2 ∷ is_at (codes "Hello\nWorld\n") 5 0 5
     ∷ is_at (codes "Hello\nWorld\n") 6 1 0 ∷ is_at (codes "Hello\nWorld\n") 8 1 2
+    -- beyond the end, and on each byte of `é`
+    ∷ is_at [] 3 0 0 ∷ is_at (codes "Hello") 9 0 5 ∷ is_at (codes "Hello\n") 9 0 6
+    ∷ is_at (0xC3 ∷ 0xA9 ∷ codes "!") 0 0 0 ∷ is_at (0xC3 ∷ 0xA9 ∷ codes "!") 1 0 1
+    ∷ is_at (0xC3 ∷ 0xA9 ∷ codes "!") 2 0 1 ∷ is_at (0xC3 ∷ 0xA9 ∷ []) 1 0 1
+    ∷ is_at (0xC3 ∷ 0xA9 ∷ []) 2 0 1
     ∷ []
   where
     is_at : Text → ℕ → ℕ → ℕ → Bool
@@ -93,3 +98,18 @@ excerpt_of_nothing : excerpt [] (Some (0, 0)) (codes "expected a value")
     ≡ codes "TOML parse error at line 1, column 1\n  |\n1 | \n  | ^\nexpected a value\n"
 unfolding digits
 excerpt_of_nothing = refl
+
+-- under another title
+excerpt_of_a_linter : excerpt_under (codes "warning") (codes "a = 1\nb=2\n") 7 8
+    (codes "no space before =")
+    ≡ codes "warning at line 2, column 2\n  |\n2 | b=2\n  |  ^\nno space before =\n"
+unfolding digits
+excerpt_of_a_linter = refl
+
+-- a span that begins inside `é` and ends beyond the text
+excerpt_inside_a_character : excerpt_under (codes "warning") (0xC3 ∷ 0xA9 ∷ codes " = 1") 1 9
+    (codes "odd")
+    ≡ codes "warning at line 1, column 2\n  |\n1 | "
+    ++ (0xC3 ∷ 0xA9 ∷ codes " = 1\n  |  ^^^^\nodd\n")
+unfolding digits
+excerpt_inside_a_character = refl

@@ -1,0 +1,15 @@
+-- What is made below a placeholder.
+use Rattle.std.proofs.Common.{ap, ◌∙◌, sym}
+use Rattle.toml_edit_laws.specs.Commands.{done}
+use Rattle.toml_edit_tree.specs.View.{item_view}
+use Rattle.toml_edit_change.specs.Changes.{names}
+use Rattle.toml_edit_change.specs.Headed.{set_headed_below}
+use Rattle.toml_edit_change.proofs.HeaderLaws.{headed-below-is}
+use Rattle.toml_edit_change.proofs.headers.fill_below.Goals as goal
+
+pub returns : goal.returns
+returns c =
+    let v = item_view c.args.value.now in
+    let path = names c.args.path.now in
+    ap (set_headed_below v path) c.requires ∙ headed-below-is v path
+    ∙ ap done (sym (ap item_view c.swap.ensures.x_after ∙ c.in_ok-head_below.ensures))

@@ -1,0 +1,3 @@
+pub mod renaming
+pub mod comments
+pub mod placing

@@ -1,0 +1,9 @@
+pub mod Lists
+pub mod Along
+pub mod InBlock
+pub mod Inserting
+pub mod Moving
+pub mod MovingLines
+pub mod Facts
+pub mod Meaning
+pub mod Inside

@@ -1,0 +1,4 @@
+-- Worked renamings, places and changes of comments.
+pub mod Renames
+pub mod HeaderDecors
+pub mod Places

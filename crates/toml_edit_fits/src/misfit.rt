@@ -1,0 +1,137 @@
+//! The rules of documents that fit, and the places where one is broken.
+ghost use Rattle.std.specs.Prelude.{◌≡◌, [], IfOk, map};
+ghost use Rattle.std.specs.Fmt.{decimal};
+ghost use Rattle.toml_edit_fits.specs.MisfitViews.{found_view, misfit_view};
+ghost use Rattle.toml_edit_fits.specs.Misfits.{below_step};
+
+use std::alloc::Global;
+use std::fmt;
+use toml_edit_key::Key;
+use toml_edit_repr::Mem;
+
+/// Which rule of documents that fit is broken.
+#[derive(Clone, Copy, Debug, PartialEq, Eq, Hash)]
+pub enum FitRule {
+    /// Whitespace or a comment doesn't suit its place.
+    Decor,
+    /// The root or an element of an array of tables is dotted.
+    Dotted,
+    /// A header is printed too early: before that of an element that it is in, or, if it is an
+    /// element's own, before one in an earlier element of its array of tables.
+    Order,
+    /// A path has more than 80 keys, or more than 80 brackets are open at once in a value.
+    Limits,
+}
+
+/// Writes how the rule is broken, in a few words.
+impl fmt::Display for FitRule {
+    ghost use Rattle.std.specs.Prelude.{Some};
+    ghost use Rattle.toml_edit_fits.specs.Misfits.{rule_text};
+
+    ghost output = { λ rule. Some (rule_text rule) };
+
+    fn fmt<W: fmt::Write>(&self, f: &mut fmt::Formatter<W>) -> fmt::Result {
+        f.write_str(match self {
+            FitRule::Decor => "whitespace or comment out of place",
+            FitRule::Dotted => "dotted root or element",
+            FitRule::Order => "header printed too early",
+            FitRule::Limits => "path or value too deep",
+        })
+    }
+}
+
+/// A place where a document doesn't fit, and the rule that is broken there.
+///
+/// `DocumentMut::first_misfit` returns one.
+#[derive(Debug, Drop)]
+pub struct Misfit {
+    path: Vec<Key>,
+    rule: FitRule,
+}
+
+impl Misfit {
+    /// Returns the path of the value or the table, from the root. It is empty for the root itself.
+    ///
+    /// In an array or an array of tables, a key's name is the number of the item in decimal digits,
+    /// counted from 0, as `DocumentMut::get_at` takes it.
+    pub fn path(&self) -> &[Key]
+        ensures { map (λ key. key.name) result.now ≡ (misfit_view self.now).path }
+    {
+        self.path.as_slice()
+    }
+
+    /// Returns the path, and drops the rest.
+    pub fn into_path(self) -> Vec<Key>
+        ensures { map (λ key. key.name) result.items ≡ (misfit_view self).path }
+    {
+        self.path
+    }
+
+    /// Returns the rule that is broken.
+    pub fn rule(&self) -> FitRule
+        ensures { result ≡ (misfit_view self.now).rule }
+    {
+        self.rule
+    }
+}
+
+/// A misfit below an item: the steps that lead to it from there, the last one first.
+pub(crate) struct Found {
+    pub(crate) steps: Vec<Key>,
+    pub(crate) rule: FitRule,
+}
+
+impl Drop for Found {
+    fn drop(self) {
+        let Found { steps, rule: _ } = self;
+        drop(steps);
+    }
+}
+
+impl Found {
+    /// Returns the misfit, found below the root, with its path in order.
+    pub(crate) fn into_misfit(self) -> Misfit
+        ensures { misfit_view result ≡ found_view self }
+    {
+        let Found { steps, rule } = self;
+        let mut path = steps;
+        path.reverse();
+        Misfit { path, rule }
+    }
+}
+
+/// Returns a misfit of the item itself.
+pub(crate) fn found_here(alloc: Global, rule: FitRule) -> Found
+    ensures { found_view result ≡ record { path = []; rule = rule } }
+{
+    Found {
+        steps: Vec::new(alloc),
+        rule,
+    }
+}
+
+/// Returns the misfit with one more step before its path.
+fn found_below(found: Found, step: Key) -> Mem<Found>
+    ensures { IfOk result (λ above. found_view above ≡ below_step step.name (found_view found)) }
+{
+    let mut above = found;
+    above.steps.push(step)?;
+    Ok(above)
+}
+
+/// Returns the misfit, found in the item under a key, as one of its table.
+pub(crate) fn found_under(alloc: Global, found: Found, key: &Key) -> Mem<Found>
+    ensures { IfOk result (λ above. found_view above ≡ below_step key.now.name (found_view found)) }
+{
+    let step = Key::from_text(alloc, key.get())?;
+    found_below(found, step)
+}
+
+/// Returns the misfit, found in the item with this number, as one of its array.
+pub(crate) fn found_in_item(alloc: Global, found: Found, number: usize) -> Mem<Found>
+    ensures { IfOk result
+        (λ above. found_view above ≡ below_step (decimal number) (found_view found)) }
+{
+    let step = Key::new(number.to_string(alloc)?);
+    found_below(found, step)
+}

@@ -1,0 +1,36 @@
+//! Comments beside keys and values.
+ghost use Rattle.std.specs.Prelude.{◌≡◌, OnErr, OnOk, Some};
+ghost use Rattle.std.specs.Option.{option_copied};
+ghost use Rattle.toml_edit.specs.model.Comments.{comment_after, with_comment_after, with_comment_before};
+ghost use Rattle.toml_edit.specs.model.Conversions.{with_decor};
+ghost use Rattle.toml_edit.specs.model.Tree.{node_decor};
+ghost use Rattle.toml_edit.specs.repr.Comments.{PutsComment};
+ghost use Rattle.toml_edit.specs.tree.View.{value_view};
+
+use std::alloc::Global;
+use toml_edit::{CommentFault, Key, Value};
+
+/// Returns the comment after a value, without its `#`.
+pub fn comment_of(value: &Value) -> Option<&str>
+    ensures { option_copied result ≡ comment_after (node_decor (value_view value.now)) }
+{
+    value.decor().comment_after()
+}
+
+/// Sets the comment after a value: with `" why"` it is `# why`.
+pub fn explain(alloc: Global, value: &mut Value, comment: &str) -> Result<(), CommentFault>
+    ensures ok { OnOk result (value_view value.new ≡ with_decor
+        (with_comment_after (Some comment.now) (node_decor (value_view value.old)))
+        (value_view value.old)) }
+    ensures err { OnErr result (value_view value.new ≡ value_view value.old) }
+{
+    value.decor_mut().set_comment_after(alloc, Some(comment))
+}
+
+/// Adds a comment line above a key.
+pub fn explain_key(alloc: Global, key: &mut Key, comment: &str) -> Result<(), CommentFault>
+    ensures { PutsComment (Some comment.now)
+        (with_comment_before comment.now key.old.leaf) key.old.leaf key.new.leaf result }
+{
+    key.leaf_decor_mut().add_comment_before(alloc, comment)
+}

@@ -1,0 +1,10 @@
+//! Tests of calls that only this library has, of the jobs of tools for manifests, and the first
+//! examples of the Rust crate's documentation.
+#![tactic(auto)]
+
+#[cfg(test)]
+mod examples;
+#[cfg(test)]
+mod jobs;
+#[cfg(test)]
+mod paths;

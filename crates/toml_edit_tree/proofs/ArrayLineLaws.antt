@@ -1,0 +1,189 @@
+-- The values of an array that a line is added to or removed from.
+use Rattle.std.proofs.Common.{◌≡◌, ℕ, zero, suc, ◌+◌, ◌-◌, ◌<◌, ◌≤◌, ◌==◌, Bor, Bool, true, false, codes, drop, get_or, subst, MatchOption, List, [], ◌∷◌, Option, Some, None, ap, sym, refl, ◌∙◌, inl, inr, arith, length, leb, IsSome, if◌then◌else◌}
+use Rattle.std.specs.Prelude.{nat_lt, not, ◌||◌}
+use Rattle.std.proofs.lemmas.Bool.{cases_Bool, eqb-true}
+use Rattle.std.proofs.lemmas.Bool.Decides.{nat_tests}
+use Rattle.std.proofs.lemmas.List.Edits.{length-insert, length-remove}
+use Rattle.std.proofs.lemmas.Option.{none-some, same_Some}
+use Rattle.std.proofs.lemmas.Str.{len_utf8_ascii}
+use Rattle.std.proofs.lemmas.Str.Pattern.{NoCharPasses-char}
+use Rattle.std.specs.Option.{option_map_or}
+use Rattle.std.specs.Str.{NoCharPasses}
+use Rattle.std.specs.Str.Pattern.{RFindsChar, SplitsAroundMatch}
+use Rattle.toml_edit_model.specs.ArrayCalls.{inserted_at, removed_at, value_at, written_at}
+use Rattle.toml_edit_model.specs.Conversions.{with_decor}
+use Rattle.toml_edit_model.specs.Slots.{changed_at}
+use Rattle.toml_edit_model.specs.Text.{Text, one}
+use Rattle.toml_edit_model.specs.Tree.{Decor, Node, Raw, nothing, leaf, list, inline, table, tables, is_value_node, node_decor}
+use Rattle.toml_edit_tree.specs.ArrayLines.{after_newline, indent_of, is_last, placed, without_suffix}
+
+-- ---- a change of a decor
+
+value-is : (x n : Node) → (if is_value_node x then Some x else None) ≡ Some n → x ≡ n
+value-is x n e =
+    elim (cases_Bool (is_value_node x)) [
+      | inl is ↦ same_Some x n (rw is at e)
+      | inr other ↦ absurd (none-some n (rw other at e))
+    ]
+
+-- the item with another decor, where it is a value
+abbrev pub redone : (Decor → Decor) → Node → Node
+redone h n = with_decor (h (node_decor n)) n
+
+module _ (h : Decor → Decor) where
+  -- a write of the value with another decor
+  pub decor-written : (xs : List Node) (i : ℕ) (n : Node) → value_at i xs ≡ Some n → written_at i (redone h n) xs ≡ changed_at i (redone h) xs
+  decor-written [] i n e = refl
+  decor-written (x ∷ xs) zero n e = ap (λ y. redone h y ∷ xs) (sym (value-is x n e))
+  decor-written (x ∷ xs) (suc i) n e = ap (λ l. x ∷ l) (decor-written xs i n e)
+
+  other-redone : (x : Node) → (if is_value_node x then Some x else None) ≡ None → x ≡ redone h x
+  other-redone (leaf s spelling d) e = absurd (none-some (leaf s spelling d) (sym e))
+  other-redone (list f xs) e = absurd (none-some (list f xs) (sym e))
+  other-redone (inline f ss) e = absurd (none-some (inline f ss) (sym e))
+  other-redone (table f ss) e = refl
+  other-redone (tables f xs) e = refl
+  other-redone nothing e = refl
+
+  -- where there is no value nothing changes
+  pub decor-none : (xs : List Node) (i : ℕ) → value_at i xs ≡ None → xs ≡ changed_at i (redone h) xs
+  decor-none [] i e = refl
+  decor-none (x ∷ xs) zero e = ap (λ y. y ∷ xs) (other-redone x e)
+  decor-none (x ∷ xs) (suc i) e = ap (λ l. x ∷ l) (decor-none xs i e)
+
+-- ---- places
+
+suc-below : (i n : ℕ) → nat_lt (suc i) (n + 1) ≡ nat_lt i n
+suc-below i n = grind (arith, nat_tests)
+
+-- past the end nothing changes
+pub changed-past : (h : Node → Node) (xs : List Node) (i : ℕ) → length xs ≤ i → changed_at i h xs ≡ xs
+changed-past h [] i l = refl
+changed-past h (x ∷ xs) zero l = absurd (omega arith)
+changed-past h (x ∷ xs) (suc i) l = ap (λ l. x ∷ l) (changed-past h xs i (omega arith))
+
+-- a change of what was inserted
+pub changed-inserted : (h : Node → Node) (xs : List Node) (i : ℕ) (v : Node) → i ≤ length xs → changed_at i h (inserted_at i v xs) ≡ inserted_at i (h v) xs
+changed-inserted h [] zero v l = refl
+changed-inserted h [] (suc i) v l = absurd (omega arith)
+changed-inserted h (x ∷ xs) zero v l = refl
+changed-inserted h (x ∷ xs) (suc i) v l = ap (λ l. x ∷ l) (changed-inserted h xs i v (omega arith))
+
+-- the decor of a value is replaced
+placed-bare : (r : Raw) (n : Node) → placed r (without_suffix n) ≡ placed r n
+placed-bare r (leaf s spelling d) = refl
+placed-bare r (list f xs) = refl
+placed-bare r (inline f ss) = refl
+placed-bare r (table f ss) = refl
+placed-bare r (tables f xs) = refl
+placed-bare r nothing = refl
+
+-- the value that was the last loses its suffix
+followed-at : (r : Raw) (v : Node) (xs : List Node) (j : ℕ) → suc j ≡ length xs
+    → changed_at (suc j) (placed r) (changed_at j without_suffix (inserted_at (suc j) v xs)) ≡ inserted_at (suc j) (placed r v) (changed_at j without_suffix xs)
+followed-at r v [] j e = absurd (omega (arith, e))
+followed-at r v (x ∷ []) zero e = refl
+followed-at r v (x ∷ []) (suc j) e = absurd (omega (arith, e))
+followed-at r v (x ∷ y ∷ xs) zero e = absurd (omega (arith, e))
+followed-at r v (x ∷ y ∷ xs) (suc j) e = ap (λ l. x ∷ l) (followed-at r v (y ∷ xs) j (omega (arith, e)))
+
+pub followed-placed : (r : Raw) (v : Node) (xs : List Node) (i : ℕ) → i ≡ length xs
+    → changed_at i (placed r) (changed_at (i - 1) without_suffix (inserted_at i v xs)) ≡ inserted_at i (placed r v) (changed_at (length xs - 1) without_suffix xs)
+followed-placed r v [] zero e = ap one (placed-bare r v)
+followed-placed r v [] (suc i) e = absurd (omega (arith, e))
+followed-placed r v (x ∷ xs) zero e = absurd (omega (arith, e))
+followed-placed r v (x ∷ xs) (suc j) e =
+    let before : suc j - 1 ≡ j = omega arith in
+    let last : length (x ∷ xs) - 1 ≡ j = omega (arith, e) in
+    ap (λ k. changed_at (suc j) (placed r) (changed_at k without_suffix (inserted_at (suc j) v (x ∷ xs)))) before
+    ∙ followed-at r v (x ∷ xs) j e ∙ ap (λ k. inserted_at (suc j) (placed r v) (changed_at k without_suffix (x ∷ xs))) (sym last)
+
+length-changed : (h : Node → Node) (xs : List Node) (i : ℕ) → length (changed_at i h xs) ≡ length xs
+length-changed h [] i = refl
+length-changed h (x ∷ xs) zero = refl
+length-changed h (x ∷ xs) (suc i) = ap suc (length-changed h xs i)
+
+-- behind the last place there is nothing to change
+pub behind-last : (h g : Node → Node) (xs : List Node) (i : ℕ) → is_last i xs ≡ true → changed_at (suc i) h (changed_at i g xs) ≡ changed_at i g xs
+behind-last h g xs i e =
+    changed-past h (changed_at i g xs) (suc i) (subst (λ n. n ≤ suc i) (sym (length-changed g xs i)) (grind (arith, nat_tests, e)))
+
+last-by-length : (xs ys : List Node) (i : ℕ) → length xs ≡ length ys → is_last i xs ≡ is_last i ys
+last-by-length xs ys i e = ap (λ n. not (nat_lt (suc i) n)) e
+
+pub put-behind : (h g : Node → Node) (xs ys : List Node) (i next : ℕ) (last : Bool) → length xs ≡ length ys → last ≡ is_last i ys → next ≡ suc i
+    → (if last then changed_at i g xs else changed_at next h (changed_at i g xs)) ≡ changed_at (suc i) h (changed_at i g xs)
+put-behind h g xs ys i next true same is n = sym (behind-last h g xs i (last-by-length xs ys i same ∙ sym is))
+put-behind h g xs ys i next false same is n = ap (λ k. changed_at k h (changed_at i g xs)) n
+
+pub length-followed : (h : Node → Node) (comma : Bool) (xs : List Node) (i : ℕ) → length (if comma then xs else changed_at i h xs) ≡ length xs
+length-followed h true xs i = refl
+length-followed h false xs i = length-changed h xs i
+
+-- nor in the place of the last value, once that is removed
+last-removed : (h : Node → Node) (xs : List Node) (i : ℕ) → i < length xs → is_last i xs ≡ true → changed_at i h (removed_at i xs) ≡ removed_at i xs
+last-removed h xs i l e =
+    let past : length xs ≤ suc i = grind (arith, nat_tests, e) in
+    changed-past h (removed_at i xs) i (omega (arith, length-remove xs i l))
+
+pub removed-behind : (h : Node → Node) (xs : List Node) (i : ℕ) (last : Bool) → i < length xs → last ≡ is_last i xs
+    → (if last then removed_at i xs else changed_at i h (removed_at i xs)) ≡ changed_at i h (removed_at i xs)
+removed-behind h xs i true l is = sym (last-removed h xs i l (sym is))
+removed-behind h xs i false l is = refl
+
+-- a value is inside the list
+pub value-inside : (xs : List Node) (i : ℕ) → IsSome (value_at i xs) → i < length xs
+value-inside [] i s = absurd cc
+value-inside (x ∷ xs) zero s = omega arith
+value-inside (x ∷ xs) (suc i) s = omega (arith, value-inside xs i s)
+
+-- the test of the last place
+pub last-tested : (i n : ℕ) → leb n (i + 1) ≡ not (nat_lt (suc i) n)
+last-tested i n = grind (arith, nat_tests)
+
+-- the place of a value that is inserted is the last one where it is put at the end
+pub last-inserted : (xs : List Node) (i : ℕ) (v : Node) → i ≤ length xs → is_last i (inserted_at i v xs) ≡ not (nat_lt i (length xs))
+last-inserted xs i v l =
+    ap (λ n. not (nat_lt (suc i) n)) (length-insert xs i v l) ∙ ap not (suc-below i (length xs))
+
+-- a value between two gaps, where a comma follows the one before it
+pub inserted-between : (comma : Bool) (before : Raw) (v : Node) (xs : List Node) (i : ℕ) → i ≤ length xs
+    → changed_at i (placed before)
+    (if comma || not (is_last i (inserted_at i v xs)) then inserted_at i v xs else changed_at (i - 1) without_suffix (inserted_at i v xs))
+    ≡ inserted_at i (placed before v) (if comma || nat_lt i (length xs) then xs else changed_at (length xs - 1) without_suffix xs)
+inserted-between comma before v xs i l =
+    ap (λ b. changed_at i (placed before) (if comma || not b then inserted_at i v xs else changed_at (i - 1) without_suffix (inserted_at i v xs))) (last-inserted xs i v l)
+    ∙ elim (cases_Bool comma) [
+      | inl on ↦ rw on (changed-inserted (placed before) xs i v l)
+      | inr off ↦
+          elim (cases_Bool (nat_lt i (length xs))) [
+            | inl inside ↦ rw (off, inside) (changed-inserted (placed before) xs i v l)
+            | inr end ↦ rw (off, end) (followed-placed before v xs i (grind (arith, nat_tests, end, l)))
+          ]
+    ]
+
+-- ---- the indentation
+
+none-after : (t : Text) → ((k : ℕ) → k < length t → get_or t k 0 ≡ 10 → ⊥) → after_newline t ≡ None
+none-after [] h = refl
+none-after (b ∷ t) h =
+    rw (none-after t (λ k l e. h (suc k) (omega arith) e)) (elim (cases_Bool (b == 10)) [
+      | inl is ↦ absurd (h 0 (omega arith) (eqb-true b 10 is))
+      | inr other ↦ rw other refl
+    ])
+
+some-after : (t : Text) (i : ℕ) → i < length t → get_or t i 0 ≡ 10 → ((k : ℕ) → k < length (drop (suc i) t) → get_or (drop (suc i) t) k 0 ≡ 10 → ⊥)
+    → after_newline t ≡ Some (drop (suc i) t)
+some-after [] i l e h = absurd (omega arith)
+some-after (b ∷ t) zero l e h = rw (none-after t h, e) refl
+some-after (b ∷ t) (suc i) l e h = rw (some-after t i (omega arith) e h) refl
+
+pub indent-is : (t : Text) (r : Option (Bor Text × Bor Text))
+    → MatchOption r (RFindsChar 10 t None) (λ x. SplitsAroundMatch (RFindsChar 10) t x.0.now x.1.now)
+    → option_map_or (λ x. x.1.now) r (codes "    ") ≡ indent_of t
+indent-is t None h = rw (none-after t (λ k l e. NoCharPasses-char 10 t k h (omega arith) l e)) refl
+indent-is t (Some x) (i, j, found, front, back, le, at, long) =
+    let next : j ≡ suc i = omega (arith, found.1.ends, len_utf8_ascii 10 (omega arith)) in
+    let after = some-after t i (omega arith) (found.1.byte (omega arith))
+    (λ k l e. NoCharPasses-char 10 (drop (suc i) t) k (subst (λ n. NoCharPasses (λ d. d == 10) (drop n t)) next found.0) (omega arith) l e) in
+    rw after (back ∙ ap (λ n. drop n t) next)

@@ -1,0 +1,33 @@
+-- The parts are made of both gaps.
+use Rattle.std.proofs.Common.{◌≡◌, ◌+◌, [], ap, suc, ◌∙◌, arith, leb, length, if◌then◌else◌}
+use Rattle.std.specs.Prelude.{not, ◌||◌}
+use Rattle.toml_edit_model.specs.Comments.{side_text}
+use Rattle.toml_edit_model.specs.Tree.{owned}
+use Rattle.toml_edit_tree.specs.Elements.{array_fields, items_of}
+use Rattle.toml_edit_tree.specs.ArrayLines.{before_comma, decor_taken, gap, is_last, left_of, suffix_at}
+use Rattle.toml_edit_tree.proofs.ArrayLineLaws.{last-tested}
+use Rattle.toml_edit_tree.proofs.array.lines.parts_removed.Goals as goal
+
+pub returns-clause-left : goal.returns-clause-left
+returns-clause-left c =
+    let f = array_fields c.args.array.now in
+    let xs = items_of c.args.array.now in
+    let at = c.args.at in
+    let last : leb c.len-count.result (at + 1) ≡ is_last at xs = ap (λ n. leb n (at + 1)) c.len-count.ensures ∙ last-tested at (length xs) in
+    let next : at + 1 ≡ suc at = omega arith in
+    let before : c.as_str.result.now ≡ gap at f xs = c.as_str.ensures.value ∙ c.in_ok-before.ensures in
+    let after : c.as_str-2.result.now ≡ gap (suc at) f xs = c.as_str-2.ensures.value ∙ c.in_ok-after.ensures ∙ ap (λ k. gap k f xs) next in
+    c.in_ok-left.ensures ∙ (λ i. owned (left_of (before i) (after i) (last i)))
+
+pub returns-clause-decor : goal.returns-clause-decor
+returns-clause-decor c =
+    let f = array_fields c.args.array.now in
+    let xs = items_of c.args.array.now in
+    let at = c.args.at in
+    let last : leb c.len-count.result (at + 1) ≡ is_last at xs = ap (λ n. leb n (at + 1)) c.len-count.ensures ∙ last-tested at (length xs) in
+    let next : at + 1 ≡ suc at = omega arith in
+    let before : c.as_str-3.result.now ≡ gap at f xs = c.as_str-3.ensures.value ∙ c.in_ok-before.ensures in
+    let after : c.as_str-4.result.now ≡ gap (suc at) f xs = c.as_str-4.ensures.value ∙ c.in_ok-after.ensures ∙ ap (λ k. gap k f xs) next in
+    let suffix : c.before_comma-suffix.result.now ≡ before_comma at f xs =
+    c.before_comma-suffix.ensures ∙ ap (λ b. if f.comma || not b then side_text (suffix_at at xs) else []) last in
+    c.in_ok-decor.ensures ∙ (λ i. decor_taken (before i) (suffix i) (after i))
