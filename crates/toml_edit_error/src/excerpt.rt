@@ -26,7 +26,7 @@ pub struct Excerpt<'a> {
     pub source: &'a str,
     /// The bytes of the text that are marked, from the first number up to the second.
     pub span: (usize, usize),
-    /// What is said of the span.
+    /// The message about the span.
     pub message: &'a str,
 }
 
