@@ -134,6 +134,8 @@ fn put_inside_brackets<S: Sink>(
 }
 
 /// Puts the side of a decor if `stands` is set, and nothing if not.
+// Mostly nothing stands here.
+#[inline(always)]
 fn put_side_if<S: Sink>(out: &mut S, mode: Mode, stands: bool, side: Option<&RawString>)
     ensures { WritesInCalls S.puts out.old
         (if stands then shown_side (mode_of mode) [] (option_copied side.entry) else []) out.new }

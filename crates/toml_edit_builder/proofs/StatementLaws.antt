@@ -1,5 +1,6 @@
 -- What a statement does to the whole, by what it does to what is held.
-use Rattle.std.proofs.Common.{◌≡◌, ℕ, ◌+◌, ◌-◌, ◌≤◌, Bool, true, false, refl, sym, ap, subst, ◌∙◌, List, [], ◌∷◌, ◌++◌, length, arith, Option, Some, None, String, Vec}
+use Rattle.std.proofs.Common.{◌≡◌, ℕ, ◌+◌, ◌-◌, ◌≤◌, Bool, true, false, refl, sym, ap, subst, ◌∙◌, List, [], ◌∷◌, ◌++◌, length, arith, Option, Some, None, Vec}
+use Rattle.std.specs.declared.borrow.CowStr.{CowStr}
 use Rattle.std.specs.declared.alloc.Global.{Global}
 use Rattle.std.specs.Prelude.{map, option_map, option_and_then, Contains}
 use Rattle.std.proofs.lemmas.List.Elements.{Contains-append_left, Contains-append_right, Contains-push}
@@ -108,7 +109,7 @@ module _ (mode : Mode) (b : Builder) (old : Building) (held : IsHeld b old) wher
           stays_placed mode (a_value n) ms b.start behind_line (slots_view old.current) (slots_view new.current) on
           (addition_real mode b.start (key_line f v end) n node) within current-placed e in
           record {
-            block = held.block ∙ sym (ap (λ (v : Vec (String Global) Global). names v.items) block);
+            block = held.block ∙ sym (ap (λ (v : Vec (CowStr Global) Global). names v.items) block);
             headers = held.headers ∙ sym headers;
             left = held.left;
             there = ap (slots_along b.block) root ∙ held.there;

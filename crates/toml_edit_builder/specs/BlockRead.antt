@@ -1,5 +1,7 @@
 -- What taking out the slots of the table of a block does.
-use Rattle.std.specs.Prelude.{◌≡◌, List, [], ◌∷◌, map, Option, Some, None, String, option_and_then, string_bytes}
+use Rattle.std.specs.Prelude.{◌≡◌, List, [], ◌∷◌, map, Option, Some, None, option_and_then}
+use Rattle.std.specs.Cow.{cow_str_bytes}
+use Rattle.std.specs.declared.borrow.CowStr.{CowStr}
 use Rattle.std.specs.declared.alloc.Global.{Global}
 use Rattle.toml_edit_model.specs.Text.{Text}
 use Rattle.toml_edit_model.specs.Tree.{Node, Slots, item, no_items, table, tables}
@@ -7,9 +9,9 @@ use Rattle.toml_edit_laws.specs.AddPath.{put_along, put_in, put_last}
 use Rattle.toml_edit_laws.specs.Building.{block_slots, last_slots, slots_along}
 use Rattle.toml_edit_tree.specs.Containers.{TableView, TablesView, table_node, tables_node}
 
--- the texts of some strings
-abbrev pub names : List (String Global) → List Text
-names ss = map string_bytes ss
+-- the texts of some names
+abbrev pub names : List (CowStr Global) → List Text
+names ns = map cow_str_bytes ns
 
 -- the first of them, and the others
 abbrev pub split_name : List Text → Option (Text × List Text)

@@ -1,7 +1,8 @@
 -- What reading the statements of a text, one after another, does to what is held of its tree (TOML
 -- 1.1.0, "Key/Value Pair", "Table" and "Array of Tables").
-use Rattle.std.specs.Prelude.{◌≡◌, ℕ, ◌+◌, ◌-◌, Bool, true, if◌then◌else◌, List, [], ◌++◌, length, map, Some, String, Vec, Result, Ok, Err}
+use Rattle.std.specs.Prelude.{◌≡◌, ℕ, ◌+◌, ◌-◌, Bool, true, if◌then◌else◌, List, [], ◌++◌, length, map, Some, Result, Ok, Err}
 use Rattle.std.specs.declared.alloc.Global.{Global}
+use Rattle.std.specs.declared.borrow.CowStr.{CowStr}
 use Rattle.std.specs.Borrow.{Bor}
 use Rattle.toml_edit_model.specs.Mode.{Mode, with_return}
 use Rattle.toml_edit_model.specs.Text.{Text}
@@ -150,9 +151,9 @@ IfHeaderRead mode t held parts b h end P =
     → AreHeaderParts mode h end b.start parts → P
 
 -- the names of a path's keys; reading them fails only if memory runs out
-abbrev pub ReadsNames : List Segment → Result (Vec (String Global) Global) ParseFault → Type 0
-ReadsNames p (Ok v) = names v.items ≡ map (λ s. s.key) p
-ReadsNames p (Err e) = IfToml e (λ r. ⊥)
+abbrev pub ReadsNames : List Segment → List (CowStr Global) → Result (Unit {0}) ParseFault → Type 0
+ReadsNames p ns (Ok _) = names ns ≡ map (λ s. s.key) p
+ReadsNames p ns (Err e) = IfToml e (λ r. ⊥)
 
 -- The header's table is added: the builder after it is what is held.
 pub record IsOpened (mode : Mode) (b : Builder) (s : Statement) (new : Building) : Type 0 where

@@ -3,12 +3,13 @@ ghost use Rattle.std.specs.Prelude.{◌≡◌, option_map};
 ghost use Rattle.toml_edit_builder.specs.BlockRead.{names, split_name, SwapsBelow, SwapsInItem, SwapsInTable, SwapsInTables, SwapsInLast};
 ghost use Rattle.toml_edit_tree.specs.View.{item_view, slots_view, table_view, tables_view};
 
+use std::borrow::CowStr;
 use std::mem;
 use toml_edit_slots::Slots;
 use toml_edit_tree::{ArrayOfTables, Item, Table};
 
 /// Splits off the first name.
-fn split_name(block: &[String]) -> Option<(&str, &[String])>
+fn split_name<'b, 's>(block: &'b [CowStr<'s>]) -> Option<(&'b str, &'b [CowStr<'s>])>
     ensures { option_map (λ p. (p.0.now, names p.1.now)) result ≡ split_name (names block.now) }
 {
     let [first, rest @ ..] = block else {
@@ -19,7 +20,7 @@ fn split_name(block: &[String]) -> Option<(&str, &[String])>
 
 /// Swaps `others` with the slots of the table at these names. If there is no such table, both stay.
 #[cycle(swap)]
-pub fn swap_block(block: &[String], others: &mut Slots<Item>, slots: &mut Slots<Item>)
+pub fn swap_block(block: &[CowStr<'_>], others: &mut Slots<Item>, slots: &mut Slots<Item>)
     ensures { SwapsBelow (names block.now) (slots_view others.old) (slots_view slots.old)
         (slots_view others.new) (slots_view slots.new) }
 {
@@ -34,7 +35,7 @@ pub fn swap_block(block: &[String], others: &mut Slots<Item>, slots: &mut Slots<
 
 /// Swaps `others` with the slots of the table at these names in the item.
 #[cycle(swap)]
-fn swap_item(block: &[String], others: &mut Slots<Item>, holder: &mut Item)
+fn swap_item(block: &[CowStr<'_>], others: &mut Slots<Item>, holder: &mut Item)
     ensures { SwapsInItem (names block.now) (slots_view others.old) (item_view holder.old)
         (slots_view others.new) (item_view holder.new) }
 {
@@ -47,7 +48,7 @@ fn swap_item(block: &[String], others: &mut Slots<Item>, holder: &mut Item)
 
 /// Swaps `others` with the slots of the table at these names in the table.
 #[cycle(swap)]
-fn swap_table(block: &[String], others: &mut Slots<Item>, table: &mut Table)
+fn swap_table(block: &[CowStr<'_>], others: &mut Slots<Item>, table: &mut Table)
     ensures { SwapsInTable (names block.now) (slots_view others.old) (table_view table.old)
         (slots_view others.new) (table_view table.new) }
 {
@@ -56,7 +57,7 @@ fn swap_table(block: &[String], others: &mut Slots<Item>, table: &mut Table)
 
 /// Swaps `others` with the slots of the table at these names in the last element.
 #[cycle(swap)]
-fn swap_tables(block: &[String], others: &mut Slots<Item>, tables: &mut ArrayOfTables)
+fn swap_tables(block: &[CowStr<'_>], others: &mut Slots<Item>, tables: &mut ArrayOfTables)
     ensures { SwapsInTables (names block.now) (slots_view others.old) (tables_view tables.old)
         (slots_view others.new) (tables_view tables.new) }
 {
@@ -68,7 +69,7 @@ fn swap_tables(block: &[String], others: &mut Slots<Item>, tables: &mut ArrayOfT
 
 /// Swaps `others` with the slots of the table at these names in the element, if it is a table.
 #[cycle(swap)]
-fn swap_last(block: &[String], others: &mut Slots<Item>, holder: &mut Item)
+fn swap_last(block: &[CowStr<'_>], others: &mut Slots<Item>, holder: &mut Item)
     ensures { SwapsInLast (names block.now) (slots_view others.old) (item_view holder.old)
         (slots_view others.new) (item_view holder.new) }
 {

@@ -72,7 +72,7 @@ fn put_table(
 {
     match slots.find(key.get()) {
         None => {
-            push_item(slots, key, mem::replace(item, Item::None))?;
+            push_item(slots, key, item)?;
             Ok(())
         }
         Some(there) => put_opened(source, key, at, there, item, slots),
@@ -233,7 +233,8 @@ fn put_tables(
 {
     let mut tables = ArrayOfTables::begun(alloc, brackets.start, brackets.end);
     tables.add_element(mem::replace(item, Item::None), brackets.end)?;
-    push_item(slots, key, Item::ArrayOfTables(tables))
+    let mut first = Item::ArrayOfTables(tables);
+    push_item(slots, key, &mut first)
 }
 
 /// Adds the table of a header in double brackets to the item at its key, if that is an array of

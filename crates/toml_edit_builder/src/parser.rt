@@ -18,6 +18,7 @@ ghost use Rattle.toml_edit_builder.specs.StatementRead.{Builds, IsHeld};
 use crate::block::swap_block;
 use crate::statement::read_in_version;
 use std::alloc::Global;
+use std::borrow::CowStr;
 use toml_edit_error::ParseFault;
 use toml_edit_parser::{Reader, raw};
 use toml_edit_repr::{Mode, RawString};
@@ -32,10 +33,10 @@ use toml_edit_tree::{Item, put_in_order};
 /// So a key line costs nothing for the path of its table. The item is the one that is being read,
 /// and is unspecified between statements.
 #[derive(Drop)]
-pub(crate) struct Building {
+pub(crate) struct Building<'s> {
     pub(crate) root: Slots<Item>,
     pub(crate) current: Slots<Item>,
-    pub(crate) block: Vec<String>,
+    pub(crate) block: Vec<CowStr<'s>>,
     pub(crate) headers: usize,
     pub(crate) item: Item,
 }
@@ -51,8 +52,8 @@ fn starts_statement(events: &[Event]) -> bool
 }
 
 /// Returns the slots of the root, which are still to be put in order.
-fn whole(building: Building) -> Slots<Item>
-    ensures { (b : Builder) → IsHeld b building → slots_by_place (slots_view result) ≡ b.slots }
+fn whole(building: Building<'_>) -> Slots<Item>
+    ensures { (b : Builder) → IsHeld b building.entry → slots_by_place (slots_view result) ≡ b.slots }
 {
     let Building {
         mut root,

@@ -142,7 +142,8 @@ fn add_below(
 {
     let mut inner = Slots::new(adding.alloc);
     add_path(adding, path, item, &mut inner)?;
-    push_item(slots, key, passed_item(is_line(adding.kind), span, inner))?;
+    let mut passed = passed_item(is_line(adding.kind), span, inner);
+    push_item(slots, key, &mut passed)?;
     Ok(())
 }
 

@@ -24,9 +24,10 @@ use crate::block::swap_block;
 use crate::parser::{Building, slot_count};
 use crate::path::{Adding, Kind, add_path, add_value};
 use std::alloc::Global;
+use std::borrow::CowStr;
 use toml_edit_error::ParseFault;
 use toml_edit_parser::{
-    Fault, KeyPath, PathKey, Reader, malformed, next_key, put, raw, read_header, read_key_line,
+    Fault, KeyPath, PathName, Reader, malformed, next_name, put, raw, read_header, read_key_line,
     refusal, split_first,
 };
 use toml_edit_repr::Decor;
@@ -68,9 +69,9 @@ fn late_part(source: &str, version: Version, events: &[Event]) -> Option<Span>
 
 /// Adds the statement at the front, if it is one of this version of the grammar. Returns the rest
 /// of the events. After an error, drop the tree.
-pub(crate) fn read_in_version<'a>(
-    reader: &Reader<'_>,
-    building: &mut Building,
+pub(crate) fn read_in_version<'s, 'a>(
+    reader: &Reader<'s>,
+    building: &mut Building<'s>,
     events: &'a [Event],
 ) -> Result<&'a [Event], ParseFault>
     requires spans { AreIn reader.now.source.now events.now }
@@ -92,9 +93,9 @@ pub(crate) fn read_in_version<'a>(
 }
 
 /// Adds the statement at the front. Returns the rest of the events. After an error, drop the tree.
-fn read_statement<'a>(
-    reader: &Reader<'_>,
-    building: &mut Building,
+fn read_statement<'s, 'a>(
+    reader: &Reader<'s>,
+    building: &mut Building<'s>,
     events: &'a [Event],
 ) -> Result<&'a [Event], ParseFault>
     requires spans { AreIn reader.now.source.now events.now }
@@ -137,10 +138,10 @@ fn read_statement<'a>(
 }
 
 /// Adds the key line after this text. Returns the rest of the events.
-fn add_line<'a>(
-    reader: &Reader<'_>,
+fn add_line<'s, 'a>(
+    reader: &Reader<'s>,
     leading: Span,
-    building: &mut Building,
+    building: &mut Building<'s>,
     events: &'a [Event],
 ) -> Result<&'a [Event], ParseFault>
     requires leading { IsSpanOf reader.now.source.now leading }
@@ -164,12 +165,12 @@ fn add_line<'a>(
 /// key lines that follow are its table's.
 // Not inlined, so that its locals stay out of the caller's frame.
 #[inline(never)]
-fn add_header<'a>(
-    reader: &Reader<'_>,
+fn add_header<'s, 'a>(
+    reader: &Reader<'s>,
     leading: Span,
     is_array: bool,
     opening: Span,
-    building: &mut Building,
+    building: &mut Building<'s>,
     events: &'a [Event],
 ) -> Result<&'a [Event], ParseFault>
     requires spans { AreIn reader.now.source.now events.now }
@@ -207,12 +208,12 @@ fn add_header<'a>(
 
 /// Adds the table of a header to the tree, and takes the table's slots out of it. Makes room for so
 /// many slots, if there is the memory.
-fn open_block(
+fn open_block<'s>(
     alloc: Global,
-    source: &str,
+    source: &'s str,
     header: HeaderParts<'_>,
     room: usize,
-    building: &mut Building,
+    building: &mut Building<'s>,
 ) -> Result<(), ParseFault>
     requires path { AreIn source.now header.path.events.now }
     requires count { building.old.headers + 1 < 2 ^ 63 }
@@ -229,7 +230,7 @@ fn open_block(
         &mut building.root,
     );
     building.headers += 1;
-    building.block = read_names(alloc, source, header.path)?;
+    read_names(alloc, source, header.path, &mut building.block)?;
     head_item(
         alloc,
         header,
@@ -284,23 +285,28 @@ fn headed_item(alloc: Global, header: HeaderParts<'_>, position: isize, room: us
     Item::Table(Table::headed(slots, decor, position, start, end))
 }
 
-/// Reads the names of the keys of a path.
-fn read_names(alloc: Global, source: &str, path: KeyPath<'_>) -> Result<Vec<String>, ParseFault>
+/// Reads the names of the keys of a path, in place of the names that were there.
+fn read_names<'s>(
+    alloc: Global,
+    source: &'s str,
+    path: KeyPath<'_>,
+    names: &mut Vec<CowStr<'s>>,
+) -> Result<(), ParseFault>
     requires { AreIn source.now path.events.now }
     ensures names { (own : Decor) (p : List Segment) (start : ℕ) → IsEndOfPath p
         → Stands source.now start (path_text p)
-        → IsPathFrom own start p path.entry → ReadsNames p result }
+        → IsPathFrom own start p path.entry → ReadsNames p names.new.items result }
     ensures input { BlamesOnly source.now result }
     ensures listed { GivesListed result }
 {
-    let mut names = Vec::new(alloc);
+    names.clear();
     let mut left = path;
     'keys: loop {
-        let PathKey { key, rest, .. } = next_key(alloc, source, left)?;
-        names.push(String::from(key))?;
+        let PathName { name, rest } = next_name(alloc, source, left)?;
+        names.push(name)?;
         match rest {
             Some(inside) => left = inside,
-            None => return Ok(names),
+            None => return Ok(()),
         }
     }
 }

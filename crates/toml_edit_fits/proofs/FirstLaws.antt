@@ -72,7 +72,7 @@ walked-like (x ∷ ms) (y ∷ ns) w h = let e : x ≡ y = cc in ap Err e
 pub walk-here : (ms ns : List MisfitView) (v w : Marks) (m : MisfitView) → Err m ≡ walked ms v → Err m ≡ walked (ms ++ ns) w
 walk-here ms ns v w m h = walked-first (ms ++ ns) w m (first-here ms ns m (walked-early ms v m h))
 
--- The same of a walk, where the marks behind an element are before the next.
+-- A walk over a list, where the marks after an element are those before the next.
 module _ {T : Type 0} (all : Marks → ℕ → List T → List MisfitView) (past : Marks → List T → Marks) (one : Marks → T → List MisfitView) (after : Marks → T → Marks) (step : ℕ → T → Text)
     (each : (w : Marks) (i : ℕ) (x : T) (xs : List T) → all w i (x ∷ xs) ≡ below (step i x) (one w x) ++ all (after w x) (suc i) xs)
     (each-past : (w : Marks) (x : T) (xs : List T) → past w (x ∷ xs) ≡ past (after w x) xs) where

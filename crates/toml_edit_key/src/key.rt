@@ -64,11 +64,13 @@ pub(crate) struct KeyParts {
 }
 
 impl Drop for Key {
+    // Inlined, so that a row of slots that is dropped copies no key first.
+    #[inline(always)]
     fn drop(self) {
         let Key { text, repr, parts } = self;
-        drop(text);
-        drop(repr);
         drop(parts);
+        drop(repr);
+        drop(text);
     }
 }
 

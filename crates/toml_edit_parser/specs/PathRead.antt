@@ -1,5 +1,6 @@
 -- What reading the first key of a path returns, by the events of the path.
 use Rattle.std.specs.Prelude.{◌≡◌, ℕ, ◌+◌, List, [], ◌∷◌, length, Option, Some, None, Result, Ok, Err}
+use Rattle.std.specs.Cow.{cow_str_bytes}
 use Rattle.toml_edit_model.specs.Syntax.{Segment}
 use Rattle.toml_edit_model.specs.Paths.{next_start}
 use Rattle.toml_edit_model.specs.Tree.{Decor, Key, unset}
@@ -8,6 +9,7 @@ use Rattle.toml_edit_error.specs.Fault.{IfToml}
 use Rattle.toml_edit_error.specs.declared.toml_error.ParseFault.{ParseFault}
 use Rattle.toml_edit_syntax.specs.ValueEvents.{path_events}
 use Rattle.toml_edit_parser.specs.declared.key_path.PathKey.{PathKey}
+use Rattle.toml_edit_parser.specs.declared.key_path.PathName.{PathName}
 use Rattle.toml_edit_parser.specs.declared.pairs.KeyPath.{KeyPath}
 use Rattle.toml_edit_parser.specs.PairRead.{first_before, leaf_of}
 use Rattle.toml_edit_parser.specs.ValueRead.{span_at}
@@ -45,3 +47,10 @@ IsFirstKey own start (s ∷ p) r =
 abbrev pub ReadsKey : Decor → ℕ → List Segment → Result PathKey ParseFault → Type 0
 ReadsKey own start p (Ok r) = IsFirstKey own start p r
 ReadsKey own start p (Err e) = IfToml e (λ r. ⊥)
+
+-- the result of reading the name of that key alone, and the path after it
+abbrev pub ReadsFirstName : Decor → ℕ → List Segment → Result PathName ParseFault → Type 0
+ReadsFirstName own start p (Ok r) =
+    (k : PathKey) × IsFirstKey own start p k × (k.key.name ≡ cow_str_bytes r.name)
+    × (k.rest ≡ r.rest)
+ReadsFirstName own start p (Err e) = IfToml e (λ r. ⊥)

@@ -12,10 +12,11 @@ use Rattle.toml_edit_error.specs.declared.toml_error.ParseFault.{ParseFault}
 use Rattle.toml_edit_tree.specs.declared.value.Value as code
 use Rattle.toml_edit_tree.specs.View.{value_view}
 
--- the text of a key that was read; reading it fails only if memory runs out
-abbrev pub ReadsName : Text → Result (String Global) ParseFault → Type 0
-ReadsName k (Ok s) = string_bytes s ≡ k
-ReadsName k (Err e) = IfToml e (λ r. ⊥)
+-- the name of a key that was read, as a value with this text; reading it fails only if memory runs
+-- out
+abbrev pub ReadsName : {A : Type 0} → (A → Text) → Text → Result A ParseFault → Type 0
+ReadsName text k (Ok s) = text s ≡ k
+ReadsName text k (Err e) = IfToml e (λ r. ⊥)
 
 -- the value that was read, or a report of the text that names it as out of range
 abbrev pub ReadsScalar : Text → ℕ → Scalar → Text → Result code.Value ParseFault → Type 0

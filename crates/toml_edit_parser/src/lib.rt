@@ -15,7 +15,7 @@ mod statement;
 pub use fault::{Fault, malformed, refusal, refusal_of_all, refusal_with};
 pub use from_str::{FromStr, FromStrWith};
 #[doc(hidden)]
-pub use key_path::{PathKey, next_key};
+pub use key_path::{PathKey, PathName, next_key, next_name};
 pub use options::ParseOptions;
 #[doc(hidden)]
 pub use pairs::KeyPath;

@@ -1,5 +1,6 @@
 //! The pairs of inline tables, from their events to slots.
 ghost use Rattle.std.specs.Prelude.{◌≡◌, ◌<◌, List, ℕ, [], Bool, length, None, Some, OnOk, IfOk, IfSome, option_map, string_bytes};
+ghost use Rattle.std.specs.Cow.{cow_str_bytes};
 ghost use Rattle.toml_edit_model.specs.Text.{Text};
 ghost use Rattle.toml_edit_model.specs.Spelling.{SpellsKey};
 ghost use Rattle.toml_edit_model.specs.Syntax as syntax;
@@ -23,12 +24,13 @@ use crate::fault::{Fault, malformed, refusal, refusal_of_all};
 use crate::reader::{Close, raw, read_value, split_close, split_first};
 use crate::slots::{add_last, push_item};
 use std::alloc::Global;
+use std::borrow::CowStr;
 use toml_edit_error::ParseFault;
 use toml_edit_key::Key;
 use toml_edit_repr::{Decor, RawString};
 use toml_edit_slots::Slots;
 use toml_edit_syntax::{Event, EventKind, NESTING_LIMIT, Span, cut};
-use toml_edit_token::decode_key;
+use toml_edit_token::{decode_key, decode_name};
 use toml_edit_tree::{InlineTable, Item, Value};
 
 /// The number of events of the longest path: one for each key, and two for each dot between them.
@@ -58,6 +60,24 @@ pub struct KeyPath<'a> {
     pub events: &'a [Event],
 }
 
+/// Returns `true` if these are the events of a pair of one key and a scalar.
+fn is_plain_pair(events: &[Event]) -> bool {
+    match events {
+        [_, _, sign, value, _] => {
+            matches!(sign.kind, EventKind::Equals) && matches!(value.kind, EventKind::Scalar)
+        }
+        _ => false,
+    }
+}
+
+/// Returns the number of pairs of one key and a scalar at the front, to make room for them.
+fn plain_count(events: &[Event]) -> usize {
+    events
+        .chunks(5)
+        .take_while(|pair| is_plain_pair(*pair))
+        .count()
+}
+
 /// Reads an inline table after its opening brace. Returns it with the rest of the events.
 #[cycle(read)]
 pub(crate) fn read_inline<'a>(
@@ -75,7 +95,7 @@ pub(crate) fn read_inline<'a>(
     ensures fits { IfOk result (λ r. NodeFits source.now (value_view r.0)) }
     ensures rest { LeavesBeside source.now events.now result }
 {
-    let mut slots = Slots::new(alloc);
+    let mut slots = Slots::with_room(alloc, plain_count(events));
     let rest = read_pairs(alloc, source, events, &mut slots)?;
     close_inline(alloc, source, opening, slots, rest)
 }
@@ -299,7 +319,8 @@ fn add_below(
     let alloc = slots.allocator();
     let mut inner = Slots::new(alloc);
     add_entry(alloc, source, path, item, &mut inner)?;
-    push_item(slots, key, path_item(span, inner))?;
+    let mut passed = path_item(span, inner);
+    push_item(slots, key, &mut passed)?;
     Ok(())
 }
 
@@ -388,11 +409,29 @@ fn add_in_table(
 pub(crate) fn read_name(alloc: Global, source: &str, span: Span) -> Result<String, ParseFault>
     requires { IsSpanOf source.now span }
     ensures name { (k : Text) → SpellsKey k (cut_out source.now span.start span.end)
-        → ReadsName k result }
+        → ReadsName string_bytes k result }
     ensures input { BlamesOnly source.now result }
     ensures listed { GivesListed result }
 {
     match decode_key(alloc, cut(source, span))? {
+        Some(name) => Ok(name),
+        None => Err(malformed(alloc, source)),
+    }
+}
+
+/// Reads the name of the key that is spelled at the span. The name of a bare key is not copied.
+pub(crate) fn read_name_in_place<'s>(
+    alloc: Global,
+    source: &'s str,
+    span: Span,
+) -> Result<CowStr<'s>, ParseFault>
+    requires { IsSpanOf source.now span }
+    ensures name { (k : Text) → SpellsKey k (cut_out source.now span.start span.end)
+        → ReadsName cow_str_bytes k result }
+    ensures input { BlamesOnly source.now result }
+    ensures listed { GivesListed result }
+{
+    match decode_name(alloc, cut(source, span))? {
         Some(name) => Ok(name),
         None => Err(malformed(alloc, source)),
     }

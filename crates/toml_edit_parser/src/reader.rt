@@ -334,6 +334,8 @@ fn end_element<'a>(
 }
 
 /// Pushes a value.
+// Inlined, so that the value is made in its place.
+#[inline(always)]
 fn put_value(values: &mut Vec<Item>, value: Value) -> Mem<()>
     ensures { OnOk result (values.new.items ≡ values.old.items ++ Item.Value value ∷ []) }
 {

@@ -10,7 +10,6 @@ ghost use Rattle.toml_edit_parser.specs.Listed.{BlamesOnly, GivesListed};
 
 use crate::fault::{Fault, refusal};
 use std::alloc::{AllocError, Global};
-use std::mem;
 use toml_edit_error::ParseFault;
 use toml_edit_key::Key;
 use toml_edit_repr::Mem;
@@ -41,24 +40,27 @@ pub fn add_last(
     ensures input { BlamesOnly source.now result }
     ensures listed { GivesListed result }
 {
-    let item = mem::replace(item, Item::None);
-    match slots.try_push(Slot { key, item }) {
+    let added = slots.add(key, item);
+    match added {
         Ok(()) => Ok(()),
-        Err(refused) => match refused.place() {
+        Err(there) => match there {
             Some(_) => Err(refusal(alloc, source, Fault::DuplicateKey, span)),
             None => Err(ParseFault::from(AllocError)),
         },
     }
 }
 
-/// Pushes a slot with a new key. If out of memory, the slots are unchanged, and key and item are
-/// dropped.
+/// Adds a slot with a new key at the end, and leaves a placeholder in the place of its item. If out
+/// of memory, the slots are unchanged, and the key is dropped.
 #[doc(hidden)]
-pub fn push_item(slots: &mut Slots<Item>, key: Key, item: Item) -> Mem<()>
+#[inline(always)]
+pub fn push_item(slots: &mut Slots<Item>, key: Key, item: &mut Item) -> Mem<()>
     requires { place key.name slots.old ≡ None }
     ensures { OnOk result
-        (slots_view slots.new ≡ with_slot (slots_view slots.old) key (item_view item)) }
+        (slots_view slots.new ≡ with_slot (slots_view slots.old) key (item_view item.old)) }
 {
-    slots.push(Slot { key, item })?;
-    Ok(())
+    match slots.add(key, item) {
+        Ok(()) => Ok(()),
+        Err(_) => Err(AllocError),
+    }
 }

@@ -1,11 +1,14 @@
 //! The parts of key lines and headers, from their events.
-ghost use Rattle.std.specs.Prelude.{◌≡◌, List, ℕ, IfOk};
+ghost use Rattle.std.specs.Prelude.{◌≡◌, List, ℕ, IfOk, IfSome};
 ghost use Rattle.toml_edit_model.specs.Mode.{exact};
+ghost use Rattle.toml_edit_model.specs.Scalars as scalars;
 ghost use Rattle.toml_edit_model.specs.Scalars.{Scalar};
+ghost use Rattle.toml_edit_model.specs.Spelling.{Spells};
 ghost use Rattle.toml_edit_model.specs.Syntax as syntax;
 ghost use Rattle.toml_edit_model.specs.Syntax.{Frame, Header};
 ghost use Rattle.toml_edit_model.specs.Text.{Text};
 ghost use Rattle.toml_edit_syntax.specs.Events.{IsSpanOf};
+ghost use Rattle.toml_edit_token.specs.Decoded.{IsSpelling};
 ghost use Rattle.toml_edit_repr.specs.Modes.{mode_of};
 ghost use Rattle.toml_edit_parser.specs.StatementParts.{ReadsHeader, ReadsLineParts, ReadsLineValue, suffix_span, IfKeyLineNext, ReadsAnyLineValue, IfLineScalarNext, IfHeaderNext};
 ghost use Rattle.toml_edit_parser.specs.ValueRead.{AreIn, Leaves, LeavesBeside};
@@ -17,10 +20,10 @@ use crate::pairs::{KeyPath, MOST_PATH_EVENTS, path_behind, path_end, split_frame
 use crate::reader::{raw, read_value, split_first, split_scalar};
 use std::alloc::Global;
 use toml_edit_error::ParseFault;
-use toml_edit_repr::{Decor, Mode};
+use toml_edit_repr::{Decor, Formatted, Mode};
 use toml_edit_syntax::{Event, Span, Version, cut};
-use toml_edit_token::run::byte_at;
-use toml_edit_token::{decode_scalar, range_message};
+use toml_edit_token::run::{byte_at, first, is_word};
+use toml_edit_token::{decode_integer, decode_scalar, range_message};
 use toml_edit_tree::{Item, Value};
 
 /// A text that is parsed, and how: what every function that reads a statement is given.
@@ -147,17 +150,36 @@ fn read_line_scalar<'a>(
         return Err(malformed(reader.alloc, reader.source));
     };
     let text = cut(reader.source, span);
+    let decor = Decor::new(
+        raw(before),
+        raw(suffix(reader.source, reader.mode, end.span)),
+    );
+    // Most values that are no strings are integers.
+    if let Some(number) = integer_of(text) {
+        let value = Value::Integer(Formatted::spanned(number, span.start, span.end, decor));
+        put(item, Item::Value(value));
+        return Ok(rest);
+    }
     match decode_scalar(reader.alloc, text)? {
         Some(scalar) => {
-            let decor = Decor::new(
-                raw(before),
-                raw(suffix(reader.source, reader.mode, end.span)),
-            );
             let value = Value::spanned(scalar, span.start, span.end, decor);
             put(item, Item::Value(value));
             Ok(rest)
         }
         None => Err(refusal_with(reader.alloc, reader.source, range_message(text), span)),
+    }
+}
+
+/// Returns the integer that the text spells, if it is one. Looks no further where a quote is first.
+#[inline(always)]
+fn integer_of(text: &str) -> Option<i64>
+    ensures found { IfSome result (λ z. IsSpelling text.now (scalars.integer z)) }
+    ensures only { IfSome result (λ z. (s : Scalar) → Spells s text.now → s ≡ scalars.integer z) }
+{
+    if is_word(first(text)) {
+        decode_integer(text)
+    } else {
+        None
     }
 }
 

@@ -1,5 +1,5 @@
 //! Raw texts of a document: texts of their own, or spans of the source.
-ghost use Rattle.std.specs.Prelude.{◌≡◌, ◌↔◌, [], IsOk, IsSome, IsTrue, IfOk, IfSome, OnOk, OnErr, string_bytes};
+ghost use Rattle.std.specs.Prelude.{◌≡◌, ◌↔◌, [], IsOk, IsSome, IsTrue, IfOk, IfSome, OnOk, OnErr, codes, string_bytes};
 ghost use Rattle.std.specs.Option.{option_copied};
 ghost use Rattle.toml_edit_model.specs.Tree.{owned, span};
 ghost use Rattle.toml_edit_model.specs.OwnedForm.{RawFits, cut_out, owned_raw};
@@ -197,7 +197,7 @@ impl RawString {
         if let Inner::Span(start, end) = &self.inner {
             let text = &source[*start..*end];
             // Most sides are one space.
-            if text != " " {
+            if !is_space(text) {
                 return self.become_text(alloc, text);
             }
             self.inner = Inner::Space;
@@ -214,6 +214,16 @@ impl RawString {
         *self = RawString::from_longer(alloc, text)?;
         Ok(())
     }
+}
+
+/// Returns whether the text is one space.
+///
+/// By its bytes: one comparison of texts takes ten instructions, and most sides are one space.
+#[inline(always)]
+pub(crate) fn is_space(text: &str) -> bool
+    ensures { IsTrue result ↔ (text.now ≡ codes " ") }
+{
+    matches!(text.as_bytes(), [b' '])
 }
 
 /// Returns the bytes of the source from `start` up to `end`, or `None` where they are no text.

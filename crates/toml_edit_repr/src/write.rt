@@ -12,7 +12,7 @@ ghost use Rattle.toml_edit_repr.specs.Modes.{mode_of};
 ghost use Rattle.toml_edit_repr.specs.Views.{text_of};
 
 use crate::mode::Mode;
-use crate::raw_string::RawString;
+use crate::raw_string::{RawString, is_space};
 use crate::repr::{Formatted, Repr, ValueRepr};
 use memchr::memchr;
 use toml_edit_stream::Sink;
@@ -80,6 +80,20 @@ pub fn put_last_comma<S: Sink>(out: &mut S, comma: bool, is_empty: bool)
 fn put_text<S: Sink>(out: &mut S, mode: Mode, text: &str)
     ensures { WritesInCalls S.puts out.old (shown_text (mode_of mode) text.now) out.new }
 {
+    // Most sides are empty, or one space.
+    if is_space(text) {
+        out.put(" ")
+    } else if !text.is_empty() {
+        put_longer(out, mode, text)
+    }
+}
+
+/// Puts the text as [`put_text`] does, whatever its length. It is never inlined, so that the short
+/// texts are put in place.
+#[inline(never)]
+fn put_longer<S: Sink>(out: &mut S, mode: Mode, text: &str)
+    ensures { WritesInCalls S.puts out.old (shown_text (mode_of mode) text.now) out.new }
+{
     match mode {
         Mode::Plain => put_without_returns(out, text),
         Mode::Exact => out.put(text),
@@ -87,22 +101,7 @@ fn put_text<S: Sink>(out: &mut S, mode: Mode, text: &str)
 }
 
 /// Puts the text without its carriage returns (CR).
-#[inline(always)]
 fn put_without_returns<S: Sink>(out: &mut S, text: &str)
-    ensures { WritesInCalls S.puts out.old (without_returns text.now) out.new }
-{
-    // Most sides are empty, or one space.
-    if text == " " {
-        out.put(" ")
-    } else if !text.is_empty() {
-        put_longer(out, text)
-    }
-}
-
-/// Puts the text as [`put_without_returns`] does, whatever its length. It is never inlined, so
-/// that the short texts are put in place.
-#[inline(never)]
-fn put_longer<S: Sink>(out: &mut S, text: &str)
     ensures { WritesInCalls S.puts out.old (without_returns text.now) out.new }
 {
     if has_return(text) {

@@ -1,5 +1,5 @@
 //! The slots of a table: its keys with their items, in order.
-ghost use Rattle.std.specs.Prelude.{◌≡◌, ◌<◌, ◌↔◌, ℕ, IsTrue, [], ◌∷◌, ◌++◌, None, Some, IsSome, IsOk, length, IfOk, IfErr, IfSome, OnOk, OnErr, slice_get, option_and_then, option_map, take};
+ghost use Rattle.std.specs.Prelude.{◌≡◌, ◌<◌, ◌↔◌, ℕ, IsTrue, [], ◌∷◌, ◌++◌, None, Some, IsSome, IsOk, length, IfOk, IfErr, IfSome, OnOk, OnErr, slice_get, vec_len, vec_capacity, option_and_then, option_map, take};
 ghost use Rattle.std.specs.Option.{ForSome, option_copied, option_copied_mut};
 
 use crate::index::{Index, add_new_place, close_gap, find_place, index_those};
@@ -264,6 +264,8 @@ impl<T> Slots<T> {
     ///
     /// Fails only if memory runs out. The slots then stay as they were, and the error returns the
     /// new one.
+    // Inlined, since its error can hold a slot: not inlined, it clears and copies one at each call.
+    #[inline(always)]
     pub fn push(&mut self, slot: Slot<T>) -> Result<(), NoMemory<Slot<T>>>
         requires { place slot.key.name self.old ≡ None }
         ensures slots { OnOk result (self.new ≡ self.old ++ slot ∷ []) }
@@ -272,7 +274,7 @@ impl<T> Slots<T> {
     {
         // Not by `try_push`: its error is larger, and the slot would be copied field by field.
         let alloc = *self.entries.allocator();
-        if self.entries.reserve(1).is_err() {
+        if make_room(&mut self.entries).is_err() {
             return Err(NoMemory(slot));
         }
         let room = self.entries.capacity();
@@ -300,7 +302,7 @@ impl<T> Slots<T> {
         ensures err { OnErr result (self.new ≡ self.old) }
     {
         let alloc = *self.entries.allocator();
-        if self.entries.reserve(1).is_err() {
+        if make_room(&mut self.entries).is_err() {
             return Err(self.refused(slot));
         }
         let room = self.entries.capacity();
@@ -312,6 +314,61 @@ impl<T> Slots<T> {
             Ok(Some(at)) => Err(Refused::Present(at, slot)),
             Err(_) => Err(Refused::NoMemory(slot)),
         }
+    }
+
+    /// Adds a slot of the key and the item after the others if the key's name is new, and leaves the
+    /// default item in its place. Looks the name up only once.
+    ///
+    /// # Errors
+    ///
+    /// Fails with the place of the slot that has the name already, or with `None` if the name is
+    /// new and memory runs out. The slots and the item then stay as they were, and the key is
+    /// dropped.
+    #[doc(hidden)]
+    #[inline(always)]
+    pub fn add(&mut self, key: Key, item: &mut T) -> Result<(), Option<usize>>
+    where
+        T: Default,
+        ensures slots { OnOk result
+            (self.new ≡ self.old ++ record { key = key; item = item.old } ∷ []) }
+        ensures new { OnOk result (place key.name self.old ≡ None) }
+        ensures refused { IfErr result (λ there. there ≡ place key.name self.old) }
+        ensures err { OnErr result (self.new ≡ self.old) }
+        ensures left { OnErr result (item.new ≡ item.old) }
+    {
+        // The slot is made only once it is sure to stay, so that no result has to hold it.
+        let alloc = *self.entries.allocator();
+        if make_room(&mut self.entries).is_err() {
+            return Err(self.refused_key(key));
+        }
+        let room = self.entries.capacity();
+        match add_new_place(&mut self.index, alloc, &self.entries, room, key.get()) {
+            Ok(None) => {
+                let item = mem::take(item);
+                self.entries.push_reserved(Slot { key, item });
+                Ok(())
+            }
+            Ok(there) => {
+                drop(key);
+                Err(there)
+            }
+            Err(_) => {
+                drop(key);
+                Err(None)
+            }
+        }
+    }
+
+    /// Returns the place of the slot that has the key's name, or `None` if the name is new. Drops
+    /// the key.
+    #[cold]
+    #[inline(never)]
+    fn refused_key(&self, key: Key) -> Option<usize>
+        ensures { result ≡ place key.name self.now }
+    {
+        let there = self.find(key.get());
+        drop(key);
+        there
     }
 
     /// Returns the error for a slot for which there is no memory. Its name may be there already.
@@ -421,4 +478,19 @@ impl<T> Slots<T> {
         let spanned = &mut self.entries[at];
         spanned.key.despan(alloc, source)
     }
+}
+
+/// Makes room for one more slot. Fails only if memory runs out.
+///
+/// Where there is no slot yet, there is room for just one then: most tables of dotted keys and of
+/// headers hold one.
+fn make_room<T>(entries: &mut Vec<Slot<T>>) -> Mem<()>
+    ensures items { entries.new.items ≡ entries.old.items }
+    ensures len { vec_len entries.new ≡ vec_len entries.old }
+    ensures ok { OnOk result (vec_len entries.new < vec_capacity entries.new) }
+{
+    if entries.is_empty() {
+        return entries.reserve_exact(1);
+    }
+    entries.reserve(1)
 }

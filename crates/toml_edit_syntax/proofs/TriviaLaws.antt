@@ -59,6 +59,11 @@ unfolding trivia_at
 solid_trivia [] h = rw (scan_nil false) refl
 solid_trivia (c ∷ cs) h = rw (scan_stop false c cs (h (first cs))) refl
 
+-- and so it goes no further
+pub solid_scan : (t : Text) → ((next : ℕ) → turn false (first t) next ≡ None) → scan false t ≡ (0, false)
+solid_scan [] h = scan_nil false
+solid_scan (c ∷ cs) h = scan_stop false c cs (h (first cs))
+
 spaced_turn : (c next : ℕ) → c ≡ 32 → turn false c next ≡ Some false
 spaced_turn c next e = rw e refl
 

@@ -82,6 +82,7 @@ pub(crate) fn part(kind: EventKind, start: usize, end: usize) -> Event
 }
 
 /// Adds the events of a text that ends a text of `whole` bytes.
+#[inline(never)]
 fn parts<'a>(events: &mut Vec<Event>, whole: usize, s: &'a str) -> Result<&'a str, Stop>
     requires { length s.now ≤ whole }
     ensures { (n : ℕ) → length s.now < n

@@ -1,10 +1,11 @@
 //! Trivia (whitespace, newlines and comments), the sign `=`, and the end of a line.
-ghost use Rattle.std.specs.Prelude.{◌≡◌, false, ◌+◌, ◌<◌, ◌≤◌, if◌then◌else◌, length, option_map, IfOk, IfSome};
+ghost use Rattle.std.specs.Prelude.{◌≡◌, ℕ, None, true, false, ◌+◌, ◌<◌, ◌≤◌, if◌then◌else◌, length, option_map, IfOk, IfSome};
 ghost use Rattle.std.specs.List.{prefix_len};
 ghost use Rattle.std.specs.Str.{IsCharBoundary};
 ghost use Rattle.toml_edit_model.specs.Trivia.{is_visible};
 ghost use Rattle.toml_edit_syntax.specs.Gives.{Adds};
 ghost use Rattle.toml_edit_syntax.specs.Scanning as spec;
+ghost use Rattle.toml_edit_syntax.specs.Scanning.{turn};
 ghost use Rattle.toml_edit_syntax.specs.StatementReading as read;
 
 use crate::event::{Event, EventKind};
@@ -40,8 +41,29 @@ fn comment_len(inside: bool, bytes: &[u8]) -> usize
     }
 }
 
+/// Returns `true` if no trivia begins with the byte.
+pub(crate) fn is_solid(byte: u8) -> bool
+    ensures { (next : ℕ) → result ≡ true → turn false byte next ≡ None }
+{
+    byte > b' ' && byte != b'#'
+}
+
 /// Returns how many bytes of trivia are at the front, and whether they stop inside a comment.
+#[inline(always)]
 pub(crate) fn trivia(s: &str) -> (usize, bool)
+    ensures value { result ≡ spec.scan false s.now }
+    ensures within { result.0 ≤ length s.now }
+    ensures boundary { IsCharBoundary s.now result.0 }
+{
+    // Mostly there is none.
+    if is_solid(first(s)) {
+        return (0, false);
+    }
+    long_trivia(s)
+}
+
+/// Returns the same as [`trivia`], byte by byte.
+fn long_trivia(s: &str) -> (usize, bool)
     ensures value { result ≡ spec.scan false s.now }
     ensures within { result.0 ≤ length s.now }
     ensures boundary { IsCharBoundary s.now result.0 }
@@ -78,6 +100,7 @@ pub(crate) fn equals(s: &str) -> Option<((&str, &str), &str)>
 
 /// Returns the text after whitespace and a comment.
 #[tactic(auto, unfolding(crate::specs::Scanning::line_end_rest))]
+#[inline(always)]
 fn after_line_end(s: &str) -> &str
     ensures rest { result.now ≡ spec.line_end_rest s.now }
     ensures within { length result.now ≤ length s.now }
@@ -109,6 +132,7 @@ fn after_newline(s: &str) -> Option<&str>
 
 /// Adds what follows the value of a line, or the brackets of a header, which are at the front of
 /// `value`.
+#[inline(always)]
 pub(crate) fn end<'a>(
     events: &mut Vec<Event>,
     whole: usize,

@@ -68,6 +68,7 @@ impl Mistake {
 /// Returns what is wrong where `s` goes on: a character that is allowed nowhere, or else
 /// `otherwise`.
 #[doc(hidden)]
+#[inline(never)]
 pub fn at(s: &str, otherwise: Mistake) -> Mistake {
     match first(s) {
         _ if s.is_empty() => otherwise,
@@ -79,6 +80,7 @@ pub fn at(s: &str, otherwise: Mistake) -> Mistake {
 
 /// Returns what is wrong where `s` should go on with a key, and how many bytes are left there.
 #[doc(hidden)]
+#[inline(never)]
 pub fn no_key(s: &str) -> (Mistake, usize) {
     match first(s) {
         b'"' | b'\'' => no_string(s),
@@ -87,6 +89,7 @@ pub fn no_key(s: &str) -> (Mistake, usize) {
 }
 
 /// Returns what is wrong where `s` should go on with a scalar, and how many bytes are left there.
+#[inline(never)]
 pub(crate) fn no_scalar(s: &str) -> (Mistake, usize) {
     match first(s) {
         b'"' | b'\'' => no_string(s),
@@ -99,6 +102,7 @@ pub(crate) fn no_scalar(s: &str) -> (Mistake, usize) {
 /// Returns what is wrong where `rest` goes on after the value at the front of `value`, and how many
 /// bytes are left there. A date with slashes is marked as a whole, since its year is read as a
 /// number.
+#[inline(never)]
 pub(crate) fn behind_value(value: &str, rest: &str, otherwise: Mistake) -> (Mistake, usize) {
     if first(rest) == b'/' && is_dated(value) {
         return (Mistake::InvalidDateTime, value.len());

@@ -3,14 +3,13 @@ ghost use Rattle.std.specs.Prelude.{◌≡◌, ℕ, List, ◌+◌, ◌*◌, ◌-
 ghost use Rattle.toml_edit_model.specs.Syntax.{nesting_limit};
 ghost use Rattle.toml_edit_syntax.specs.Gives.{Adds, IsBefore, Leaves};
 ghost use Rattle.toml_edit_laws.specs.reading.Runs.{first};
-ghost use Rattle.toml_edit_syntax.specs.Scanning.{turn};
 ghost use Rattle.toml_edit_syntax.specs.ValueReading as spec;
 ghost use Rattle.toml_edit_syntax.specs.EventReading as read;
 ghost use Rattle.toml_edit_syntax.specs.declared.event.Event.{Event as EventView};
 
 use crate::event::{Event, EventKind};
 use crate::lexer::{Stop, part};
-use crate::line::{equals, trivia};
+use crate::line::{equals, is_solid, trivia};
 use crate::mistake::{Mistake, at, behind_value, no_key, no_scalar};
 use std::alloc::AllocError;
 use toml_edit_token::run::{Class, byte_at, first, skip, split_run};
@@ -77,13 +76,6 @@ impl Brackets {
     }
 }
 
-/// Returns `true` if no trivia begins with the byte.
-fn is_solid(byte: u8) -> bool
-    ensures { (next : ℕ) → result ≡ true → turn false byte next ≡ None }
-{
-    byte > b' ' && byte != b'#'
-}
-
 /// Splits off trivia. Fails where it stops inside a comment.
 #[tactic(auto, unfolding(crate::specs::ValueReading::trivia_at))]
 fn whole_trivia(s: &str) -> Result<(&str, &str), Stop>
@@ -135,6 +127,7 @@ fn close<'a>(
 }
 
 /// Adds the parts of the key at the front.
+#[inline(always)]
 pub(crate) fn path<'a>(events: &mut Vec<Event>, whole: usize, s: &'a str) -> Result<&'a str, Stop>
     requires { length s.now ≤ whole }
     ensures adds { Adds events.old.items events.new.items result
@@ -164,6 +157,7 @@ pub(crate) fn path<'a>(events: &mut Vec<Event>, whole: usize, s: &'a str) -> Res
 }
 
 /// Adds `=`, with whitespace around it.
+#[inline(always)]
 fn sides<'a>(events: &mut Vec<Event>, whole: usize, s: &'a str) -> Result<&'a str, Stop>
     requires { length s.now ≤ whole }
     ensures adds { Adds events.old.items events.new.items result (read.equals_read whole s.now) }
@@ -179,6 +173,7 @@ fn sides<'a>(events: &mut Vec<Event>, whole: usize, s: &'a str) -> Result<&'a st
 }
 
 /// Adds the parts of a pair up to its value, after its trivia.
+#[inline(always)]
 pub(crate) fn frame<'a>(
     events: &mut Vec<Event>,
     whole: usize,
@@ -226,6 +221,7 @@ fn head<'a>(
 }
 
 /// Adds the scalar at the front.
+#[inline(always)]
 fn scalar<'a>(events: &mut Vec<Event>, whole: usize, s: &'a str) -> Result<&'a str, Stop>
     requires { length s.now ≤ whole }
     ensures adds { Adds events.old.items events.new.items result (read.scalar_read whole s.now) }
@@ -259,6 +255,7 @@ fn closed<'a>(
 
 /// Adds the parts of the value at the front, inside so many brackets.
 #[cycle(value)]
+#[inline(always)]
 pub(crate) fn value<'a>(
     events: &mut Vec<Event>,
     whole: usize,
@@ -286,6 +283,7 @@ pub(crate) fn value<'a>(
 
 /// Adds the elements or the pairs after an opening bracket, and the closing bracket.
 #[cycle(value)]
+#[inline(never)]
 fn items<'a>(
     events: &mut Vec<Event>,
     whole: usize,

@@ -1,5 +1,7 @@
 //! Decoding the spellings of keys and scalars.
-ghost use Rattle.std.specs.Prelude.{◌≡◌, ℤ, false, IfOk, IfSome, IsSomeAnd, MatchOption, option_map, string_bytes};
+ghost use Rattle.std.specs.Prelude.{◌≡◌, ℤ, false, None, Some, IfOk, IfSome, IsSomeAnd, MatchOption, option_map, string_bytes, slice_index, codes, bytes_eq};
+ghost use Rattle.toml_edit_laws.specs.reading.Runs.{is_word_byte};
+ghost use Rattle.std.specs.Cow.{cow_str_bytes};
 ghost use Rattle.toml_edit_model.specs.Text.{Text};
 ghost use Rattle.toml_edit_model.specs.Scalars as scalars;
 ghost use Rattle.toml_edit_model.specs.Spelling.{SpellsKey, Spells, is_in_range};
@@ -15,6 +17,7 @@ use crate::run::{Class, first, is_bare, is_word, split_run};
 use crate::string::decode_string;
 use crate::token::opens_block;
 use std::alloc::{AllocError, Global};
+use std::borrow::CowStr;
 use std::str::FromStr;
 use toml_edit_datetime::{Datetime, FloatText};
 
@@ -36,6 +39,16 @@ pub fn decode_key(alloc: Global, text: &str) -> Result<Option<String>, AllocErro
         (λ o. (k : Text) → SpellsKey k text.now → IsSomeAnd o (λ s. k ≡ string_bytes s)) }
 {
     read_key(alloc, text)
+}
+
+/// Returns the name of the simple key that the text spells, or `None` if it spells none. The name of
+/// a bare key is the text itself, which is not copied. Fails if out of memory.
+pub fn decode_name<'a>(alloc: Global, text: &'a str) -> Result<Option<CowStr<'a>>, AllocError>
+    ensures found { IfOk result (λ o. IfSome o (λ n. SpellsKey (cow_str_bytes n) text.now)) }
+    ensures only { IfOk result
+        (λ o. (k : Text) → SpellsKey k text.now → IsSomeAnd o (λ n. k ≡ cow_str_bytes n)) }
+{
+    read_name(alloc, text)
 }
 
 /// Returns the scalar that the text spells, or an `AllocError` if out of memory.
@@ -79,6 +92,26 @@ fn read_key(alloc: Global, text: &str) -> Result<Option<String>, AllocError>
     }
 }
 
+/// Decodes a text that is a simple key, without a copy of a bare one.
+#[tactic(auto, unfolding(toml_edit_laws::specs::reading::Tokens::key_at))]
+fn read_name<'a>(alloc: Global, text: &'a str) -> Result<Option<CowStr<'a>>, AllocError>
+    ensures { IfOk result
+        (λ o. option_map cow_str_bytes o ≡ spec.whole (spec.key_at text.now)) }
+{
+    if !is_bare(first(text)) {
+        return match decode_string(alloc, text)? {
+            Some(name) => Ok(Some(CowStr::Owned(name))),
+            None => Ok(None),
+        };
+    }
+    let (name, rest) = split_run(text, Class::Bare);
+    if rest.is_empty() {
+        Ok(Some(CowStr::Borrowed(name)))
+    } else {
+        Ok(None)
+    }
+}
+
 /// Decodes a text that is a scalar.
 #[tactic(auto, unfolding(toml_edit_laws::specs::reading::ScalarReading::scalar_at))]
 fn read_scalar(alloc: Global, text: &str) -> Result<Option<Scalar>, AllocError>
@@ -89,6 +122,18 @@ fn read_scalar(alloc: Global, text: &str) -> Result<Option<Scalar>, AllocError>
     if is_word(first(text)) {
         return read_word(alloc, text);
     }
+    read_string(alloc, text)
+}
+
+/// Decodes a text that is a string.
+#[inline(never)]
+#[tactic(auto, unfolding(toml_edit_laws::specs::reading::ScalarReading::scalar_at))]
+fn read_string(alloc: Global, text: &str) -> Result<Option<Scalar>, AllocError>
+    requires { is_word_byte (slice_index text.now 0) ≡ false }
+    ensures { IfOk result
+        (λ o. option_map scalar_view o
+        ≡ spec.ranged text.now (spec.whole (scalar.scalar_at text.now))) }
+{
     let value = if opens_block(text) {
         read_block(alloc, text)?
     } else {
@@ -100,6 +145,23 @@ fn read_scalar(alloc: Global, text: &str) -> Result<Option<Scalar>, AllocError>
     }
 }
 
+/// Returns the result for this integer. A call writes it where the caller wants it, and spares the
+/// copies that a value made in place has.
+#[inline(never)]
+fn integer_read(integer: i64) -> Result<Option<Scalar>, AllocError>
+    ensures { IfOk result (λ o. option_map scalar_view o ≡ Some (scalars.integer integer)) }
+{
+    Ok(Some(Scalar::Integer(integer)))
+}
+
+/// Returns the result for this boolean, as [`integer_read`].
+#[inline(never)]
+fn boolean_read(boolean: bool) -> Result<Option<Scalar>, AllocError>
+    ensures { IfOk result (λ o. option_map scalar_view o ≡ Some (scalars.boolean boolean)) }
+{
+    Ok(Some(Scalar::Boolean(boolean)))
+}
+
 /// Decodes a word that is a boolean, a number, a date or a time, if it is in range.
 #[tactic(auto, unfolding(toml_edit_laws::specs::reading::ScalarReading::word_scalar))]
 fn read_word(alloc: Global, word: &str) -> Result<Option<Scalar>, AllocError>
@@ -107,12 +169,29 @@ fn read_word(alloc: Global, word: &str) -> Result<Option<Scalar>, AllocError>
         (λ o. option_map scalar_view o ≡ spec.ranged word.now (scalar.word_scalar word.now)) }
 {
     if word == "true" {
-        Ok(Some(Scalar::Boolean(true)))
-    } else if word == "false" {
-        Ok(Some(Scalar::Boolean(false)))
-    } else if let Some(integer) = number::decode_integer(word.as_bytes()) {
-        Ok(Some(Scalar::Integer(integer)))
-    } else if let Some(float) = FloatText::from_text(alloc, word)? {
+        return boolean_read(true);
+    }
+    if word == "false" {
+        return boolean_read(false);
+    }
+    match number::decode_integer(word.as_bytes()) {
+        Some(integer) => integer_read(integer),
+        None => read_other(alloc, word),
+    }
+}
+
+/// Decodes a word that is no boolean and no integer in range. It is apart from those because its
+/// locals are large.
+#[inline(never)]
+#[tactic(auto, unfolding(toml_edit_laws::specs::reading::ScalarReading::word_scalar))]
+fn read_other(alloc: Global, word: &str) -> Result<Option<Scalar>, AllocError>
+    requires not_true { bytes_eq word.now (codes "true") ≡ false }
+    requires not_false { bytes_eq word.now (codes "false") ≡ false }
+    requires no_integer { spec.fitting (spec.integer_of word.now) ≡ None }
+    ensures { IfOk result
+        (λ o. option_map scalar_view o ≡ spec.ranged word.now (scalar.word_scalar word.now)) }
+{
+    if let Some(float) = FloatText::from_text(alloc, word)? {
         Ok(Some(Scalar::Float(float)))
     } else {
         match read_datetime(word) {

@@ -43,6 +43,7 @@ fn is_decimal(digits: &[u8]) -> bool
 
 /// Returns `true` if a word spells an integer, however large.
 #[tactic(auto, unfolding(toml_edit_laws::specs::reading::Tokens::integer_of, toml_edit_laws::specs::reading::Tokens::prefixed_of))]
+#[inline(always)]
 pub(crate) fn is_integer(word: &[u8]) -> bool
     ensures { result ≡ is_some (spec.integer_of word.now) }
 {

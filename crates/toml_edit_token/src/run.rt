@@ -7,7 +7,7 @@ ghost use Rattle.toml_edit_model.specs.Spelling as spelling;
 ghost use Rattle.toml_edit_laws.specs.reading.Runs.{is_word_byte, split_while};
 ghost use Rattle.toml_edit_token.specs.Classes.{class_test};
 
-use crate::lanes::{LANES, lanes_run};
+use crate::lanes::{HALF_LANES, LANES, half_run, lanes_run};
 
 /// Returns the byte at `index`, or 0 past the end.
 pub(crate) fn byte_of(bytes: &[u8], index: usize) -> u8
@@ -83,7 +83,7 @@ pub fn is_visible(byte: u8) -> bool
 pub fn is_bare(byte: u8) -> bool
     ensures { result ≡ spelling.is_bare_byte byte }
 {
-    byte.is_ascii_alphanumeric() || byte == b'-' || byte == b'_'
+    is_in(Class::Bare, byte)
 }
 
 /// Returns `true` if the byte may be in a number, a boolean, a date or a time.
@@ -143,16 +143,56 @@ pub fn run_len(bytes: &[u8], class: Class) -> usize
         run = lanes_run(bytes, at, class);
         at += run;
     }
+    if run == LANES && bytes.len() - at >= HALF_LANES {
+        at += half_run(bytes, at, class);
+    }
     while at < bytes.len() && is_in(class, bytes[at]) {
         at += 1;
     }
     at
 }
 
+/// Returns how many spaces and tabs are at the front, where there are two or more.
+#[inline(never)]
+fn long_blank_len(bytes: &[u8]) -> usize
+    ensures len { result ≡ prefix_len trivia.is_blank bytes.now }
+    ensures within { result ≤ length bytes.now }
+{
+    run_len(bytes, Class::Blank)
+}
+
+/// Returns how many spaces and tabs are at the front, of which there is mostly none or one.
+#[inline(always)]
+fn blank_len(bytes: &[u8]) -> usize
+    ensures len { result ≡ prefix_len trivia.is_blank bytes.now }
+    ensures within { result ≤ length bytes.now }
+{
+    if !is_blank(byte_of(bytes, 0)) {
+        return 0;
+    }
+    if !is_blank(byte_of(bytes, 1)) {
+        return 1;
+    }
+    long_blank_len(bytes)
+}
+
+/// Returns the same as [`run_len`], and sooner where a class has short runs.
+#[inline(always)]
+fn front_len(bytes: &[u8], class: Class) -> usize
+    ensures len { result ≡ prefix_len (class_test class) bytes.now }
+    ensures within { result ≤ length bytes.now }
+{
+    match class {
+        Class::Blank => blank_len(bytes),
+        _ => run_len(bytes, class),
+    }
+}
+
 /// Splits off the bytes of the class at the front.
+#[inline(always)]
 pub fn split_run(s: &str, class: Class) -> (&str, &str)
     ensures parts { (result.0.now, result.1.now) ≡ split_while (class_test class) s.now }
     ensures lens { length result.0.now + length result.1.now ≡ length s.now }
 {
-    s.split_at(run_len(s.as_bytes(), class))
+    s.split_at(front_len(s.as_bytes(), class))
 }

@@ -1,5 +1,5 @@
 //! Strings of one line. (TOML, "String".)
-ghost use Rattle.std.specs.Prelude.{◌≡◌, ℕ, ◌<◌, ◌≤◌, length, string_bytes, option_map, IfOk, IfSome};
+ghost use Rattle.std.specs.Prelude.{◌≡◌, ℕ, Some, ◌<◌, ◌≤◌, length, string_bytes, option_map, IfOk, IfSome};
 ghost use Rattle.toml_edit_laws.specs.reading.Tokens as spec;
 
 use crate::run::{Class, first, skip, split_run};
@@ -127,6 +127,7 @@ pub(crate) fn after_string(s: &str) -> Option<&str>
 
 /// Returns what a basic string means that ends the text, and whose opening quote is just before
 /// `s`.
+#[inline(never)]
 fn decode_basic(alloc: Global, s: &str) -> Result<Option<String>, AllocError>
     ensures { IfOk result
         (λ o. (n : ℕ) → length s.now < n
@@ -157,6 +158,21 @@ fn decode_basic(alloc: Global, s: &str) -> Result<Option<String>, AllocError>
     }
 }
 
+/// Returns what a basic string means that has no escape and ends the text, and whose opening quote
+/// is just before `s`.
+#[inline(always)]
+fn plain_body(s: &str) -> Option<&str>
+    ensures { IfSome result
+        (λ v. (n : ℕ) → length s.now < n → Some v.now ≡ spec.whole (spec.basic_at n s.now)) }
+{
+    let (value, rest) = split_run(s, Class::Plain);
+    if rest.len() == 1 && first(rest) == b'"' {
+        Some(value)
+    } else {
+        None
+    }
+}
+
 /// Returns what a text means that is a basic or a literal string.
 #[tactic(auto, unfolding(toml_edit_laws::specs::reading::Tokens::string_at))]
 pub(crate) fn decode_string(alloc: Global, s: &str) -> Result<Option<String>, AllocError>
@@ -167,7 +183,10 @@ pub(crate) fn decode_string(alloc: Global, s: &str) -> Result<Option<String>, Al
             Some((value, rest)) if rest.is_empty() => Ok(Some(String::from_str(alloc, value)?)),
             _ => Ok(None),
         },
-        b'"' => decode_basic(alloc, skip(s, 1)),
+        b'"' => match plain_body(skip(s, 1)) {
+            Some(value) => Ok(Some(String::from_str(alloc, value)?)),
+            None => decode_basic(alloc, skip(s, 1)),
+        },
         _ => Ok(None),
     }
 }

@@ -1,5 +1,5 @@
 -- What the calls do that insert a value into an array together with its line, and remove it so
--- (TOML 1.1.0, "Array" and "Comment"). The gap at a place is the text before the slot there, behind
+-- (TOML 1.1.0, "Array" and "Comment"). The gap at a place is the text before the slot there, after
 -- the comma or the bracket; the last gap is before the closing bracket. A gap that has a newline
 -- begins with the rest of the line before it, where that line's comment is.
 use Rattle.std.specs.Prelude.{ℕ, suc, ◌-◌, ◌==◌, nat_lt, Bool, not, ◌&&◌, ◌||◌, if◌then◌else◌, List, [], ◌∷◌, ◌++◌, codes, length, Option, None, Some, is_some, option_and_then}
@@ -65,7 +65,7 @@ gap i f xs =
 
 -- ---- insertion
 
--- the comment after a value, which goes behind its comma
+-- the comment after a value, which goes after its comma
 abbrev pub own_comment : Decor → Text
 own_comment d = if is_some (comment_after d) then first_line (side_text d.suffix) else []
 
@@ -99,7 +99,7 @@ with_prefix r n = with_decor (record (node_decor n) { prefix = Some r }) n
 abbrev pub without_suffix : Node → Node
 without_suffix n = with_decor (record (node_decor n) { suffix = Some (owned []) }) n
 
--- the value behind a gap, with a comma to follow
+-- the value after a gap, with a comma to follow
 abbrev pub placed : Raw → Node → Node
 placed r n = with_decor (record { prefix = Some r; suffix = None }) n
 
@@ -133,7 +133,7 @@ left_of before after is_last =
     else before
 
 -- The decor that the value takes with it, if it is alone on its line: the lines before it, and what
--- is behind it on its line, on both sides of the comma.
+-- is after it on its line, on both sides of the comma.
 abbrev pub decor_taken : Text → Text → Text → Option Decor
 decor_taken before suffix after =
     if is_broken before && is_broken after then
@@ -172,7 +172,7 @@ fields_removed i f xs = with_last_gap (is_last i xs) (owned (gap_left i f xs)) f
 
 -- ---- comments
 
--- what is behind the value at a place and its comma
+-- what is after the value at a place and its comma
 abbrev pub behind : ℕ → ArrayFields → List Node → Text
 behind i f xs =
     if not (is_last i xs) then side_text (prefix_at (suc i) xs)

@@ -66,7 +66,9 @@ pub struct Array {
 }
 
 impl Drop for Array {
+    // The drop of an item stays small, so that it is inlined where slots and elements are dropped.
     #[cycle(tree_drop)]
+    #[inline(never)]
     fn drop(self) {
         let Array {
             values,

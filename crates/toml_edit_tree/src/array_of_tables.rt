@@ -55,7 +55,9 @@ pub struct ArrayOfTables {
 }
 
 impl Drop for ArrayOfTables {
+    // The drop of an item stays small, so that it is inlined where slots and elements are dropped.
     #[cycle(tree_drop)]
+    #[inline(never)]
     fn drop(self) {
         let ArrayOfTables { values, span: _ } = self;
         drop(values);

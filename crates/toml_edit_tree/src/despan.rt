@@ -19,7 +19,9 @@ use toml_edit_repr::Mem;
 use toml_edit_slots::Slots;
 
 /// Replaces the spans in an item, and in all that it holds.
+// Most items are values without parts: the loops below handle those with no further call.
 #[cycle(despan)]
+#[inline(always)]
 pub(crate) fn despan_item(item: &mut Item, alloc: Global, source: &str) -> Mem<()>
     requires fits { NodeFits source.now (item_view item.old) }
     requires spelled { ∥ IsWellMade (owned_node source.now (item_view item.old)) ∥₁ }
@@ -35,6 +37,7 @@ pub(crate) fn despan_item(item: &mut Item, alloc: Global, source: &str) -> Mem<(
 
 /// Replaces the spans of a value: of its spelling, its decor and what it holds.
 #[cycle(despan)]
+#[inline(always)]
 pub(crate) fn despan_value(value: &mut Value, alloc: Global, source: &str) -> Mem<()>
     requires fits { NodeFits source.now (value_view value.old) }
     requires spelled { ∥ IsWellMade (owned_node source.now (value_view value.old)) ∥₁ }

@@ -1,4 +1,7 @@
 //! Putting the lines of tables and the texts of values into sinks.
+//!
+//! The functions between a loop and the text of one line have one or two callers each. They are
+//! inlined, since a call would cost more than most of them do.
 #![tactic(auto, using(toml_edit_stream::proofs::Puts::put_steps))]
 
 ghost use Rattle.std.specs.Prelude.{◌≡◌, true, [], ◌∷◌, ◌++◌};
@@ -74,6 +77,7 @@ fn put_lines<'p, 'a, S: Sink>(
 ///
 /// The lines of any other table are put after its header.
 #[cycle(lines)]
+#[inline(always)]
 fn put_item_lines<'p, 'a, S: Sink>(
     out: &mut S,
     mode: Mode,
@@ -138,6 +142,7 @@ fn put_inside_item<'p, 'a, S: Sink>(
 
 /// Puts the lines of a value: those in a dotted inline table, or the one of any other value.
 #[cycle(inside_lines)]
+#[inline(always)]
 fn put_value_lines<'p, 'a, S: Sink>(
     out: &mut S,
     mode: Mode,
@@ -237,6 +242,7 @@ fn value_has_lines(value: &Value) -> bool
 /// Puts the line of a value, up to its line feed (LF).
 ///
 /// In exact mode, a carriage return (CR) before it comes from the suffix of the value.
+#[inline(always)]
 fn put_line<S: Sink>(out: &mut S, mode: Mode, path: &Path<'_, '_>, key: &Key, value: &Value)
     ensures { WritesInCalls S.puts out.old
         (pair_start (mode_of mode) [] (keys_on path.now) key.now (value_view value.now)
@@ -253,6 +259,7 @@ fn put_line<S: Sink>(out: &mut S, mode: Mode, path: &Path<'_, '_>, key: &Key, va
 
 /// Puts the keys of a line or a pair, inside the leaf decor of the last one, and `=`. An unset
 /// prefix is put as `default`, and an unset suffix as one space.
+#[inline(always)]
 fn put_key_part<S: Sink>(out: &mut S, mode: Mode, default: &str, path: &Path<'_, '_>, key: &Key)
     ensures { WritesInCalls S.puts out.old
         (key_part (mode_of mode) default.now (keys_on path.now) key.now) out.new }
@@ -284,6 +291,7 @@ fn put_dotted_keys<S: Sink>(out: &mut S, mode: Mode, path: &Path<'_, '_>)
 }
 
 /// Puts the prefix of the dotted decor of the key, unless `path` has no key before it.
+#[inline(always)]
 fn put_before_key<S: Sink>(out: &mut S, mode: Mode, path: &Path<'_, '_>, key: &Key)
     ensures { WritesInCalls S.puts out.old
         (before_key (mode_of mode) (keys_on path.now) key.now) out.new }
@@ -309,6 +317,7 @@ pub fn put_path<S: Sink>(out: &mut S, mode: Mode, path: &Path<'_, '_>, key: &Key
 }
 
 /// Puts the spelling of the key, or the default one if it has none that is a text.
+#[inline(always)]
 fn put_key_text<S: Sink>(out: &mut S, key: &Key)
     ensures { WritesInCalls S.puts out.old (key_text key.now) out.new }
 {
@@ -317,6 +326,7 @@ fn put_key_text<S: Sink>(out: &mut S, key: &Key)
 
 /// Puts the value without its decor.
 #[cycle(print)]
+#[inline(always)]
 fn put_value_text<S: Sink>(out: &mut S, mode: Mode, value: &Value)
     ensures { WritesInCalls S.puts out.old
         (node_text (mode_of mode) (value_view value.now)) out.new }
@@ -347,6 +357,7 @@ fn put_array_text<S: Sink>(out: &mut S, mode: Mode, array: &Array)
 /// Puts the values in order, with commas between them, and one after the last if `comma` is set.
 /// Other items are left out.
 #[cycle(print)]
+#[inline(always)]
 fn put_items<S: Sink>(out: &mut S, mode: Mode, items: &Vec<Item>, comma: bool)
     ensures { WritesInCalls S.puts out.old
         (items_text (mode_of mode) comma true (items_view items.now.items)) out.new }
@@ -363,6 +374,7 @@ fn put_items<S: Sink>(out: &mut S, mode: Mode, items: &Vec<Item>, comma: bool)
 
 /// Puts a value of an array with its decor, after a comma unless it is the first.
 #[cycle(print)]
+#[inline(always)]
 fn put_element<S: Sink>(out: &mut S, mode: Mode, value: &Value, is_first: bool)
     ensures { WritesInCalls S.puts out.old
         (element_text (mode_of mode) is_first (value_view value.now)) out.new }
@@ -433,6 +445,7 @@ fn put_pairs<'p, 'a, S: Sink>(
 
 /// Puts the pairs of one slot, as [`put_pairs`] does: those of a value, or those in any table.
 #[cycle(print)]
+#[inline(always)]
 fn put_item_pairs<'p, 'a, S: Sink>(
     out: &mut S,
     mode: Mode,
@@ -459,6 +472,7 @@ fn put_item_pairs<'p, 'a, S: Sink>(
 /// Puts the pairs of a value, as [`put_pairs`] does: those in a dotted inline table, or the one
 /// of any other value.
 #[cycle(print)]
+#[inline(always)]
 fn put_value_pairs<'p, 'a, S: Sink>(
     out: &mut S,
     mode: Mode,
@@ -493,6 +507,7 @@ fn put_value_pairs<'p, 'a, S: Sink>(
 
 /// Puts a pair up to the end of its value, and before it the end of the pair before.
 #[cycle(print)]
+#[inline(always)]
 fn put_pair<S: Sink>(
     out: &mut S,
     mode: Mode,

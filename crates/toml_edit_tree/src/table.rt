@@ -73,7 +73,9 @@ pub struct Table {
 }
 
 impl Drop for Table {
+    // The drop of an item stays small, so that it is inlined where slots and elements are dropped.
     #[cycle(tree_drop)]
+    #[inline(never)]
     fn drop(self) {
         let Table {
             slots,
@@ -416,13 +418,13 @@ impl Table {
     /// # Examples
     ///
     /// ```rust,ignore
-    /// let name = match table.key_value_at(0) {
-    ///     Some((key, _item)) => String::from_str(alloc, key.get())?,
-    ///     None => return Ok(None),
-    /// };
+    /// match table.key_value_at(at) {
+    ///     Some((key, _item)) => name < key.get(),
+    ///     None => false,
+    /// }
     /// ```
     ///
-    /// From `take_first` of the guide, docs/GUIDE.md.
+    /// From `add_sorted` of the guide, docs/GUIDE.md.
     pub fn key_value_at(&self, at: usize) -> Option<(&Key, &Item)>
         ensures { option_map slot_read result ≡ slice_get (slots_of self.now) at }
     {
@@ -576,12 +578,12 @@ impl Table {
     /// # Examples
     ///
     /// ```rust,ignore
-    /// if let Some((key, item)) = take_first(alloc, table)? {
-    ///     drop(table.insert_formatted(&key, item).map_err(no_memory)?);
-    /// }
+    /// let item = Item::from(table);
+    /// drop(to.insert_formatted(key, item).map_err(no_memory)?);
+    /// drop(from.remove(name));
     /// ```
     ///
-    /// From `move_first` of the guide, docs/GUIDE.md.
+    /// From `move_table` of the guide, docs/GUIDE.md.
     pub fn insert_formatted(
         &mut self,
         key: &Key,
@@ -621,10 +623,11 @@ impl Table {
     /// # Examples
     ///
     /// ```rust,ignore
-    /// Ok(table.remove_entry(name.as_str()))
+    /// match root.remove_entry(name) {
+    ///     Some((key, item)) => {
     /// ```
     ///
-    /// From `take_first` of the guide, docs/GUIDE.md.
+    /// From `exchange` of the guide, docs/GUIDE.md.
     pub fn remove_entry(&mut self, key: &str) -> Option<(Key, Item)>
         ensures slot { option_map slot_taken result ≡ lookup_slot key.now (slots_of self.old) }
         ensures slots { slots_of self.new ≡ without key.now (slots_of self.old) }

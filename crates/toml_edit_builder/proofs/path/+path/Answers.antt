@@ -71,7 +71,7 @@ pub add_below-returns-clause-added : goal.add_below-returns-clause-added
 add_below-returns-clause-added t c =
     λ mode s ms head at.
     below-put mode c.args.adding.now.kind (item_view c.args.item.now) ms c.args.key c.args.span (slots_view c.args.slots.now) _ (slots_view c.add_path.new.slots) _ c.is_line.result
-    (item_view c.passed_item.result) (ap slots_view c.new-inner.ensures) (c.in_ok-add_path.ensures.added mode s ms head at) c.is_line.ensures c.passed_item.ensures
+    (item_view c.passed_item-passed.result) (ap slots_view c.new-inner.ensures) (c.in_ok-add_path.ensures.added mode s ms head at) c.is_line.ensures c.passed_item-passed.ensures
     c.in_ok-push_item.ensures
 
 -- ---- below a key that is there

@@ -14,13 +14,13 @@ use Rattle.toml_edit_builder.proofs.PathLaws.{mapped}
 use Rattle.toml_edit_builder.proofs.StatementLaws.{header-is-opened, header-item, header-path, header-stopped, key-ends, key-stands, put-back}
 use Rattle.toml_edit_builder.proofs.statement.open_block.Goals as goal
 
-pub returns-in_err-building-clause-opens : goal.returns-in_err-building-clause-opens
-returns-in_err-building-clause-opens c =
+pub returns-in_err-read_names-clause-opens : goal.returns-in_err-read_names-clause-opens
+returns-in_err-read_names-clause-opens c =
     λ mode b h end is stands held at.
     let q = err_from_is_err_and c.from_residual.result c.from_residual.ensures.1 in
     let t = c.args.source.now in
-    rw (q.1, q.2) (mapped c.in_err-building.field-0.0 (λ r. ⊥) _ (λ r none. absurd none)
-    (c.in_err-building.ensures.names _ h.path _ (key-ends mode t b h end is stands) (key-stands mode t b h end is stands) at.path))
+    rw (q.1, q.2) (mapped c.in_err-read_names.field-0.0 (λ r. ⊥) _ (λ r none. absurd none)
+    (c.in_err-read_names.ensures.names _ h.path _ (key-ends mode t b h end is stands) (key-stands mode t b h end is stands) at.path))
 
 pub returns-in_err-add_path-clause-opens : goal.returns-in_err-add_path-clause-opens
 returns-in_err-add_path-clause-opens c =
@@ -58,7 +58,7 @@ returns-clause-opens c =
     (put-back mode b old held (slots_view c.swap_block.new.others) (slots_view c.swap_block.new.slots) back) _ empty out is
     (c.in_ok-add_path.ensures.added mode s (mentions_at b (header h end)) (subst (λ (k : Kind). IsItemFor mode k s n) (sym c.header_kind.ensures) head)
     (header-path mode t b h end is stands c.args.header at))
-    (c.in_ok-building.ensures.names _ h.path _ (key-ends mode t b h end is stands) (key-stands mode t b h end is stands) at.path)
+    (c.in_ok-read_names.ensures.names _ h.path _ (key-ends mode t b h end is stands) (key-stands mode t b h end is stands) at.path)
     refl
     (subst (λ (ks : List Text). Swaps (slots_along ks out) empty out (put_along ks empty out) (slots_view c.swap_block-2.new.others) (slots_view c.swap_block-2.new.slots))
     (ap names c.as_slice-2.ensures.value) c.swap_block-2.ensures)

@@ -118,10 +118,10 @@ pub add_below-returns-clause-fits : goal.add_below-returns-clause-fits
 add_below-returns-clause-fits t c =
     λ key item slots.
     let source = c.args.source.now in
-    fits-below source c.args.slots.now c.args.key (Some (c.args.span.start, c.args.span.end)) (slots_view c.add_entry.new.slots) (item_view c.path_item.result)
+    fits-below source c.args.slots.now c.args.key (Some (c.args.span.start, c.args.span.end)) (slots_view c.add_entry.new.slots) (item_view c.path_item-passed.result)
     (slots_view c.push_item.new.slots) key slots
     (c.in_ok-add_entry.ensures.fits item (subst (λ (es : List (repr.Slot Item)). SlotsFit source (slots_view es)) (sym c.new-inner.ensures) tt))
-    c.path_item.ensures c.in_ok-push_item.ensures
+    c.path_item-passed.ensures c.in_ok-push_item.ensures
 
 -- ---- below a key that is there
 

@@ -1,7 +1,7 @@
 use Rattle.std.proofs.Common.{◌≡◌, ◌+◌, ◌-◌, ◌≤◌, false, drop, length}
 use Rattle.std.specs.Str.{IsCharBoundary}
 use Rattle.toml_edit_syntax.specs.Scanning.{scan}
-use Rattle.toml_edit_syntax.proofs.line.trivia.Given as goal
+use Rattle.toml_edit_syntax.proofs.line.long_trivia.Given as goal
 
 abbrev pub invariant-bytes : goal.invariant-bytes
 invariant-bytes l = record {

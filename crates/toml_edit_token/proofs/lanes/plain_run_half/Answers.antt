@@ -1,0 +1,12 @@
+use Rattle.std.proofs.Common.{refl, arith}
+use Rattle.std.proofs.lemmas.Simd.{zip2_splat, length-chunk}
+use lib.Lanes.{chunk}
+use Rattle.toml_edit_model.specs.Spelling.{is_plain}
+use Rattle.toml_edit_token.proofs.LaneLaws.{joined, passes_in}
+use Rattle.toml_edit_token.proofs.lanes.plain_run_half.Goals as goal
+
+pub returns : goal.returns
+returns c =
+    let v = chunk c.args.at 8 c.args.bytes.now in
+    let long = length-chunk c.args.at 8 c.args.bytes.now c.requires in
+    passes_in is_plain c.args.bytes.now c.args.at 8 _ _ c.requires (omega arith) c.type_inv.bytes c.first_set.ensures _ (joined _ _ _ v (joined _ _ _ v (joined _ _ _ v (joined _ _ _ v (zip2_splat _ v 8 32 long) (zip2_splat _ v 8 9 long)) (zip2_splat _ v 8 127 long)) (zip2_splat _ v 8 34 long)) (zip2_splat _ v 8 92 long)) refl
