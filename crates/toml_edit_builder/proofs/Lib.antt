@@ -2,10 +2,12 @@ pub mod PathLaws
 pub mod SlotLaws
 pub mod ItemLaws
 pub mod SwapLaws
+pub mod ShallowLaws
 pub mod LoopLaws
 pub mod StatementLaws
 pub mod OpenEndLaws
 pub mod WholeLaws
+pub mod BatchLaws
 pub mod NamesLaws
 pub mod OpeningLaws
 pub mod VersionLaws

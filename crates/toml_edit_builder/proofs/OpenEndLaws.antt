@@ -1,16 +1,14 @@
 -- The newline of the last statement of a text, by the last two of the text's events.
-use Rattle.std.proofs.Common.{◌≡◌, ℕ, suc, ◌+◌, ◌-◌, ◌<◌, ◌≤◌, Bool, false, ◌==◌, nat_eq, List, [], ◌∷◌, ◌++◌, length, map, get_or, codes, inl, inr, refl, sym, ap, ap₂, subst₂, ◌∙◌, append_assoc, append-nil, arith}
-use Rattle.std.proofs.lemmas.Bool.{cases_Bool, eq-eqb, ne_eqb}
+use Rattle.std.proofs.Common.{◌≡◌, ℕ, ◌+◌, ◌-◌, ◌<◌, ◌≤◌, Bool, false, nat_eq, List, [], ◌∷◌, ◌++◌, length, map, get_or, codes, refl, sym, ap, ap₂, subst₂, ◌∙◌, append_assoc, append-nil, arith}
+use Rattle.std.proofs.lemmas.Bool.{eq-eqb, ne_eqb}
 use Rattle.std.proofs.lemmas.List.{length-append, get_or-append-add}
 use Rattle.toml_edit_model.specs.Text.{Text, joined, is_empty}
-use Rattle.toml_edit_model.specs.Syntax.{Statement, key_line, header, Document, path_text, value_text, frame_text, brackets_text, opening_brackets, closing_brackets, statement_text, newline_after, mark_text, nesting_limit}
+use Rattle.toml_edit_model.specs.Syntax.{Statement, key_line, header, path_text, value_text, frame_text, brackets_text, opening_brackets, closing_brackets, statement_text, newline_after}
 use Rattle.toml_edit_model.specs.Normal.{has_open_end}
-use Rattle.toml_edit_laws.proofs.common.Tests.{or-right}
 use Rattle.toml_edit_syntax.specs.declared.event.Event.{Event}
-use Rattle.toml_edit_syntax.specs.declared.event.EventKind.TheVariants.{Leading, BeforeKey, AfterKey, HeaderClose, LineEnd, TooDeep}
-use Rattle.toml_edit_syntax.specs.Events.{statement_events, events_from, events_of, header_open}
-use Rattle.toml_edit_syntax.specs.ValueEvents.{event, path_events, frame_events, value_at_byte, value_events, shortened, are_deep, is_too_deep, opens, closes}
-use Rattle.toml_edit_builder.specs.StatementRead.{final_event}
+use Rattle.toml_edit_syntax.specs.declared.event.EventKind.TheVariants.{Leading, BeforeKey, AfterKey, HeaderClose, LineEnd}
+use Rattle.toml_edit_syntax.specs.Events.{statement_events, events_from, header_open}
+use Rattle.toml_edit_syntax.specs.ValueEvents.{event, path_events, frame_events, value_at_byte, value_events}
 
 -- These events have a last one, which ends at this byte exactly where the end is open.
 record End (es : List Event) (byte : ℕ) (is_open : Bool) : Type 0 where
@@ -95,15 +93,8 @@ last-two before es a b other parts =
       ap₂ (λ (x : List Event) (k : ℕ). get_or x k other) parts second ∙ get_or-append-add before two 1 other,
     )
 
--- where the text after the last statement begins
-final-place : (d : Document) → (final_event d).span.start ≡ length (mark_text d.has_mark) + length (joined (map statement_text d.statements))
-final-place d =
-    let body : Text = joined (map statement_text d.statements) in
-    let whole = length-append (mark_text d.has_mark) (body ++ d.final) in
-    let both = length-append body d.final in
-    omega (arith, whole, both)
-
-open-by : (start : ℕ) (ss : List Statement) (es : List Event) (final other : Event) → es ≡ events_from start ss ++ (final ∷ [])
+-- what two events tell
+pub open-by : (start : ℕ) (ss : List Statement) (es : List Event) (final other : Event) → es ≡ events_from start ss ++ (final ∷ [])
     → final.span.start ≡ start + length (joined (map statement_text ss)) → 2 ≤ length es
     → nat_eq (get_or es (length es - 2) other).span.end (get_or es (length es - 1) other).span.start ≡ has_open_end ss
 open-by start [] es final other is place some = let one = ap (λ (x : List Event). length x) is in absurd (omega (arith, one, some))
@@ -113,12 +104,8 @@ open-by start (s ∷ rest) es final other is place some =
     let two = last-two end.before es end.last final other parts in
     ap₂ (λ (x y : Event). nat_eq x.span.end y.span.start) two.0 two.1 ∙ ap (nat_eq end.last.span.end) place ∙ end.told
 
--- what two events tell
-pub open-is : (d : Document) (es : List Event) (other : Event) → es ≡ events_of d → 2 ≤ length es
-    → nat_eq (get_or es (length es - 2) other).span.end (get_or es (length es - 1) other).span.start ≡ has_open_end d.statements
-open-is d es other is some = open-by (length (mark_text d.has_mark)) d.statements es (final_event d) other is (final-place d) some
-
-none-by : (start : ℕ) (ss : List Statement) (es : List Event) (final : Event) → es ≡ events_from start ss ++ (final ∷ []) → length es < 2 → false ≡ has_open_end ss
+-- one alone is of a text without statements
+pub none-by : (start : ℕ) (ss : List Statement) (es : List Event) (final : Event) → es ≡ events_from start ss ++ (final ∷ []) → length es < 2 → false ≡ has_open_end ss
 none-by start [] es final is few = refl
 none-by start (s ∷ rest) es final is few =
     let end = end-of start s rest in
@@ -126,30 +113,15 @@ none-by start (s ∷ rest) es final is few =
     let size = ap (λ (x : List Event). length x) parts ∙ length-append end.before (end.last ∷ final ∷ []) in
     absurd (omega (arith, few, size))
 
--- one alone is of a text without statements
-pub none-is : (d : Document) (es : List Event) → es ≡ events_of d → length es < 2 → false ≡ has_open_end d.statements
-none-is d es is few = none-by (length (mark_text d.has_mark)) d.statements es (final_event d) is few
+-- ---- the statements of the last batch
 
--- ---- events that are not cut short
+open-behind : (earlier : List Statement) (s : Statement) (here : List Statement) → has_open_end (s ∷ here) ≡ has_open_end (earlier ++ (s ∷ here))
+open-behind [] s here = refl
+open-behind (a ∷ []) s here = refl
+open-behind (a ∷ b ∷ earlier) s here = open-behind (b ∷ earlier) s here
 
-pub uncut : (level : ℕ) (es : List Event) → are_deep (shortened level es) ≡ false → shortened level es ≡ es
-uncut level [] whole = refl
-uncut level (e ∷ es) whole =
-    elim (cases_Bool (opens e.kind)) [
-      | inl open_here ↦
-          elim (cases_Bool (level == nesting_limit)) [
-            | inl full ↦ absurd (let h : are_deep (record e { kind = TooDeep } ∷ []) ≡ false = rw (open_here, full) at whole in cc)
-            | inr room ↦
-                let h : are_deep (e ∷ shortened (suc level) es) ≡ false = rw (open_here, room) at whole in
-                rw (open_here, room) (ap (λ (x : List Event). e ∷ x) (uncut (suc level) es (or-right (is_too_deep e.kind) _ h)))
-          ]
-      | inr not_open ↦
-          elim (cases_Bool (closes e.kind)) [
-            | inl closed ↦
-                let h : are_deep (e ∷ shortened (level - 1) es) ≡ false = rw (not_open, closed) at whole in
-                rw (not_open, closed) (ap (λ (x : List Event). e ∷ x) (uncut (level - 1) es (or-right (is_too_deep e.kind) _ h)))
-            | inr inside ↦
-                let h : are_deep (e ∷ shortened level es) ≡ false = rw (not_open, inside) at whole in
-                rw (not_open, inside) (ap (λ (x : List Event). e ∷ x) (uncut level es (or-right (is_too_deep e.kind) _ h)))
-          ]
-    ]
+-- the last statements tell of all
+pub open-later : (earlier here : List Statement) → (here ≡ [] → earlier ≡ []) → has_open_end here ≡ has_open_end (earlier ++ here)
+open-later [] here some = refl
+open-later (a ∷ earlier) [] some = absurd (let e = some refl in cc)
+open-later (a ∷ earlier) (s ∷ here) some = open-behind (a ∷ earlier) s here

@@ -1,5 +1,5 @@
 -- What a statement does to the whole, by what it does to what is held.
-use Rattle.std.proofs.Common.{◌≡◌, ℕ, ◌+◌, ◌-◌, ◌≤◌, Bool, true, false, refl, sym, ap, subst, ◌∙◌, List, [], ◌∷◌, ◌++◌, length, arith, Option, Some, None, Vec}
+use Rattle.std.proofs.Common.{◌≡◌, ℕ, ◌+◌, ◌-◌, ◌<◌, ◌≤◌, length-append, Bool, true, false, refl, sym, ap, subst, ◌∙◌, List, [], ◌∷◌, ◌++◌, length, arith, Option, Some, None, Vec}
 use Rattle.std.specs.declared.borrow.CowStr.{CowStr}
 use Rattle.std.specs.declared.alloc.Global.{Global}
 use Rattle.std.specs.Prelude.{map, option_map, option_and_then, Contains}
@@ -7,7 +7,7 @@ use Rattle.std.proofs.lemmas.List.Elements.{Contains-append_left, Contains-appen
 use Rattle.toml_edit_model.specs.Faults.{Fault, own_faults}
 use Rattle.toml_edit_model.specs.Mode.{Mode}
 use Rattle.toml_edit_model.specs.Text.{Text}
-use Rattle.toml_edit_model.specs.Syntax.{Segment, Frame, Value, Header, Statement, key_line, header, IsPath, brackets_text, frame_text, opening_brackets, path_text, statement_text, value_text}
+use Rattle.toml_edit_model.specs.Syntax.{Segment, Frame, Value, Header, Statement, key_line, header, IsPath, brackets_text, closing_brackets, frame_text, opening_brackets, path_text, statement_text, value_text}
 use Rattle.toml_edit_model.specs.Paths.{Mention, Source, path_start}
 use Rattle.toml_edit_model.specs.Tree.{Node, nothing, Slots}
 use Rattle.toml_edit_model.specs.TreeOf.{spanned_in, frame_leaf, header_leaf, brackets_from, brackets_to}
@@ -111,6 +111,7 @@ module _ (mode : Mode) (b : Builder) (old : Building) (held : IsHeld b old) wher
           record {
             block = held.block ∙ sym (ap (λ (v : Vec (CowStr Global) Global). names v.items) block);
             headers = held.headers ∙ sym headers;
+            counted = let low = held.counted in omega (arith, low);
             left = held.left;
             there = ap (slots_along b.block) root ∙ held.there;
             slots = ap (λ us. slots_by_place (put_along b.block (slots_view new.current) us)) (sym root);
@@ -128,19 +129,43 @@ module _ (mode : Mode) (b : Builder) (old : Building) (held : IsHeld b old) wher
       → new ≡ whole_of b old
   put-back out new s = whole-again b.block (slots_view old.current) (slots_view old.root) held.left out new held.there s
 
+-- a header takes up bytes
+pub some-text : (h : Header) (end : Text) → 0 < length (statement_text (header h end))
+some-text h end =
+    let whole = length-append h.leading (brackets_text h ++ (h.trailing ++ end)) in
+    let inside = length-append (brackets_text h) (h.trailing ++ end) in
+    let opened = length-append (opening_brackets h.is_array) (h.opening ++ (path_text h.path ++ (h.closing ++ closing_brackets h.is_array))) in
+    let some = opens-some h.is_array in
+    omega (arith, whole, inside, opened, some)
+  where
+    opens-some : (is_array : Bool) → 0 < length (opening_brackets is_array)
+    opens-some true = omega arith
+    opens-some false = omega arith
+
+-- so fewer headers than bytes are before it
+pub fewer-headers : (t : Text) (b : Builder) (h : Header) (end : Text) (old : Building) → IsHeld b old → Stands t b.start (statement_text (header h end)) → old.headers < length t
+fewer-headers t b h end old held stands =
+    let whole = ap (λ (x : Text). length x) stands.text ∙ length-append stands.before (statement_text (header h end) ++ stands.after) in
+    let both = length-append (statement_text (header h end)) stands.after in
+    let some = some-text h end in
+    let same = held.headers in
+    let low = held.counted in
+    let place = stands.place in
+    omega (arith, whole, both, some, same, low, place)
+
 -- what is held once the slots of the header's table are taken out of the whole
 pub header-held : (b : Builder) (h : Header) (end : Text) (whole empty : Slots) (new : Building) → ArePlaced (b.start + length (statement_text (header h end))) whole
-    → (behind b (header h end) whole).block ≡ names new.block.items → (behind b (header h end) whole).headers ≡ new.headers
+    → (behind b (header h end) whole).block ≡ names new.block.items → (behind b (header h end) whole).headers ≡ new.headers → b.headers ≤ b.start
     → Swaps (slots_along (behind b (header h end) whole).block whole) empty whole (put_along (behind b (header h end) whole).block empty whole)
     (slots_view new.current) (slots_view new.root)
     → (inner : Slots) → slots_along (behind b (header h end) whole).block (slots_by_place whole) ≡ Some inner
     → IsHeld (behind b (header h end) (slots_by_place whole)) new
-header-held b h end whole empty new placed block headers s inner there =
+header-held b h end whole empty new placed block headers low s inner there =
     let ks = (behind b (header h end) whole).block in
     let after = b.start + length (statement_text (header h end)) in
     let (us, found, _) = map_some (slots_along ks whole) slots_by_place inner (sym (along_in_order ks after whole placed) ∙ there) in
     let (left, is) = taken-out ks empty whole us (slots_view new.current) (slots_view new.root) found s in
-    record { block = block; headers = headers; left = empty; there = left; slots = ap slots_by_place is; placed = subst (ArePlaced after) is placed }
+    record { block = block; headers = headers; counted = let some = some-text h end in omega (arith, low, some); left = empty; there = left; slots = ap slots_by_place is; placed = subst (ArePlaced after) is placed }
 
 -- ---- faults
 
@@ -307,7 +332,7 @@ module _ (mode : Mode) (b : Builder) (h : Header) (end : Text) (kind : Kind) (pa
             ∙ adds_in_order mode adding ms b.start after (whole_of b old) real within held.placed
             ∙ ap (option_map slots_by_place) in_place;
         held = header-held b h end out empty new (stays_placed mode adding ms b.start after (whole_of b old) out on real within held.placed in_place)
-            (sym block) (let one = held.headers in omega (arith, one, headers))
+            (sym block) (let one = held.headers in omega (arith, one, headers)) held.counted
             (subst (λ (ks : List Text). Swaps (slots_along ks out) empty out (put_along ks empty out) (slots_view new.current) (slots_view new.root)) block swaps);
       }
 

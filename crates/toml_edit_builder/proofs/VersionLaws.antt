@@ -10,7 +10,6 @@ use Rattle.toml_edit_model.specs.Syntax.{Statement}
 use Rattle.toml_edit_model.specs.Version.{Version, v1_0, v1_1, is_of_version, late_places}
 use Rattle.toml_edit_model.specs.Faults.{Fault, fault, needs_message, late_faults}
 use Rattle.toml_edit_laws.specs.Building.{Builder, faults_at}
-use Rattle.toml_edit_laws.proofs.building.Places.{sound-of-none}
 use Rattle.toml_edit_laws.proofs.versions.VersionFaults.{late-named, early-of-none}
 use Rattle.toml_edit_error.specs.Fault.{IfToml}
 use Rattle.toml_edit_error.specs.Report.{fault_of}
@@ -23,7 +22,8 @@ use Rattle.toml_edit_parser.specs.Listed.{IsListed, IsListedIn, IsMessageIn}
 use Rattle.toml_edit_parser.specs.ValueRead.{NamesOne}
 use Rattle.toml_edit_builder.specs.declared.parser.Building.{Building}
 use Rattle.toml_edit_builder.specs.StatementRead.{ReadsStatement, ReadsInVersion}
-use Rattle.toml_edit_builder.proofs.WholeLaws.{sound-shallow, of_report}
+use Rattle.toml_edit_builder.proofs.ShallowLaws.{added-shallow}
+use Rattle.toml_edit_builder.proofs.WholeLaws.{of_report}
 
 -- ---- in TOML 1.0
 
@@ -59,7 +59,7 @@ names_late version t b s span e has within told =
 -- where it is one of the version once it is known to be right, what reading it answers
 pub reads_in_version : (mode : Mode) (version : Version) (t : Text) (b : Builder) (s : Statement) (more : List Event) (new : Building) (r : Result (Bor (List Event)) ParseFault)
     → (has_deep_value s ≡ false → is_of_version version s ≡ true) → ReadsStatement mode t b s more new r → ReadsInVersion mode version t b s more new r
-reads_in_version mode version t b s more new (Ok rest) early h = (early (sound-shallow s (sound-of-none b.start s h.faultless)), h)
+reads_in_version mode version t b s more new (Ok rest) early h = (early (added-shallow b.start s h.faultless), h)
 reads_in_version mode version t b s more new (Err e) early h =
     of_report e _ _ (λ r is. (is.0, Contains-append_right (late_faults version b.start s) (faults_at b s) (fault_of r) is.1)) h
 

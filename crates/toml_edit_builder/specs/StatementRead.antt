@@ -1,6 +1,6 @@
 -- What reading the statements of a text, one after another, does to what is held of its tree (TOML
 -- 1.1.0, "Key/Value Pair", "Table" and "Array of Tables").
-use Rattle.std.specs.Prelude.{◌≡◌, ℕ, ◌+◌, ◌-◌, Bool, true, if◌then◌else◌, List, [], ◌++◌, length, map, Some, Result, Ok, Err}
+use Rattle.std.specs.Prelude.{◌≡◌, ℕ, ◌+◌, ◌≤◌, Bool, true, if◌then◌else◌, List, [], ◌++◌, length, map, Some, Result, Ok, Err}
 use Rattle.std.specs.declared.alloc.Global.{Global}
 use Rattle.std.specs.declared.borrow.CowStr.{CowStr}
 use Rattle.std.specs.Borrow.{Bor}
@@ -9,24 +9,20 @@ use Rattle.toml_edit_model.specs.Text.{Text}
 use Rattle.toml_edit_model.specs.Syntax as syntax
 use Rattle.toml_edit_model.specs.Syntax.{Frame, Segment, Header, Statement, IsStatement, Document, key_line, opening_brackets, brackets_text, document_text, statement_text}
 use Rattle.toml_edit_model.specs.Version.{Version, is_of_version}
-use Rattle.toml_edit_model.specs.Accepted.{is_accepted_in}
 use Rattle.toml_edit_model.specs.Faults.{own_faults, late_faults}
 use Rattle.toml_edit_model.specs.Tree.{Raw, Node, nothing, Slots, Tree}
-use Rattle.toml_edit_model.specs.TreeOf.{spanned_form, spanned_in, header_leaf, root_fields, IsTreeOf}
+use Rattle.toml_edit_model.specs.TreeOf.{spanned_form, spanned_in, header_leaf, root_fields}
 use Rattle.toml_edit_laws.specs.Building.{slots_along, Builder, added, clash_at, faults_at, behind, IsStatementNode}
 use Rattle.toml_edit_laws.specs.Standing.{Stands}
-use Rattle.toml_edit_laws.specs.Versions.{IsRefusedIn}
 use Rattle.toml_edit_laws.specs.TableClash.{table_way_faults}
 use Rattle.toml_edit_laws.specs.AddPath.{put_along}
 use Rattle.toml_edit_laws.specs.PlaceOrder.{slots_by_place, ArePlaced}
-use Rattle.toml_edit_error.specs.Report.{fault_of}
 use Rattle.toml_edit_error.specs.Fault.{IfToml}
 use Rattle.toml_edit_error.specs.declared.toml_error.ParseFault.{ParseFault}
 use Rattle.toml_edit_syntax.specs.declared.event.Event.{Event}
-use Rattle.toml_edit_syntax.specs.declared.event.EventKind.TheVariants.{Final}
 use Rattle.toml_edit_syntax.specs.declared.event.Span.{Span}
 use Rattle.toml_edit_syntax.specs.Events.{statement_events}
-use Rattle.toml_edit_syntax.specs.ValueEvents.{event, shortened}
+use Rattle.toml_edit_syntax.specs.ValueEvents.{shortened}
 use Rattle.toml_edit_tree.specs.View.{slots_view}
 use Rattle.toml_edit_parser.specs.PathRead.{IsPathFrom}
 use Rattle.toml_edit_parser.specs.StatementParts.{IsEnded, header_behind, line_behind}
@@ -48,6 +44,8 @@ IsWhole s = IsStatement (λ end. Unit {0}) s
 pub record IsHeld (b : Builder) (h : Building) : Type 0 where
   pub block : b.block ≡ names h.block.items
   pub headers : b.headers ≡ h.headers
+  -- each header takes up bytes
+  pub counted : b.headers ≤ b.start
   pub left : Slots
   pub there : slots_along b.block (slots_view h.root) ≡ Some left
   pub slots : b.slots
@@ -169,10 +167,6 @@ OpensBlock mode t b s new (Err e) = IfToml e (NamesOne t (table_way_faults (clas
 
 -- ---- all statements
 
--- what follows the last statement
-abbrev pub final_event : Document → Event
-final_event d = event Final (length (document_text d) - length d.final) d.final
-
 -- a tree that was read
 abbrev pub tree_of : Slots → Raw → Tree
 tree_of slots trailing = record {
@@ -180,12 +174,3 @@ tree_of slots trailing = record {
   slots = slots;
   trailing = trailing;
 }
-
--- what building the tree of a document returns, in a version of the grammar: the document is
--- accepted, and this is its tree, or the report names a fault of its first faulty statement
-abbrev pub Builds : (mode : Mode) {S : Type 0} → Version → (S → Slots) → Text → Document
-    → Result (S × Raw) ParseFault → Type 0
-Builds mode version view t d (Ok r) =
-    (is_accepted_in version d ≡ true) × IsTreeOf (spanned_in mode) d (tree_of (view r.0) r.1)
-Builds mode version view t d (Err e) =
-    IfToml e (λ r. (r.input ≡ t) × IsRefusedIn version d (fault_of r))

@@ -1,12 +1,14 @@
 //! The tree of a document, built statement by statement, and its first faulty statement refused.
 #![tactic(auto)]
 
+mod batch;
 mod block;
 mod document;
 mod duplicate;
 mod last_key;
 mod parser;
 mod path;
+mod room;
 mod statement;
 
 #[doc(hidden)]

@@ -21,8 +21,9 @@ ghost use Rattle.toml_edit_builder.specs.StatementRead.{AreHeaderParts, OpensBlo
 ghost use Rattle.toml_edit_builder.specs.TableRead.{IsHeaded};
 
 use crate::block::swap_block;
-use crate::parser::{Building, slot_count};
+use crate::parser::Building;
 use crate::path::{Adding, Kind, add_path, add_value};
+use crate::room::room_for;
 use std::alloc::Global;
 use std::borrow::CowStr;
 use toml_edit_error::ParseFault;
@@ -75,7 +76,6 @@ pub(crate) fn read_in_version<'s, 'a>(
     events: &'a [Event],
 ) -> Result<&'a [Event], ParseFault>
     requires spans { AreIn reader.now.source.now events.now }
-    requires count { building.old.headers + length events.now < 2 ^ 63 }
     ensures statement { (b : Builder) (s : Statement) (more : List Event)
         → IfStatementDue reader.now.source.now building.old events.now b s more
         (ReadsInVersion (mode_of reader.now.mode) (grammar reader.now.version)
@@ -83,8 +83,6 @@ pub(crate) fn read_in_version<'s, 'a>(
     ensures input { BlamesOnly reader.now.source.now result }
     ensures listed { GivesListedIn (grammar reader.now.version) result }
     ensures rest { Leaves reader.now.source.now events.now result }
-    ensures count { IfOk result
-        (λ r. building.new.headers + length r.now ≤ building.old.headers + length events.now) }
 {
     match late_part(reader.source, reader.version, events) {
         Some(span) => Err(refusal(reader.alloc, reader.source, Fault::NeedsLaterVersion, span)),
@@ -99,7 +97,6 @@ fn read_statement<'s, 'a>(
     events: &'a [Event],
 ) -> Result<&'a [Event], ParseFault>
     requires spans { AreIn reader.now.source.now events.now }
-    requires count { building.old.headers + length events.now < 2 ^ 63 }
     ensures statement { (b : Builder) (s : Statement) (more : List Event)
         → IfStatementDue reader.now.source.now building.old events.now b s more
         (ReadsStatement (mode_of reader.now.mode) reader.now.source.now b s more
@@ -107,8 +104,6 @@ fn read_statement<'s, 'a>(
     ensures input { BlamesOnly reader.now.source.now result }
     ensures listed { GivesListed result }
     ensures rest { Leaves reader.now.source.now events.now result }
-    ensures count { IfOk result
-        (λ r. building.new.headers + length r.now ≤ building.old.headers + length events.now) }
 {
     let Some((leading, behind)) = split_first(events) else {
         return Err(malformed(reader.alloc, reader.source));
@@ -153,7 +148,6 @@ fn add_line<'s, 'a>(
     ensures input { BlamesOnly reader.now.source.now result }
     ensures listed { GivesListed result }
     ensures rest { Leaves reader.now.source.now events.now result }
-    ensures count { OnOk result (building.new.headers ≡ building.old.headers) }
 {
     let Building { item, current, .. } = building;
     let (path, rest) = read_key_line(reader, leading, events, item)?;
@@ -174,7 +168,6 @@ fn add_header<'s, 'a>(
     events: &'a [Event],
 ) -> Result<&'a [Event], ParseFault>
     requires spans { AreIn reader.now.source.now events.now }
-    requires count { building.old.headers + length events.now < 2 ^ 63 }
     ensures header { (b : Builder) (h : Header) (end : Text) (more : List Event)
         → IfHeaderDue reader.now.source.now building.old leading is_array opening events.now b h end
         more (ReadsStatement (mode_of reader.now.mode) reader.now.source.now b
@@ -182,7 +175,6 @@ fn add_header<'s, 'a>(
     ensures input { BlamesOnly reader.now.source.now result }
     ensures listed { GivesListed result }
     ensures rest { Leaves reader.now.source.now events.now result }
-    ensures count { OnOk result (building.new.headers ≡ building.old.headers + 1) }
 {
     let (header, rest) = read_header(reader, events)?;
     let brackets = Span {
@@ -196,13 +188,8 @@ fn add_header<'s, 'a>(
         path: header.path,
         trailing: header.trailing,
     };
-    open_block(
-        reader.alloc,
-        reader.source,
-        parts,
-        slot_count(rest),
-        building,
-    )?;
+    let room = room_for(rest, building.ahead);
+    open_block(reader.alloc, reader.source, parts, room, building)?;
     Ok(rest)
 }
 
@@ -216,20 +203,18 @@ fn open_block<'s>(
     building: &mut Building<'s>,
 ) -> Result<(), ParseFault>
     requires path { AreIn source.now header.path.events.now }
-    requires count { building.old.headers + 1 < 2 ^ 63 }
     ensures opens { (mode : modes.Mode) (b : Builder) (h : Header) (end : Text)
         → IfHeaderRead mode source.now building.old header.entry b h end
         (OpensBlock mode source.now b (syntax.header h end) building.new result) }
     ensures input { BlamesOnly source.now result }
     ensures listed { GivesListed result }
-    ensures count { OnOk result (building.new.headers ≡ building.old.headers + 1) }
 {
     swap_block(
         building.block.as_slice(),
         &mut building.current,
         &mut building.root,
     );
-    building.headers += 1;
+    building.headers = number_after(building.headers, source);
     read_names(alloc, source, header.path, &mut building.block)?;
     head_item(
         alloc,
@@ -250,6 +235,16 @@ fn open_block<'s>(
         &mut building.root,
     );
     Ok(())
+}
+
+/// Returns the number of the header after so many of the text. Each takes up bytes, so there are
+/// never more than those.
+fn number_after(headers: usize, source: &str) -> usize
+    ensures next { headers < length source.now → result ≡ headers + 1 }
+    ensures limit { result < 2 ^ 63 }
+{
+    let most = source.len();
+    if headers < most { headers + 1 } else { most }
 }
 
 /// Returns what a header adds.
