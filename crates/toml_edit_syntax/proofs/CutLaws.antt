@@ -26,7 +26,7 @@ use Rattle.toml_edit_syntax.proofs.StatementLaws.{EndsAt, leading_of, tail_text,
 -- ---- final trivia
 
 -- a final trivia is scanned to its end
-scan_final : (t : Text) → IsFinalTrivia t → (scan false t).0 ≡ length t
+pub scan_final : (t : Text) → IsFinalTrivia t → (scan false t).0 ≡ length t
 scan_final t (w, none, (ps, each, is), inl empty, whole) =
     let same : t ≡ flat_map piece_text ps ++ [] = whole ∙ ap (λ (x : Text). w ++ x) empty ∙ ap (λ (x : Text). x ++ []) is in
     let e = ap (λ (x : Text). scan false x) same ∙ scan-pieces ps [] each ∙ ap (further (length (flat_map piece_text ps))) (scan_nil false) in
@@ -41,7 +41,7 @@ outside_final false t whole = (t, [], whole, inl refl, sym (append-nil t))
 outside_final true t (w, body, whole, visible, parts) = (w, comment body, whole, inr (body, visible, refl), parts)
 
 -- what is scanned to its end is a final trivia
-final_takes : (text : Text) → length (drop (scan false text).0 text) ≡ 0 → IsFinalTrivia text
+pub final_takes : (text : Text) → length (drop (scan false text).0 text) ≡ 0 → IsFinalTrivia text
 final_takes text ended =
     let n = (scan false text).0 in
     let nothing : drop n text ≡ [] = nil_from_length (drop n text) ended in
@@ -162,7 +162,7 @@ statements_stop level at (s ∷ ss) exceeds =
 
 -- ---- statements are read again
 
-scan_leading : (leading tail : Text) → IsWholeTrivia leading → ValueBegins tail → (scan false (leading ++ tail) ≡ (length leading, false)) × (0 < length tail)
+pub scan_leading : (leading tail : Text) → IsWholeTrivia leading → ValueBegins tail → (scan false (leading ++ tail) ≡ (length leading, false)) × (0 < length tail)
 scan_leading leading tail whole (c, cs, begins, opening) = (scan_again leading tail c cs whole begins (grind (arith, nat_tests)), omega (arith, ap length begins))
 
 statements_open : (n level at : ℕ) (leading tail : Text) → scan false (leading ++ tail) ≡ (length leading, false) → 0 < length tail

@@ -182,7 +182,7 @@ deep_statement at (key_line f v end) big =
     ap are_deep (ap (shortened 0) (sym (append-nil es)) ∙ line_stops 0 at f v [] big) ∙ deep_then (frame_events at f) (shortened 0 (value_events (value_at_byte at f) v)) (deep_value v 0 (value_at_byte at f) big)
 deep_statement at (header h end) big = absurd (omega (arith, big.0, big.1))
 
-statement_exceeds : (s : Statement) → Exceeds 0 (depth_of s) → has_deep_value s ≡ true
+pub statement_exceeds : (s : Statement) → Exceeds 0 (depth_of s) → has_deep_value s ≡ true
 statement_exceeds (key_line f v end) big = exceeding v big
 statement_exceeds (header h end) big = absurd (omega (arith, big.0, big.1))
 

@@ -34,6 +34,15 @@ marks t rest e =
       | inr none ↦ let f = rw none at e in rw none f
     ]
 
+plain : (t : Text) → first t < 128 → is_marked t ≡ false
+plain t ascii = rw (ne_eqb (first t) 0xEF (λ e. omega (arith, e))) refl
+
+-- the statements of a cut, and its final trivia, are what is behind the mark
+pub unmarked_is : (marked : Bool) (ss : List Statement) (final : Text) → AreStatements final ss → IsFinalTrivia final
+    → cond (is_marked (mark_text marked ++ (statements_text ss ++ final))) (drop 3 (mark_text marked ++ (statements_text ss ++ final))) (mark_text marked ++ (statements_text ss ++ final)) ≡ statements_text ss ++ final
+unmarked_is true ss final are last = refl
+unmarked_is false ss final are last = rw (plain (statements_text ss ++ final) (ascii_statements ss final are last)) refl
+
 -- ---- what is read
 
 pub cut_takes : (t rest : Text) (d : Document) → cut_of 0 t ≡ got d rest → IsCut d t
@@ -47,9 +56,6 @@ cut_takes t rest d e =
     subst (λ (y : Document). IsCut y t) (same_got (document (is_marked t) ss final) d [] rest last).0 made
 
 -- ---- a cut is read again
-
-plain : (t : Text) → first t < 128 → is_marked t ≡ false
-plain t ascii = rw (ne_eqb (first t) 0xEF (λ e. omega (arith, e))) refl
 
 again : (level : ℕ) (marked : Bool) (ss : List Statement) (final : Text) → AreStatements final ss → IsFinalTrivia final
     → cut_of level (mark_text marked ++ (statements_text ss ++ final)) ≡ outcome (statements_fit level ss) (document marked ss final) [] (shortened level (events_from (length (mark_text marked)) ss))

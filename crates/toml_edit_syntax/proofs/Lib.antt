@@ -26,4 +26,5 @@ pub mod StatementDeep
 pub mod TooManyLaws
 pub mod StatementTurns
 pub mod StatementsLoop
+pub mod BatchLaws
 pub mod late

@@ -62,7 +62,7 @@ header_deep leading t es e =
       | inr (p, rest, found, h) ↦ reading_deep (header_end_at brackets.0 rest) es (changed_deep _ (reading (header_end_at brackets.0 rest)) es h)
     ]
 
-statement_stops_in : (whole leading text : Text) (at : ℕ) (es : List Event) → IsUtf8 whole → IsWholeTrivia leading → Cut whole at (leading ++ text) → statement_at 0 at leading text ≡ deep es → DeepIn whole es
+pub statement_stops_in : (whole leading text : Text) (at : ℕ) (es : List Event) → IsUtf8 whole → IsWholeTrivia leading → Cut whole at (leading ++ text) → statement_at 0 at leading text ≡ deep es → DeepIn whole es
 unfolding statement_at
 statement_stops_in whole leading text at es utf8 trivia c e =
     elim (chosen (first text == 0x5B) (header_at leading text) (key_line_at 0 at leading text) (deep es) e) [

@@ -89,7 +89,7 @@ statement_spans t rest at (key_line f v end) (frame, value, ending) c =
 statement_spans t rest at (header h end) (is, ending) c =
     header_spans t (end ++ rest) at h is (ending_ascii end rest ending) (cut_as t (statement_text (header h end) ++ rest) (leading_of (header h end) ++ tail_text (header h end) rest) at at (statement_then (header h end) rest) refl c)
 
-final_spans : (t final : Text) (n : ℕ) → StartsAscii final → Cut t n final → AreSpans t (event Final n final ∷ [])
+pub final_spans : (t final : Text) (n : ℕ) → StartsAscii final → Cut t n final → AreSpans t (event Final n final ∷ [])
 final_spans t final n ascii c =
     let stop : length t ≡ n + length final = omega (arith, ap length c.parts, length-append c.before final, c.len) in
     (record { start = at_cut t final n c ascii; end = subst (IsCharBoundary t) stop (IsCharBoundary-end t); order = omega arith }, tt)

@@ -1,38 +1,41 @@
--- From the events that reading gives to the events of a text.
-use Rattle.std.proofs.Common.{◌≡◌, ℕ, suc, ◌-◌, ◌<◌, Bool, cond, List, [], ◌∷◌, ◌++◌, ◌⊎◌, length, drop, IsUtf8, Some, None, refl, sym, ap, subst, ◌∙◌, inl, inr, arith}
-use Rattle.std.proofs.lemmas.Bool.{false≢true}
+-- From what reading the rest of a text gives to what the text is.
+use Rattle.std.proofs.Common.{◌≡◌, ℕ, suc, ◌-◌, Bool, cond, ◌<◌, List, [], ◌∷◌, ◌++◌, length, drop, None, refl, sym, ap, subst, ◌∙◌, arith}
 use Rattle.std.proofs.lemmas.List.{length-append}
-use Rattle.std.proofs.lemmas.Option.{none-some, same_Some}
+use Rattle.std.proofs.lemmas.Option.{none-some}
 use Rattle.toml_edit_model.specs.Text.{Text}
 use Rattle.toml_edit_model.specs.Syntax.{mark_text, Statement, Document, document_text, IsCut}
 use Rattle.toml_edit_syntax.specs.declared.event.EventKind.TheVariants.{Final}
 use Rattle.toml_edit_syntax.specs.declared.event.Event.{Event}
-use Rattle.toml_edit_syntax.specs.ValueEvents.{event, shortened, are_deep}
+use Rattle.toml_edit_syntax.specs.declared.lexer.BatchEnd.{BatchEnd}
+use Rattle.toml_edit_syntax.specs.declared.lexer.BatchEnd.TheVariants.{MoreStatements, WholeText, TooManyBrackets}
+use Rattle.toml_edit_syntax.specs.declared.lexer.Stop.{Stop}
+use Rattle.toml_edit_syntax.specs.declared.lexer.Stop.TheVariants as stops
+use Rattle.toml_edit_syntax.specs.declared.mistake.Mistake.{Mistake}
+use Rattle.toml_edit_syntax.specs.ValueEvents.{event, shortened}
 use Rattle.toml_edit_syntax.specs.ValueReading.{Reading, got, deep, wrong, follow}
-use Rattle.toml_edit_syntax.specs.Events.{events_from, events_of, AreEventsOf}
-use Rattle.toml_edit_syntax.specs.Reading.{statements_at, is_marked, document, cut_of, events_with_final, events_seen, statements_read, text_read}
+use Rattle.toml_edit_syntax.specs.Events.{events_from, events_of, OpensTooMany}
+use Rattle.toml_edit_syntax.specs.Reading.{statements_at, is_marked, document, cut_of, events_with_final, events_seen, text_read}
+use Rattle.toml_edit_syntax.specs.EventReading.{seen, preceded, without_rest}
+use Rattle.toml_edit_syntax.specs.StatementReading.{rest_read}
+use Rattle.toml_edit_syntax.specs.Gives.{StopsAs}
+use Rattle.toml_edit_syntax.specs.Batches.{EndsWith, IsAfter, IsReached, ReadsBatch}
 use Rattle.toml_edit_syntax.proofs.CutLaws.{statements_take}
-use Rattle.toml_edit_laws.proofs.one_cut.Documents.{one_cut}
 use Rattle.toml_edit_syntax.proofs.DocumentLaws.{marks, cut_takes, text_reads}
-use Rattle.toml_edit_syntax.proofs.SpanLaws.{AreSpans}
-use Rattle.toml_edit_syntax.proofs.StatementSpans.{cut_spans}
-use Rattle.toml_edit_syntax.proofs.StatementDeep.{cut_stops_in}
-use Rattle.toml_edit_syntax.proofs.DeepEvents.{document_is_deep, shallow_document}
+use Rattle.toml_edit_syntax.proofs.EventSteps.{preceded-nil, preceded-twice}
 use Rattle.toml_edit_syntax.proofs.TooManyLaws.{text_opens}
 
--- ---- the events of the statements are those of the text
+-- ---- what is left at the start
 
 seen_follow : (marked : Bool) (r : Reading (List Statement)) (f : List Statement → Text → List Event) → ((ss : List Statement) (final : Text) → r ≡ got ss final → f ss final ≡ events_of (document marked ss final))
-    → events_seen f r ≡ events_seen (λ (d : Document) (_ : Text). events_of d) (follow r (λ ss final. got (document marked ss final) []))
-seen_follow marked (got ss final) f each = ap Some (each ss final refl)
+    → without_rest (seen f r) ≡ seen (λ (d : Document) (_ : Text). events_of d) (follow r (λ ss final. got (document marked ss final) []))
+seen_follow marked (got ss final) f each = ap (λ (es : List Event). got es []) (each ss final refl)
 seen_follow marked (deep es) f each = refl
 seen_follow marked wrong f each = refl
 
--- the events of the statements behind a mark are those of the whole text
-pub whole_read : (source rest : Text) → rest ≡ cond (is_marked source) (drop 3 source) source
-    → (length rest < suc (length source)) × (statements_read (suc (length source)) (length source) (length source - length rest) rest ≡ text_read source)
+-- the text of the statements behind a mark is what is left of the whole text
+pub reached : (source rest : Text) → rest ≡ cond (is_marked source) (drop 3 source) source → IsReached source rest
 unfolding cut_of
-whole_read source rest is =
+reached source rest is =
     let marked = is_marked source in
     let at = length (mark_text marked) in
     let n = suc (length source) in
@@ -42,46 +45,91 @@ whole_read source rest is =
     λ ss final read.
     let (are, last, whole) = statements_take n at rest ss final read in
     let all : document_text (document marked ss final) ≡ source = ap (λ (x : Text). mark_text marked ++ x) (sym whole) ∙ sym parts in
-    ap (λ (k : ℕ). events_from at ss ++ event Final (k - length final) final ∷ []) (sym (ap length all)) in (
-      omega (arith, ap length parts, length-append (mark_text marked) rest),
-      ap (λ (k : ℕ). statements_read n (length source) k rest) place
-          ∙ seen_follow marked (statements_at n 0 at rest) (events_with_final (length source) at) each
-          ∙ ap (λ (x : Text). events_seen (λ (d : Document) (_ : Text). events_of d) (follow (statements_at n 0 at x) (λ ss final. got (document marked ss final) []))) is,
-    )
-
--- ---- these events are those of the text
-
--- what reading came to
-cases_read : (r : Reading Document) (es : List Event) → events_seen (λ (d : Document) (_ : Text). events_of d) r ≡ Some es → ((d : Document) × (rest : Text) × (r ≡ got d rest) × (events_of d ≡ es)) ⊎ (r ≡ deep es)
-cases_read (got d rest) es e = inl (d, rest, refl, same_Some (events_of d) es e)
-cases_read (deep ms) es e = inr (ap deep (same_Some ms es e))
-cases_read wrong es e = absurd (none-some es e)
-
-pub are_events : (source : Text) (es : List Event) → IsUtf8 source → text_read source ≡ Some es → AreEventsOf source es
-are_events source es utf8 h =
-    let every : (d : Document) → IsCut d source → es ≡ shortened 0 (events_of d) = λ d is. same_Some es (shortened 0 (events_of d)) (sym h ∙ text_reads source d is) in
+    ap (λ (k : ℕ). events_from at ss ++ event Final (k - length final) final ∷ []) (sym (ap length all)) in
     record {
-      every = every;
-      deep = λ d is. ap are_deep (every d is) ∙ document_is_deep d;
-      has_cut = λ shallow. elim (cases_read (cut_of 0 source) es h) [
-        | inl (d, rest, read, same) ↦ (d, cut_takes source rest d read)
-        | inr stops ↦ absurd (false≢true (sym shallow ∙ (cut_stops_in source es utf8 stops).0))
-      ];
-      only = λ d other is also. one_cut source other d also is;
-      brackets = λ short. elim (cases_read (cut_of 0 source) es h) [
-        | inl (d, rest, read, same) ↦ absurd (false≢true (sym (shallow_document d) ∙ ap are_deep same ∙ short))
-        | inr stops ↦ text_opens source es stops
-      ];
+      ends = (mark_text marked, parts);
+      done = [];
+      turns = n;
+      room = omega (arith, ap length parts, length-append (mark_text marked) rest);
+      same =
+          sym
+          (ap without_rest (preceded-nil (rest_read n (length source) rest))
+          ∙ ap (λ (k : ℕ). without_rest (seen (events_with_final (length source) k) (statements_at n 0 k rest))) place
+          ∙ seen_follow marked (statements_at n 0 at rest) (events_with_final (length source) at) each
+          ∙ ap (λ (x : Text). seen (λ (d : Document) (_ : Text). events_of d) (follow (statements_at n 0 at x) (λ ss final. got (document marked ss final) []))) is);
     }
 
--- each lies on the boundaries of characters
-pub spans_read : (source : Text) (es : List Event) → IsUtf8 source → text_read source ≡ Some es → AreSpans source es
-spans_read source es utf8 h =
-    elim (cases_read (cut_of 0 source) es h) [
-      | inl (d, rest, read, same) ↦ subst (AreSpans source) same (cut_spans source d (cut_takes source rest d read))
-      | inr stops ↦ (cut_stops_in source es utf8 stops).1
-    ]
+-- ---- what reading all of it came to
 
--- a text that has a cut is read
-pub has_events : (source : Text) (d : Document) → IsCut d source → text_read source ≡ None → ⊥
-has_events source d is none = none-some (shortened 0 (events_of d)) (sym none ∙ text_reads source d is)
+module _ (t rest : Text) (r : IsReached t rest) where
+  cut_by : (r : Reading Document) (es : List Event) (left : Text) → cut_of 0 t ≡ r → seen (λ (d : Document) (_ : Text). events_of d) r ≡ got es left → (d : Document) × IsCut d t
+  cut_by (got d left) es more found e = (d, cut_takes t left d found)
+  cut_by (deep ms) es more found e = absurd cc
+  cut_by wrong es more found e = absurd cc
+
+  -- a text that is read to its end has a cut
+  pub has_cut : (es : List Event) (left : Text) → preceded r.done (rest_read r.turns (length t) rest) ≡ got es left → (d : Document) × IsCut d t
+  has_cut es left e = cut_by (cut_of 0 t) es [] refl (r.same ∙ ap without_rest e)
+
+  deep_by : (r : Reading Document) (es : List Event) → cut_of 0 t ≡ r → seen (λ (d : Document) (_ : Text). events_of d) r ≡ deep es → OpensTooMany t
+  deep_by (got d left) es found e = absurd cc
+  deep_by (deep ms) es found e = text_opens t ms found
+  deep_by wrong es found e = absurd cc
+
+  -- one that is read up to a bracket that is one too many opens as many
+  pub opens_too_many : (es : List Event) → preceded r.done (rest_read r.turns (length t) rest) ≡ deep es → OpensTooMany t
+  opens_too_many es e = deep_by (cut_of 0 t) es refl (r.same ∙ ap without_rest e)
+
+  none_by : (r : Reading Document) → cut_of 0 t ≡ r → seen (λ (d : Document) (_ : Text). events_of d) r ≡ wrong → text_read t ≡ None
+  none_by (got d left) found e = absurd cc
+  none_by (deep ms) found e = absurd cc
+  none_by wrong found e = ap (events_seen (λ (d : Document) (_ : Text). events_of d)) found
+
+  -- and one that has a cut is read
+  pub no_cut : preceded r.done (rest_read r.turns (length t) rest) ≡ wrong → (d : Document) → IsCut d t → ⊥
+  no_cut e d is = none-some (shortened 0 (events_of d)) (sym (none_by (cut_of 0 t) refl (r.same ∙ ap without_rest e)) ∙ text_reads t d is)
+
+-- ---- what comes after a batch
+
+module _ (t before : Text) (r : IsReached t before) (old new : List Event) (nothing : old ≡ []) where
+  -- behind what was read before
+  joined_to : (read : Reading (List Event)) → preceded old (rest_read r.turns (length t) before) ≡ read → preceded r.done (rest_read r.turns (length t) before) ≡ preceded r.done read
+  joined_to read e = ap (preceded r.done) (sym (preceded-nil (rest_read r.turns (length t) before)) ∙ ap (λ (es : List Event). preceded es (rest_read r.turns (length t) before)) (sym nothing) ∙ e)
+
+  pub after_batch : (end : BatchEnd) (rest : Text) → EndsWith t rest → (end ≡ MoreStatements → length rest < length before)
+      → ((n : ℕ) → length before < n → ReadsBatch n (length t) before old new end rest) → IsAfter t before rest end
+  after_batch MoreStatements rest ends shorter reads =
+      let (k, room, e) = reads r.turns r.room in
+      record {
+        reached = λ _.
+            record {
+              ends = ends;
+              done = r.done ++ new;
+              turns = k;
+              room = room;
+              same = r.same ∙ ap without_rest (joined_to (preceded new (rest_read k (length t) rest)) e ∙ preceded-twice r.done new (rest_read k (length t) rest));
+            };
+        shorter = shorter;
+        cut = λ is. absurd cc;
+        brackets = λ is. absurd cc;
+      }
+  after_batch WholeText rest ends shorter reads =
+      record {
+        reached = λ is. absurd cc;
+        shorter = λ is. absurd cc;
+        cut = λ _. has_cut t before r (r.done ++ new) rest (joined_to (got new rest) (reads r.turns r.room));
+        brackets = λ is. absurd cc;
+      }
+  after_batch TooManyBrackets rest ends shorter reads = absurd (reads r.turns r.room)
+
+  pub after_deep : (why : Stop) (rest : Text) → why ≡ stops.TooDeep → ((n : ℕ) → length before < n → StopsAs new (preceded old (rest_read n (length t) before)) why) → IsAfter t before rest TooManyBrackets
+  after_deep why rest is reads =
+      record {
+        reached = λ e. absurd cc;
+        shorter = λ e. absurd cc;
+        cut = λ e. absurd cc;
+        brackets = λ _. opens_too_many t before r (r.done ++ new) (joined_to (deep new) (subst (StopsAs new (preceded old (rest_read r.turns (length t) before))) is (reads r.turns r.room)));
+      }
+
+  pub no_cut_left : (why : Stop) (mistake : Mistake) (left : ℕ) → why ≡ stops.Before mistake left → ((n : ℕ) → length before < n → StopsAs new (preceded old (rest_read n (length t) before)) why) → (d : Document) → IsCut d t → ⊥
+  no_cut_left why mistake left is reads = no_cut t before r (joined_to wrong (subst (StopsAs new (preceded old (rest_read r.turns (length t) before))) is (reads r.turns r.room)))

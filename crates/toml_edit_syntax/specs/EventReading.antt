@@ -17,6 +17,12 @@ seen events (got a rest) = got (events a rest) rest
 seen events (deep es) = deep es
 seen events wrong = wrong
 
+-- such a reading, whatever text is after it
+abbrev pub without_rest : Reading (List Event) → Reading (List Event)
+without_rest (got es rest) = got es []
+without_rest (deep es) = deep es
+without_rest wrong = wrong
+
 -- such a reading after these events
 abbrev pub preceded : List Event → Reading (List Event) → Reading (List Event)
 preceded es (got more rest) = got (es ++ more) rest

@@ -7,6 +7,7 @@ pub mod LateSpellings
 pub mod LateTrivia
 pub mod LateEvents
 pub mod Grammar
+pub mod Batches
 -- Cited inside this crate alone.
 pub mod Scanning
 pub mod ValueReading

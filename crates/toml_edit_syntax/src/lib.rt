@@ -11,7 +11,7 @@ mod value;
 mod version;
 
 pub use event::{Event, EventKind, Span, cut};
-pub use lexer::{SyntaxFault, events};
+pub use lexer::{Batch, BatchEnd, SyntaxFault, check_rest, read_batch, statements_of};
 pub use lone_value::lone_events;
 pub use mistake::Mistake;
 pub use value::NESTING_LIMIT;

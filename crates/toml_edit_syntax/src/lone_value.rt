@@ -33,7 +33,7 @@ fn lone_value<'a>(events: &mut Vec<Event>, s: &'a str) -> Result<&'a str, Stop>
 ///
 /// # Errors
 ///
-/// As [`events`](crate::lexer::events).
+/// As [`read_batch`](crate::lexer::read_batch).
 pub fn lone_events(alloc: Global, text: &str) -> Result<Vec<Event>, SyntaxFault>
     ensures cut { IfOk result (λ es. AreLoneEvents text.now es.items) }
     ensures spans { IfOk result (λ es. AllByRecursion (λ e. IsSpanOf text.now e.span) es.items) }
