@@ -1,8 +1,16 @@
 //! The events of a text, and of a lone value.
+use std::alloc::Global;
 use toml_edit_rows_read::Answer;
-use toml_edit_syntax::{Event, SyntaxFault, events, lone_events};
+use toml_edit_syntax::{Event, SyntaxFault, lone_events, read_batch, statements_of};
 
 type Found = Result<Vec<Event>, SyntaxFault>;
+
+/// Returns the events of a text, or of the first batch of its statements if it is a long one.
+fn events(alloc: Global, text: &str) -> Found {
+    let mut events = Vec::new(alloc);
+    read_batch(&mut events, text, statements_of(text))?;
+    Ok(events)
+}
 
 /// Writes the events of a text.
 pub fn all(text: &str, out: &mut Answer) {
