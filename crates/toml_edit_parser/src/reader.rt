@@ -172,12 +172,42 @@ fn is_scalar_element(events: &[Event]) -> bool {
     }
 }
 
-/// Returns the number of scalar elements at the front, to make room for them.
+/// Returns the number of scalar elements at the front.
 fn scalar_count(events: &[Event]) -> usize {
     events
         .chunks(3)
         .take_while(|element| is_scalar_element(*element))
         .count()
+}
+
+/// Returns the number of elements up to the bracket that closes the array of these events. Each
+/// ends in one event outside the brackets of the others.
+fn count_to_close(events: &[Event]) -> usize {
+    let mut count: usize = 0;
+    let mut depth: usize = 0;
+    for event in events {
+        match event.kind {
+            EventKind::After if depth == 0 => count = count.saturating_add(1),
+            EventKind::ArrayOpen | EventKind::InlineTableOpen => depth = depth.saturating_add(1),
+            EventKind::ArrayClose | EventKind::InlineTableClose => {
+                if depth == 0 {
+                    return count;
+                }
+                depth = depth.saturating_sub(1);
+            }
+            _ => {}
+        }
+    }
+    count
+}
+
+/// Returns the number of elements of an array, whose events come first, to make room for them.
+fn element_count(events: &[Event]) -> usize {
+    let scalars = scalar_count(events);
+    match events.get(scalars.saturating_mul(3)..) {
+        Some(rest) => scalars.saturating_add(count_to_close(rest)),
+        None => scalars,
+    }
 }
 
 /// Reads an array after its opening bracket. Returns it with the rest of the events.
@@ -197,7 +227,7 @@ fn read_array<'a>(
     ensures fits { IfOk result (λ r. NodeFits source.now (value_view r.0)) }
     ensures rest { LeavesBeside source.now events.now result }
 {
-    let mut values = Vec::with_capacity(alloc, scalar_count(events))?;
+    let mut values = Vec::with_capacity(alloc, element_count(events))?;
     let rest = read_elements(alloc, source, events, &mut values)?;
     close_array(alloc, source, opening, values, rest)
 }
