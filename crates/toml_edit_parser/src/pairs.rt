@@ -21,7 +21,7 @@ ghost use Rattle.toml_edit_model.specs.OwnedForm.{KeyFits, NodeFits, SlotsFit, c
 ghost use Rattle.toml_edit_parser.specs.Listed.{BlamesOnly, GivesListed};
 
 use crate::fault::{Fault, malformed, refusal, refusal_of_all};
-use crate::reader::{Close, raw, read_value, split_close, split_first};
+use crate::reader::{Close, raw, read_value, room_for, split_close, split_first};
 use crate::slots::{add_last, push_item};
 use std::alloc::Global;
 use std::borrow::CowStr;
@@ -70,7 +70,7 @@ fn is_plain_pair(events: &[Event]) -> bool {
     }
 }
 
-/// Returns the number of pairs of one key and a scalar at the front, to make room for them.
+/// Returns the number of pairs of one key and a scalar at the front.
 fn plain_count(events: &[Event]) -> usize {
     events
         .chunks(5)
@@ -95,7 +95,8 @@ pub(crate) fn read_inline<'a>(
     ensures fits { IfOk result (λ r. NodeFits source.now (value_view r.0)) }
     ensures rest { LeavesBeside source.now events.now result }
 {
-    let mut slots = Slots::with_room(alloc, plain_count(events));
+    let count = room_for(events, plain_count(events), 5);
+    let mut slots = Slots::with_room(alloc, count);
     let rest = read_pairs(alloc, source, events, &mut slots)?;
     close_inline(alloc, source, opening, slots, rest)
 }

@@ -180,15 +180,26 @@ fn scalar_count(events: &[Event]) -> usize {
         .count()
 }
 
-/// Returns the number of elements up to the bracket that closes the array of these events. Each
-/// ends in one event outside the brackets of the others.
+/// The most brackets that are open around an event that is counted, so that each event is read for
+/// few of the brackets around it.
+const COUNTED_DEPTH: usize = 4;
+
+/// Returns the number of elements or pairs up to the bracket that closes the array or the inline
+/// table of these events, or up to one that is deeper than what is counted, but for pairs whose
+/// keys have dots. Each ends in one event outside the brackets of the others.
 fn count_to_close(events: &[Event]) -> usize {
     let mut count: usize = 0;
     let mut depth: usize = 0;
     for event in events {
         match event.kind {
             EventKind::After if depth == 0 => count = count.saturating_add(1),
-            EventKind::ArrayOpen | EventKind::InlineTableOpen => depth = depth.saturating_add(1),
+            EventKind::BeforeDot if depth == 0 => count = count.saturating_sub(1),
+            EventKind::ArrayOpen | EventKind::InlineTableOpen => {
+                if depth == COUNTED_DEPTH {
+                    return count;
+                }
+                depth = depth.saturating_add(1);
+            }
             EventKind::ArrayClose | EventKind::InlineTableClose => {
                 if depth == 0 {
                     return count;
@@ -201,12 +212,12 @@ fn count_to_close(events: &[Event]) -> usize {
     count
 }
 
-/// Returns the number of elements of an array, whose events come first, to make room for them.
-fn element_count(events: &[Event]) -> usize {
-    let scalars = scalar_count(events);
-    match events.get(scalars.saturating_mul(3)..) {
-        Some(rest) => scalars.saturating_add(count_to_close(rest)),
-        None => scalars,
+/// Returns how many elements or slots to make room for in the array or the inline table of these
+/// events, of which so many come first, each of so many events.
+pub(crate) fn room_for(events: &[Event], first: usize, length: usize) -> usize {
+    match events.get(first.saturating_mul(length)..) {
+        Some(rest) => first.saturating_add(count_to_close(rest)),
+        None => first,
     }
 }
 
@@ -227,7 +238,8 @@ fn read_array<'a>(
     ensures fits { IfOk result (λ r. NodeFits source.now (value_view r.0)) }
     ensures rest { LeavesBeside source.now events.now result }
 {
-    let mut values = Vec::with_capacity(alloc, element_count(events))?;
+    let count = room_for(events, scalar_count(events), 3);
+    let mut values = Vec::with_capacity(alloc, count)?;
     let rest = read_elements(alloc, source, events, &mut values)?;
     close_array(alloc, source, opening, values, rest)
 }
