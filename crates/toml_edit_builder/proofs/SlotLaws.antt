@@ -1,6 +1,7 @@
 -- The slots of a table as the definitions see them, at the place of a key.
-use Rattle.std.proofs.Common.{◌≡◌, ℕ, zero, suc, true, false, List, [], ◌∷◌, cond, Bool, refl, sym, ap, inl, inr, arith, Option, Some, None, option_map, slice_get}
+use Rattle.std.proofs.Common.{◌≡◌, ℕ, zero, suc, true, false, List, [], ◌∷◌, cond, Bool, refl, sym, ap, inl, inr, arith, Option, Some, None, option_map, slice_get, take}
 use Rattle.std.proofs.lemmas.Bool.{cases_Bool}
+use Rattle.std.proofs.lemmas.Cmp.{nat_list_eq_equiv}
 use Rattle.std.proofs.lemmas.Option.{same_Some}
 use Rattle.toml_edit_model.specs.Text.{Text, same_text}
 use Rattle.toml_edit_model.specs.Tree.{Key, Node, Slots, no_slots, slot}
@@ -88,3 +89,16 @@ node-same k n (slot l m ss) h =
       | inl same ↦ rw same (ap (λ (x : Node). slot l x ss) (sym (same_Some m n (rw same at h))))
       | inr other ↦ rw other (ap (slot l m) (node-same k n ss (rw other at h)))
     ]
+
+place_last : (b : Bool) (i j : Option ℕ) (at : ℕ) → cond b (Some 0) (option_map suc i) ≡ None → (i ≡ None → j ≡ Some at) → cond b (Some 0) (option_map suc j) ≡ Some (suc at)
+place_last true i j at h f = absurd cc
+place_last false None j at h f = ap (option_map suc) (f refl)
+place_last false (Some i) j at h f = absurd cc
+
+-- the place of a key, where no slot before it has its name
+pub place-last : (es : List (repr.Slot Item)) (at : ℕ) (s : repr.Slot Item) → slice_get es at ≡ Some s → place s.key.name (take at es) ≡ None
+    → place s.key.name es ≡ Some at
+place-last [] at s here h = absurd cc
+place-last (e ∷ es) zero s here h = rw (same_Some e s here, nat_list_eq_equiv.refl s.key.name) refl
+place-last (e ∷ es) (suc at) s here h =
+    place_last (is_at s.key.name e) (place s.key.name (take at es)) (place s.key.name es) at h (λ before. place-last es at s here before)

@@ -1,6 +1,7 @@
 //! Taking out the slots of the table that key lines are added to, and putting them back.
-ghost use Rattle.std.specs.Prelude.{◌≡◌, option_map};
+ghost use Rattle.std.specs.Prelude.{◌≡◌, ◌<◌, IfSome, length, option_map};
 ghost use Rattle.toml_edit_builder.specs.BlockRead.{names, split_name, SwapsBelow, SwapsInItem, SwapsInTable, SwapsInTables, SwapsInLast};
+ghost use Rattle.toml_edit_slots.specs.Slots.{place};
 ghost use Rattle.toml_edit_tree.specs.View.{item_view, slots_view, table_view, tables_view};
 
 use std::borrow::CowStr;
@@ -18,6 +19,26 @@ fn split_name<'b, 's>(block: &'b [CowStr<'s>]) -> Option<(&'b str, &'b [CowStr<'
     Some((first.as_str(), rest))
 }
 
+/// Returns the place of the slot whose key has the name, or `None` if no key has it.
+///
+/// Looks at the last slot first: a header's table is mostly there.
+#[inline]
+pub(crate) fn place_of(slots: &Slots<Item>, name: &str) -> Option<usize>
+    ensures place { result ≡ place name.now slots.now }
+    ensures within { IfSome result (λ at. at < length slots.now) }
+{
+    let entries = slots.as_slice();
+    match entries.last() {
+        Some(last) => {
+            if last.key.get() == name {
+                return Some(entries.len() - 1);
+            }
+            slots.find(name)
+        }
+        None => None,
+    }
+}
+
 /// Swaps `others` with the slots of the table at these names. If there is no such table, both stay.
 #[cycle(swap)]
 pub fn swap_block(block: &[CowStr<'_>], others: &mut Slots<Item>, slots: &mut Slots<Item>)
@@ -26,7 +47,7 @@ pub fn swap_block(block: &[CowStr<'_>], others: &mut Slots<Item>, slots: &mut Sl
 {
     match split_name(block) {
         None => mem::swap(others, slots),
-        Some((first, rest)) => match slots.find(first) {
+        Some((first, rest)) => match place_of(slots, first) {
             None => {}
             Some(at) => swap_item(rest, others, slots.item_mut(at)),
         },

@@ -15,6 +15,7 @@ ghost use Rattle.toml_edit_tree.specs.View.{fields_view, item_view, slots_view, 
 ghost use Rattle.toml_edit_builder.specs.TableRead.{Goes, IsHeaded, IsItemFor, IsKeyOf, PutsLast, addition_for, opened, with_element};
 ghost use Rattle.toml_edit_builder.specs.declared.path.Kind.TheVariants as kinds;
 
+use crate::block::place_of;
 use crate::duplicate::duplicate_key;
 use crate::path::{Adding, Kind};
 use std::alloc::Global;
@@ -209,7 +210,7 @@ fn put_element(
     ensures listed { GivesListed result }
 {
     let alloc = slots.allocator();
-    match slots.find(key.get()) {
+    match place_of(slots, key.get()) {
         Some(place) => add_element(alloc, source, brackets, at, item, slots.item_mut(place)),
         None => {
             put_tables(alloc, brackets, key, item, slots)?;

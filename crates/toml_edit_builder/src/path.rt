@@ -14,6 +14,7 @@ ghost use Rattle.toml_edit_tree.specs.View.{item_view, slots_view, table_view, t
 ghost use Rattle.toml_edit_builder.specs.TableRead as spec;
 ghost use Rattle.toml_edit_builder.specs.TableRead.{AddsPath, IsPathOf, addition_for, AddsBelow, AddsInLast, AddsInTable, AddsPathInside, IfAdded, IfAddedAfter};
 
+use crate::block::place_of;
 use crate::duplicate::duplicate_key;
 use crate::last_key::put_last;
 use std::alloc::Global;
@@ -77,7 +78,7 @@ pub fn add_path(
     let PathKey { key, span, rest } = next_key(adding.alloc, adding.source, path)?;
     match rest {
         None => put_last(adding, key, span, item, slots),
-        Some(inside) => match slots.find(key.get()) {
+        Some(inside) => match place_of(slots, key.get()) {
             None => add_below(adding, key, span, inside, item, slots),
             Some(at) => add_in_item(adding, span, inside, item, slots.item_mut(at)),
         },

@@ -8,19 +8,19 @@ use Rattle.toml_edit_builder.proofs.ItemLaws.{last-at, last-set}
 use Rattle.toml_edit_builder.proofs.SwapLaws.{name-is, swap-none, swap-there, swap-last, tables_items, tables_extent, tables-made}
 use Rattle.toml_edit_builder.proofs.block.+swap.Goals as goal
 
-pub swap_block-returns-in-None-find : goal.swap_block-returns-in-None-find
-swap_block-returns-in-None-find t c =
+pub swap_block-returns-in-None-place_of : goal.swap_block-returns-in-None-place_of
+swap_block-returns-in-None-place_of t c =
     swap-none (names c.args.block.now) c.in-Some.first.now (names c.in-Some.rest.now) (slots_view c.args.others.now) (slots_view c.args.slots.now) _ _
     (name-is (names c.args.block.now) _ _ c.in-Some.ensures)
-    (node-none c.in-Some.first.now c.args.slots.now (sym c.in-None-find.ensures.place)) refl refl
+    (node-none c.in-Some.first.now c.args.slots.now (sym c.in-None-place_of.ensures.place)) refl refl
 
-pub swap_block-returns-in-Some-find : goal.swap_block-returns-in-Some-find
-swap_block-returns-in-Some-find t c =
+pub swap_block-returns-in-Some-place_of : goal.swap_block-returns-in-Some-place_of
+swap_block-returns-in-Some-place_of t c =
     swap-there (names c.args.block.now) c.in-Some.first.now (names c.in-Some.rest.now) (slots_view c.args.others.now) (slots_view c.args.slots.now) _ _
     (item_view c.item_mut.result.now) (item_view c.swap_item.new.holder)
     (name-is (names c.args.block.now) _ _ c.in-Some.ensures)
-    (node-some c.in-Some.first.now c.args.slots.now c.in-Some-find.at c.item_mut.result.now (sym c.in-Some-find.ensures.place) c.item_mut.ensures.item)
-    (with-place c.in-Some.first.now c.args.slots.now c.in-Some-find.at c.swap_item.new.holder (sym c.in-Some-find.ensures.place))
+    (node-some c.in-Some.first.now c.args.slots.now c.in-Some-place_of.at c.item_mut.result.now (sym c.in-Some-place_of.ensures.place) c.item_mut.ensures.item)
+    (with-place c.in-Some.first.now c.args.slots.now c.in-Some-place_of.at c.swap_item.new.holder (sym c.in-Some-place_of.ensures.place))
     c.swap_item.ensures
 
 pub swap_tables-returns-in-Some : goal.swap_tables-returns-in-Some

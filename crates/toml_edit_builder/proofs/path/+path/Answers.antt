@@ -34,27 +34,27 @@ add_path-returns-in-None-clause-added t c =
     last-here mode c.args.adding.now.source.now c.put_last.result s ms k (addition_for c.args.adding.now.kind (item_view c.args.item.now)) (slots_view c.args.slots.now) _
     (step-of mode c.args.adding.now.source.now s ms c.args.path k c.in_ok-key.ensures.key at) c.in-None.is (λ m is. c.put_last.ensures.put mode s m head is)
 
-pub add_path-returns-in-None-find-clause-added : goal.add_path-returns-in-None-find-clause-added
-add_path-returns-in-None-find-clause-added t c =
+pub add_path-returns-in-None-place_of-clause-added : goal.add_path-returns-in-None-place_of-clause-added
+add_path-returns-in-None-place_of-clause-added t c =
     λ mode s ms head at.
     let k : PathKey = c.in_ok-key.field-0 in
     let es = c.args.slots.now in
     new-here mode c.args.adding.now.source.now c.add_below.result s ms k c.in-Some.inside (addition_for c.args.adding.now.kind (item_view c.args.item.now)) (slots_view es) _
     (step-of mode c.args.adding.now.source.now s ms c.args.path k c.in_ok-key.ensures.key at) c.in-Some.is
-    (node-none k.key.name es (sym (c.in-None-find.ensures.place ∙ ap (λ (x : Text). place x es) c.get.ensures.name)))
+    (node-none k.key.name es (sym (c.in-None-place_of.ensures.place ∙ ap (λ (x : Text). place x es) c.get.ensures.name)))
     (λ q path. c.add_below.ensures.added mode s q head path)
 
-pub add_path-returns-in-Some-find-clause-added : goal.add_path-returns-in-Some-find-clause-added
-add_path-returns-in-Some-find-clause-added t c =
+pub add_path-returns-in-Some-place_of-clause-added : goal.add_path-returns-in-Some-place_of-clause-added
+add_path-returns-in-Some-place_of-clause-added t c =
     λ mode s ms head at.
     let k : PathKey = c.in_ok-key.field-0 in
     let es = c.args.slots.now in
-    let here = sym (c.in-Some-find.ensures.place ∙ ap (λ (x : Text). place x es) c.get.ensures.name) in
+    let here = sym (c.in-Some-place_of.ensures.place ∙ ap (λ (x : Text). place x es) c.get.ensures.name) in
     there-here mode c.args.adding.now.source.now c.add_in_item.result s ms k c.in-Some.inside (addition_for c.args.adding.now.kind (item_view c.args.item.now))
     (item_view c.item_mut.result.now) (item_view c.add_in_item.new.holder) (slots_view es) _
     (step-of mode c.args.adding.now.source.now s ms c.args.path k c.in_ok-key.ensures.key at) c.in-Some.is
-    (node-some k.key.name es c.in-Some-find.at c.item_mut.result.now here c.item_mut.ensures.item)
-    (with-place k.key.name es c.in-Some-find.at c.add_in_item.new.holder here)
+    (node-some k.key.name es c.in-Some-place_of.at c.item_mut.result.now here c.item_mut.ensures.item)
+    (with-place k.key.name es c.in-Some-place_of.at c.add_in_item.new.holder here)
     (λ m q is path. c.add_in_item.ensures.added mode s m q k.key head is path)
 
 -- ---- below a new key
