@@ -65,7 +65,7 @@ pub fn parse_with(
     };
     let mut events = Vec::new(alloc);
     let mut batch = next_batch(&reader, &mut events, statements_of(source))?;
-    let room = room_for(events.as_slice(), text_ahead(batch));
+    let room = room_for(events.as_slice(), 0, text_ahead(batch));
     let mut building = Building::new(alloc, room);
     'batches: loop {
         building.ahead = text_ahead(batch);

@@ -1,66 +1,104 @@
 //! How many slots there is to be room for.
+use memchr::memmem;
 use toml_edit_syntax::{Event, EventKind};
 
-/// Returns the least number of slots that the key lines before the next header make, unless two
-/// keys are one: a line whose key has no dot makes one.
+/// What a batch of events says of the slots of a table.
+#[derive(Clone, Copy)]
+struct SlotCount {
+    /// The least number of slots, unless two keys are one.
+    slots: usize,
+    /// Whether headers of tables below it follow.
+    has_headers: bool,
+    /// Whether the header of another table follows.
+    is_whole: bool,
+}
+
+/// Returns the number of slots that a table is to have room for: one for each key line without a
+/// dot, and one for each table right below it whose header follows.
 ///
-/// Where the events end before the next header, the key lines behind them, at the front of this
-/// text, are taken to make as many slots each as those of the events.
+/// `events` are those after the table's header, and `keys` is the number of keys in the header, or
+/// 0 for the root. If the table goes on in `ahead`, the text behind these events, it is taken to go
+/// on in the same way: up to the next line that begins with a bracket, or for a root with headers
+/// to the end.
 #[inline(never)]
-pub(crate) fn room_for(events: &[Event], ahead: &str) -> usize {
-    let mut slots: usize = 0;
-    let mut lines: usize = 0;
+pub(crate) fn room_for(events: &[Event], keys: usize, ahead: &str) -> usize {
+    let count = count_slots(events, keys);
+    if count.is_whole || ahead.is_empty() {
+        return count.slots;
+    }
+    let more = if !count.has_headers {
+        block_len(ahead)
+    } else if keys == 0 {
+        ahead.len()
+    } else {
+        0
+    };
+    count
+        .slots
+        .saturating_add(share(count.slots, covered(events), more))
+}
+
+/// Counts the slots of a table whose header has so many keys.
+fn count_slots(events: &[Event], keys: usize) -> SlotCount {
+    let mut count = SlotCount {
+        slots: 0,
+        has_headers: false,
+        is_whole: false,
+    };
+    let mut depth: usize = 0;
+    let mut is_array = false;
+    let mut was_array = false;
     for event in events {
         match event.kind {
-            EventKind::LineEnd => {
-                slots = slots.saturating_add(1);
-                lines = lines.saturating_add(1);
+            EventKind::LineEnd if !count.has_headers => count.slots = count.slots.saturating_add(1),
+            EventKind::BeforeDot if !count.has_headers => {
+                count.slots = count.slots.saturating_sub(1)
             }
-            EventKind::BeforeDot => slots = slots.saturating_sub(1),
-            EventKind::HeaderOpen | EventKind::ArrayHeaderOpen => return slots,
+            EventKind::HeaderOpen | EventKind::ArrayHeaderOpen => {
+                count.has_headers = true;
+                is_array = matches!(event.kind, EventKind::ArrayHeaderOpen);
+                depth = 0;
+            }
+            EventKind::Key => depth = depth.saturating_add(1),
+            EventKind::HeaderClose if depth <= keys => {
+                count.is_whole = true;
+                return count;
+            }
+            // An array of tables has many headers, and one slot.
+            EventKind::HeaderClose if depth == keys.saturating_add(1) => {
+                if !(is_array && was_array) {
+                    count.slots = count.slots.saturating_add(1);
+                }
+                was_array = is_array;
+            }
             _ => {}
         }
     }
-    slots.saturating_add(share(slots, lines, lines_with_keys(ahead)))
+    count
 }
 
-/// Returns the number of slots that so many lines make, where some lines make some slots, and a
-/// little more.
-fn share(slots: usize, lines: usize, ahead: usize) -> usize {
-    if lines == 0 {
+/// Returns the number of bytes from the first of the events to the last.
+fn covered(events: &[Event]) -> usize {
+    match (events.first(), events.last()) {
+        (Some(first), Some(last)) => last.span.end.saturating_sub(first.span.start),
+        _ => 0,
+    }
+}
+
+/// Returns the number of bytes before the first line that begins with a bracket.
+fn block_len(text: &str) -> usize {
+    match memmem::find(text.as_bytes(), b"\n[") {
+        Some(at) => at,
+        None => text.len(),
+    }
+}
+
+/// Returns the number of slots in `more` bytes, if so many bytes have so many slots, and a few
+/// more: a list that outgrows its room doubles.
+fn share(slots: usize, bytes: usize, more: usize) -> usize {
+    if bytes == 0 {
         return 0;
     }
-    let room = slots.saturating_mul(ahead) / lines;
-    room.saturating_add(room / 64)
-}
-
-/// Returns the number of lines that have an equals sign and are no comments, before the first that
-/// begins with an opening bracket: at least that of the key lines before the first header.
-fn lines_with_keys(text: &str) -> usize {
-    let mut lines: usize = 0;
-    let mut is_start = true;
-    let mut is_counted = false;
-    for byte in text.as_bytes() {
-        match *byte {
-            b'\n' => {
-                is_start = true;
-                is_counted = false;
-            }
-            b'[' if is_start => return lines,
-            b' ' | b'\t' => {}
-            b'#' if is_start => {
-                is_start = false;
-                is_counted = true;
-            }
-            b'=' => {
-                if !is_counted {
-                    lines = lines.saturating_add(1);
-                }
-                is_start = false;
-                is_counted = true;
-            }
-            _ => is_start = false,
-        }
-    }
-    lines
+    let room = slots.saturating_mul(more) / bytes;
+    room.saturating_add(room / 32)
 }

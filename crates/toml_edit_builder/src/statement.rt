@@ -188,7 +188,7 @@ fn add_header<'s, 'a>(
         path: header.path,
         trailing: header.trailing,
     };
-    let room = room_for(rest, building.ahead);
+    let room = room_for(rest, header.path.events.len() / 3 + 1, building.ahead);
     open_block(reader.alloc, reader.source, parts, room, building)?;
     Ok(rest)
 }
