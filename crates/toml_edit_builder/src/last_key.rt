@@ -18,6 +18,7 @@ ghost use Rattle.toml_edit_builder.specs.declared.path.Kind.TheVariants as kinds
 use crate::block::place_of;
 use crate::duplicate::duplicate_key;
 use crate::path::{Adding, Kind};
+use crate::room::elements_behind;
 use std::alloc::Global;
 use std::mem;
 use toml_edit_error::ParseFault;
@@ -48,7 +49,7 @@ pub(crate) fn put_last(
     match adding.kind {
         Kind::Line => add_last(adding.alloc, adding.source, key, at, item, slots),
         Kind::Table => put_table(adding.alloc, adding.source, key, at, item, slots),
-        Kind::Element(brackets) => put_element(adding.source, brackets, key, at, item, slots),
+        Kind::Element(brackets) => put_element(adding, brackets, key, at, item, slots),
     }
 }
 
@@ -194,34 +195,35 @@ fn fill_table(table: &mut Table, slots: Slots<Item>)
 // Not inlined, so that its locals stay out of the caller's frame.
 #[inline(never)]
 fn put_element(
-    source: &str,
+    adding: &Adding<'_>,
     brackets: Span,
     key: Key,
     at: Span,
     item: &mut Item,
     slots: &mut Slots<Item>,
 ) -> Result<(), ParseFault>
-    requires { IsSpanOf source.now at }
+    requires { IsSpanOf adding.now.source.now at }
     ensures put { (mode : Mode) (s : Source) (m : Mention Source)
         → IsItemFor mode (kinds.Element brackets) s (item_view item.old)
-        → IsKeyOf mode s false m key at → PutsLast mode source.now an_element m
+        → IsKeyOf mode s false m key at → PutsLast mode adding.now.source.now an_element m
         (slots_view slots.old) (slots_view slots.new) result }
-    ensures input { BlamesOnly source.now result }
+    ensures input { BlamesOnly adding.now.source.now result }
     ensures listed { GivesListed result }
 {
-    let alloc = slots.allocator();
+    let Adding { alloc, source, .. } = *adding;
     match place_of(slots, key.get()) {
         Some(place) => add_element(alloc, source, brackets, at, item, slots.item_mut(place)),
         None => {
-            put_tables(alloc, brackets, key, item, slots)?;
+            let room = elements_behind(source, key.get(), adding.behind);
+            put_tables(room, brackets, key, item, slots)?;
             Ok(())
         }
     }
 }
 
-/// Pushes an array of this one table.
+/// Pushes an array of this one table, with room for so many more, if there is the memory.
 fn put_tables(
-    alloc: Global,
+    room: usize,
     brackets: Span,
     key: Key,
     item: &mut Item,
@@ -232,7 +234,10 @@ fn put_tables(
         ≡ with_slot (slots_view slots.old) key
         (tables_of (Some (brackets.start, brackets.end)) (item_of (item_view item.old) no_items))) }
 {
-    let mut tables = ArrayOfTables::begun(alloc, brackets.start, brackets.end);
+    let mut tables = ArrayOfTables::begun(slots.allocator(), brackets.start, brackets.end);
+    if room > 0 {
+        drop(tables.values.reserve_exact(room.saturating_add(1)));
+    }
     tables.add_element(mem::replace(item, Item::None), brackets.end)?;
     let mut first = Item::ArrayOfTables(tables);
     push_item(slots, key, &mut first)

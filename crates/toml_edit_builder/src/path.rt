@@ -17,6 +17,7 @@ ghost use Rattle.toml_edit_builder.specs.TableRead.{AddsPath, IsPathOf, addition
 use crate::block::place_of;
 use crate::duplicate::duplicate_key;
 use crate::last_key::put_last;
+use crate::room::Behind;
 use std::alloc::Global;
 use toml_edit_error::ParseFault;
 use toml_edit_key::Key;
@@ -47,6 +48,8 @@ pub struct Adding<'a> {
     pub source: &'a str,
     /// What the statement adds.
     pub kind: Kind,
+    /// What follows it, if it is a header.
+    pub behind: Behind<'a>,
 }
 
 /// Returns `true` if it is a key line.
@@ -110,6 +113,11 @@ pub(crate) fn add_value(
             alloc,
             source,
             kind: Kind::Line,
+            behind: Behind {
+                keys: 0,
+                events: &[],
+                ahead: "",
+            },
         };
         return add_path(&adding, path, item, slots);
     }

@@ -1,6 +1,20 @@
-//! How many slots there is to be room for.
+//! How much room a table, and an array of tables, is made with.
+//!
+//! It is counted in the events that follow, and estimated for what is behind their batch. Nothing
+//! but memory depends on it.
 use memchr::memmem;
-use toml_edit_syntax::{Event, EventKind};
+use toml_edit_syntax::{Event, EventKind, Span};
+
+/// What follows a header.
+#[derive(Clone, Copy)]
+pub struct Behind<'a> {
+    /// The number of keys in the header, or 0 for the root, which has none.
+    pub keys: usize,
+    /// The events up to the end of the batch.
+    pub events: &'a [Event],
+    /// The text behind the batch, or the empty one if that is no part of the text's statements.
+    pub ahead: &'a str,
+}
 
 /// What a batch of events says of the slots of a table.
 #[derive(Clone, Copy)]
@@ -16,12 +30,15 @@ struct SlotCount {
 /// Returns the number of slots that a table is to have room for: one for each key line without a
 /// dot, and one for each table right below it whose header follows.
 ///
-/// `events` are those after the table's header, and `keys` is the number of keys in the header, or
-/// 0 for the root. If the table goes on in `ahead`, the text behind these events, it is taken to go
-/// on in the same way: up to the next line that begins with a bracket, or for a root with headers
-/// to the end.
+/// If the table goes on behind the batch, it is taken to go on in the same way: up to the next line
+/// that begins with a bracket, or for a root with headers to the end.
 #[inline(never)]
-pub(crate) fn room_for(events: &[Event], keys: usize, ahead: &str) -> usize {
+pub(crate) fn room_for(behind: Behind<'_>) -> usize {
+    let Behind {
+        keys,
+        events,
+        ahead,
+    } = behind;
     let count = count_slots(events, keys);
     if count.is_whole || ahead.is_empty() {
         return count.slots;
@@ -36,6 +53,51 @@ pub(crate) fn room_for(events: &[Event], keys: usize, ahead: &str) -> usize {
     count
         .slots
         .saturating_add(share(count.slots, covered(events), more))
+}
+
+/// Returns the number of elements that an array of tables of this name is to have room for after
+/// its first: one for each header of it that follows before any of another table beside it.
+///
+/// If none of another table follows in the batch, the text is taken to go on in the same way.
+#[inline(never)]
+pub(crate) fn elements_behind(source: &str, name: &str, behind: Behind<'_>) -> usize {
+    let Behind {
+        keys,
+        events,
+        ahead,
+    } = behind;
+    let mut elements: usize = 0;
+    let mut depth: usize = 0;
+    let mut is_array = false;
+    let mut last = Span { start: 0, end: 0 };
+    for event in events {
+        match event.kind {
+            EventKind::HeaderOpen | EventKind::ArrayHeaderOpen => {
+                is_array = matches!(event.kind, EventKind::ArrayHeaderOpen);
+                depth = 0;
+            }
+            EventKind::Key => {
+                depth = depth.saturating_add(1);
+                last = event.span;
+            }
+            EventKind::HeaderClose if depth <= keys => {
+                if !is_array || depth != keys || !is_name(source, last, name) {
+                    return elements;
+                }
+                elements = elements.saturating_add(1);
+            }
+            _ => {}
+        }
+    }
+    elements.saturating_add(share(elements, covered(events), ahead.len()))
+}
+
+/// Returns `true` if the name is at the span of the text.
+fn is_name(source: &str, span: Span, name: &str) -> bool {
+    match source.get(span.start..span.end) {
+        Some(text) => text == name,
+        None => false,
+    }
 }
 
 /// Counts the slots of a table whose header has so many keys.

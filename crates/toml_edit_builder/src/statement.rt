@@ -23,7 +23,7 @@ ghost use Rattle.toml_edit_builder.specs.TableRead.{IsHeaded};
 use crate::block::swap_block;
 use crate::parser::Building;
 use crate::path::{Adding, Kind, add_path, add_value};
-use crate::room::room_for;
+use crate::room::{Behind, room_for};
 use std::alloc::Global;
 use std::borrow::CowStr;
 use toml_edit_error::ParseFault;
@@ -188,18 +188,23 @@ fn add_header<'s, 'a>(
         path: header.path,
         trailing: header.trailing,
     };
-    let room = room_for(rest, header.path.events.len() / 3 + 1, building.ahead);
-    open_block(reader.alloc, reader.source, parts, room, building)?;
+    let behind = Behind {
+        // Between two keys there are two events of whitespace.
+        keys: header.path.events.len() / 3 + 1,
+        events: rest,
+        ahead: building.ahead,
+    };
+    open_block(reader.alloc, reader.source, parts, behind, building)?;
     Ok(rest)
 }
 
-/// Adds the table of a header to the tree, and takes the table's slots out of it. Makes room for so
-/// many slots, if there is the memory.
+/// Adds the table of a header to the tree, and takes the table's slots out of it. Makes room for
+/// those that follow, if there is the memory.
 fn open_block<'s>(
     alloc: Global,
     source: &'s str,
     header: HeaderParts<'_>,
-    room: usize,
+    behind: Behind<'_>,
     building: &mut Building<'s>,
 ) -> Result<(), ParseFault>
     requires path { AreIn source.now header.path.events.now }
@@ -220,13 +225,14 @@ fn open_block<'s>(
         alloc,
         header,
         building.headers as isize,
-        room,
+        room_for(behind),
         &mut building.item,
     );
     let adding = Adding {
         alloc,
         source,
         kind: header_kind(header),
+        behind,
     };
     add_path(&adding, header.path, &mut building.item, &mut building.root)?;
     swap_block(
