@@ -1,24 +1,19 @@
 -- What parsing a text answers, by what reading its statements comes to.
-use Rattle.std.proofs.Common.{◌≡◌, Bool, true, refl, sym, ap, ◌∙◌, inl, inr, None, Some}
-use Rattle.std.proofs.lemmas.Bool.{false≢true}
+use Rattle.std.proofs.Common.{◌≡◌, Bool, true, ap, inr, None}
 use Rattle.toml_edit_model.specs.Mode.{Mode}
 use Rattle.toml_edit_model.specs.Text.{Text}
 use Rattle.toml_edit_model.specs.Syntax.{Document, IsCut}
 use Rattle.toml_edit_model.specs.Version.{Version}
-use Rattle.toml_edit_model.specs.Accepted.{is_accepted_in, AcceptedIn}
+use Rattle.toml_edit_model.specs.Accepted.{is_accepted_in}
 use Rattle.toml_edit_model.specs.Normal.{has_open_end}
 use Rattle.toml_edit_model.specs.Tree.{Raw, Slots}
 use Rattle.toml_edit_model.specs.TreeOf.{spanned_in, IsTreeOf}
-use Rattle.toml_edit_laws.specs.Versions.{IsRefusedIn}
 use Rattle.toml_edit_laws.proofs.one_cut.Documents.{one_cut}
 use Rattle.toml_edit_error.specs.Fault.{IfToml}
-use Rattle.toml_edit_error.specs.Report.{Report, fault_of}
+use Rattle.toml_edit_error.specs.Report.{Report}
 use Rattle.toml_edit_error.specs.declared.toml_error.ParseFault.{ParseFault}
 use Rattle.toml_edit_error.specs.declared.toml_error.ParseFault.TheVariants.{Toml, Memory}
-use Rattle.toml_edit_syntax.specs.declared.event.Span.{Span}
-use Rattle.toml_edit_syntax.specs.declared.mistake.Mistake.{Mistake}
-use Rattle.toml_edit_syntax.specs.Faults.{syntax_message}
-use Rattle.toml_edit_syntax.specs.Events.{IsSpanOf, OpensTooMany}
+use Rattle.toml_edit_syntax.specs.Events.{OpensTooMany}
 use Rattle.toml_edit_builder.specs.StatementRead.{tree_of}
 use Rattle.toml_edit_parser.specs.Listed.{IsListedIn}
 use Rattle.toml_edit_builder.specs.DocumentRead.{IsParsedWith, IsRefusalIn}
@@ -32,42 +27,14 @@ pub parsed : (mode : Mode) (version : Version) (t : Text) (d : Document) (slots 
 parsed mode version t d slots trailing is_open cut (accepted, tree) same =
     record { document = d; accepted = (cut, accepted); only = λ other c. one_cut t other d c cut; tree = tree; open_end = same }
 
-module _ (version : Version) (t : Text) where
-  -- an error names a fault of the first faulty statement, whatever cut the text has
-  abbrev pub Names : ParseFault → Type 0
-  Names e = (d : Document) → IsCut d t → IfToml e (λ r. IsRefusedIn version d (fault_of r))
+-- ---- a text that has no cut
 
-  -- an accepted text is not refused
-  pub not_refused : (e : ParseFault) → Names e → (d : Document) → AcceptedIn version t d → e ≡ Memory
-  not_refused (Toml r) names d (cut, accepted) = absurd (false≢true (sym (names d cut).refused ∙ accepted))
-  not_refused Memory names d accepted = refl
-
-  -- what is told of a refused text
-  pub refusal_is : (e : ParseFault) → Names e → IfToml e (λ r. r.input ≡ t) → IfToml e (IsListedIn version) → (((d : Document) → IsCut d t → ⊥) → OpensTooMany t)
-      → IfToml e (IsRefusalIn version t)
-  refusal_is (Toml r) names input listed opens = record { input = input; listed = listed; names = names; syntax = λ none. inr (opens none) }
-  refusal_is Memory names input listed opens = tt
-
-  -- ---- a text that has no cut
-
-  -- since it opens too many brackets
-  pub short_refusal : (m : Text) (e : ParseFault) → OpensTooMany t → ((d : Document) → IsCut d t → ⊥)
-      → IfToml e (λ r. r ≡ record { message = m; span = None; input = t }) → IfToml e (IsListedIn version) → IfToml e (IsRefusalIn version t)
-  short_refusal m (Toml r) opens none same listed =
-      record { input = ap (λ x. x.input) same; listed = listed; names = λ d cut. absurd (none d cut); syntax = λ _. inr opens }
-  short_refusal m Memory opens none same listed = tt
-
--- a text outside the grammar
-pub wrong_syntax : (version : Version) (t m : Text) (mistake : Mistake) (s : Span) (e : ParseFault) → ((d : Document) → IsCut d t → ⊥) → m ≡ syntax_message mistake → IsSpanOf t s
-    → IfToml e (λ r. r ≡ record { message = m; span = Some (s.start, s.end); input = t }) → IfToml e (IsListedIn version) → IfToml e (IsRefusalIn version t)
-wrong_syntax version t m mistake s (Toml r) none is within same listed =
-    record {
-      input = ap (λ x. x.input) same;
-      listed = listed;
-      names = λ d cut. absurd (none d cut);
-      syntax = λ _. inl (record { mistake = mistake; message = ap (λ x. x.message) same ∙ is; span = s; marks = ap (λ x. x.span) same; within = within });
-    }
-wrong_syntax version t m mistake s Memory none is within same listed = tt
+-- since it opens too many brackets
+pub short_refusal : (version : Version) (t m : Text) (e : ParseFault) → OpensTooMany t → ((d : Document) → IsCut d t → ⊥)
+    → IfToml e (λ r. r ≡ record { message = m; span = None; input = t }) → IfToml e (IsListedIn version) → IfToml e (IsRefusalIn version t)
+short_refusal version t m (Toml r) opens none same listed =
+    record { input = ap (λ x. x.input) same; listed = listed; names = λ d cut. absurd (none d cut); syntax = λ _. inr opens }
+short_refusal version t m Memory opens none same listed = tt
 
 -- what holds of a report
 pub of_report : (e : ParseFault) (P Q : Report → Type 0) → ((r : Report) → P r → Q r) → IfToml e P → IfToml e Q
