@@ -13,7 +13,7 @@ ghost use Rattle.toml_edit_builder.specs.DocumentRead.{IsParsedWith, IsRefusalIn
 
 use crate::batch::{next_batch, refused_in, text_ahead};
 use crate::parser::{Building, starts_statement, trailing, whole};
-use crate::room::{Behind, room_for};
+use crate::room::room_for_root;
 use crate::statement::read_in_version;
 use std::alloc::Global;
 use toml_edit_error::ParseFault;
@@ -65,12 +65,8 @@ pub fn parse_with(
     };
     let mut events = Vec::new(alloc);
     let mut batch = next_batch(&reader, &mut events, statements_of(source))?;
-    let behind = Behind {
-        keys: 0,
-        events: events.as_slice(),
-        ahead: text_ahead(batch),
-    };
-    let mut building = Building::new(alloc, room_for(behind));
+    let room = room_for_root(source, events.as_slice(), text_ahead(batch));
+    let mut building = Building::new(alloc, room);
     'batches: loop {
         building.ahead = text_ahead(batch);
         let mut left = events.as_slice();

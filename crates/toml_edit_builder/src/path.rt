@@ -114,6 +114,7 @@ pub(crate) fn add_value(
             source,
             kind: Kind::Line,
             behind: Behind {
+                source,
                 keys: 0,
                 events: &[],
                 ahead: "",

@@ -2,12 +2,14 @@
 //!
 //! It is counted in the events that follow, and estimated for what is behind their batch. Nothing
 //! but memory depends on it.
-use memchr::memmem;
+use memchr::{memchr_iter, memmem};
 use toml_edit_syntax::{Event, EventKind, Span};
 
 /// What follows a header.
 #[derive(Clone, Copy)]
 pub struct Behind<'a> {
+    /// The whole text.
+    pub source: &'a str,
     /// The number of keys in the header, or 0 for the root, which has none.
     pub keys: usize,
     /// The events up to the end of the batch.
@@ -34,25 +36,30 @@ struct SlotCount {
 /// that begins with a bracket, or for a root with headers to the end.
 #[inline(never)]
 pub(crate) fn room_for(behind: Behind<'_>) -> usize {
-    let Behind {
-        keys,
-        events,
-        ahead,
-    } = behind;
+    let Behind { keys, events, .. } = behind;
     let count = count_slots(events, keys);
-    if count.is_whole || ahead.is_empty() {
+    if count.is_whole {
         return count.slots;
     }
-    let more = if !count.has_headers {
-        block_len(ahead)
+    let goes_on = if !count.has_headers {
+        block_len(behind.ahead)
     } else if keys == 0 {
-        ahead.len()
+        behind.ahead.len()
     } else {
         0
     };
-    count
-        .slots
-        .saturating_add(share(count.slots, covered(events), more))
+    with_share(count.slots, behind, goes_on)
+}
+
+/// Returns the number of slots that the root is to have room for, whose first batch has these
+/// events.
+pub(crate) fn room_for_root(source: &str, events: &[Event], ahead: &str) -> usize {
+    room_for(Behind {
+        source,
+        keys: 0,
+        events,
+        ahead,
+    })
 }
 
 /// Returns the number of elements that an array of tables of this name is to have room for after
@@ -60,8 +67,9 @@ pub(crate) fn room_for(behind: Behind<'_>) -> usize {
 ///
 /// If none of another table follows in the batch, the text is taken to go on in the same way.
 #[inline(never)]
-pub(crate) fn elements_behind(source: &str, name: &str, behind: Behind<'_>) -> usize {
+pub(crate) fn elements_behind(name: &str, behind: Behind<'_>) -> usize {
     let Behind {
+        source,
         keys,
         events,
         ahead,
@@ -89,7 +97,7 @@ pub(crate) fn elements_behind(source: &str, name: &str, behind: Behind<'_>) -> u
             _ => {}
         }
     }
-    elements.saturating_add(share(elements, covered(events), ahead.len()))
+    with_share(elements, behind, ahead.len())
 }
 
 /// Returns `true` if the name is at the span of the text.
@@ -139,14 +147,6 @@ fn count_slots(events: &[Event], keys: usize) -> SlotCount {
     count
 }
 
-/// Returns the number of bytes from the first of the events to the last.
-fn covered(events: &[Event]) -> usize {
-    match (events.first(), events.last()) {
-        (Some(first), Some(last)) => last.span.end.saturating_sub(first.span.start),
-        _ => 0,
-    }
-}
-
 /// Returns the number of bytes before the first line that begins with a bracket.
 fn block_len(text: &str) -> usize {
     match memmem::find(text.as_bytes(), b"\n[") {
@@ -155,12 +155,52 @@ fn block_len(text: &str) -> usize {
     }
 }
 
-/// Returns the number of slots in `more` bytes, if so many bytes have so many slots, and a few
-/// more: a list that outgrows its room doubles.
-fn share(slots: usize, bytes: usize, more: usize) -> usize {
-    if bytes == 0 {
+/// Returns the number of slots or elements that are counted in the batch, and so many more as it
+/// lets expect in the first `goes_on` bytes of the text behind it.
+fn with_share(counted: usize, behind: Behind<'_>, goes_on: usize) -> usize {
+    if goes_on == 0 {
+        return counted;
+    }
+    let here = line_count(covered(behind.source, behind.events));
+    if here == 0 {
+        return counted;
+    }
+    let ahead = lines_in(behind.ahead.as_bytes(), goes_on);
+    let more = counted.saturating_mul(ahead) / here;
+    // A list that outgrows its room doubles, so there is some to spare.
+    counted.saturating_add(more).saturating_add(more / 32)
+}
+
+/// Returns the bytes from the first of the events to the last.
+fn covered<'a>(source: &'a str, events: &[Event]) -> &'a [u8] {
+    match (events.first(), events.last()) {
+        (Some(first), Some(last)) => part(source.as_bytes(), first.span.start, last.span.end),
+        _ => &[],
+    }
+}
+
+/// Returns the bytes from `start` up to `end`, or none if they are not all there.
+fn part(bytes: &[u8], start: usize, end: usize) -> &[u8] {
+    match bytes.get(start..end) {
+        Some(part) => part,
+        None => &[],
+    }
+}
+
+/// Returns the number of newlines.
+fn line_count(bytes: &[u8]) -> usize {
+    memchr_iter(b'\n', bytes).count()
+}
+
+/// The most bytes in which lines are counted to estimate their number in all.
+const SAMPLE: usize = 4096;
+
+/// Returns about how many lines are in the first `len` bytes, as those in their middle tell.
+fn lines_in(bytes: &[u8], len: usize) -> usize {
+    let start = len.saturating_sub(SAMPLE) / 2;
+    let sample = part(bytes, start, start.saturating_add(SAMPLE.min(len)));
+    if sample.is_empty() {
         return 0;
     }
-    let room = slots.saturating_mul(more) / bytes;
-    room.saturating_add(room / 32)
+    line_count(sample).saturating_mul(len) / sample.len()
 }

@@ -189,6 +189,7 @@ fn add_header<'s, 'a>(
         trailing: header.trailing,
     };
     let behind = Behind {
+        source: reader.source,
         // Between two keys there are two events of whitespace.
         keys: header.path.events.len() / 3 + 1,
         events: rest,
