@@ -1,18 +1,17 @@
--- Which values and documents have a bracket that is one too many among their events: those that are too deep.
-use Rattle.std.proofs.Common.{◌≡◌, ℕ, suc, ◌+◌, ◌-◌, ◌≤◌, Bool, true, false, ◌==◌, ◌||◌, List, [], ◌∷◌, ◌++◌, length, refl, sym, ap, ◌∙◌, inl, inr, arith, append_assoc, append-nil, codes}
+-- Which values have a bracket that is one too many among their events: those that are too deep.
+use Rattle.std.proofs.Common.{◌≡◌, ℕ, suc, ◌+◌, ◌-◌, ◌≤◌, Bool, true, false, ◌==◌, ◌||◌, List, [], ◌∷◌, ◌++◌, length, refl, sym, ap, ◌∙◌, inl, inr, arith, append-nil, codes}
 use Rattle.std.specs.Prelude.{max}
-use Rattle.std.specs.List.{list_any}
 use Rattle.std.proofs.lemmas.Bool.{cases_Bool}
 use Rattle.std.proofs.lemmas.Bool.Decides.{nat_tests}
 use Rattle.std.proofs.lemmas.List.Folds.{list_any-append}
 use Rattle.toml_edit_model.specs.Text.{Text}
-use Rattle.toml_edit_model.specs.Syntax.{Segment, Frame, Value, scalar, array, inline_table, Elements, no_elements, element, Pairs, no_pairs, pair, Header, segment_text, path_text, value_text, opening_brackets, closing_brackets, statement_text, depth, elements_depth, pairs_depth, nesting_limit, Statement, key_line, header, Document, document_text, mark_text}
-use Rattle.toml_edit_syntax.specs.declared.event.EventKind.TheVariants.{Equals, ArrayOpen, ArrayClose, InlineTableOpen, InlineTableClose, Before, After, BeforeKey, AfterKey, HeaderClose, LineEnd, Final}
+use Rattle.toml_edit_model.specs.Syntax.{Segment, Frame, Value, scalar, array, inline_table, Elements, no_elements, element, Pairs, no_pairs, pair, segment_text, path_text, value_text, depth, elements_depth, pairs_depth, nesting_limit, Statement, key_line, header}
+use Rattle.toml_edit_syntax.specs.declared.event.EventKind.TheVariants.{Equals, ArrayOpen, ArrayClose, InlineTableOpen, InlineTableClose, Before, After}
 use Rattle.toml_edit_syntax.specs.declared.event.Event.{Event}
 use Rattle.toml_edit_syntax.specs.ValueEvents.{event, opens, path_events, frame_events, value_at_byte, close_events, value_events, elements_events, pairs_events, shortened, is_too_deep, are_deep}
-use Rattle.toml_edit_syntax.specs.Events.{line_events, header_open, header_events, statement_events, events_from, events_of, exceeds_depth, has_deep_value}
+use Rattle.toml_edit_syntax.specs.Events.{exceeds_depth, has_deep_value}
 use Rattle.toml_edit_syntax.proofs.ShortenedLaws.{stays_frame, value_stays, value_stops, elements_stop, pairs_stop, Exceeds, Fits, cases_fits}
-use Rattle.toml_edit_syntax.proofs.StatementLaws.{depth_of, line_stops, statement_stays, statement_stops}
+use Rattle.toml_edit_syntax.proofs.StatementLaws.{depth_of}
 
 -- ---- no part of a document is such a bracket
 
@@ -62,38 +61,6 @@ mutual
       let after = value + length (value_text v) in
       shallow_then (frame_events start f) (value_events value v ++ (event After after f.trailing ∷ pairs_events (after + length f.trailing + 1) ps)) (shallow_frame start f)
       (shallow_then (value_events value v) (event After after f.trailing ∷ pairs_events (after + length f.trailing + 1) ps) (shallow_value v value) (shallow_pairs ps (after + length f.trailing + 1)))
-
-shallow_header : (at : ℕ) (h : Header) → are_deep (header_events at h) ≡ false
-shallow_header at h =
-    let brackets = at + length h.leading in
-    let before = brackets + length (opening_brackets h.is_array) in
-    let key = before + length h.opening in
-    let after = key + length (path_text h.path) in
-    let close = after + length h.closing in
-    let ends = event AfterKey after h.closing ∷ event HeaderClose close (closing_brackets h.is_array) ∷ event LineEnd (close + length (closing_brackets h.is_array)) h.trailing ∷ [] in
-    shallow_then (event (header_open h.is_array) brackets (opening_brackets h.is_array) ∷ []) (event BeforeKey before h.opening ∷ (path_events key h.path ++ ends)) (plain_opening h.is_array) (shallow_then (path_events key h.path) ends (shallow_path key h.path) refl)
-  where
-    plain_opening : (is_array : Bool) → (is_too_deep (header_open is_array) || false) ≡ false
-    plain_opening true = refl
-    plain_opening false = refl
-
-shallow_statement : (at : ℕ) (s : Statement) → are_deep (statement_events at s) ≡ false
-shallow_statement at (key_line f v end) =
-    let value = value_at_byte at f in
-    let last = event LineEnd (value + length (value_text v)) f.trailing ∷ [] in
-    shallow_then (frame_events at f) (value_events value v ++ last) (shallow_frame at f) (shallow_then (value_events value v) last (shallow_value v value) refl)
-shallow_statement at (header h end) = shallow_header at h
-
-shallow_statements : (at : ℕ) (ss : List Statement) → are_deep (events_from at ss) ≡ false
-shallow_statements at [] = refl
-shallow_statements at (s ∷ ss) =
-    let next = at + length (statement_text s) in
-    shallow_then (statement_events at s) (events_from next ss) (shallow_statement at s) (shallow_statements next ss)
-
-pub shallow_document : (d : Document) → are_deep (events_of d) ≡ false
-shallow_document d =
-    let at = length (mark_text d.has_mark) in
-    shallow_then (events_from at d.statements) (event Final (length (document_text d) - length d.final) d.final ∷ []) (shallow_statements at d.statements) refl
 
 -- ---- a value that is too deep has one
 
@@ -176,43 +143,6 @@ value_is_deep v start =
       | inr fits ↦ ap are_deep (ap (shortened 0) (sym (append-nil es)) ∙ value_stays v 0 start fits [] ∙ append-nil es) ∙ shallow_value v start ∙ sym (fitting v fits)
     ]
 
-deep_statement : (at : ℕ) (s : Statement) → Exceeds 0 (depth_of s) → are_deep (shortened 0 (statement_events at s)) ≡ true
-deep_statement at (key_line f v end) big =
-    let es = line_events at f v in
-    ap are_deep (ap (shortened 0) (sym (append-nil es)) ∙ line_stops 0 at f v [] big) ∙ deep_then (frame_events at f) (shortened 0 (value_events (value_at_byte at f) v)) (deep_value v 0 (value_at_byte at f) big)
-deep_statement at (header h end) big = absurd (omega (arith, big.0, big.1))
-
 pub statement_exceeds : (s : Statement) → Exceeds 0 (depth_of s) → has_deep_value s ≡ true
 statement_exceeds (key_line f v end) big = exceeding v big
 statement_exceeds (header h end) big = absurd (omega (arith, big.0, big.1))
-
-statement_fits : (s : Statement) → Fits 0 (depth_of s) → has_deep_value s ≡ false
-statement_fits (key_line f v end) fits = fitting v fits
-statement_fits (header h end) fits = refl
-
-statements_are_deep : (at : ℕ) (ss : List Statement) (more : List Event)
-    → are_deep (shortened 0 (events_from at ss ++ more)) ≡ (list_any has_deep_value ss || are_deep (shortened 0 more))
-statements_are_deep at [] more = refl
-statements_are_deep at (s ∷ ss) more =
-    let next = at + length (statement_text s) in
-    let here = statement_events at s in
-    let later = events_from next ss in
-    ap (λ (es : List Event). are_deep (shortened 0 es)) (append_assoc here later more) ∙ elim (cases_fits 0 (depth_of s)) [
-      | inl big ↦
-          let said : has_deep_value s ≡ true = statement_exceeds s big in
-          ap are_deep (statement_stops 0 at s big (later ++ more)) ∙ deep_statement at s big ∙ sym (rw said refl)
-      | inr fits ↦
-          let said : has_deep_value s ≡ false = statement_fits s fits in
-          ap are_deep (statement_stays 0 at s fits (later ++ more)) ∙ list_any-append (λ (e : Event). is_too_deep e.kind) here (shortened 0 (later ++ more))
-          ∙ ap (λ (b : Bool). b || are_deep (shortened 0 (later ++ more))) (shallow_statement at s) ∙ statements_are_deep next ss more ∙ sym (rw said refl)
-    ]
-
--- a document
-pub document_is_deep : (d : Document) → are_deep (shortened 0 (events_of d)) ≡ list_any has_deep_value d.statements
-document_is_deep d =
-    let final = event Final (length (document_text d) - length d.final) d.final ∷ [] in
-    statements_are_deep (length (mark_text d.has_mark)) d.statements final ∙ or_false (list_any has_deep_value d.statements)
-  where
-    or_false : (x : Bool) → (x || false) ≡ x
-    or_false true = refl
-    or_false false = refl

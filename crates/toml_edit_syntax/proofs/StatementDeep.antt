@@ -1,25 +1,19 @@
 -- Where the reading of statements stops at a bracket that is one too many.
-use Rattle.std.proofs.Common.{◌≡◌, ℕ, zero, suc, ◌+◌, ◌-◌, ◌*◌, false, cond, ◌==◌, List, [], ◌∷◌, ◌++◌, length, IsUtf8, drop, take, Option, refl, sym, ap, subst, inl, inr, arith}
-use Rattle.std.proofs.lemmas.List.{length-append, take-append-drop}
+use Rattle.std.proofs.Common.{◌≡◌, ℕ, ◌+◌, ◌-◌, ◌*◌, ◌==◌, List, ◌++◌, length, IsUtf8, Option, refl, sym, subst, inl, inr, arith}
 use Rattle.toml_edit_model.specs.Text.{Text}
 use Rattle.toml_edit_model.specs.Trivia.{is_blank, IsWholeTrivia}
-use Rattle.toml_edit_model.specs.Syntax.{Frame, Value, Statement, key_line, statement_text, mark_text}
+use Rattle.toml_edit_model.specs.Syntax.{Frame, Value, key_line}
 use Rattle.toml_edit_syntax.specs.declared.event.Event.{Event}
 use Rattle.toml_edit_laws.specs.reading.Runs.{first, split_while}
-use Rattle.toml_edit_syntax.specs.Scanning.{scan, opening_at}
+use Rattle.toml_edit_syntax.specs.Scanning.{opening_at}
 use Rattle.toml_edit_syntax.specs.ValueEvents.{frame_events, value_at_byte}
-use Rattle.toml_edit_syntax.specs.ValueReading.{Reading, got, deep, wrong, follow, changed, reading, path_at, frame_at, value_from}
-use Rattle.toml_edit_syntax.specs.Events.{statement_events}
-use Rattle.toml_edit_syntax.specs.Reading.{end_at, key_line_at, header_end_at, header_at, statement_at, statements_at, is_marked, document, cut_of}
+use Rattle.toml_edit_syntax.specs.ValueReading.{Reading, deep, follow, changed, reading, path_at, frame_at, value_from}
+use Rattle.toml_edit_syntax.specs.Reading.{end_at, key_line_at, header_end_at, header_at, statement_at}
 use Rattle.toml_edit_laws.proofs.reading.Steps.{chosen}
 use Rattle.toml_edit_syntax.proofs.PathLaws.{behind_trivia, FrameTook, frame_takes, frame_parts}
 use Rattle.toml_edit_syntax.proofs.ValueTakes.{followed_by}
-use Rattle.toml_edit_syntax.proofs.StatementLaws.{statement_takes}
-use Rattle.toml_edit_syntax.proofs.CutLaws.{then_statements, scanned_trivia}
-use Rattle.toml_edit_syntax.proofs.DocumentLaws.{marks}
-use Rattle.toml_edit_syntax.proofs.SpanLaws.{Cut, further, cut_as, value_cut, frame_spans}
-use Rattle.toml_edit_syntax.proofs.StatementSpans.{statement_spans}
-use Rattle.toml_edit_syntax.proofs.DeepLaws.{follow_deep, changed_deep, behind_deep, reading_deep, not_deep, wrong_deep, frame_deep, frame_place, DeepIn, deep_later, value_stops_in}
+use Rattle.toml_edit_syntax.proofs.SpanLaws.{Cut, cut_as, value_cut, frame_spans}
+use Rattle.toml_edit_syntax.proofs.DeepLaws.{follow_deep, changed_deep, behind_deep, reading_deep, frame_deep, frame_place, DeepIn, deep_later, value_stops_in}
 
 -- ---- a statement
 
@@ -71,48 +65,3 @@ statement_stops_in whole leading text at es utf8 trivia c e =
     ]
 
 -- ---- statements
-
-later_stops_in : (n at : ℕ) (whole t : Text) (es : List Event) → IsUtf8 whole → Cut whole at t → (scan false t).1 ≡ false
-    → ((next : ℕ) (rest : Text) (ms : List Event) → Cut whole next rest → statements_at n 0 next rest ≡ deep ms → DeepIn whole ms)
-    → follow (statement_at 0 at (take (scan false t).0 t) (drop (scan false t).0 t)) (then_statements n 0 at t) ≡ deep es → DeepIn whole es
-later_stops_in n at whole t es utf8 c outside later e =
-    let leading = take (scan false t).0 t in
-    let tail = drop (scan false t).0 t in
-    let trivia = scanned_trivia t outside in
-    let both : t ≡ leading ++ tail = sym (take-append-drop (scan false t).0 t) in
-    let c0 = cut_as whole t (leading ++ tail) at at both refl c in
-    elim (follow_deep (statement_at 0 at leading tail) (then_statements n 0 at t) es e) [
-      | inl h ↦ statement_stops_in whole leading tail at es utf8 trivia c0 h
-      | inr (s, rest, found, h) ↦
-          let next = at + (length t - length rest) in
-          let (ms, read, joined) = behind_deep (statement_events at s) (changed (λ (ss : List Statement). s ∷ ss) (statements_at n 0 next rest)) es h in
-          let (is, parts) = statement_takes at leading tail rest s trivia found in
-          let c1 = cut_as whole (leading ++ tail) (statement_text s ++ rest) at at parts refl c0 in
-          let place : at + length (statement_text s) ≡ next = omega (arith, ap length both, ap length parts, length-append (statement_text s) rest) in
-          let c2 = cut_as whole rest rest (at + length (statement_text s)) next refl place (further whole (statement_text s) rest at c1) in
-          subst (DeepIn whole) joined (deep_later whole (statement_events at s) ms (statement_spans whole rest at s is c1)
-          (later next rest ms c2 (changed_deep (λ (ss : List Statement). s ∷ ss) (statements_at n 0 next rest) ms read)))
-    ]
-
-statements_stop_in : (n at : ℕ) (whole t : Text) (es : List Event) → IsUtf8 whole → Cut whole at t → statements_at n 0 at t ≡ deep es → DeepIn whole es
-unfolding statements_at
-statements_stop_in zero at whole t es utf8 c e = absurd (wrong_deep es e)
-statements_stop_in (suc n) at whole t es utf8 c e =
-    elim (chosen (length (drop (scan false t).0 t) == 0) (got [] t) _ (deep es) e) [
-      | inl (ended, h) ↦ absurd (not_deep [] t es h)
-      | inr (goes, h) ↦ elim (chosen (scan false t).1 wrong _ (deep es) h) [
-        | inl (inside, bad) ↦ absurd (wrong_deep es bad)
-        | inr (outside, g) ↦ later_stops_in n at whole t es utf8 c outside (λ next rest ms k read. statements_stop_in n next whole rest ms utf8 k read) g
-      ]
-    ]
-
-pub cut_stops_in : (t : Text) (es : List Event) → IsUtf8 t → cut_of 0 t ≡ deep es → DeepIn t es
-unfolding cut_of
-cut_stops_in t es utf8 e =
-    let behind_mark = cond (is_marked t) (drop 3 t) t in
-    let at = length (mark_text (is_marked t)) in
-    let c : Cut t at behind_mark = record { before = mark_text (is_marked t); parts = marks t behind_mark refl; len = refl } in
-    elim (follow_deep (statements_at (suc (length t)) 0 at behind_mark) (λ ss final. got (document (is_marked t) ss final) []) es e) [
-      | inl h ↦ statements_stop_in (suc (length t)) at t behind_mark es utf8 c h
-      | inr (ss, final, found, h) ↦ absurd (not_deep (document (is_marked t) ss final) [] es h)
-    ]

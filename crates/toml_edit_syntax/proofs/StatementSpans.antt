@@ -1,20 +1,19 @@
 -- Each event of a cut lies on the boundaries of characters.
-use Rattle.std.proofs.Common.{◌≡◌, ℕ, ◌+◌, ◌-◌, Bool, true, false, List, [], ◌∷◌, ◌++◌, length, refl, sym, ap, subst, inl, inr, arith}
+use Rattle.std.proofs.Common.{◌≡◌, ℕ, ◌+◌, Bool, true, false, [], ◌∷◌, ◌++◌, length, refl, ap, subst, inl, inr, arith}
 use Rattle.std.specs.Str.{IsCharBoundary}
 use Rattle.std.proofs.lemmas.List.{length-append}
 use Rattle.std.proofs.lemmas.Str.{IsCharBoundary-end}
 use Rattle.toml_edit_model.specs.Text.{Text}
 use Rattle.toml_edit_model.specs.Trivia.{IsLineEnd}
-use Rattle.toml_edit_model.specs.Syntax.{Frame, Value, Header, Statement, key_line, header, path_text, value_text, opening_brackets, closing_brackets, statement_text, mark_text, Document, document_text, IsFrame, IsValue, IsHeader, AreStatements, IsCut}
+use Rattle.toml_edit_model.specs.Syntax.{Frame, Value, Header, Statement, key_line, header, path_text, value_text, opening_brackets, closing_brackets, statement_text, IsFrame, IsValue, IsHeader}
 use Rattle.toml_edit_syntax.specs.declared.event.EventKind.TheVariants.{Leading, BeforeKey, AfterKey, HeaderClose, LineEnd, Final}
 use Rattle.toml_edit_syntax.specs.ValueEvents.{event, path_events, frame_events, value_at_byte, value_events}
-use Rattle.toml_edit_syntax.specs.Events.{line_events, header_open, header_events, statement_events, events_from, events_of}
-use Rattle.toml_edit_laws.proofs.reading.Begins.{StartsAscii, ascii_begins, ascii_blank, ascii_newline, ascii_trivia, ascii_line_end, ascii_final}
+use Rattle.toml_edit_syntax.specs.Events.{line_events, header_open, header_events, statement_events}
+use Rattle.toml_edit_laws.proofs.reading.Begins.{StartsAscii, ascii_begins, ascii_blank, ascii_newline, ascii_trivia, ascii_line_end}
 use Rattle.toml_edit_syntax.proofs.ScanningLaws.{IsEnding}
 use Rattle.toml_edit_syntax.proofs.PathLaws.{behind_trivia, path_begins}
 use Rattle.toml_edit_syntax.proofs.ValueAgain.{value_begins}
 use Rattle.toml_edit_syntax.proofs.StatementLaws.{EndsAt, leading_of, tail_text, statement_then}
-use Rattle.toml_edit_syntax.proofs.CutLaws.{statements_text, first_of, later_of, statements_then}
 use Rattle.toml_edit_syntax.proofs.SpanLaws.{Cut, further, cut_as, at_cut, AreSpans, both_spans, part_span, path_spans, value_cut, frame_spans, value_spans, ascii_value}
 
 line_spans : (t more : Text) (at : ℕ) (f : Frame) (v : Value) → IsFrame IsLineEnd f → IsValue v → StartsAscii more → Cut t at (f.leading ++ behind_trivia f (value_text v ++ (f.trailing ++ more))) → AreSpans t (line_events at f v)
@@ -93,26 +92,3 @@ pub final_spans : (t final : Text) (n : ℕ) → StartsAscii final → Cut t n f
 final_spans t final n ascii c =
     let stop : length t ≡ n + length final = omega (arith, ap length c.parts, length-append c.before final, c.len) in
     (record { start = at_cut t final n c ascii; end = subst (IsCharBoundary t) stop (IsCharBoundary-end t); order = omega arith }, tt)
-
-statements_spans : (t final : Text) (at : ℕ) (ss : List Statement) → AreStatements final ss → Cut t at (statements_text ss ++ final) → AreSpans t (events_from at ss) × Cut t (at + length (statements_text ss)) final
-statements_spans t final at [] are c = (tt, cut_as t final final at (at + 0) refl (omega arith) c)
-statements_spans t final at (s ∷ ss) are c =
-    let rest = statements_text ss ++ final in
-    let next = at + length (statement_text s) in
-    let c0 = cut_as t (statements_text (s ∷ ss) ++ final) (statement_text s ++ rest) at at (statements_then s ss final) refl c in
-    let (all, last) = statements_spans t final next ss (later_of s ss final are) (further t (statement_text s) rest at c0) in
-    let total : next + length (statements_text ss) ≡ at + length (statements_text (s ∷ ss)) = omega (arith, length-append (statement_text s) (statements_text ss)) in (
-      both_spans t (statement_events at s) (events_from next ss) (statement_spans t rest at s (first_of s ss final are) c0) all,
-      cut_as t final final (next + length (statements_text ss)) (at + length (statements_text (s ∷ ss))) refl total last,
-    )
-
-pub cut_spans : (t : Text) (d : Document) → IsCut d t → AreSpans t (events_of d)
-cut_spans t d ((are, is_final), whole) =
-    let at = length (mark_text d.has_mark) in
-    let stop = length (document_text d) - length d.final in
-    let c : Cut t at (statements_text d.statements ++ d.final) = record { before = mark_text d.has_mark; parts = sym whole; len = refl } in
-    let (all, last) = statements_spans t d.final at d.statements are c in
-    let place : at + length (statements_text d.statements) ≡ stop =
-    omega (arith, length-append (mark_text d.has_mark) (statements_text d.statements ++ d.final), length-append (statements_text d.statements) d.final) in
-    let final = final_spans t d.final stop (ascii_final d.final is_final) (cut_as t d.final d.final (at + length (statements_text d.statements)) stop refl place last) in
-    both_spans t (events_from at d.statements) (event Final stop d.final ∷ []) all final

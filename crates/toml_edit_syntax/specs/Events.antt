@@ -9,7 +9,7 @@ use Rattle.toml_edit_syntax.specs.declared.event.EventKind.{EventKind}
 use Rattle.toml_edit_syntax.specs.declared.event.EventKind.TheVariants.{Leading, HeaderOpen, ArrayHeaderOpen, BeforeKey, AfterKey, HeaderClose, LineEnd, Final}
 use Rattle.toml_edit_syntax.specs.declared.event.Event.{Event}
 use Rattle.toml_edit_syntax.specs.declared.event.Span.{Span}
-use Rattle.toml_edit_syntax.specs.ValueEvents.{event, path_events, frame_events, value_at_byte, value_events, shortened, are_deep}
+use Rattle.toml_edit_syntax.specs.ValueEvents.{event, path_events, frame_events, value_at_byte, value_events}
 
 -- a key line that begins at this byte
 abbrev pub line_events : ℕ → Frame → Value → List Event
@@ -83,13 +83,3 @@ pub record OpensTooMany (t : Text) : Type 0 where
   pub closes : Each is_closing_bracket closing
   pub cut : IsCut document (front ++ closing)
   pub deep : list_any has_deep_value document.statements ≡ true
-
--- The text's events: of whatever cut it has, they are the parts, up to a bracket that is one too
--- many, which there is exactly where a value is too deep; and it has one, unless there is such a
--- bracket, and the text opens too many then.
-pub record AreEventsOf (t : Text) (es : List Event) : Type 0 where
-  pub every : (d : Document) → IsCut d t → es ≡ shortened 0 (events_of d)
-  pub deep : (d : Document) → IsCut d t → are_deep es ≡ list_any has_deep_value d.statements
-  pub has_cut : are_deep es ≡ false → (d : Document) × IsCut d t
-  pub only : (d other : Document) → IsCut d t → IsCut other t → other ≡ d
-  pub brackets : are_deep es ≡ true → OpensTooMany t

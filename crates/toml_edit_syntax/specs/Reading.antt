@@ -104,11 +104,6 @@ events_seen events (got a rest) = Some (events a rest)
 events_seen events (deep es) = Some es
 events_seen events wrong = None
 
--- the events of a text that begins at this byte and ends a text of so many bytes, in fewer than n
--- statements
-abbrev pub statements_read : ℕ → ℕ → ℕ → Text → Option (List Event)
-statements_read n whole at t = events_seen (events_with_final whole at) (statements_at n 0 at t)
-
 -- the events of a whole text
 abbrev pub text_read : Text → Option (List Event)
 text_read t = events_seen (λ d _. events_of d) (cut_of 0 t)
