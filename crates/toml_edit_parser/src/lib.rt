@@ -20,7 +20,7 @@ pub use options::ParseOptions;
 #[doc(hidden)]
 pub use pairs::KeyPath;
 #[doc(hidden)]
-pub use reader::{are_cut_short, raw, split_first};
+pub use reader::{raw, split_first};
 #[doc(hidden)]
 pub use slots::{add_last, push_item};
 #[doc(hidden)]

@@ -37,8 +37,7 @@ pub(crate) struct Close {
 }
 
 /// Returns `true` if the events of a text are cut short, at a bracket that is one too many.
-#[doc(hidden)]
-pub fn are_cut_short(events: &[Event]) -> bool
+pub(crate) fn are_cut_short(events: &[Event]) -> bool
     ensures { result ≡ are_deep events.now }
 {
     events
