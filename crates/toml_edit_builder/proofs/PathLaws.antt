@@ -35,7 +35,7 @@ use Rattle.toml_edit_parser.specs.ValueRead.{span_at}
 use Rattle.toml_edit_tree.specs.Containers.{TableView, TablesView, table_node, tables_node}
 use Rattle.toml_edit_builder.specs.declared.path.Kind.{Kind}
 use Rattle.toml_edit_builder.specs.declared.path.Kind.TheVariants as kinds
-use Rattle.toml_edit_builder.specs.TableRead.{addition_for, is_line, opened, with_element, AddsInside, AddsPath, Goes, IsHeaded, IsItemFor, IsKeyOf, IsPathOf, PutsLast}
+use Rattle.toml_edit_builder.specs.TableRead.{addition_for, is_line, opened, with_element, AddsBelow, AddsInPassed, AddsInside, AddsPath, Goes, IsHeaded, IsItemFor, IsKeyOf, IsPathOf, PutsLast}
 
 -- what stands in the way: a mention, and the item there
 abbrev pub Way : Type 0
@@ -46,10 +46,6 @@ Way = Option (Mention Source × Node)
 pub mapped : (e : ParseFault) (P Q : Report → Type 0) → ((r : Report) → P r → Q r) → IfToml e P → IfToml e Q
 mapped (Toml r) P Q f h = f r h
 mapped Memory P Q f h = tt
-
--- nothing but want of memory
-pub goes-err : (A : Type 0) {X : Type 0} (t : Text) (e : ParseFault) (want : Option X) (way : Way) (new : X) → IfToml e (λ r. ⊥) → Goes {A = A} t want way new (Err e)
-goes-err A t e want way new h = mapped e (λ r. ⊥) _ (λ r none. absurd none) h
 
 -- the same at other values
 pub goes-same : {A X : Type 0} (t : Text) (r : Result A ParseFault) (want want' : Option X) (way way' : Way) (new new' : X)
@@ -239,11 +235,6 @@ nothing-below a_table [] = refl
 nothing-below an_element [] = refl
 nothing-below a (m ∷ rest) = nothing-new a m rest
 
-pub below-refused : (t : Text) (e : ParseFault) (a : Addition) (ms : List (Mention Source)) (ss : Slots) → ss ≡ no_slots
-    → IfToml e (λ r. (r.input ≡ t) × (option_map table_way_fault (path_clash a ms ss) ≡ Some (fault_of r))) → IfToml e (λ r. ⊥)
-below-refused t e a ms ss is h =
-    mapped e _ _ (λ r named. absurd (let g = ap (option_map table_way_fault) (sym (nothing-below a ms) ∙ ap (path_clash a ms) (sym is)) ∙ named.1 in cc)) h
-
 -- ---- what stands in the way
 
 -- the item at a key is named
@@ -387,20 +378,27 @@ dotted-kind kinds.Line n = refl
 dotted-kind kinds.Table n = refl
 dotted-kind (kinds.Element brackets) n = refl
 
+map_twice : (h : Node → Slots) (f : TableFields) (o : Option Slots) → option_map (λ us. h (table f us)) o ≡ option_map h (option_map (table f) o)
+map_twice h f None = refl
+map_twice h f (Some us) = refl
+
 -- the table of a new key
-pub below-put : (mode : Mode) (kind : Kind) (n : Node) (ms : List (Mention Source)) (k : Key) (at : Span) (ss less inner new : Slots) (b : Bool) (x : Node) → less ≡ no_slots
-    → add_in_place mode (addition_for kind n) ms less ≡ Some inner → b ≡ is_line kind → x ≡ table (made_by_path (spanned_in mode) b (Some (at.start, at.end))) inner
-    → new ≡ with_slot ss k x
-    → option_map (λ us. with_slot ss k (table (made_by_path (spanned_in mode) (makes_dotted (addition_for kind n)) (Some (at.start, at.end))) us))
-    (add_in_place mode (addition_for kind n) ms no_slots) ≡ Some new
-below-put mode kind n ms k at ss less inner new b x none added line held put =
-    let a = addition_for kind n in
-    let h = λ (us : Slots). with_slot ss k (table (made_by_path (spanned_in mode) (makes_dotted a) (Some (at.start, at.end))) us) in
-    ap (λ (z : Slots). option_map h (add_in_place mode a ms z)) (sym none)
-    ∙ ap (option_map h) added
-    ∙ ap (λ (d : Bool). Some (with_slot ss k (table (made_by_path (spanned_in mode) d (Some (at.start, at.end))) inner))) (dotted-kind kind n ∙ sym line)
-    ∙ ap (λ (y : Node). Some (with_slot ss k y)) (sym held)
-    ∙ ap (λ (y : Slots). Some y) (sym put)
+pub below-put : (mode : Mode) {A : Type 0} (t : Text) (r : Result A ParseFault) (kind : Kind) (n : Node) (ms : List (Mention Source)) (k : Key) (at : Span) (ss new : Slots) (x : Node)
+    → AddsInPassed mode t (addition_for kind n) ms (made_by_path (spanned_in mode) (is_line kind) (Some (at.start, at.end))) x r → new ≡ with_slot ss k x
+    → AddsBelow mode t (addition_for kind n) k at ms ss new r
+below-put mode t r kind n ms k at ss new x added put =
+    let o = add_in_place mode (addition_for kind n) ms no_slots in
+    let f = made_by_path (spanned_in mode) (is_line kind) (Some (at.start, at.end)) in
+    goes-same t r _ _ None None new _
+    (ap (λ (d : Bool). option_map (λ us. with_slot ss k (table (made_by_path (spanned_in mode) d (Some (at.start, at.end))) us)) o) (dotted-kind kind n) ∙ map_twice (with_slot ss k) f o)
+    refl put (goes-on t r (with_slot ss k) (option_map (table f) o) None x added)
+
+-- in the table of a new key, as yet without slots
+pub in-passed : (mode : Mode) {A : Type 0} (t : Text) (r : Result A ParseFault) (a : Addition) (ms : List (Mention Source)) (held : TableView) (f : TableFields) (new : Node)
+    → table_node held ≡ table f no_slots → Goes t (change_table (add_in_place mode a ms) (table_node held)) (path_clash a ms held.slots) new r → AddsInPassed mode t a ms f new r
+in-passed mode t r a ms held f new is h =
+    let none : held.slots ≡ no_slots = cc in
+    goes-same t r _ _ _ _ new new (ap (change_table (add_in_place mode a ms)) (sym is)) (sym (ap (path_clash a ms) none ∙ nothing-below a ms)) refl h
 
 -- in the slots of a table
 pub in-slots : (mode : Mode) {A : Type 0} (t : Text) (r : Result A ParseFault) (a : Addition) (ms : List (Mention Source)) (held left : TableView) (old new : Slots) → old ≡ held.slots

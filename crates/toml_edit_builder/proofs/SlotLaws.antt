@@ -1,10 +1,11 @@
 -- The slots of a table as the definitions see them, at the place of a key.
-use Rattle.std.proofs.Common.{◌≡◌, ℕ, zero, suc, true, false, List, [], ◌∷◌, cond, Bool, refl, sym, ap, inl, inr, arith, Option, Some, None, option_map, slice_get, take}
+use Rattle.std.proofs.Common.{◌≡◌, ℕ, zero, suc, true, false, List, [], ◌∷◌, cond, Bool, refl, sym, ap, inl, inr, arith, Option, Some, None, option_map, slice_get, take, length, ◌∙◌}
 use Rattle.std.proofs.lemmas.Bool.{cases_Bool}
 use Rattle.std.proofs.lemmas.Cmp.{nat_list_eq_equiv}
 use Rattle.std.proofs.lemmas.Option.{same_Some}
 use Rattle.toml_edit_model.specs.Text.{Text, same_text}
 use Rattle.toml_edit_model.specs.Tree.{Key, Node, Slots, no_slots, slot}
+use Rattle.toml_edit_laws.specs.FlatTree.{with_slot}
 use Rattle.toml_edit_laws.specs.InlineTree.{node_at, with_node}
 use Rattle.toml_edit_laws.specs.InPlace.{replace_slot}
 use Rattle.toml_edit_slots.specs.declared.slots.Slot as repr
@@ -102,3 +103,37 @@ place-last [] at s here h = absurd cc
 place-last (e ∷ es) zero s here h = rw (same_Some e s here, nat_list_eq_equiv.refl s.key.name) refl
 place-last (e ∷ es) (suc at) s here h =
     place_last (is_at s.key.name e) (place s.key.name (take at es)) (place s.key.name es) at h (λ before. place-last es at s here before)
+
+-- ---- a slot that was pushed
+
+-- the slots are one more
+pub pushed-length : (es fs : List (repr.Slot Item)) (k : Key) (n : Node) → slots_view fs ≡ with_slot (slots_view es) k n → length fs ≡ suc (length es)
+pushed-length [] [] k n h = absurd cc
+pushed-length [] (f ∷ []) k n h = refl
+pushed-length [] (f ∷ g ∷ fs) k n h = absurd cc
+pushed-length (e ∷ es) [] k n h = absurd cc
+pushed-length (e ∷ es) (f ∷ fs) k n h = ap suc (pushed-length es fs k n (cc))
+
+-- its item
+pub pushed-item : (es fs : List (repr.Slot Item)) (k : Key) (n : Node) (x : Item) → slots_view fs ≡ with_slot (slots_view es) k n → Some x ≡ slice_get (items_of fs) (length es)
+    → item_view x ≡ n
+pushed-item [] [] k n x h g = absurd cc
+pushed-item [] (f ∷ fs) k n x h g = let e = same_Some x f.item g in let d : item_view f.item ≡ n = cc in ap item_view e ∙ d
+pushed-item (e ∷ es) [] k n x h g = absurd cc
+pushed-item (e ∷ es) (f ∷ fs) k n x h g = pushed-item es fs k n x (cc) g
+
+-- the slots with another item in it
+pub pushed-with : (es fs : List (repr.Slot Item)) (k : Key) (n : Node) (y : Item) → slots_view fs ≡ with_slot (slots_view es) k n
+    → slots_view (with_item (length es) y fs) ≡ with_slot (slots_view es) k (item_view y)
+pushed-with [] [] k n y h = absurd cc
+pushed-with [] (f ∷ fs) k n y h =
+    let d : f.key ≡ k = cc in
+    let r : slots_view fs ≡ no_slots = cc in
+    ap (λ (x : Key). slot x (item_view y) (slots_view fs)) d ∙ ap (slot k (item_view y)) r
+pushed-with (e ∷ es) [] k n y h = absurd cc
+pushed-with (e ∷ es) (f ∷ fs) k n y h =
+    let d : f.key ≡ e.key = cc in
+    let i : item_view f.item ≡ item_view e.item = cc in
+    ap (λ (x : Key). slot x (item_view f.item) (slots_view (with_item (length es) y fs))) d
+    ∙ ap (λ (x : Node). slot e.key x (slots_view (with_item (length es) y fs))) i
+    ∙ ap (slot e.key (item_view e.item)) (pushed-with es fs k n y (cc))

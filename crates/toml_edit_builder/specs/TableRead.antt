@@ -131,6 +131,12 @@ AddsBelow mode t a k at ms old new result =
     (add_in_place mode a ms no_slots))
     None new result
 
+-- adding it below the table of a new key, which has these fields and as yet no slots
+abbrev pub AddsInPassed : (mode : Mode) {A : Type 0} → Text → Addition → List (Mention Source)
+    → TableFields → Node → Result A ParseFault → Type 0
+AddsInPassed mode t a ms f new result =
+    Goes t (option_map (table f) (add_in_place mode a ms no_slots)) None new result
+
 -- adding it below this table
 abbrev pub AddsInTable : (mode : Mode) {A : Type 0} → Text → Addition → List (Mention Source)
     → TableView → TableView → Result A ParseFault → Type 0

@@ -1,10 +1,11 @@
 //! Adding what a statement states at the end of its path: down the path, key by key.
-ghost use Rattle.std.specs.Prelude.{◌≡◌, List, None, Some};
+ghost use Rattle.std.specs.Prelude.{◌≡◌, List, None, Some, OnOk};
 ghost use Rattle.toml_edit_model.specs.Mode.{Mode};
 ghost use Rattle.toml_edit_model.specs.Paths.{Mention, Source};
-ghost use Rattle.toml_edit_model.specs.Tree.{Node, table as table_of};
+ghost use Rattle.toml_edit_model.specs.Tree.{Node, TableFields, no_slots, table as table_of};
 ghost use Rattle.toml_edit_model.specs.TreeOf.{made_by_path, spanned_form};
 ghost use Rattle.toml_edit_laws.specs.AddPath.{a_value};
+ghost use Rattle.toml_edit_laws.specs.FlatTree.{with_slot};
 ghost use Rattle.toml_edit_slots.specs.Slots.{place};
 ghost use Rattle.toml_edit_syntax.specs.Events.{IsSpanOf};
 ghost use Rattle.toml_edit_parser.specs.Listed.{BlamesOnly, GivesListed};
@@ -12,7 +13,7 @@ ghost use Rattle.toml_edit_parser.specs.ValueRead.{AreIn};
 ghost use Rattle.toml_edit_tree.specs.Containers.{table_node, tables_node};
 ghost use Rattle.toml_edit_tree.specs.View.{item_view, slots_view, table_view, tables_view};
 ghost use Rattle.toml_edit_builder.specs.TableRead as spec;
-ghost use Rattle.toml_edit_builder.specs.TableRead.{AddsPath, IsPathOf, addition_for, AddsBelow, AddsInLast, AddsInTable, AddsPathInside, IfAdded, IfAddedAfter};
+ghost use Rattle.toml_edit_builder.specs.TableRead.{AddsPath, IsPathOf, addition_for, AddsBelow, AddsInLast, AddsInPassed, AddsInTable, AddsPathInside, IfAdded, IfAddedAfter};
 
 use crate::block::place_of;
 use crate::duplicate::duplicate_key;
@@ -24,6 +25,7 @@ use toml_edit_key::Key;
 use toml_edit_parser::{
     Fault, KeyPath, PathKey, add_last, malformed, next_key, push_item, refusal,
 };
+use toml_edit_repr::Mem;
 use toml_edit_slots::Slots;
 use toml_edit_syntax::Span;
 use toml_edit_tree::{ArrayOfTables, Item, Table};
@@ -150,20 +152,47 @@ fn add_below(
     ensures input { BlamesOnly adding.now.source.now result }
     ensures listed { GivesListed result }
 {
-    let mut inner = Slots::new(adding.alloc);
-    add_path(adding, path, item, &mut inner)?;
-    let mut passed = passed_item(is_line(adding.kind), span, inner);
-    push_item(slots, key, &mut passed)?;
-    Ok(())
+    let at = slots.len();
+    push_passed(adding, key, span, slots)?;
+    add_in_passed(adding, path, item, slots.item_mut(at))
 }
 
-/// Makes the table of a key that a path passes through.
-fn passed_item(dotted: bool, span: Span, slots: Slots<Item>) -> Item
-    ensures { item_view result
-        ≡ table_of (made_by_path spanned_form dotted (Some (span.start, span.end)))
-        (slots_view slots) }
+/// Adds the empty table of a new key that a path passes through.
+#[inline(always)]
+fn push_passed(adding: &Adding<'_>, key: Key, span: Span, slots: &mut Slots<Item>) -> Mem<()>
+    requires { place key.name slots.old ≡ None }
+    ensures { OnOk result (slots_view slots.new ≡ with_slot (slots_view slots.old) key
+        (table_of (made_by_path spanned_form (spec.is_line adding.now.kind)
+        (Some (span.start, span.end))) no_slots)) }
 {
-    Item::Table(Table::passed(slots, dotted, span.start, span.end))
+    let inner = Slots::new(adding.alloc);
+    let table = Table::passed(inner, is_line(adding.kind), span.start, span.end);
+    let mut passed = Item::Table(table);
+    push_item(slots, key, &mut passed)
+}
+
+/// Adds an item at the end of the rest of a path in this item, the empty table of a new key.
+#[cycle(path)]
+#[inline(always)]
+fn add_in_passed(
+    adding: &Adding<'_>,
+    path: KeyPath<'_>,
+    item: &mut Item,
+    holder: &mut Item,
+) -> Result<(), ParseFault>
+    requires { AreIn adding.now.source.now path.events.now }
+    ensures added { (mode : Mode) (s : Source) (ms : List (Mention Source)) (f : TableFields)
+        → item_view holder.old ≡ table_of f no_slots
+        → IfAdded mode adding.now s ms (item_view item.old) path.entry
+        (AddsInPassed mode adding.now.source.now (addition_for adding.now.kind (item_view item.old))
+        ms f (item_view holder.new) result) }
+    ensures input { BlamesOnly adding.now.source.now result }
+    ensures listed { GivesListed result }
+{
+    match holder {
+        Item::Table(table) => add_in_slots(adding, path, item, table),
+        _ => Err(malformed(adding.alloc, adding.source)),
+    }
 }
 
 /// Adds an item at the end of the rest of a path, below an existing key with this item.

@@ -1,12 +1,13 @@
 -- Each exit of the descent along a path.
-use Rattle.std.proofs.Common.{ℕ, ◌≡◌, ◌-◌, length, refl, ap, sym, ◌∙◌, arith, rules, Some, get_or, set, vec_len, inr}
+use Rattle.std.proofs.Common.{ℕ, ◌≡◌, ◌-◌, length, refl, ap, sym, ◌∙◌, arith, rules, Some, get_or, set, slice_get, vec_len, inr}
 use Rattle.std.proofs.lemmas.Result.{err_from_is_err_and}
 use Rattle.toml_edit_model.specs.Version.{v1_1}
 use Rattle.toml_edit_model.specs.Faults.{duplicate_key}
 use Rattle.toml_edit_model.specs.Text.{Text}
+use Rattle.toml_edit_model.specs.Tree.{no_slots, table}
 use Rattle.toml_edit_laws.specs.AddPath.{last_item, path_clash}
 use Rattle.toml_edit_laws.specs.TableClash.{table_way_message}
-use Rattle.toml_edit_slots.specs.Slots.{place}
+use Rattle.toml_edit_slots.specs.Slots.{items_of, place, with_item}
 use Rattle.toml_edit_tree.specs.declared.item.Item.{Item, the_lemmas}
 use Rattle.toml_edit_tree.specs.Containers.{table_node, tables_node}
 use Rattle.toml_edit_tree.specs.View.{item_view, items_view, slots_view, table_view, tables_view, value_view}
@@ -14,9 +15,9 @@ use Rattle.toml_edit_parser.specs.declared.key_path.PathKey.{PathKey}
 use Rattle.toml_edit_parser.specs.Faults.{fault_message}
 use Rattle.toml_edit_tree.specs.declared.value.Value.{Value}
 use Rattle.toml_edit_builder.specs.TableRead.{addition_for}
-use Rattle.toml_edit_builder.proofs.ItemLaws.{last-at, last-set, no-items, tables-set, tables-is, value-node, view-None, view-Value}
-use Rattle.toml_edit_builder.proofs.PathLaws.{below-put, below-refused, empty-stops, header-in, header-stops, in-slots, last-here, line-in, mapped, new-here, nothing-stops, refused-key, step-of, stopped, tables-in, tables-stop, there-here, value-stops}
-use Rattle.toml_edit_builder.proofs.SlotLaws.{node-none, node-some, with-place}
+use Rattle.toml_edit_builder.proofs.ItemLaws.{last-at, last-set, no-items, tables-set, tables-is, value-node, view-None, view-Table, view-Value}
+use Rattle.toml_edit_builder.proofs.PathLaws.{below-put, empty-stops, header-in, header-stops, in-passed, in-slots, last-here, line-in, mapped, new-here, nothing-stops, refused-key, step-of, stopped, tables-in, tables-stop, there-here, value-stops}
+use Rattle.toml_edit_builder.proofs.SlotLaws.{node-none, node-some, pushed-item, pushed-length, pushed-with, with-place}
 use Rattle.toml_edit_builder.proofs.path.+path.Goals as goal
 use Rattle.toml_edit_builder.proofs.path.+path.Goals.{add_in_table-then-is_line+else-not-is_implicit, add_in_table-else-is_line}
 
@@ -59,20 +60,32 @@ add_path-returns-in-Some-place_of-clause-added t c =
 
 -- ---- below a new key
 
-pub add_below-returns-in_err-add_path-clause-added : goal.add_below-returns-in_err-add_path-clause-added
-add_below-returns-in_err-add_path-clause-added t c =
-    λ mode s ms head at.
-    let q = err_from_is_err_and c.from_residual.result c.from_residual.ensures.1 in
-    rw (q.1, q.2) (mapped c.in_err-add_path.field-0.0 (λ r. ⊥) _ (λ r none. absurd none)
-    (below-refused c.args.adding.now.source.now c.in_err-add_path.field-0.0 (addition_for c.args.adding.now.kind (item_view c.args.item.now)) ms _ (ap slots_view c.new-inner.ensures)
-    (c.in_err-add_path.ensures.added mode s ms head at)))
+pub add_below-item_mut-requires : goal.add_below-item_mut-requires
+add_below-item_mut-requires t c =
+    let n = pushed-length c.args.slots.now c.push_passed.new.slots c.args.key _ c.in_ok-push_passed.ensures in
+    omega (arith, n)
 
 pub add_below-returns-clause-added : goal.add_below-returns-clause-added
 add_below-returns-clause-added t c =
     λ mode s ms head at.
-    below-put mode c.args.adding.now.kind (item_view c.args.item.now) ms c.args.key c.args.span (slots_view c.args.slots.now) _ (slots_view c.add_path.new.slots) _ c.is_line.result
-    (item_view c.passed_item-passed.result) (ap slots_view c.new-inner.ensures) (c.in_ok-add_path.ensures.added mode s ms head at) c.is_line.ensures c.passed_item-passed.ensures
-    c.in_ok-push_item.ensures
+    let es = c.args.slots.now in
+    let fs = c.push_passed.new.slots in
+    let put = c.in_ok-push_passed.ensures in
+    let there = c.item_mut.ensures.item ∙ ap (λ (i : ℕ). slice_get (items_of fs) i) c.len-at.ensures in
+    below-put mode c.args.adding.now.source.now c.add_in_passed.result c.args.adding.now.kind (item_view c.args.item.now) ms c.args.key c.args.span (slots_view es) _
+    (item_view c.add_in_passed.new.holder)
+    (c.add_in_passed.ensures.added mode s ms _ (pushed-item es fs c.args.key _ c.item_mut.result.now put there) head at)
+    (ap (λ (i : ℕ). slots_view (with_item i c.add_in_passed.new.holder fs)) c.len-at.ensures ∙ pushed-with es fs c.args.key _ c.add_in_passed.new.holder put)
+
+pub add_in_passed-returns-in-Table-clause-added : goal.add_in_passed-returns-in-Table-clause-added
+add_in_passed-returns-in-Table-clause-added t c =
+    λ mode s ms f empty head at.
+    let a = addition_for c.args.adding.now.kind (item_view c.args.item.now) in
+    let held = table_view c.in-Table.table in
+    let seen : table_node held ≡ table f no_slots = sym (ap item_view c.in-Table.is ∙ view-Table c.in-Table.table) ∙ empty in
+    let added = c.add_in_slots.ensures.added mode s ms head at in
+    let told = in-passed mode c.args.adding.now.source.now c.add_in_slots.result a ms held f (table_node (table_view c.add_in_slots.new.table)) seen (rw c.in-Table.table-is at added) in
+    search (rules, the_lemmas)
 
 -- ---- below a key that is there
 

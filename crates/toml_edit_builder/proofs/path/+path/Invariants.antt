@@ -6,7 +6,10 @@ abbrev pub decreases-add_path : goal.decreases-add_path
 decreases-add_path l = 5 * length l.path.events.now
 
 abbrev pub decreases-add_below : goal.decreases-add_below
-decreases-add_below l = 5 * length l.path.events.now + 1
+decreases-add_below l = 5 * length l.path.events.now + 3
+
+abbrev pub decreases-add_in_passed : goal.decreases-add_in_passed
+decreases-add_in_passed l = 5 * length l.path.events.now + 2
 
 abbrev pub decreases-add_in_item : goal.decreases-add_in_item
 decreases-add_in_item l = 5 * length l.path.events.now + 4
