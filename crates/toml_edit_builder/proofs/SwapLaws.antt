@@ -22,10 +22,6 @@ pub name-is : (block : List Text) (k : Text) (rest : List Text) → ◌≡◌ {A
 name-is [] k rest h = absurd cc
 name-is (j ∷ js) k rest h = let e : ◌≡◌ {A = Text × List Text} (k, rest) (j, js) = cc in ap (λ (p : Text × List Text). p.0 ∷ p.1) (sym e)
 
-pub no-name : (block : List Text) → ◌≡◌ {A = Option (Text × List Text)} None (split_name block) → block ≡ []
-no-name [] h = refl
-no-name (j ∷ js) h = absurd cc
-
 pub swap-all : (block : List Text) (others ss out new : Slots) → block ≡ [] → out ≡ ss → new ≡ others
     → Swaps (slots_along block ss) others ss (put_along block others ss) out new
 swap-all block others ss out new p e f = rw p (λ inner h. (e ∙ some-is ss inner h, f), λ h. absurd cc)
