@@ -161,7 +161,8 @@ fn with_share(counted: usize, behind: Behind<'_>, goes_on: usize) -> usize {
     if goes_on == 0 {
         return counted;
     }
-    let here = line_count(covered(behind.source, behind.events));
+    let covered = covered(behind.source, behind.events);
+    let here = lines_in(covered, covered.len());
     if here == 0 {
         return counted;
     }
@@ -187,13 +188,8 @@ fn part(bytes: &[u8], start: usize, end: usize) -> &[u8] {
     }
 }
 
-/// Returns the number of newlines.
-fn line_count(bytes: &[u8]) -> usize {
-    memchr_iter(b'\n', bytes).count()
-}
-
 /// The most bytes in which lines are counted to estimate their number in all.
-const SAMPLE: usize = 4096;
+const SAMPLE: usize = 2048;
 
 /// Returns about how many lines are in the first `len` bytes, as those in their middle tell.
 fn lines_in(bytes: &[u8], len: usize) -> usize {
@@ -202,5 +198,6 @@ fn lines_in(bytes: &[u8], len: usize) -> usize {
     if sample.is_empty() {
         return 0;
     }
-    line_count(sample).saturating_mul(len) / sample.len()
+    let lines = memchr_iter(b'\n', sample).count();
+    lines.saturating_mul(len) / sample.len()
 }
