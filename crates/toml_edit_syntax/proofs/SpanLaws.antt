@@ -23,7 +23,7 @@ boundary t xs ys n e ascii len =
     let here : get_or t n 0 ≡ first ys = ap (λ (x : Text). get_or x n 0) e ∙ get_or-append_right xs ys n n 0 len (omega arith) ∙ ap (λ (k : ℕ). get_or ys k 0) (omega arith) in
     (omega (arith, ap length e, length-append xs ys), λ within wide. absurd (omega (arith, here)))
 
--- a boundary so far into a text, and what stands there
+-- a boundary after so many bytes of a text, and what follows it
 pub record Cut (t : Text) (n : ℕ) (rest : Text) : Type 0 where
   pub before : Text
   pub parts : t ≡ before ++ rest

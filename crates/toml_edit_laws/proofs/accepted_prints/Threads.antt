@@ -70,7 +70,7 @@ OwnOf p q dotted_role = Unit {0}
 OwnOf p q implied_role = Unit {0}
 OwnOf p q continued_role = Unit {0}
 
--- the arrays so far are those of the headers before
+-- the arrays up to here are those of the headers before
 abbrev Counts : List Path → List Visit → Type 0
 Counts A before = (q : Path) → elements_at A q ≡ elements_in q before
 

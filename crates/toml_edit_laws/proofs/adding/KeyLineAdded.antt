@@ -1,4 +1,4 @@
--- A key line that is added to the slots of the root gives the slots of all statements so far.
+-- A key line that is added to the slots of the root gives the slots of all statements up to it.
 use Rattle.std.proofs.Common.{◌≡◌, refl, sym, subst, ◌+◌, List, [], ◌∷◌, ◌++◌, Some}
 use Rattle.toml_edit_model.specs.Mode.{Mode}
 use Rattle.toml_edit_model.specs.Text.{Text}

@@ -33,7 +33,7 @@ IsReached (at_element i ∷ p) ms = IsReached p (under (at_element i) ms)
 abbrev pub AreReachedIn : {S : Type 0} → List (Mention S) → List (Mention S) → Type 0
 AreReachedIn {S} all ms = (m : Mention S) → Among m ms → IsReached m.path all
 
--- What one table sees of the statements so far: paths end in the keys of their segments, no path has two plain headers, each
+-- What one table sees of the statements up to here: paths end in the keys of their segments, no path has two plain headers, each
 -- key on the way to a path is mentioned, and plain headers stand in statements with brackets.
 pub record AreOfTable (ms : List (Mention Source)) : Type 0 where
   pub named : AreNamed ms

@@ -79,7 +79,7 @@ module _ (mode : Mode) where
       ∙ ap (λ b. is_sound s && b) (agree-each (done_places d done) (mentions_of (context_behind d done) s))
 
   module _ (d : Document) (done : List Statement) (s : Statement) (rest : List Statement) (keyed : AllByRecursion HasKey d.statements) (is : d.statements ≡ done ++ (s ∷ rest)) (b : Builder) (behind_done : IsBehind mode d done b) where
-    -- the context, and the mentions so far
+    -- the context, and the mentions up to here
     abbrev c : Context
     c = context_behind d done
 

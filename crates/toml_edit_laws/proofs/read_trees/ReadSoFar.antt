@@ -94,7 +94,7 @@ header-more source arrays role start p (s ∷ r ∷ rest) plain m (inr a) made =
     let more = header-more source arrays role (next_start start s) (in_last (elements_at arrays here) here) (r ∷ rest) plain m a made in
     record { mention = more.mention; among = inr more.among; step = more.step; rest = more.rest; path = more.path }
 
--- ---- the statements so far
+-- ---- the statements up to here
 
 pub record ReadSoFar (c : Context) (ms : List (Mention Source)) : Type 0 where
   pub before : AreBefore c ms

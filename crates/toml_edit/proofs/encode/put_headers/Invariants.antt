@@ -1,4 +1,4 @@
--- The text so far, and that of the headers to come, are the whole text.
+-- The text up to here, and that of the headers to come, are the whole text.
 use Rattle.std.proofs.Common.{◌≡◌, List, ℕ, ◌++◌, drop, map}
 use Rattle.std.specs.Fmt.{WritesInCalls}
 use Rattle.toml_edit_laws.specs.PrintByVisits.{headers_text}

@@ -1,4 +1,4 @@
--- The names so far, and what is left of the path.
+-- The names that were read, and what is left of the path.
 use Rattle.std.proofs.Common.{ℕ, List, length}
 use Rattle.toml_edit_model.specs.Syntax.{Segment, path_text}
 use Rattle.toml_edit_model.specs.Tree.{Decor}

@@ -1,4 +1,4 @@
--- What is put so far, and the places that are left.
+-- What was put, and the places that are left.
 use Rattle.std.proofs.Common.{◌≡◌, ℕ, suc, ◌*◌, ◌^◌, ◌<◌, List, ◌++◌}
 use Rattle.std.specs.Fmt.{WritesInCalls}
 use Rattle.toml_edit_model.specs.DefaultSpelling.{fraction_digits}

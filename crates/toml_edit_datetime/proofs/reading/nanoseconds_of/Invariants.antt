@@ -1,4 +1,4 @@
--- The places so far are read.
+-- The places up to here are read.
 use Rattle.std.proofs.Common.{◌≡◌, ◌^◌, ◌<◌, ◌++◌, take}
 use Rattle.std.specs.Str.Parse.{digits_value}
 use Rattle.toml_edit_datetime.proofs.Fractions.{zeros}

@@ -1,4 +1,4 @@
--- The marks so far lead to what the whole walk comes to.
+-- The marks up to here lead to what the whole walk comes to.
 use Rattle.std.proofs.Common.{◌≡◌, drop}
 use Rattle.toml_edit_tree.specs.View.{items_view, slots_view}
 use Rattle.toml_edit_fits.specs.EarlyTests.{early_items, early_slots, past_items, past_slots}

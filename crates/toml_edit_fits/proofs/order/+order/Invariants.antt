@@ -1,4 +1,4 @@
--- The marks so far lead over what is to come to those behind all.
+-- The marks up to here lead over what is to come to those after all.
 use Rattle.std.proofs.Common.{◌≡◌, drop}
 use Rattle.toml_edit_tree.specs.View.{items_view, slots_view}
 use Rattle.toml_edit_fits.specs.OrderTests.{order_items, order_slots}

@@ -1,4 +1,4 @@
--- Behind the bytes so far, what is to come leaves a comment open just where all does.
+-- After the bytes up to here, the rest leaves a comment open just where all of them do.
 use Rattle.std.proofs.Common.{◌≡◌, false, length}
 use Rattle.toml_edit_model.specs.Mode.{shown_text}
 use Rattle.toml_edit_repr.specs.Modes.{mode_of}

@@ -1,4 +1,4 @@
--- The name sorts before no key so far.
+-- The name sorts before none of the keys up to here.
 use Rattle.std.proofs.Common.{◌≡◌, ◌+◌, drop}
 use Rattle.toml_edit.specs.tree.SlotsOf.{slots_of}
 use Rattle.toml_edit_jobs.specs.Sorted.{sorted_place}

@@ -1,4 +1,4 @@
--- The report has the keys so far.
+-- The report has the keys up to here.
 use Rattle.std.proofs.Common.{◌≡◌, ◌++◌, codes, flat_map, map, string_bytes, take}
 use Rattle.toml_edit_jobs.proofs.lint.misfit.Given as goal
 

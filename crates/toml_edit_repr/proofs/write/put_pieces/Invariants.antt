@@ -1,4 +1,4 @@
--- The text so far, and the rest without its carriage returns, are the whole text without them.
+-- The text up to here, and the rest without its carriage returns, are the whole text without them.
 use Rattle.std.proofs.Common.{◌≡◌, List, ℕ, ◌++◌, length}
 use denote.Text.{Utf8}
 use denote.Shadow.{shadow}

@@ -1,4 +1,4 @@
--- What was read so far was taken from the input, with no fault.
+-- What was read was taken from the input, with no fault.
 use Rattle.std.proofs.Common.{◌≡◌}
 use Rattle.std.specs.Io.KnownBytes.{Consumes}
 use Rattle.toml_edit_stream.proofs.streams.read_to_end.Given as goal

@@ -1,4 +1,4 @@
--- What was written so far is a beginning of the text, with no fault.
+-- What was written is a beginning of the text, with no fault.
 use Rattle.std.proofs.Common.{◌≡◌, ◌-◌, ◌≤◌, length, take}
 use Rattle.std.specs.Io.KnownBytes.{Appends}
 use Rattle.toml_edit_stream.proofs.streams.write_all.Given as goal

@@ -1,4 +1,4 @@
--- The bytes so far are of the gap.
+-- The bytes up to here are of the gap.
 use Rattle.std.proofs.Common.{◌≡◌, ◌+◌, drop}
 use Rattle.toml_edit_laws.specs.reading.BlockReading.{gap_len}
 use Rattle.toml_edit_token.proofs.block_string.gap_len.Given as goal

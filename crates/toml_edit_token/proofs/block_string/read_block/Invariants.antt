@@ -1,4 +1,4 @@
--- What is left is read as it is within the whole, behind what the string says so far.
+-- What is left is read as it is within the whole, after what the string says up to here.
 use Rattle.std.proofs.Common.{length, string_bytes}
 use denote.Text.{Utf8}
 use denote.Shadow.{shadow}

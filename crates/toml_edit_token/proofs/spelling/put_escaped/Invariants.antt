@@ -1,4 +1,4 @@
--- The text so far, and that of the bytes to come, are the whole text.
+-- The text up to here, and that of the bytes to come, are the whole text.
 use Rattle.std.proofs.Common.{◌≡◌, List, ℕ, ◌++◌, length}
 use denote.Text.{Utf8}
 use denote.Shadow.{shadow}

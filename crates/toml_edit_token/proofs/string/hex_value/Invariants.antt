@@ -1,4 +1,4 @@
--- The digits to come are read as they are within the whole, and the number so far is small.
+-- The digits to come are read as they are within the whole, and the number up to here is small.
 use Rattle.std.proofs.Common.{◌≡◌, ◌^◌, ◌<◌, drop}
 use Rattle.std.specs.List.{list_all}
 use Rattle.std.specs.Char.{is_digit}

@@ -1,4 +1,4 @@
--- The items so far are formatted.
+-- The items up to here are formatted.
 use Rattle.toml_edit_tree.proofs.FormatLaws.{Formats}
 use Rattle.toml_edit_tree.proofs.array.format_items.Given as goal
 

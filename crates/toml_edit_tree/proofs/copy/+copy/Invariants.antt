@@ -1,4 +1,4 @@
--- The copies so far look like the first of the items.
+-- The copies up to here look like the first of the items.
 use Rattle.std.proofs.Common.{◌≡◌, map, take}
 use Rattle.toml_edit_slots.specs.Slots.{on_item}
 use Rattle.toml_edit_tree.specs.View.{item_view}

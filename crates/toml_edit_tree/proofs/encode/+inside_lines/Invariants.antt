@@ -1,4 +1,4 @@
--- The text so far, and the lines of the slots to come, are all lines.
+-- The text up to here, and the lines of the slots to come, are all lines.
 use Rattle.std.proofs.Common.{◌≡◌, List, ℕ, ◌++◌, drop}
 use Rattle.std.specs.Fmt.{WritesInCalls}
 use Rattle.toml_edit_model.specs.Print.{inside_lines}

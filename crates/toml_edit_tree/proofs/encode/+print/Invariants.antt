@@ -1,4 +1,4 @@
--- The text so far, and that of the items or pairs to come, are the whole text.
+-- The text up to here, and that of the items or pairs to come, are the whole text.
 use Rattle.std.proofs.Common.{◌≡◌, List, ℕ, true, ◌++◌, drop}
 use Rattle.std.specs.Fmt.{WritesInCalls}
 use Rattle.std.specs.Option.{option_copied}

@@ -1,4 +1,4 @@
--- The lines so far, and those of the slots to come, are all lines.
+-- The lines up to here, and those of the slots to come, are all lines.
 use Rattle.std.proofs.Common.{◌≡◌, ◌++◌, drop, map}
 use Rattle.toml_edit_model.specs.Iterating.{line_value}
 use Rattle.toml_edit_model.specs.Mode.{plain}

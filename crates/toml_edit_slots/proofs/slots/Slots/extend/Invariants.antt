@@ -1,4 +1,4 @@
--- The pairs so far are in.
+-- The pairs up to here are in.
 use Rattle.toml_edit_slots.specs.Seen.{Adds}
 use Rattle.toml_edit_slots.proofs.slots.Slots.extend.Given as goal
 

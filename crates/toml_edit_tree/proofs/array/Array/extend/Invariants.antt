@@ -1,4 +1,4 @@
--- The values so far are there.
+-- The values up to here are there.
 use Rattle.toml_edit_tree.specs.ElementParts.{AddsValues}
 use Rattle.toml_edit_tree.proofs.array.Array.extend.Given as goal
 

@@ -1,4 +1,4 @@
--- The tables so far are there.
+-- The tables up to here are there.
 use Rattle.toml_edit_tree.specs.ElementParts.{AddsTables}
 use Rattle.toml_edit_tree.proofs.array_of_tables.ArrayOfTables.extend.Given as goal
 

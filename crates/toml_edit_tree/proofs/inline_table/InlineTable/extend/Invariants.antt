@@ -1,4 +1,4 @@
--- The pairs so far are in.
+-- The pairs up to here are in.
 use Rattle.toml_edit_tree.specs.InlineParts.{AddsValues}
 use Rattle.toml_edit_tree.proofs.inline_table.InlineTable.extend.Given as goal
 

@@ -1,4 +1,4 @@
--- The values so far are counted.
+-- The values up to here are counted.
 use Rattle.std.proofs.Common.{◌≡◌, ◌≤◌, ◌+◌, drop, length}
 use Rattle.toml_edit_model.specs.Iterating.{valued}
 use Rattle.toml_edit_model.specs.Lists.{slot_list}

@@ -1,4 +1,4 @@
--- The items so far are counted.
+-- The items up to here are counted.
 use Rattle.std.proofs.Common.{◌≡◌, ◌≤◌, ◌+◌, drop, length}
 use Rattle.toml_edit_model.specs.Iterating.{filled}
 use Rattle.toml_edit_model.specs.Lists.{slot_list}
