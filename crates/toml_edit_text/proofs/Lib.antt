@@ -1,0 +1,5 @@
+mod ShownLaws
+mod StripBytes
+mod StripFields
+mod StripNames
+mod StripRows

@@ -1,0 +1,4 @@
+pub mod BoxedText
+pub mod LeakedText
+pub mod Shown
+pub mod Strip
