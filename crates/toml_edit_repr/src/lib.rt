@@ -9,6 +9,7 @@ pub mod float_datetime;
 pub mod mode;
 pub mod raw_string;
 pub mod repr;
+mod short_text;
 pub mod string_integer_boolean;
 pub mod write;
 

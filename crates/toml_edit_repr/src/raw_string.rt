@@ -4,11 +4,13 @@ ghost use Rattle.std.specs.Option.{option_copied};
 ghost use Rattle.toml_edit_model.specs.Tree.{owned, span};
 ghost use Rattle.toml_edit_model.specs.OwnedForm.{RawFits, cut_out, owned_raw};
 
-use arrayvec::ArrayString;
+use crate::short_text::ShortText;
 use std::alloc::{AllocError, Global};
 use std::hash::{Hash, Hasher};
 use std::marker::Model;
+use std::mem::size_of;
 use std::ops::Range;
+use toml_edit_text::{BoxedText, LeakedText};
 
 /// The result of a call that fails only when out of memory.
 ///
@@ -21,16 +23,20 @@ use std::ops::Range;
 /// From `add_dependency` of the guide, docs/GUIDE.md.
 pub type Mem<T> = Result<T, AllocError>;
 
-/// The forms of a raw text. Short texts are stored in place.
+/// The forms of a raw text. Each fits into three words, since a slot of a table holds eight texts.
 #[derive(Debug, Drop)]
 enum Inner {
     // These three take no memory.
     Empty,
     Space,
-    Short(ArrayString<16>),
-    Text(String),
+    Short(ShortText),
+    Long(BoxedText),
+    // The text of a `String`, if there was no memory for a block of its size.
+    Kept(LeakedText),
     Span(usize, usize),
 }
+
+const _: () = prove!(size_of::<Inner>() == 24);
 
 /// A raw piece of a TOML text, such as whitespace and comments, or a spelling.
 ///
@@ -78,8 +84,8 @@ impl RawString {
     ///
     /// # Errors
     ///
-    /// Returns an `AllocError` if out of memory. A text of at most 16 bytes takes none. For a
-    /// `String` use `RawString::from`, which takes none either.
+    /// Returns an `AllocError` if out of memory. A text of at most 16 bytes takes none. To make one
+    /// of a `String`, which never fails, use `RawString::from`.
     pub fn from_text(alloc: Global, text: &str) -> Mem<RawString>
         ensures ok { IfOk result (λ raw. raw ≡ owned text.now) }
         ensures free { IsTrue (is_free text.now) → IsOk result }
@@ -102,13 +108,13 @@ impl RawString {
         ensures ok { IfOk result (λ raw. raw ≡ owned text.now) }
         ensures free { IsTrue (is_free text.now) → IsOk result }
     {
-        if let Ok(short) = ArrayString::from(text) {
+        if let Some(short) = ShortText::from_text(text) {
             return Ok(RawString {
                 inner: Inner::Short(short),
             });
         }
         Ok(RawString {
-            inner: Inner::Text(String::from_str(alloc, text)?),
+            inner: Inner::Long(BoxedText::from_text(alloc, text)?),
         })
     }
 
@@ -131,7 +137,8 @@ impl RawString {
             Inner::Empty => Some(""),
             Inner::Space => Some(" "),
             Inner::Short(text) => Some(text.as_str()),
-            Inner::Text(text) => Some(text.as_str()),
+            Inner::Long(text) => Some(text.as_str()),
+            Inner::Kept(text) => Some(text.as_str()),
             Inner::Span(_, _) => None,
         }
     }
@@ -150,10 +157,9 @@ impl RawString {
             Inner::Space => Ok(RawString {
                 inner: Inner::Space,
             }),
-            Inner::Short(text) => Ok(RawString {
-                inner: Inner::Short(*text),
-            }),
-            Inner::Text(text) => RawString::from_text(alloc, text.as_str()),
+            Inner::Short(text) => RawString::from_text(alloc, text.as_str()),
+            Inner::Long(text) => RawString::from_text(alloc, text.as_str()),
+            Inner::Kept(text) => RawString::from_text(alloc, text.as_str()),
             Inner::Span(start, end) => Ok(RawString::from_span(*start, *end)),
         }
     }
@@ -239,14 +245,25 @@ fn covered(source: &str, start: usize, end: usize) -> Option<&str>
     }
 }
 
-/// Makes a raw text of the string, without a copy.
+/// Makes a raw text of the string. It never fails.
+///
+/// A text of more than 16 bytes is copied into a block of its own size. If there is no memory for
+/// that, it stays in the block of the string, which is never freed then.
 impl From<String> for RawString {
     ghost from_gives = { λ text raw. raw ≡ owned (string_bytes text) };
 
     fn from(text: String) -> RawString {
-        RawString {
-            inner: Inner::Text(text),
+        if let Some(short) = ShortText::from_text(text.as_str()) {
+            return RawString {
+                inner: Inner::Short(short),
+            };
         }
+        let alloc = *text.allocator();
+        let inner = match BoxedText::from_text(alloc, text.as_str()) {
+            Ok(text) => Inner::Long(text),
+            Err(_) => Inner::Kept(LeakedText::new(text)),
+        };
+        RawString { inner }
     }
 }
 
