@@ -214,7 +214,7 @@ fn put_element(
     match place_of(slots, key.get()) {
         Some(place) => add_element(alloc, source, brackets, at, item, slots.item_mut(place)),
         None => {
-            let room = elements_behind(key.get(), adding.behind);
+            let room = elements_behind(key.get(), brackets, adding.behind);
             put_tables(room, brackets, key, item, slots)?;
             Ok(())
         }

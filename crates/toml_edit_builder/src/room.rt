@@ -2,7 +2,7 @@
 //!
 //! It is counted in the events that follow, and estimated for what is behind their batch. Nothing
 //! but memory depends on it.
-use memchr::{memchr_iter, memmem};
+use memchr::memchr_iter;
 use toml_edit_syntax::{Event, EventKind, Span};
 
 /// What follows a header.
@@ -32,8 +32,8 @@ struct SlotCount {
 /// Returns the number of slots that a table is to have room for: one for each key line without a
 /// dot, and one for each table right below it whose header follows.
 ///
-/// If the table goes on behind the batch, it is taken to go on in the same way: up to the next line
-/// that begins with a bracket, or for a root with headers to the end.
+/// If the table goes on behind the batch, it is taken to go on in the same way: up to the next
+/// header, or for a root with headers to the end.
 #[inline(never)]
 pub(crate) fn room_for(behind: Behind<'_>) -> usize {
     let Behind { keys, events, .. } = behind;
@@ -63,11 +63,10 @@ pub(crate) fn room_for_root(source: &str, events: &[Event], ahead: &str) -> usiz
 }
 
 /// Returns the number of elements that an array of tables of this name is to have room for after
-/// its first: one for each header of it that follows before any of another table beside it.
-///
-/// If none of another table follows in the batch, the text is taken to go on in the same way.
+/// its first, whose header has these brackets: one for each header of it that follows before any of
+/// another table beside it.
 #[inline(never)]
-pub(crate) fn elements_behind(name: &str, behind: Behind<'_>) -> usize {
+pub(crate) fn elements_behind(name: &str, brackets: Span, behind: Behind<'_>) -> usize {
     let Behind {
         source,
         keys,
@@ -97,7 +96,51 @@ pub(crate) fn elements_behind(name: &str, behind: Behind<'_>) -> usize {
             _ => {}
         }
     }
-    with_share(elements, behind, ahead.len())
+    let header = part(source.as_bytes(), brackets.start, brackets.end);
+    elements.saturating_add(headers_in(ahead.as_bytes(), header))
+}
+
+/// Returns how many headers of this spelling, in double brackets, the text goes on with, before any
+/// of a table that is not below it.
+///
+/// No part of a text is read for many arrays, but for those inside one another.
+fn headers_in(text: &[u8], header: &[u8]) -> usize {
+    let path = part(header, 2, header.len().saturating_sub(2));
+    let mut headers: usize = 0;
+    for at in memchr_iter(b'[', text) {
+        if !begins_line(text, at) {
+            continue;
+        }
+        let line = part(text, at, text.len());
+        if line.starts_with(header) {
+            headers = headers.saturating_add(1);
+        } else if !is_below(line, path) {
+            return headers;
+        }
+    }
+    headers
+}
+
+/// Returns `true` if the line begins with the header of a table below this path.
+fn is_below(line: &[u8], path: &[u8]) -> bool {
+    let keys = match line {
+        [b'[', b'[', keys @ ..] => keys,
+        [_, keys @ ..] => keys,
+        [] => line,
+    };
+    keys.starts_with(path) && keys.get(path.len()) == Some(&b'.')
+}
+
+/// Returns `true` if only whitespace is between this place and the start of its line.
+fn begins_line(text: &[u8], at: usize) -> bool {
+    for byte in part(text, 0, at).iter().rev() {
+        match *byte {
+            b' ' | b'\t' => {}
+            b'\n' => return true,
+            _ => return false,
+        }
+    }
+    true
 }
 
 /// Returns `true` if the name is at the span of the text.
@@ -147,12 +190,18 @@ fn count_slots(events: &[Event], keys: usize) -> SlotCount {
     count
 }
 
-/// Returns the number of bytes before the first line that begins with a bracket.
+/// Returns the number of bytes before the next header, or before a line of a value that begins with
+/// a bracket.
+///
+/// So no part of a text is read for two tables.
 fn block_len(text: &str) -> usize {
-    match memmem::find(text.as_bytes(), b"\n[") {
-        Some(at) => at,
-        None => text.len(),
+    let bytes = text.as_bytes();
+    for at in memchr_iter(b'[', bytes) {
+        if begins_line(bytes, at) {
+            return at;
+        }
     }
+    bytes.len()
 }
 
 /// Returns the number of slots or elements that are counted in the batch, and so many more as it
