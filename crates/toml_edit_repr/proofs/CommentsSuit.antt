@@ -1,5 +1,5 @@
 -- Texts that suit their places do so after changes of their comments.
-use Rattle.std.proofs.Common.{◌≡◌, refl, sym, ap, subst, ◌∙◌, ℕ, zero, suc, ◌+◌, ◌-◌, ◌<◌, ◌≤◌, ◌==◌, ◌⊎◌, inl, inr, arith, Bool, true, false, not, List, [], ◌∷◌, ◌++◌, length, take, drop, get_or, reverse, append_assoc, append-nil}
+use Rattle.std.proofs.Common.{◌≡◌, refl, sym, ap, subst, ◌∙◌, ℕ, zero, suc, ◌-◌, ◌<◌, ◌≤◌, ◌==◌, ◌⊎◌, inl, inr, arith, Bool, true, false, not, List, [], ◌∷◌, ◌++◌, length, take, drop, get_or, reverse, append_assoc, append-nil}
 use Rattle.std.specs.Prelude.{if◌then◌else◌, take_while, filter, is_some, is_none, ◌&&◌}
 use Rattle.std.specs.List.{before_first, flat_map, list_all, AllByRecursion, suffix_len}
 use Rattle.std.proofs.lemmas.Bool.Decides.{Decides-eqb}

@@ -1,8 +1,8 @@
 -- Texts without their carriage returns, by the first of them.
-use Rattle.std.proofs.Common.{◌≡◌, refl, ap, ℕ, zero, suc, ◌<◌, ◌==◌, arith, Bool, true, false, cond, not, [], ◌∷◌, ◌++◌, length, take, drop, get_or, Option, Some, None}
-use Rattle.std.specs.Option.{is_some}
-use Rattle.memchr.specs.Find.{IsFirstByte, is_byte}
-use Rattle.toml_edit_model.specs.Text.{Text, carriage_return, without_returns}
+use Rattle.std.proofs.Common.{◌≡◌, refl, sym, ap, ◌∙◌, ℕ, zero, suc, ◌<◌, ◌==◌, arith, Bool, true, false, cond, not, [], ◌∷◌, ◌++◌, length, take, drop, get_or}
+use Rattle.std.proofs.lemmas.Bool.{false≢true}
+use Rattle.std.proofs.lemmas.List.Folds.{list_any_at}
+use Rattle.toml_edit_model.specs.Text.{Text, carriage_return, has_byte, without_returns}
 
 -- no byte below the place is a carriage return
 abbrev pub NoneBelow : ℕ → Text → Type 0
@@ -37,7 +37,7 @@ without_first (suc n) (x ∷ t) h none here =
     passed (x == carriage_return) x (without_returns t) (take n t ++ without_returns (drop (suc n) t)) (none 0 (omega arith))
     (without_first n t (omega arith) (below_tail n x t none) here)
 
--- where the search finds no place, the text is as it was
-pub without_unfound : (t : Text) (o : Option ℕ) → IsFirstByte (is_byte carriage_return) t o → is_some o ≡ false → without_returns t ≡ t
-without_unfound t None none h = without_none t (λ k below. none k (omega arith) below)
-without_unfound t (Some n) found h = cc
+-- where no byte is a carriage return, the text is as it was
+pub without_absent : (t : Text) → has_byte carriage_return t ≡ false → without_returns t ≡ t
+without_absent t absent =
+    without_none t (λ k below here. false≢true (sym absent ∙ list_any_at (λ b. b == carriage_return) t k 0 below here))

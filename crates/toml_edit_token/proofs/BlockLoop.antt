@@ -5,9 +5,10 @@ use Rattle.std.specs.List.{prefix_len}
 use Rattle.std.specs.Str.{IsCharBoundary}
 use Rattle.std.proofs.lemmas.Bool.{cases_Bool, cases_lt, and_parts, ne_eqb, eq-eqb, false≢true, lt-ltb, lt-leb, le-leb}
 use Rattle.std.proofs.lemmas.Bool.Decides.{nat_tests}
-use Rattle.std.proofs.lemmas.List.{length-drop, length-take}
+use Rattle.std.proofs.lemmas.List.{length-drop, length-take, take-append-drop}
+use Rattle.std.proofs.Math.Seq.{take-append-add, drop-append-add}
 use Rattle.std.proofs.lemmas.List.Sums.{prefix_len_passes, prefix_len-le-length}
-use Rattle.std.proofs.lemmas.Str.{IsCharBoundary-start, IsCharBoundary-after_ascii}
+use Rattle.std.proofs.lemmas.Str.{IsCharBoundary-start, IsCharBoundary-after_ascii, IsCharBoundary-from_rest}
 use Rattle.toml_edit_model.specs.Text.{Text, has_byte}
 use Rattle.toml_edit_model.specs.Spelling.{is_plain}
 use Rattle.toml_edit_laws.specs.reading.Runs.{first, split_while, Read}
@@ -201,7 +202,7 @@ quotes_piece f t (suc n) room some few =
     (n, omega (arith, length-drop k t, prefix_len-le-length (λ x. x == delimiter_of f) t), piece_quotes (part_of f) (delimiter_of f) n t some few)
 
 -- a newline is no longer than the text
-newline_within : (t : Text) → 0 < newline_len t → newline_len t ≤ length t
+pub newline_within : (t : Text) → 0 < newline_len t → newline_len t ≤ length t
 newline_within t some = omega (arith, within_from_byte t (newline_len t - 1) (omega (arith, newline_last t some)))
 
 -- a newline
@@ -324,3 +325,55 @@ module _ (f : Form) (r : Read Text) (out rest next : Text) (h : GoesOn f r out r
   piece_goes (Own own) reads other = (out ++ own.now, own_goes own.now reads)
   piece_goes (Escaped c) reads other = (out ++ escaped_text c, own_goes (escaped_text c) reads)
   piece_goes (Last own) reads other = absurd (other own refl)
+
+-- ---- a run, and what stands behind it
+
+module _ (f : Form) (s own rest : Text) (k : Class) (same : k ≡ class_of f) (parts : (own, rest) ≡ split_while (class_test k) s) where
+  -- the run and the rest are the text
+  joined : own ++ rest ≡ s
+  joined = ap (λ (p : Text × Text). p.0 ++ p.1) parts ∙ take-append-drop (prefix_len (class_test k) s) s
+
+  front_behind : (i : ℕ) → take (length own + i) s ≡ own ++ take i rest
+  front_behind i = ap (take (length own + i)) (sym joined) ∙ take-append-add own rest i
+
+  back_behind : (i : ℕ) → drop (length own + i) s ≡ drop i rest
+  back_behind i = ap (drop (length own + i)) (sym joined) ∙ drop-append-add own rest i
+
+  -- with no run, the rest is the text
+  pub unmoved : length own ≡ 0 → rest ≡ s
+  unmoved none = sym (back_behind 0) ∙ ap (λ (n : ℕ). drop (n + 0) s) none
+
+  -- a place behind the run is one of the text
+  pub boundary_after : (i : ℕ) → length own ≤ length s → IsCharBoundary rest i → IsCharBoundary s (length own + i)
+  boundary_after i within b =
+      let after : drop (length own) s ≡ rest = ap (λ (n : ℕ). drop n s) (omega arith) ∙ back_behind 0 in
+      IsCharBoundary-from_rest s (length own) i within (subst (λ (t : Text). IsCharBoundary t i) (sym after) b)
+
+  -- bytes behind the run
+  bytes_behind : (n i : ℕ) (x y : Text) → length s < n → x ≡ take (length own + i) s → y ≡ drop (length own + i) s
+      → ((m : ℕ) → length rest < m → GoesOn f (form_at f m rest) (take i rest) (drop i rest)) → GoesOn f (form_at f n s) x y
+  bytes_behind n i x y room front back reads =
+      let both = own_goes f (form_at f n s) own rest (drop i rest) (own_is f s n k own rest room same parts) (take i rest) reads in
+      subst (λ (p : Text × Text). GoesOn f (form_at f n s) p.0 p.1) (λ j. (sym (front ∙ front_behind i) j, sym (back ∙ back_behind i) j)) both
+
+  -- quotes behind it that close nothing
+  pub quotes_behind : (n run : ℕ) (x y : Text) → length s < n → run ≡ run_of (delimiter_of f) rest → 0 < run → run < 3
+      → x ≡ take (length own + run) s → y ≡ drop (length own + run) s → GoesOn f (form_at f n s) x y
+  quotes_behind n run x y room is some few front back =
+      bytes_behind n run x y room front back (λ m room. quotes_is f rest m run (take run rest) (drop run rest) room is some few refl refl)
+
+  -- a newline behind it
+  pub line_behind : (n len : ℕ) (x y : Text) → length s < n → run_of (delimiter_of f) rest ≡ 0 → len ≡ newline_len rest → 0 < len
+      → x ≡ take (length own + len) s → y ≡ drop (length own + len) s → GoesOn f (form_at f n s) x y
+  line_behind n len x y room none is some front back =
+      bytes_behind n len x y room front back (λ m room. line_is f rest m len (take len rest) (drop len rest) room none is some refl refl)
+
+  -- the closing quotes behind it
+  pub last_behind : (n run end : ℕ) (x y : Text) → length s < n → run ≡ run_of (delimiter_of f) rest → 3 ≤ run → end ≡ min run 5
+      → x ≡ take ((length own + end) - 3) s → y ≡ drop end rest → form_at f n s ≡ Some (x, y)
+  last_behind n run end x y room is many least front back =
+      let (m, roomy, e) = own_is f s n k own rest room same parts in
+      let last = last_is f rest m run end (take (end - 3) rest) (drop end rest) roomy is many least refl refl in
+      let shift : (length own + end) - 3 ≡ length own + (end - 3) = omega arith in
+      let front' : x ≡ own ++ take (end - 3) rest = front ∙ ap (λ (i : ℕ). take i s) shift ∙ front_behind (end - 3) in
+      e ∙ ap (prepend own) last ∙ (λ j. Some (sym front' j, sym back j))

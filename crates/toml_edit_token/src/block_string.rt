@@ -24,7 +24,7 @@ enum Piece<'a> {
     Own(&'a str),
     /// A character, or nothing where a backslash drops whitespace and newlines.
     Escaped(Option<char>),
-    /// The closing quotes, with the quotes of the string before them.
+    /// Text that means itself, up to the closing quotes.
     Last(&'a str),
 }
 
@@ -136,6 +136,10 @@ fn escaped(s: &str) -> Option<(Option<char>, &str)>
 }
 
 /// Splits off the next piece of a string of this form, or returns `None` if no string goes on so.
+///
+/// A run of bytes is in one piece with the quotes or the newline behind it, since each piece is
+/// looked for and copied by itself. Inlined, so that a piece is never moved.
+#[inline(always)]
 fn next_piece(form: Form, s: &str) -> Option<(Piece<'_>, &str)>
     ensures piece { (n : ℕ) → length s.now < n
         → MatchOption result (pieces.form_at form n s.now ≡ None)
@@ -143,22 +147,22 @@ fn next_piece(form: Form, s: &str) -> Option<(Piece<'_>, &str)>
     ensures within { IfSome result (λ p. length p.1.now < length s.now) }
 {
     let (own, rest) = split_run(s, class(form));
-    if !own.is_empty() {
-        return Some((Piece::Own(own), rest));
-    }
-    let quotes = quote_len(s.as_bytes(), delimiter(form));
+    let quotes = quote_len(rest.as_bytes(), delimiter(form));
     if quotes >= 3 {
         let end = quotes.min(5);
-        let (own, _) = s.split_at(end - 3);
-        return Some((Piece::Last(own), skip(s, end)));
+        let (own, _) = s.split_at(own.len() + end - 3);
+        return Some((Piece::Last(own), skip(rest, end)));
     }
     if quotes > 0 {
-        let (own, rest) = s.split_at(quotes);
+        let (own, rest) = s.split_at(own.len() + quotes);
         return Some((Piece::Own(own), rest));
     }
-    let newline = newline_len(s);
+    let newline = newline_len(rest);
     if newline > 0 {
-        let (own, rest) = s.split_at(newline);
+        let (own, rest) = s.split_at(own.len() + newline);
+        return Some((Piece::Own(own), rest));
+    }
+    if !own.is_empty() {
         return Some((Piece::Own(own), rest));
     }
     if first(s) != b'\\' {
@@ -207,6 +211,8 @@ pub(crate) fn block_stop(s: &str) -> &str
 }
 
 /// Returns what a text means that is a string of several lines.
+// Not inlined, so that the caller does not clear these locals for other scalars.
+#[inline(never)]
 pub(crate) fn read_block(alloc: Global, text: &str) -> Result<Option<String>, AllocError>
     ensures { IfOk result (λ o. option_map string_bytes o ≡ whole (spec.block_at text.now)) }
 {

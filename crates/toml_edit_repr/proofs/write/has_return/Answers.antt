@@ -1,10 +1,9 @@
--- Where the search finds nothing, no carriage return stands in the text.
-use Rattle.std.proofs.Common.{◌≡◌, sym, ◌∙◌}
-use Rattle.toml_edit_repr.proofs.ReturnLaws.{without_unfound}
+-- A text in which no carriage return is found has none.
+use Rattle.std.proofs.Common.{sym, ap, ◌∙◌}
+use Rattle.toml_edit_model.specs.Text.{has_byte, carriage_return}
+use Rattle.toml_edit_repr.proofs.ReturnLaws.{without_absent}
 use Rattle.toml_edit_repr.proofs.write.has_return.Goals as goal
 
 pub returns : goal.returns
 returns c h =
-    let same : c.as_bytes.result.now ≡ c.args.text.now = c.as_bytes.ensures.value in
-    let found = rw same at c.memchr.ensures in
-    without_unfound c.args.text.now c.memchr.result found (sym c.is_some.ensures ∙ h)
+    without_absent c.args.text.now (sym (c.contains.ensures.value ∙ ap (has_byte carriage_return) c.as_bytes.ensures.value) ∙ h)
