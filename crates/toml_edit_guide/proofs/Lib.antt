@@ -3,6 +3,7 @@ pub mod AddLaws
 pub mod EditLaws
 pub mod ExchangeLaws
 pub mod FaultLaws
+pub mod KeptLaws
 pub mod LineLaws
 pub mod NormalLaws
 pub mod RemovalLaws

@@ -1,18 +1,14 @@
 -- What an insertion leaves.
-use Rattle.std.specs.Prelude.{◌≡◌, ◌++◌, true, Bool, List, Option, None, codes, map, option_and_then, if◌then◌else◌}
+use Rattle.std.specs.Prelude.{◌++◌, true, Bool, List, Option, None, codes, map, option_and_then, if◌then◌else◌}
 use Rattle.std.specs.Option.{unwrap_or}
 use Rattle.toml_edit.specs.model.Conversions.{new_array, new_inline, new_table}
 use Rattle.toml_edit.specs.model.Keys.{new_key}
 use Rattle.toml_edit.specs.model.Lists.{items_from}
 use Rattle.toml_edit.specs.model.Scalars.{string}
-use Rattle.toml_edit.specs.model.Slots.{Slot, inserted, lookup, put, with_item}
+use Rattle.toml_edit.specs.model.Slots.{Slot, lookup, put, with_item}
 use Rattle.toml_edit.specs.model.Text.{Text}
 use Rattle.toml_edit.specs.model.Tree.{InlineFields, Key, Node, TableFields, inline, leaf, list, no_slots, slot, table, unset}
 use Rattle.toml_edit.specs.tree.Indexed.{lent_under, written_under}
-
--- some item was inserted under the name, and the other slots stay
-abbrev pub OnlySets : Text → List (Slot Node) → List (Slot Node) → Type 0
-OnlySets t old new = (x : Node) × (new ≡ inserted t x old)
 
 -- a new table without a header of its own, and a new inline table that is written by dotted keys
 abbrev pub implicit_table : TableFields

@@ -1,7 +1,7 @@
 //! Adding values, tables and elements.
-ghost use Rattle.std.specs.Prelude.{◌≡◌, ◌-◌, IfErr, IfNone, IfOk, IfSome, IsNone, IsOk, IsTrue, OnErr, OnOk, Some, is_some, length, option_map, string_bytes, true};
+ghost use Rattle.std.specs.Prelude.{◌≡◌, ◌-◌, IfErr, IfNone, IfOk, IfSome, IsNone, IsOk, IsTrue, OnErr, OnOk, Some, is_some, length, map, option_map, string_bytes, true};
 ghost use Rattle.std.specs.Option.{option_copied};
-ghost use Rattle.toml_edit_guide.specs.Adds.{defaulted, described, dotted_inline, implicit_table, inline_of_one, slot_made, table_of_one, OnlySets};
+ghost use Rattle.toml_edit_guide.specs.Adds.{defaulted, dependency, described, dotted_inline, implicit_table, inline_of_one, slot_made, table_of_one};
 ghost use Rattle.toml_edit_guide.specs.Elements.{with_element, with_last};
 ghost use Rattle.toml_edit_guide.specs.Lines.{after_last, before_last, indent_of, side_text, with_line, without_suffix};
 ghost use Rattle.toml_edit.specs.model.ArrayCalls.{value_at};
@@ -37,7 +37,8 @@ pub fn add_dependency(
     version: &str,
     features: &[&str],
 ) -> Mem<()>
-    ensures ok { OnOk result (OnlySets name.now (slots_of dependencies.old) (slots_of dependencies.new)) }
+    ensures ok { OnOk result (slots_of dependencies.new ≡ inserted name.now
+        (dependency version.now (map (λ t. t.now) features.now)) (slots_of dependencies.old)) }
     ensures err { OnErr result (dependencies.new ≡ dependencies.old) }
 {
     let mut names = Array::new(alloc);

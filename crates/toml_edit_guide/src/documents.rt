@@ -8,7 +8,7 @@ ghost use Rattle.toml_edit.specs.model.Accepted.{AcceptedAs, AcceptedIn};
 ghost use Rattle.toml_edit.specs.model.Fits.{FitsIn};
 ghost use Rattle.toml_edit.specs.model.Mode.{exact, plain};
 ghost use Rattle.toml_edit.specs.model.Syntax.{Document as Cut};
-ghost use Rattle.toml_edit.specs.model.Version.{v1_0};
+ghost use Rattle.toml_edit.specs.model.Version.{v1_0, v1_1};
 
 use std::alloc::{AllocError, Global};
 use toml_edit::{DocumentMut, Mem, Output, ParseFault, ParseOptions, PrintFault, Version};
@@ -56,7 +56,11 @@ pub fn write_to<W: Output>(
 
 /// Reads a document and keeps its line endings, and whether it ends in a newline.
 pub fn read_exactly(alloc: Global, text: &str) -> Result<DocumentMut, ParseFault>
-    ensures { IfOk result (λ document. mode_owned document ≡ exact) }
+    ensures accepted { IfOk result (λ document.
+        IsOwnedReadingIn exact v1_1 text.now (tree_owned document) (open_owned document)) }
+    ensures mode { IfOk result (λ document. mode_owned document ≡ exact) }
+    ensures every { (d : Cut) → AcceptedIn v1_1 text.now d
+        → IsOk result ⊎ IsErrOf result ParseFault.Memory }
 {
     DocumentMut::from_str_with(alloc, text, ParseOptions::new().exact(true))
 }

@@ -1,8 +1,9 @@
 //! Items that are tables of either kind: with a header, or in braces.
-ghost use Rattle.std.specs.Prelude.{◌≡◌, IfOk, IsSome, IsTrue, length, option_map};
-ghost use Rattle.toml_edit_guide.specs.Either.{version_in};
+ghost use Rattle.std.specs.Prelude.{◌≡◌, IfOk, length, option_map};
+ghost use Rattle.toml_edit_guide.specs.Either.{item_under, version_in};
 ghost use Rattle.toml_edit.specs.model.Iterating.{filled};
-ghost use Rattle.toml_edit.specs.table_like.Refs.{is_table_like};
+ghost use Rattle.toml_edit.specs.model.Lists.{on_slots};
+ghost use Rattle.toml_edit.specs.model.Slots.{without};
 ghost use Rattle.toml_edit.specs.tree.View.{item_view};
 
 use toml_edit::{AnyTable, AsTableLike, Item, Mem};
@@ -17,9 +18,10 @@ pub fn version_of(dependency: &Item) -> Option<&str>
     }
 }
 
-/// Removes a key from a table of either kind, and returns its item.
+/// Removes a key from a table of either kind, and returns its item. Any other item has no keys.
 pub fn remove_from(item: &mut Item, key: &str) -> Option<Item>
-    ensures { IsSome result → IsTrue (is_table_like (item_view item.old)) }
+    ensures item { option_map item_view result ≡ item_under key.now (item_view item.old) }
+    ensures left { item_view item.new ≡ on_slots (without key.now) (item_view item.old) }
 {
     match item.as_table_like_mut() {
         Some(mut table) => table.remove(key),

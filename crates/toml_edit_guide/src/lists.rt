@@ -1,6 +1,8 @@
 //! The elements of arrays and of arrays of tables, by place.
-ghost use Rattle.std.specs.Prelude.{◌≡◌, ◌↔◌, [], if◌then◌else◌, IfErr, IfOk, IfSome, IsTrue, OnErr, OnOk, Some, is_some, length, nat_lt, option_map};
+ghost use Rattle.std.specs.Prelude.{◌≡◌, ◌↔◌, [], if◌then◌else◌, IfErr, IfOk, IfSome, IsTrue, OnErr, OnOk, Some, filter, is_some, length, nat_lt, option_map};
+ghost use Rattle.toml_edit_guide.specs.Elements.{is_other};
 ghost use Rattle.toml_edit.specs.model.ArrayCalls.{inserted_at, pushed, removed_at, replaced_at, value_at, written_at};
+ghost use Rattle.toml_edit.specs.model.Iterating.{values};
 ghost use Rattle.toml_edit.specs.model.TablesCalls.{table_at};
 ghost use Rattle.toml_edit.specs.tree.Containers.{table_node, table_with_position};
 ghost use Rattle.toml_edit.specs.tree.Elements.{array_fields, items_of, tables_of};
@@ -74,8 +76,9 @@ pub fn move_value(from: &mut Array, at: usize, to: &mut Array) -> Result<bool, N
 
 /// Removes each string of this text from an array. Returns `true` if the array is empty then.
 pub fn remove_string(array: &mut Array, text: &str) -> bool
-    ensures empty { IsTrue result ↔ (items_of array.new ≡ []) }
+    ensures kept { items_of array.new ≡ filter (is_other text.now) (values (items_of array.old)) }
     ensures fields { array_fields array.new ≡ array_fields array.old }
+    ensures empty { IsTrue result ↔ (items_of array.new ≡ []) }
 {
     array.retain(|value| value.as_str() != Some(text));
     array.is_empty()

@@ -3,7 +3,7 @@ ghost use Rattle.std.specs.Prelude.{◌≡◌, IfOk, IsTrue, None, OnErr, option
 ghost use Rattle.toml_edit.specs.DocumentView.{tree_owned};
 ghost use Rattle.toml_edit.specs.change.Changes.{Changes, names};
 ghost use Rattle.toml_edit.specs.change.Headed.{set_at_with_headers};
-ghost use Rattle.toml_edit.specs.laws.Commands.{done, item_at, set_at};
+ghost use Rattle.toml_edit.specs.laws.Commands.{Refusal, done, item_at, refused, set_at};
 ghost use Rattle.toml_edit.specs.model.Scalars.{string};
 ghost use Rattle.toml_edit.specs.model.Tree.{leaf, unset};
 ghost use Rattle.toml_edit.specs.tree.Casts.{text_in};
@@ -33,6 +33,9 @@ pub fn set_string_at(
         ≡ done (tree_owned document.new)) }
     ensures unset { IfOk result (λ is_set. ¬ (IsTrue is_set)
         → tree_owned document.new ≡ tree_owned document.old) }
+    ensures refused { IfOk result (λ is_set. ¬ (IsTrue is_set)
+        → (why : Refusal) × (set_at (names path.now) (leaf (string text.now) None unset)
+        (tree_owned document.old) ≡ refused why)) }
     ensures err { OnErr result (tree_owned document.new ≡ tree_owned document.old) }
 {
     let value = Value::string(alloc, text)?;
