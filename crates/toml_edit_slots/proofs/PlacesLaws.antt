@@ -15,7 +15,7 @@ use Rattle.std.specs.Option.{option_map_or, option_or}
 use Rattle.std.specs.Ordering.{is_eq, nat_cmp}
 use Rattle.toml_edit_model.specs.Text.{Text, same_text}
 use Rattle.toml_edit_slots.specs.Slots.{names, place_in}
-use Rattle.toml_edit_slots.specs.SlotIndex.{AreNotedApart, HasTexts, IsIndexOf, IsNotedAt, IsRightBefore, IsSetTo, hash_stands_at, is_own, place_of, second_hash, stands_at}
+use Rattle.toml_edit_slots.specs.SlotIndex.{AreNotedApart, HasTexts, IsIndexOf, IsNotedAt, IsRightBefore, IsSetTo, hash_stands_at, is_own, noted_place, second_hash, stands_at}
 use Rattle.toml_edit_slots.specs.declared.slots.Slot.{Slot}
 use Rattle.toml_edit_slots.specs.declared.places.Places.{Places}
 use Rattle.toml_edit_slots.proofs.IndexLaws.{before-removed, behind-removed, cases_option, none_of, place_in-congr, place_in-is, place_in-own, some_place}
@@ -39,7 +39,7 @@ new_text us k t u there new =
     ]
 
 -- where nothing is noted under the text itself, its hash says the place
-by_hash : (m : Places) (t : Text) → is_own m t ≡ false → place_of m t ≡ get nat_cmp m.hashes (second_hash t)
+by_hash : (m : Places) (t : Text) → is_own m t ≡ false → noted_place m t ≡ get nat_cmp m.hashes (second_hash t)
 by_hash m t bare = ap (λ o. option_or o (get nat_cmp m.hashes (second_hash t))) (none_of (get_by_text m.names t) bare)
 
 -- no two texts of an index share a place that is noted
@@ -71,7 +71,7 @@ pub stands-at : {T : Type 0} (es : List (Slot T)) (k : ℕ) (f : Text → Bool) 
     → option_map_or f (option_map (λ s. s.key.name) o) false ≡ option_map_or f (slice_get (names es) k) false
 stands-at es k f o is = ap (λ p. option_map_or f p false) (ap (option_map (λ s. s.key.name)) is ∙ sym (slice_get-map (λ s. s.key.name) es k))
 
-pub not-there : (us : List Text) (m : Places) (t : Text) → IsIndexOf m us → place_of m t ≡ None → place_in t us ≡ None
+pub not-there : (us : List Text) (m : Places) (t : Text) → IsIndexOf m us → noted_place m t ≡ None → place_in t us ≡ None
 not-there us m t is none =
     elim (cases_option (place_in t us)) [
       | inl gone ↦ gone
@@ -87,7 +87,7 @@ is-there us t at apart stands =
           sym (place_in-congr found.0 t same us) ∙ place_in-own us at found.0 found.1 apart
     ]
 
-pub other-there : (us : List Text) (m : Places) (t : Text) (at : ℕ) → IsIndexOf m us → place_of m t ≡ Some at → stands_at us at t ≡ false → place_in t us ≡ None
+pub other-there : (us : List Text) (m : Places) (t : Text) (at : ℕ) → IsIndexOf m us → noted_place m t ≡ Some at → stands_at us at t ≡ false → place_in t us ≡ None
 other-there us m t at is noted stands =
     elim (cases_option (place_in t us)) [
       | inl gone ↦ gone
@@ -112,10 +112,10 @@ module _ (m : Places) (ns : BTreeMap (String Global) ℕ) (u : Text) (w : Option
   pub own-other : (t : Text) → same_text u t ≡ false → is_own (with_names m ns) t ≡ is_own m t
   own-other t other = ap is_some (name-other t other)
 
-  pub place-other : (t : Text) → same_text u t ≡ false → place_of (with_names m ns) t ≡ place_of m t
+  pub place-other : (t : Text) → same_text u t ≡ false → noted_place (with_names m ns) t ≡ noted_place m t
   place-other t other = ap (λ o. option_or o (get nat_cmp m.hashes (second_hash t))) (name-other t other)
 
-  pub place-put : (at : ℕ) → w ≡ Some at → place_of (with_names m ns) u ≡ Some at
+  pub place-put : (at : ℕ) → w ≡ Some at → noted_place (with_names m ns) u ≡ Some at
   place-put at is = ap (λ o. option_or o (get nat_cmp m.hashes (second_hash u))) (put u ∙ ap (λ b. cond b w (get_by_text m.names u)) (nat_list_eq_equiv.refl u) ∙ is)
 
   pub own-put : (at : ℕ) → w ≡ Some at → is_own m u ≡ true → (t : Text) → is_own (with_names m ns) t ≡ is_own m t
@@ -129,7 +129,7 @@ module _ (m : Places) (ns : BTreeMap (String Global) ℕ) (u : Text) (w : Option
 
 -- ---- one more text
 
-pub index-same : (us : List Text) (m n : Places) → ((t : Text) → place_of n t ≡ place_of m t) → IsIndexOf m us → IsIndexOf n us
+pub index-same : (us : List Text) (m n : Places) → ((t : Text) → noted_place n t ≡ noted_place m t) → IsIndexOf m us → IsIndexOf n us
 index-same us m n same is k t there = same t ∙ is k t there
 
 get-pushed : (us : List Text) (u t : Text) (k : ℕ) → slice_get (us ++ u ∷ []) k ≡ Some t → (slice_get us k ≡ Some t) ⊎ ((k ≡ length us) × (u ≡ t))
@@ -146,20 +146,20 @@ pub index-more : (us : List Text) (m n : Places) (u : Text) → place_in u us �
 index-more us m n u new is put k t there =
     elim (get-pushed us u t k there) [
       | inl before ↦ put.1 k t (new_text us k t u before new) (is k t before)
-      | inr last ↦ ap (place_of n) (sym last.1) ∙ put.0 ∙ ap Some (sym last.0)
+      | inr last ↦ ap (noted_place n) (sym last.1) ∙ put.0 ∙ ap Some (sym last.0)
     ]
 
 -- ---- an index, put right place by place
 
 module _ (us : List Text) (apart : IsDistinct same_text us) (m n : Places) (at : ℕ) (u : Text)
     (here : slice_get us at ≡ Some u) (put : IsSetTo at u m n) (has : HasTexts m us) where
-  noted-still : (k : ℕ) (t : Text) → slice_get us k ≡ Some t → same_text u t ≡ false → place_of n t ≡ place_of m t
+  noted-still : (k : ℕ) (t : Text) → slice_get us k ≡ Some t → same_text u t ≡ false → noted_place n t ≡ noted_place m t
   noted-still k t there other = put.others t other (has.apart k at t u there here other)
 
-  noted-set : (k : ℕ) (t : Text) → slice_get us k ≡ Some t → is_some (place_of n t) ≡ true
+  noted-set : (k : ℕ) (t : Text) → slice_get us k ≡ Some t → is_some (noted_place n t) ≡ true
   noted-set k t there =
       elim (cases_Bool (same_text u t)) [
-        | inl same ↦ ap is_some (ap (place_of n) (sym ((bytes_eq-Decides u t).0 same)) ∙ put.place)
+        | inl same ↦ ap is_some (ap (noted_place n) (sym ((bytes_eq-Decides u t).0 same)) ∙ put.place)
         | inr other ↦ ap is_some (noted-still k t there other) ∙ has.noted k t there
       ]
 
@@ -180,7 +180,7 @@ module _ (us : List Text) (apart : IsDistinct same_text us) (m n : Places) (at :
       elim (cases_Bool (same_text u t)) [
         | inl same ↦
             let is : at ≡ k = same_Some at k (sym (place_in-own us at u here apart) ∙ place_in-congr u t same us ∙ place_in-own us k t there apart) in
-            ap (place_of n) (sym ((bytes_eq-Decides u t).0 same)) ∙ put.place ∙ ap Some is
+            ap (noted_place n) (sym ((bytes_eq-Decides u t).0 same)) ∙ put.place ∙ ap Some is
         | inr other ↦ elim (cases_lt k at) [
           | inl less ↦ noted-still k t there other ∙ right k t less there
           | inr more ↦
@@ -195,7 +195,7 @@ module _ (us : List Text) (apart : IsDistinct same_text us) (m n : Places) (at :
 module _ (us : List Text) (apart : IsDistinct same_text us) (m n : Places) (gap : ℕ) (u : Text)
     (here : slice_get us gap ≡ Some u) (is : IsIndexOf m us)
     (own : (t : Text) → same_text u t ≡ false → is_own n t ≡ is_own m t)
-    (others : (t : Text) → same_text u t ≡ false → AreNotedApart m t u → place_of n t ≡ place_of m t) where
+    (others : (t : Text) → same_text u t ≡ false → AreNotedApart m t u → noted_place n t ≡ noted_place m t) where
   -- what is left had a place, which is not that of the text
   was_at : (k : ℕ) (t : Text) → slice_get (remove us gap) k ≡ Some t → (j : ℕ) × (slice_get us j ≡ Some t) × (same_text u t ≡ false) × (k < gap → j ≡ k)
   was_at k t there =
@@ -208,7 +208,7 @@ module _ (us : List Text) (apart : IsDistinct same_text us) (m n : Places) (gap 
             (suc k, at, other_text us (suc k) gap t u at here apart (λ e. omega (arith, e, more)), λ less. absurd (omega (arith, less, more)))
       ]
 
-  noted-left : (k : ℕ) (t : Text) (there : slice_get (remove us gap) k ≡ Some t) → place_of n t ≡ Some (was_at k t there).0
+  noted-left : (k : ℕ) (t : Text) (there : slice_get (remove us gap) k ≡ Some t) → noted_place n t ≡ Some (was_at k t there).0
   noted-left k t there =
       let w = was_at k t there in
       others t w.2 (noted-apart us m w.0 gap t u is w.1 here w.2) ∙ is w.0 t w.1

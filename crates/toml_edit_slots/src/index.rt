@@ -1,28 +1,26 @@
 //! The index of a table's slots: from the name of each key to the place of its slot.
-ghost use Rattle.std.specs.Prelude.{◌≡◌, ◌<◌, ◌≤◌, ◌++◌, ◌∷◌, [], None, Some, length, position, remove, IfOk, OnOk, OnErr};
-ghost use Rattle.toml_edit_slots.specs.Slots.{AreApart, is_at, names, place};
+ghost use Rattle.std.specs.Prelude.{◌≡◌, ◌<◌, ◌≤◌, ◌++◌, ◌∷◌, [], None, Some, is_some, length, position, remove, IfOk, OnOk, OnErr};
+ghost use Rattle.toml_edit_model.specs.Text.{Text};
+ghost use Rattle.toml_edit_slots.specs.Slots.{AreApart, is_at, names, place, place_in};
+ghost use Rattle.toml_edit_slots.specs.Hashed.{HasNames, IsHashed, IsHashedBefore, place_of};
 ghost use Rattle.toml_edit_slots.specs.SlotIndex.{HasRoom, IsIndex, IsIndexed, IsIndexOf, IsRightBefore, HasTexts, MayIndex, MayIndexRenamed, with_text};
 
-use crate::chains::{Chains, hash_of};
+use crate::hashed::{Full, Hashed};
 use crate::places::Places;
 use crate::slots::Slot;
-use std::alloc::Global;
+use std::alloc::{AllocError, Global};
 use toml_edit_repr::Mem;
 
 /// The most slots that have no index: so few are found as fast one by one.
 const FEW: usize = 8;
 
-/// The most slots in a chain. By chance no chain gets so long: the names must have been chosen for
-/// it.
-const LONGEST: usize = 16;
-
 /// The index of a table's slots.
 #[derive(Debug, Drop)]
 pub(crate) enum Index {
-    /// Finds a place by the hash of the name.
-    Chained(Chains),
-    /// Finds a place by a second hash of the name, in a tree. Replaces the chains once one of them
-    /// would be too long.
+    /// Finds a place by the name, in a map.
+    Hashed(Hashed),
+    /// Finds a place by a second hash of the name, in a tree. Replaces the map once too many names
+    /// begin their search in one region of it.
     Sorted(Places),
 }
 
@@ -50,7 +48,7 @@ fn find_in<T>(index: &Index, entries: &[Slot<T>], name: &str) -> Option<usize>
     ensures { result ≡ place name.now entries.now }
 {
     match index {
-        Index::Chained(chains) => chains.find(entries, name),
+        Index::Hashed(hashed) => hashed.get(name),
         Index::Sorted(places) => places.find(entries, name),
     }
 }
@@ -81,7 +79,7 @@ pub(crate) fn add_new_place<T>(
     ensures err { OnErr result (IsIndexed index.new (names entries.now)) }
 {
     if let Some(index) = index {
-        return put_new_place(index, alloc, entries, name);
+        return put_new_place(index, alloc, entries, room, name);
     }
     match walk(entries, name) {
         Some(at) => Ok(Some(at)),
@@ -96,20 +94,28 @@ pub(crate) fn add_new_place<T>(
 
 /// Returns the first index of a table: that of these slots, and of a new name after them, with
 /// room for `room` slots. Fails only if memory runs out.
+#[inline(never)]
 fn index_with<T>(alloc: Global, entries: &[Slot<T>], room: usize, name: &str) -> Mem<Box<Index>>
+    requires apart { AreApart entries.now }
+    requires new { place name.now entries.now ≡ None }
     ensures { IfOk result (λ index. IsIndex index.value (names entries.now ++ name.now ∷ [])) }
 {
-    let mut chains = Chains::of(alloc, entries, room)?;
-    chains.push(entries, hash_of(name))?;
-    Ok(Box::new(alloc, Index::Chained(chains))?)
+    let mut index = Index::Hashed(Hashed::new(alloc));
+    for at in 0..entries.len() {
+        let before = &entries[..at];
+        put_new_place(&mut index, alloc, before, room, entries[at].key.get())?;
+    }
+    put_new_place(&mut index, alloc, entries, room, name)?;
+    Ok(Box::new(alloc, index)?)
 }
 
 /// Does what `add_new_place` does, in an index.
-#[inline(always)]
+#[inline]
 fn put_new_place<T>(
     index: &mut Index,
     alloc: Global,
     entries: &[Slot<T>],
+    room: usize,
     name: &str,
 ) -> Mem<Option<usize>>
     requires apart { AreApart entries.now }
@@ -120,21 +126,47 @@ fn put_new_place<T>(
     ensures err { OnErr result (IsIndex index.new (names entries.now)) }
 {
     match index {
-        Index::Chained(chains) => {
-            let hash = hash_of(name);
-            match chains.seek(entries, name, hash) {
-                Ok(at) => Ok(Some(at)),
-                Err(steps) => {
-                    if steps < LONGEST {
-                        chains.push(entries, hash)?;
-                    } else {
-                        *index = Index::Sorted(places_with(alloc, entries, name)?);
-                    }
-                    Ok(None)
+        Index::Hashed(hashed) => {
+            let more = room.saturating_sub(entries.len());
+            match hashed.insert(alloc, name, entries.len(), more) {
+                Ok(None) => Ok(None),
+                Ok(Some(there)) => {
+                    hashed.set(name, there);
+                    Ok(Some(there))
                 }
+                Err(full) => put_elsewhere(index, alloc, entries, name, full),
             }
         }
         Index::Sorted(places) => places.add(alloc, entries, name),
+    }
+}
+
+/// Does what `put_new_place` does, in a map that could not take the name.
+#[cold]
+#[inline(never)]
+fn put_elsewhere<T>(
+    index: &mut Index,
+    alloc: Global,
+    entries: &[Slot<T>],
+    name: &str,
+    full: Full,
+) -> Mem<Option<usize>>
+    requires apart { AreApart entries.now }
+    requires indexed { IsIndex index.old (names entries.now) }
+    ensures place { IfOk result (λ there. there ≡ place name.now entries.now) }
+    ensures ok { OnOk result (IsIndex index.new (with_text name.now (names entries.now))) }
+    ensures new { OnErr result (place name.now entries.now ≡ None) }
+    ensures err { OnErr result (IsIndex index.new (names entries.now)) }
+{
+    if let Some(at) = find_in(index, entries, name) {
+        return Ok(Some(at));
+    }
+    match full {
+        Full::Memory => Err(AllocError),
+        Full::Crowded => {
+            *index = Index::Sorted(places_with(alloc, entries, name)?);
+            Ok(None)
+        }
     }
 }
 
@@ -181,7 +213,10 @@ fn close_in<T>(index: &mut Index, entries: &[Slot<T>], name: &str, gap: usize)
     ensures { IsIndex index.new (remove (names entries.now) gap) }
 {
     match index {
-        Index::Chained(chains) => chains.close_gap(entries, gap),
+        Index::Hashed(hashed) => {
+            hashed.remove(name);
+            move_all_down(hashed, entries, gap);
+        }
         Index::Sorted(places) => {
             places.remove(name);
             move_down(places, entries, gap);
@@ -202,6 +237,20 @@ fn move_down<T>(places: &mut Places, entries: &[Slot<T>], gap: usize)
     }
 }
 
+/// Moves the places in a map after the gap down by one. They are of all names but the one at the gap.
+fn move_all_down<T>(hashed: &mut Hashed, entries: &[Slot<T>], gap: usize)
+    requires apart { AreApart entries.now }
+    requires gap { gap < length entries.now }
+    requires names { (t : Text) → is_some (place_of hashed.old t)
+        ≡ is_some (place_in t (remove (names entries.now) gap)) }
+    requires before { IsHashedBefore gap hashed.old (remove (names entries.now) gap) }
+    ensures { IsHashed hashed.new (remove (names entries.now) gap) }
+{
+    for at in gap + 1..entries.len() {
+        hashed.set(entries[at].key.get(), at - 1);
+    }
+}
+
 /// Adds a new name, which one of these slots is about to get. Fails only if memory runs out; the
 /// index then stays as it was.
 pub(crate) fn add_name<T>(
@@ -217,7 +266,7 @@ pub(crate) fn add_name<T>(
     ensures err { OnErr result (IsIndexed index.new (names entries.now)) }
 {
     if let Some(index) = index {
-        put_new_place(index, alloc, entries, name)?;
+        put_new_place(index, alloc, entries, entries.len(), name)?;
     }
     Ok(())
 }
@@ -241,7 +290,10 @@ fn index_anew<T>(index: &mut Index, entries: &[Slot<T>])
     ensures { IsIndex index.new (names entries.now) }
 {
     match index {
-        Index::Chained(chains) => chains.link_all(entries),
+        Index::Hashed(hashed) => {
+            number_all(hashed, entries);
+            hashed.drop_others(entries);
+        }
         Index::Sorted(places) => {
             renumber(places, entries);
             places.drop_others(entries);
@@ -257,5 +309,16 @@ fn renumber<T>(places: &mut Places, entries: &[Slot<T>])
 {
     for at in 0..entries.len() {
         places.set(entries[at].key.get(), at);
+    }
+}
+
+/// Gives each name of these slots its present place in a map.
+fn number_all<T>(hashed: &mut Hashed, entries: &[Slot<T>])
+    requires apart { AreApart entries.now }
+    requires named { HasNames hashed.old (names entries.now) }
+    ensures { IsHashedBefore (length entries.now) hashed.new (names entries.now) }
+{
+    for at in 0..entries.len() {
+        hashed.set(entries[at].key.get(), at);
     }
 }

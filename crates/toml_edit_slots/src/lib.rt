@@ -1,11 +1,13 @@
 //! The container that tables store their keys and items in.
 #![tactic(auto)]
 
-mod chains;
+mod hashed;
 mod index;
 mod order;
 mod places;
+mod short_name;
 pub mod slots;
+mod tally;
 
 pub use slots::rearrange::Renamed;
 pub use slots::{NoMemory, Refused, Slot, Slots};

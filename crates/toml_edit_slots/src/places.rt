@@ -2,7 +2,7 @@
 ghost use Rattle.std.specs.Prelude.{◌≡◌, [], None, true, false, is_some, length, IfOk, OnOk, OnErr};
 ghost use Rattle.toml_edit_model.specs.Text.{Text, same_text};
 ghost use Rattle.toml_edit_slots.specs.Slots.{AreApart, names, place};
-ghost use Rattle.toml_edit_slots.specs.SlotIndex.{IsIndexOf, IsNotedAt, IsRightBefore, IsSetTo, AreNotedApart, is_own, place_of, second_hash, stands_at, hash_stands_at, with_text};
+ghost use Rattle.toml_edit_slots.specs.SlotIndex.{IsIndexOf, IsNotedAt, IsRightBefore, IsSetTo, AreNotedApart, is_own, noted_place, second_hash, stands_at, hash_stands_at, with_text};
 
 use crate::slots::Slot;
 use std::alloc::Global;
@@ -59,7 +59,7 @@ impl Places {
 
     /// Returns the place that is noted of the name. It may be that of another name, or of no slot.
     fn noted(&self, name: &str) -> Option<usize>
-        ensures { result ≡ place_of self.now name.now }
+        ensures { result ≡ noted_place self.now name.now }
     {
         if let Some(at) = self.names.get(name) {
             return Some(*at);
@@ -100,13 +100,13 @@ impl Places {
     /// If one is noted, returns it. Fails only if memory runs out. Except at `None`, what is noted
     /// of each name stays.
     fn note(&mut self, name: &str, at: usize) -> Mem<Option<usize>>
-        ensures there { IfOk result (λ there. there ≡ place_of self.old name.now) }
+        ensures there { IfOk result (λ there. there ≡ noted_place self.old name.now) }
         ensures new { OnOk result
-            (place_of self.old name.now ≡ None → IsNotedAt at name.now self.old self.new) }
-        ensures absent { OnErr result (place_of self.old name.now ≡ None) }
-        ensures present { is_some (place_of self.old name.now) ≡ true → (t : Text)
-            → place_of self.new t ≡ place_of self.old t }
-        ensures err { OnErr result ((t : Text) → place_of self.new t ≡ place_of self.old t) }
+            (noted_place self.old name.now ≡ None → IsNotedAt at name.now self.old self.new) }
+        ensures absent { OnErr result (noted_place self.old name.now ≡ None) }
+        ensures present { is_some (noted_place self.old name.now) ≡ true → (t : Text)
+            → noted_place self.new t ≡ noted_place self.old t }
+        ensures err { OnErr result ((t : Text) → noted_place self.new t ≡ noted_place self.old t) }
     {
         if let Some(there) = self.names.get(name) {
             return Ok(Some(*there));
@@ -126,7 +126,7 @@ impl Places {
     #[inline(never)]
     fn note_itself(&mut self, alloc: Global, name: &str, at: usize) -> Mem<()>
         ensures ok { OnOk result (IsNotedAt at name.now self.old self.new) }
-        ensures err { OnErr result ((t : Text) → place_of self.new t ≡ place_of self.old t) }
+        ensures err { OnErr result ((t : Text) → noted_place self.new t ≡ noted_place self.old t) }
     {
         let text = String::from_str(alloc, name)?;
         self.names.insert(text, at)?;
@@ -135,7 +135,7 @@ impl Places {
 
     /// Changes the place that is noted of a name. Allocates nothing.
     pub(crate) fn set(&mut self, name: &str, at: usize)
-        requires { is_some (place_of self.old name.now) ≡ true }
+        requires { is_some (noted_place self.old name.now) ≡ true }
         ensures { IsSetTo at name.now self.old self.new }
     {
         if let Some(place) = self.names.get_mut(name) {
@@ -152,7 +152,7 @@ impl Places {
         ensures own { (t : Text) → same_text name.now t ≡ false
             → is_own self.new t ≡ is_own self.old t }
         ensures others { (t : Text) → same_text name.now t ≡ false
-            → AreNotedApart self.old t name.now → place_of self.new t ≡ place_of self.old t }
+            → AreNotedApart self.old t name.now → noted_place self.new t ≡ noted_place self.old t }
     {
         if self.names.remove(name).is_none() {
             let _ = self.hashes.remove(&second_hash(name));
@@ -172,7 +172,7 @@ impl Places {
 }
 
 /// Returns whether the slot at the place has the name.
-fn is_named_at<T>(entries: &[Slot<T>], at: usize, name: &[u8]) -> bool
+pub(crate) fn is_named_at<T>(entries: &[Slot<T>], at: usize, name: &[u8]) -> bool
     ensures { result ≡ stands_at (names entries.now) at name.now }
 {
     match entries.get(at) {

@@ -25,7 +25,7 @@ mod whole;
 /// Err(NoMemory(item)) => Some(item),
 /// ```
 ///
-/// From `try_insert` of the guide, docs/GUIDE.md.
+/// From `try_insert` of the crate `toml_edit_guide`.
 #[derive(Debug, Drop)]
 pub struct NoMemory<T>(pub T);
 
@@ -88,7 +88,7 @@ impl<T> Refused<T> {
 /// }
 /// ```
 ///
-/// From `first_key` of the guide, docs/GUIDE.md.
+/// From `first_key` of the crate `toml_edit_guide`.
 #[derive(Debug, Drop)]
 pub struct Slot<T> {
     /// The key.
@@ -119,7 +119,7 @@ impl<T> Slot<T> {
 /// }
 /// ```
 ///
-/// From `first_key` of the guide, docs/GUIDE.md.
+/// From `first_key` of the crate `toml_edit_guide`.
 #[derive(Debug)]
 pub struct Slots<T> {
     entries: Vec<Slot<T>>,
@@ -130,8 +130,9 @@ pub struct Slots<T> {
 impl<T: Drop> Drop for Slots<T> {
     fn drop(self) {
         let Slots { entries, index } = self;
-        drop(entries);
+        // First the index, whose few large blocks are then not joined with those of the entries.
         drop(index);
+        drop(entries);
     }
 }
 

@@ -16,6 +16,9 @@ returns-in-Some-walk-clause-ok g c =
     (sym (with_text-there c.args.name.now us c.in-Some-walk.at (sym (c.in-Some-walk.ensures ∙ place-position c.args.name.now c.args.entries.now))))
     c.requires.indexed
 
+pub index_with-requires-clause-new : goal.index_with-requires-clause-new
+index_with-requires-clause-new g c = sym (c.in-None.ensures ∙ place-position c.args.name.now c.args.entries.now)
+
 pub returns-in_err-index_with-in-None-clause-new :
     goal.returns-in_err-index_with-in-None-clause-new
 returns-in_err-index_with-in-None-clause-new g c =

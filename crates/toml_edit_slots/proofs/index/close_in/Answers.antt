@@ -1,9 +1,11 @@
 -- A place that goes.
 use Rattle.std.proofs.Common.{subst}
 use Rattle.toml_edit_slots.specs.Slots.{names}
+use Rattle.toml_edit_slots.specs.Hashed.{IsHashed}
 use Rattle.toml_edit_slots.specs.SlotIndex.{IsIndex, IsIndexOf}
 use Rattle.toml_edit_slots.proofs.SlotLaws.{place-within}
 use Rattle.toml_edit_slots.proofs.IndexLaws.{place_in-is}
+use Rattle.toml_edit_slots.proofs.HashedLaws.{hashed-left, keys-left}
 use Rattle.toml_edit_slots.proofs.PlacesLaws.{right-left, texts-left}
 use Rattle.toml_edit_slots.proofs.index.close_in.Goals as goal
 
@@ -15,16 +17,28 @@ move_down-requires-clause-names g c =
     let us = names c.args.entries.now in
     let u = c.args.name.now in
     let is : IsIndexOf c.in-Sorted.places us = subst (λ x. IsIndex x us) c.in-Sorted.is c.requires.indexed in
-    texts-left us c.requires.apart c.in-Sorted.places c.remove.new.self c.args.gap u (place_in-is u us c.args.gap c.requires.gap) is
-    c.remove.ensures.own c.remove.ensures.others
+    texts-left us c.requires.apart c.in-Sorted.places c.remove-in-Sorted.new.self c.args.gap u (place_in-is u us c.args.gap c.requires.gap) is
+    c.remove-in-Sorted.ensures.own c.remove-in-Sorted.ensures.others
 
 pub move_down-requires-clause-before : goal.move_down-requires-clause-before
 move_down-requires-clause-before g c =
     let us = names c.args.entries.now in
     let u = c.args.name.now in
     let is : IsIndexOf c.in-Sorted.places us = subst (λ x. IsIndex x us) c.in-Sorted.is c.requires.indexed in
-    right-left us c.requires.apart c.in-Sorted.places c.remove.new.self c.args.gap u (place_in-is u us c.args.gap c.requires.gap) is
-    c.remove.ensures.own c.remove.ensures.others
+    right-left us c.requires.apart c.in-Sorted.places c.remove-in-Sorted.new.self c.args.gap u (place_in-is u us c.args.gap c.requires.gap) is
+    c.remove-in-Sorted.ensures.own c.remove-in-Sorted.ensures.others
 
-pub close_gap-requires-clause-gap : goal.close_gap-requires-clause-gap
-close_gap-requires-clause-gap g c = place-within c.args.name.now c.args.entries.now c.args.gap c.requires.gap
+pub move_all_down-requires-clause-gap : goal.move_all_down-requires-clause-gap
+move_all_down-requires-clause-gap g c = place-within c.args.name.now c.args.entries.now c.args.gap c.requires.gap
+
+pub move_all_down-requires-clause-names : goal.move_all_down-requires-clause-names
+move_all_down-requires-clause-names g c =
+    let us = names c.args.entries.now in
+    let is : IsHashed c.in-Hashed.hashed us = subst (λ x. IsIndex x us) c.in-Hashed.is c.requires.indexed in
+    keys-left us c.requires.apart c.in-Hashed.hashed c.remove.new.self c.args.gap c.args.name.now c.requires.gap is c.remove.ensures
+
+pub move_all_down-requires-clause-before : goal.move_all_down-requires-clause-before
+move_all_down-requires-clause-before g c =
+    let us = names c.args.entries.now in
+    let is : IsHashed c.in-Hashed.hashed us = subst (λ x. IsIndex x us) c.in-Hashed.is c.requires.indexed in
+    hashed-left us c.requires.apart c.in-Hashed.hashed c.remove.new.self c.args.gap c.args.name.now c.requires.gap is c.remove.ensures

@@ -1,8 +1,37 @@
--- A first index.
-use Rattle.std.proofs.Common.{[], ◌∷◌, ◌++◌, sym, subst}
+-- The index of slots, one by one.
+use Rattle.std.proofs.Common.{◌≡◌, ◌+◌, ◌<◌, Some, suc, get_or, length, take, ap, sym, subst, ◌∙◌, arith}
+use Rattle.std.proofs.lemmas.Option.{slice_get-get_or}
+use Rattle.std.specs.List.{IsDistinct, slice_get}
+use Rattle.toml_edit_model.specs.Text.{same_text}
 use Rattle.toml_edit_slots.specs.Slots.{names}
-use Rattle.toml_edit_slots.specs.SlotIndex.{IsIndex}
+use Rattle.toml_edit_slots.specs.SlotIndex.{IsIndex, with_text}
+use Rattle.toml_edit_slots.proofs.IndexLaws.{distinct-taken, length-names, names-get, names-take, take-all, take-new, take-next}
+use Rattle.toml_edit_slots.proofs.NewLaws.{with_text-new}
 use Rattle.toml_edit_slots.proofs.index.index_with.Goals as goal
 
-pub returns : goal.returns
-returns g c = subst (λ x. IsIndex x (names c.args.entries.now ++ c.args.name.now ∷ [])) (sym c.in_ok-new.ensures.ok) (c.in_ok-push.ensures.ok c.args.name.now c.hash_of.ensures)
+pub put_new_place-requires-clause-apart : goal.put_new_place-requires-clause-apart
+put_new_place-requires-clause-apart g c =
+    let es = c.args.entries.now in
+    subst (IsDistinct same_text) (sym (names-take es c.loop-at.at)) (distinct-taken (names es) c.loop-at.at c.requires.apart)
+
+pub put_new_place-requires-clause-indexed : goal.put_new_place-requires-clause-indexed
+put_new_place-requires-clause-indexed g c = subst (IsIndex c.loop-at.index) (sym (names-take c.args.entries.now c.loop-at.at)) c.loop-at.invariant
+
+pub loop-at-preserved : goal.loop-at-preserved
+loop-at-preserved g c =
+    let es = c.args.entries.now in
+    let us = names es in
+    let at = c.loop-at.at in
+    let s = c.index-entries-at.result in
+    let x = c.get.result.now in
+    let within : at < length es = omega arith in
+    let here : slice_get us at ≡ Some x = names-get es at (get_or es at s) (slice_get-get_or es at s within) ∙ ap Some (sym c.get.ensures.name) in
+    let one : suc at ≡ at + 1 = omega arith in
+    let is : with_text x (names (take at es)) ≡ take (at + 1) us =
+    ap (with_text x) (names-take es at) ∙ with_text-new x (take at us) (take-new us at x here c.requires.apart) ∙ sym (take-next us at x here) ∙ ap (λ k. take k us) one in
+    subst (IsIndex c.put_new_place.new.index) is c.in_ok-put_new_place.ensures.ok
+
+pub put_new_place-requires-2-clause-indexed : goal.put_new_place-requires-2-clause-indexed
+put_new_place-requires-2-clause-indexed g c =
+    let us = names c.args.entries.now in
+    subst (IsIndex c.loop-at.index) (take-all us c.loop-at.at (omega (arith, length-names c.args.entries.now))) c.loop-at.invariant

@@ -15,18 +15,17 @@ use Rattle.std.specs.declared.alloc.Global.{Global}
 use Rattle.std.specs.contracts.alloc.Global as heap
 use Rattle.std.specs.contracts.impls.GlobalAllocator.TheImpl.{ghosts}
 use Rattle.std.specs.List.{IsDistinct, IsDistinct-prop}
-use Rattle.std.specs.Prelude.{ℕ, Option, None, Some, length}
+use Rattle.std.specs.Prelude.{Option, None, Some}
 use Rattle.std.specs.Global.{Box}
 use Rattle.std.specs.Coded.{Coded-set, coded_option, coded_ℕ, ×_prop, le_prop}
 use Rattle.toml_edit_model.specs.Text.{Text, same_text}
 use Rattle.toml_edit_model.specs.Tree.{Key}
-use Rattle.toml_edit_slots.specs.Slots.{names, on_item}
-use Rattle.toml_edit_slots.specs.Chained.{IsChainedTo}
-use Rattle.toml_edit_slots.specs.SlotIndex.{IsIndex, IsIndexed, place_of}
+use Rattle.toml_edit_slots.specs.Slots.{names, on_item, place_in}
+use Rattle.toml_edit_slots.specs.Hashed.{place_of}
+use Rattle.toml_edit_slots.specs.SlotIndex.{IsIndex, IsIndexed, noted_place}
 use Rattle.toml_edit_slots.specs.SlotCode.{slot_code}
-use Rattle.toml_edit_slots.specs.declared.chains.Chains.{Chains}
 use Rattle.toml_edit_slots.specs.declared.index.Index.{Index}
-use Rattle.toml_edit_slots.specs.declared.index.Index.TheVariants.{Chained, Sorted}
+use Rattle.toml_edit_slots.specs.declared.index.Index.TheVariants.{Hashed, Sorted}
 use Rattle.toml_edit_key.specs.contracts.key.Key as key
 use Rattle.toml_edit_slots.specs.declared.slots.Slot.{Slot}
 use Rattle.toml_edit_slots.specs.contracts.slots.Slot as slot
@@ -78,18 +77,11 @@ fields =
     (λ X a. (a.entries, a.index)) (λ X v. record { entries = v.0; index = v.1 }) (λ X a. refl)
     (λ X v. refl)
 
-IsChainedTo-prop : (c : Chains) (us : List Text) (k : ℕ) → IsProp (IsChainedTo c us k)
-IsChainedTo-prop c us k p q = λ i. record {
-  some = le_prop p.some q.some i;
-  long = Coded-set coded_ℕ _ _ p.long q.long i;
-  heads = λ b less. Coded-set coded_ℕ _ _ (p.heads b less) (q.heads b less) i;
-  next = λ j t less there. Coded-set coded_ℕ _ _ (p.next j t less there) (q.next j t less there) i;
-}
-
 IsIndex-prop : (index : Index) (us : List Text) → IsProp (IsIndex index us)
-IsIndex-prop (Chained c) us = IsChainedTo-prop c us (length us)
+IsIndex-prop (Hashed m) us =
+    λ p q i t. Coded-set (coded_option coded_ℕ) (place_of m t) (place_in t us) (p t) (q t) i
 IsIndex-prop (Sorted m) us =
-    λ p q i k t there. Coded-set (coded_option coded_ℕ) (place_of m t) (Some k) (p k t there)
+    λ p q i k t there. Coded-set (coded_option coded_ℕ) (noted_place m t) (Some k) (p k t there)
     (q k t there) i
 
 IsIndexed-prop : (index : IndexValue) (us : List Text) → IsProp (IsIndexed index us)
