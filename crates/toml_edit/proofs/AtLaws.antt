@@ -10,7 +10,7 @@ use Rattle.toml_edit_tree.specs.View.{fields_view, item_view, table_slots, tree_
 use Rattle.toml_edit_tree.specs.declared.item.Item.{the_lemmas}
 use Rattle.toml_edit_tree.specs.declared.item.Item.TheVariants as items
 use Rattle.toml_edit_tree.specs.declared.table.Table.{Table}
-use Rattle.toml_edit_change.specs.Calls.{Change, ChangesFound, item_inside, replaced_at, replaced_below}
+use Rattle.toml_edit_change.specs.Calls.{Change, ChangesFound, TakesFound, item_inside, replaced_at, replaced_below}
 use Rattle.toml_edit_change.specs.Changes.{Changes}
 use Rattle.toml_edit_change.specs.Headed.{set_at_with_headers, set_headed_below}
 use Rattle.toml_edit_change.specs.declared.fault.ChangeFault.{ChangeFault}
@@ -124,6 +124,11 @@ module _ (d : DocumentMut) (t w : Table) (fields : fields_view t ≡ (tree_owned
       (λ h. headers-done (tree_owned d) (tree_view w d.trailing) (sym (trailing-at (item_view d.root) d.trailing)) path v (ap (set_headed_below v path) (sym was) ∙ h)
       ∙ ap done is)
       (λ q h. ap (mapped (with_slots (tree_owned d))) (ap (set_headed_below v path) (sym was) ∙ h))
+
+  -- a closure that may be called on an item below it may be called there
+  pub change-takes : {F R : Type 0} (g : Change F R) (f : F) (path : List Text) → TakesFound g f (item_inside path (root_item (tree_owned d)))
+      → TakesFound g f (item_inside path (node_of t))
+  change-takes g f path h = λ item is. h item (ap (item_inside path) (sym was) ∙ is)
 
   -- and so is what a closure does to an item below it
   pub change-root : {F R : Type 0} (g : Change F R) (f : F) (path : List Text) (r : Option R)

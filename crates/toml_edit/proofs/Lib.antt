@@ -3,7 +3,6 @@ pub mod RootLaws
 pub mod ReadInModes
 pub mod OwnLaws
 pub mod OverLaws
-pub mod LinesInModes
 pub mod WeakerFits
 pub mod TakenLaws
 pub mod HeaderLaws

@@ -15,6 +15,7 @@ use Rattle.toml_edit_laws.proofs.read_trees.TreeMade.{tree-made}
 use Rattle.toml_edit_laws.proofs.print_of_read.PrintOfRead.{print_normal}
 use Rattle.toml_edit_laws.proofs.normal_texts.TextLaws.{normal_texts}
 use Rattle.toml_edit_laws.proofs.normal_texts.TreesFit.{texts_fit}
+use Rattle.toml_edit_laws.proofs.normal_texts.LinesInModes.{steady_in_each_mode}
 use Rattle.toml_edit_laws.proofs.versions.EarlyPrints.{prints_stay}
 use Rattle.toml_edit.specs.Documents.{IsOwnedReadingIn, IsOwnedReadingWith, IsOwnedTreeWith, IsReadingIn, IsReadingWith, opens}
 use Rattle.toml_edit_laws.proofs.read_trees.MeaningOfTrees.{trees_mean}
@@ -65,7 +66,7 @@ stays-so : (mode : Mode) (version : Version) (d : Document) (x : Tree)
 stays-so plain version d x h = h
 stays-so exact version d x h = h
 
--- The tree of an accepted text stays its tree, fits in each mode, and prints as the normal text, which each version accepts that accepts the text.
+-- The tree of an accepted text stays its tree, fits and is steady in each mode, and prints as the normal text, which each version accepts that accepts the text.
 pub stays-tree : (mode : Mode) (t : Text) (x y : Tree) → y ≡ owned_tree t x → (d : Document) → AcceptedAs t d → IsTreeOf (spanned_in mode) d x
     → IsOwnedTreeWith mode t d y
 stays-tree mode t x y e d accepted is =
@@ -75,7 +76,7 @@ stays-tree mode t x y e d accepted is =
       tree = own;
       made = tree-made mode d y accepted.0.0 accepted.1 own;
       fits = fits-in-each mode d accepted.0.0 y own fine.0;
-      steady = fine.1;
+      steady = λ printed. steady_in_each_mode printed mode y ∙ fine.1;
       prints = opens-so mode d y (print_normal mode d accepted.0.0 accepted.1 y own);
       normal = (accepted, normal_texts mode t d accepted);
       stays = λ version accepted_in. stays-so mode version d y (prints_stay mode version t d accepted_in y own);

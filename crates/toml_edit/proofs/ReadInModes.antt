@@ -31,7 +31,7 @@ use Rattle.toml_edit_laws.proofs.normal_texts.SettledStays.{IsAny}
 use Rattle.toml_edit_laws.proofs.normal_texts.SteadyMentions.{IsBracketed}
 use Rattle.toml_edit_laws.proofs.normal_texts.TreeDecors.{AllSuit, AllVisits, IsInner, VisitSuits, document-fit, empty-ends, header-suits, one-line, places-suit, table-suits, unset-inner}
 use Rattle.toml_edit_laws.proofs.values.ValueItems.{owned-decor, value-line}
-use Rattle.toml_edit.proofs.LinesInModes.{limits-same, ordered-same}
+use Rattle.toml_edit_laws.proofs.normal_texts.LinesInModes.{limits-same, ordered-same}
 use Rattle.toml_edit.proofs.WeakerFits.{weaker-fits}
 
 -- a suffix without a carriage return suits the end of a line

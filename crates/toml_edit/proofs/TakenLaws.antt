@@ -1,7 +1,7 @@
 -- The root of a document that was read, taken as it is and made the root of a document again.
 use Rattle.std.proofs.Common.{◌≡◌, refl, sym, ap, ◌∙◌, Option, Some, None, option_map}
 use Rattle.std.specs.Prelude.{[], ◌||◌}
-use Rattle.toml_edit_model.specs.Mode.{Mode, plain}
+use Rattle.toml_edit_model.specs.Mode.{Mode}
 use Rattle.toml_edit_model.specs.Text.{Text, same_text}
 use Rattle.toml_edit_model.specs.Syntax.{Document}
 use Rattle.toml_edit_model.specs.Accepted.{AcceptedAs}
@@ -17,7 +17,7 @@ use Rattle.toml_edit_laws.proofs.read_trees.ReadLaws.{owned_trees}
 use Rattle.toml_edit_laws.proofs.read_trees.TreeMade.{tree-made}
 use Rattle.toml_edit.specs.Documents.{PrintsMeaningOf}
 use Rattle.toml_edit.proofs.PrintMeaning.{made-print}
-use Rattle.toml_edit.proofs.WeakerFits.{plain-fits}
+use Rattle.toml_edit.proofs.ReadInModes.{fits-in-each}
 
 -- ---- a tree over its text is as well made as the one that owns its texts
 
@@ -57,26 +57,22 @@ module _ (mode : Mode) (t : Text) (d : Document) (x : Tree) (accepted : Accepted
   own : IsTreeOf (owned_in mode) d (owned_tree t x)
   own = owned_trees mode t d accepted.0 x is
 
-  root-fits : FitsIn mode root
-  root-fits = (spans_fit mode t d x is (texts_fit mode t d accepted (owned_tree t x) own).0).1
+  -- It fits in each mode, as what its spans cut from the text does.
+  root-fits : (printed : Mode) → FitsIn printed root
+  root-fits printed =
+      let fine = texts_fit mode t d accepted (owned_tree t x) own in
+      (spans_fit printed mode t d x is (fits-in-each mode d accepted.0.0 (owned_tree t x) own fine.0 printed)).1
 
-  -- In each mode in which it fits it prints a text of the same meaning.
-  prints-in : (other : Mode) → FitsIn other root → PrintsMeaningOf other d root
-  prints-in other fits =
+  -- So it prints a text of the same meaning in each.
+  pub root-prints : (printed : Mode) → PrintsMeaningOf printed d root
+  root-prints printed =
       let made = slots-over t x.slots (tree-made mode d (owned_tree t x) accepted.0.0 accepted.1 own) in
-      let fitting : IsFitting other root = record { made = made; fits = fits } in
+      let fitting : IsFitting printed root = record { made = made; fits = root-fits printed } in
       let means = taken_roots_mean d accepted.0.0 accepted.1 (spanned_in mode) x root is refl in
       record {
-        fits = fits;
-        accepted = λ is_open. (made-print other is_open root fitting).accepted;
+        fits = root-fits printed;
+        accepted = λ is_open. (made-print printed is_open root fitting).accepted;
         meaning = λ is_open f.
-            let shown = (made-print other is_open root fitting).meaning f in
+            let shown = (made-print printed is_open root fitting).meaning f in
             (λ c. (means f).0 (shown.0 c), λ c. shown.1 ((means f).1 c));
       }
-
-  -- It fits in the mode in which the text was read, and so in the plain mode too.
-  pub root-prints : PrintsMeaningOf mode d root
-  root-prints = prints-in mode root-fits
-
-  pub root-prints-plain : PrintsMeaningOf plain d root
-  root-prints-plain = prints-in plain (plain-fits mode root root-fits)

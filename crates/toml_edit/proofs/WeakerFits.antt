@@ -16,7 +16,7 @@ use Rattle.toml_edit_laws.proofs.common.Tests.{append-nil}
 use Rattle.toml_edit_laws.proofs.common.Trivia.{returns-append, end-returns}
 use Rattle.toml_edit_laws.proofs.normal_texts.DecorsSuit.{lean-white}
 use Rattle.toml_edit_laws.proofs.normal_texts.Lean.{lean-trivia, lean-end, lean-final}
-use Rattle.toml_edit.proofs.LinesInModes.{AlikeLines, table-alike, header-same, ordered-same, limits-same}
+use Rattle.toml_edit_laws.proofs.normal_texts.LinesInModes.{AlikeLines, table-alike, header-same, ordered-same, limits-same}
 
 -- ---- texts
 
@@ -187,8 +187,3 @@ weaker-fits t h =
       ordered = sym (ordered-same exact plain t) ∙ h.ordered;
       limits = sym (limits-same exact plain t) ∙ h.limits;
     }
-
--- So a tree that fits in either mode fits in the plain one.
-pub plain-fits : (mode : Mode) (t : Tree) → FitsIn mode t → FitsIn plain t
-plain-fits plain t h = h
-plain-fits exact t h = weaker-fits t h

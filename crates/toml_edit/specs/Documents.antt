@@ -72,14 +72,14 @@ module _ (mode : Mode) where
   abbrev pub HasNormalText : Text → Document → Type 0
   HasNormalText t d = AcceptedAs t d × IsNormalForm mode t d
 
-  -- The tree owns its texts and is of this accepted text: it is well made, fits in each mode, is
-  -- steady, and prints the normal text, its end open where that of the text is. A version that
+  -- The tree owns its texts and is of this accepted text: it is well made, fits and is steady in
+  -- each mode, and prints the normal text, its end open where that of the text is. A version that
   -- accepts the text accepts this print too.
   pub record IsOwnedTreeWith (t : Text) (d : Document) (x : Tree) : Type 0 where
     pub tree : IsTreeOf (owned_in mode) d x
     pub made : SlotsAreWellMade x.slots
     pub fits : (printed : Mode) → FitsIn printed x
-    pub steady : is_steady_in mode x ≡ true
+    pub steady : (printed : Mode) → is_steady_in printed x ≡ true
     pub prints : print_in mode (opens mode d) x ≡ normal_text_in mode d
     pub normal : HasNormalText t d
     pub stays : (version : Version) → AcceptedIn version t d

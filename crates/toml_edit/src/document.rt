@@ -30,7 +30,7 @@ pub use print::PrintFault;
 /// pub fn source_of<S: SourceText>(document: &Document<S>) -> &str
 /// ```
 ///
-/// From `source_of` of the guide, docs/GUIDE.md.
+/// From `source_of` of the crate `toml_edit_guide`.
 pub trait SourceText: Drop {
     ghost use Rattle.std.specs.Prelude.{◌≡◌, List, ℕ};
 
@@ -73,7 +73,7 @@ impl SourceText for String {
 /// root.get(key)?.span()
 /// ```
 ///
-/// From `span_at` of the guide, docs/GUIDE.md.
+/// From `span_at` of the crate `toml_edit_guide`.
 #[derive(Debug)]
 pub struct Document<S: SourceText> {
     raw: S,
@@ -227,21 +227,14 @@ impl<S: SourceText> Document<S> {
     /// Returns the root table as an item, and drops the source and the trailing text.
     ///
     /// Its spellings and decors stay spans, so what is printed of it has default ones. To keep
-    /// them, call [`into_mut`](Self::into_mut) first. As the root of a document that keeps line
-    /// endings as this one does, or keeps none, it fits and prints a text that means what the
-    /// source means.
+    /// them, call [`into_mut`](Self::into_mut) first. As the root of a document it fits and prints
+    /// a text that means what the source means, whether or not the document keeps line endings.
     pub fn into_item(self) -> Item
         ensures root { item_view result ≡ root_node (tree_read self) }
-        // As the root of a document with the mode of this one, its print means what the source
-        // means.
-        ensures print { (d : Cut) → AcceptedAs (source self) d
+        // As the root of a document, in either mode, its print means what the source means.
+        ensures print { (printed : model.Mode) (d : Cut) → AcceptedAs (source self) d
             → IsTreeOf (spanned_in (mode_read self)) d (tree_read self)
-            → PrintsMeaningOf (mode_read self) d (record (tree_read self) { trailing = owned [] }) }
-        // So does its print in a document that `DocumentMut::from` makes, which keeps no line
-        // endings.
-        ensures print_plain { (d : Cut) → AcceptedAs (source self) d
-            → IsTreeOf (spanned_in (mode_read self)) d (tree_read self)
-            → PrintsMeaningOf model.plain d (record (tree_read self) { trailing = owned [] }) }
+            → PrintsMeaningOf printed d (record (tree_read self) { trailing = owned [] }) }
     {
         let Document {
             raw,
@@ -258,22 +251,15 @@ impl<S: SourceText> Document<S> {
     /// Returns the root table, and drops the source and the trailing text.
     ///
     /// Its spellings and decors stay spans, so what is printed of it has default ones. To keep
-    /// them, call [`into_mut`](Self::into_mut) first. As the root of a document that keeps line
-    /// endings as this one does, or keeps none, it fits and prints a text that means what the
-    /// source means.
+    /// them, call [`into_mut`](Self::into_mut) first. As the root of a document it fits and prints
+    /// a text that means what the source means, whether or not the document keeps line endings.
     pub fn into_table(self) -> Table
         ensures fields { fields_view result ≡ (tree_read self).root }
         ensures slots { table_slots result ≡ (tree_read self).slots }
-        // As the root of a document with the mode of this one, its print means what the source
-        // means.
-        ensures print { (d : Cut) → AcceptedAs (source self) d
+        // As the root of a document, in either mode, its print means what the source means.
+        ensures print { (printed : model.Mode) (d : Cut) → AcceptedAs (source self) d
             → IsTreeOf (spanned_in (mode_read self)) d (tree_read self)
-            → PrintsMeaningOf (mode_read self) d (tree_view result (owned [])) }
-        // So does its print in a document that `DocumentMut::from` makes, which keeps no line
-        // endings.
-        ensures print_plain { (d : Cut) → AcceptedAs (source self) d
-            → IsTreeOf (spanned_in (mode_read self)) d (tree_read self)
-            → PrintsMeaningOf model.plain d (tree_view result (owned [])) }
+            → PrintsMeaningOf printed d (tree_view result (owned [])) }
     {
         let Document {
             raw,
@@ -302,8 +288,8 @@ impl<S: SourceText> Document<S> {
             (λ m. (mode_owned m ≡ mode_read self) × (open_owned m ≡ open_read self)) }
         // The tree of an accepted text stays its tree, fits and is steady. It prints as the normal
         // form, which is accepted, means what the text means, and prints as itself. A version of
-        // TOML that accepts the text accepts the print. The tree fits in each mode; the rest is of
-        // the mode of reading.
+        // TOML that accepts the text accepts the print. The tree fits and is steady in each mode;
+        // the rest is of the mode of reading.
         ensures normal { IfOk result (λ m. (d : Cut) → AcceptedAs (source self) d
             → IsTreeOf (spanned_in (mode_read self)) d (tree_read self)
             → IsOwnedTreeWith (mode_read self) (source self) d (tree_owned m)) }
@@ -382,10 +368,9 @@ impl Document<String> {
 /// # Examples
 ///
 /// ```rust,ignore
-/// let mut doc = DocumentMut::from_str(rt.alloc(), text.as_str())?;
-/// set_version(rt.alloc(), &mut doc, "0.4.0")?;
-/// add_dependency(rt.alloc(), &mut doc, "rand", "0.9")?;
-/// print!(rt; "{doc}")?;
+/// let mut document = DocumentMut::from_str(rt.alloc(), text.as_str())?;
+/// set_version(rt.alloc(), &mut document, "0.4.0")?;
+/// print!(rt; "{document}")?;
 /// ```
 ///
 /// From `main` of the crate `toml_edit_example`.
@@ -462,7 +447,7 @@ impl DocumentMut {
     /// }
     /// ```
     ///
-    /// From `report` of the guide, docs/GUIDE.md.
+    /// From `report` of the crate `toml_edit_guide`.
     pub fn from_str(alloc: Global, text: &str) -> Result<DocumentMut, ParseFault>
         ensures accepted { IfOk result (λ m. IsOwnedReading text.now (tree_owned m)) }
         ensures plain { IfOk result (λ m. IsPlain m) }
@@ -486,7 +471,7 @@ impl DocumentMut {
     /// DocumentMut::from_str_with(alloc, text, ParseOptions::new().version(Version::V1_0))
     /// ```
     ///
-    /// From `read_strictly` of the guide, docs/GUIDE.md.
+    /// From `read_strictly` of the crate `toml_edit_guide`.
     pub fn from_str_with(
         alloc: Global,
         text: &str,
@@ -682,7 +667,7 @@ impl DocumentMut {
     /// }
     /// ```
     ///
-    /// From `print_if_fits` of the guide, docs/GUIDE.md.
+    /// From `print_if_fits` of the crate `toml_edit_guide`.
     pub fn fits(&self, _alloc: Global) -> Mem<bool>
         ensures fits { IfOk result
             (λ fits. IsTrue fits ↔ FitsIn (mode_owned self.now) (tree_owned self.now)) }

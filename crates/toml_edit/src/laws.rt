@@ -4,6 +4,7 @@
 //! alone. docs/LAWS.md says in words what each one states.
 
 pub use toml_edit_edits::{commented, inserted, moved, renamed};
+pub use toml_edit_fits::broken;
 pub use toml_edit_laws::{
     added, agree, cut, edits, in_order, late_places, normal, offsets, removed, reparse, replaced,
     steady, versions_accept, ways,

@@ -3,17 +3,15 @@
 //!
 //! [`DocumentMut::from_str`] parses a text (TOML 1.1.0; 1.0 by [`ParseOptions`]) into a tree of
 //! [`Table`], [`Array`] and [`Value`]. The tree can be changed, and [`DocumentMut::print`] or
-//! `Display` writes it. This is a port of the Rust crate `toml_edit` 0.25.18; docs/DIFFERENCES.md
+//! `Display` writes it. This is a port of the Rust crate `toml_edit` 0.25.18; docs/MIGRATING.md
 //! lists what differs, and docs/GUIDE.md shows common tasks.
 //!
 //! ```rust,ignore
-//! let mut version = Value::string(alloc, version)?;
-//! if let Some(Item::Table(package)) = doc.as_table_mut().get_mut("package") {
-//!     if let Some(Item::Value(old)) = package.get_mut("version") {
-//!         mem::swap(old.decor_mut(), version.decor_mut());
-//!         mem::swap(old, &mut version);
-//!     }
+//! let path = Key::parse(alloc, "package.version")?;
+//! if document.get_at(&path).is_none() {
+//!     bail!("package.version is missing");
 //! }
+//! document.set_at(&path, Value::string(alloc, version)?)?;
 //! ```
 //!
 //! From `set_version` of the crate `toml_edit_example`, which the README quotes.
@@ -27,7 +25,8 @@
 //!   `insert`, `push` and `sort_by`, use that one. A call that can run out of memory returns
 //!   [`Mem<T>`](Mem), whose error is `AllocError`, or a `Result` whose error
 //!   [`NoMemory<T>`](NoMemory) gives back what found no memory. Those that can fail in other ways
-//!   too have the errors [`ParseFault`], [`IndexFault`] and [`PrintFault`].
+//!   too have the errors [`ParseFault`], [`IndexFault`], [`ChangeFault`], [`CommentFault`] and
+//!   [`PrintFault`].
 //! - **Failure.** A call that fails leaves its receiver unchanged, with these exceptions. `extend`
 //!   keeps a beginning of what it adds. `sort_values` and `sort_values_by` of a [`Table`] or an
 //!   [`InlineTable`] may leave some tables sorted and others not, but lose nothing. `print_to` may
@@ -89,7 +88,7 @@ pub use toml_edit_repr::{
     CommentFault, Comments, Decor, Formatted, Mem, RawString, Repr, ScalarValue, ValueRepr,
 };
 pub use toml_edit_slots::{NoMemory, Refused, Renamed, Slot, Slots};
-pub use toml_edit_stream::{Broken, Input, Output, Printed, Sink, Watched};
+pub use toml_edit_stream::{Broken, Input, Output, Printed, Sink, Watched, print_to};
 pub use toml_edit_table_like::{
     AnyTable, AsTableLike, HasSlots, TableLike, TableLikeEntry, TableLikeSlot, TableRef,
     TableRefMut,

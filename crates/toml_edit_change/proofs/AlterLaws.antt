@@ -1,12 +1,14 @@
 -- What a closure does to a part of an item, as what it does to the item.
-use Rattle.std.proofs.Common.{◌≡◌, ◌∙◌, refl, sym, ap, subst, ℕ, ◌<◌, Bool, false, List, [], ◌∷◌, length, get_or, set, slice_get, Option, Some, None, option_map, arith}
+use Rattle.std.proofs.Common.{◌≡◌, ◌∙◌, refl, sym, ap, subst, ℕ, ◌<◌, Bool, true, false, List, [], ◌∷◌, length, get_or, set, slice_get, Option, Some, None, option_map, arith}
+use Rattle.std.specs.Prelude.{if◌then◌else◌, option_and_then}
 use Rattle.toml_edit_model.specs.Text.{Text}
 use Rattle.toml_edit_model.specs.Tree.{Key, Node, list, inline, table, tables, Items, Slots, is_value_node}
 use Rattle.toml_edit_model.specs.ArrayCalls.{written_at}
 use Rattle.toml_edit_model.specs.Slots.{Slot, changed, lookup_slot, with_item}
 use Rattle.toml_edit_model.specs.Lists.{slot_list, slots_from, item_list, items_from, is_item, only}
 use Rattle.toml_edit_model.specs.Shown.{is_table_node}
-use Rattle.toml_edit_laws.specs.Commands.{Answer, done, mapped, present, second, and_then, item_below, element_of, change_slot, change_element}
+use Rattle.toml_edit_laws.specs.Commands.{Answer, done, mapped, present, second, and_then, item_below, number_of, kept_item, at_number, element_of, change_slot, change_element}
+use Rattle.toml_edit_laws.proofs.common.OptionSteps.{some-is}
 use Rattle.toml_edit_laws.proofs.locality.Slots.{slots_from-list, items_from-list}
 use Rattle.toml_edit_tree.specs.Containers.{ArrayView, InlineView, TableView, TablesView, array_node, inline_node, table_node, tables_node}
 use Rattle.toml_edit_slots.specs.Slots as held
@@ -14,7 +16,7 @@ use Rattle.toml_edit_slots.specs.declared.slots.Slot as held_slot
 use Rattle.toml_edit_tree.specs.Indexed.{shown_slots}
 use Rattle.toml_edit_tree.specs.View.{item_view}
 use Rattle.toml_edit_tree.specs.declared.item.Item.{Item}
-use Rattle.toml_edit_change.specs.Calls.{Change, ChangesBelow, ChangesElement, ChangesFound, ChangesSlot, replaced_below}
+use Rattle.toml_edit_change.specs.Calls.{Change, ChangesBelow, ChangesElement, ChangesFound, ChangesSlot, TakesFound, replaced_below}
 use Rattle.toml_edit_change.specs.Changes.{names}
 use Rattle.toml_edit_change.specs.Elements.{nodes, place_named}
 use Rattle.toml_edit_change.proofs.ElementLaws.{element-is, nodes-same, nodes-set}
@@ -30,6 +32,40 @@ pub replaced-at-end : (path : List Key) (m n : Node) → length path ≡ 0 → r
 replaced-at-end [] m n h = refl
 replaced-at-end (k ∷ path) m n h = absurd (omega arith)
 
+-- ---- what is found
+
+-- at the rest of a path below the slot of a key
+abbrev pub found-in : List Text → Text → Slots → Option Node
+found-in path k ss = and_then (item_below path) (present (lookup_slot k (slot_list ss)))
+
+kept-at : (is : Node → Bool) (i : ℕ) (o : Option Node) (p : Option ℕ) → p ≡ option_map (λ (x : ℕ × Node). x.0) (kept_item is i o) → (p ≡ None → ⊥) → (second (kept_item is i o) ≡ o) × (p ≡ Some i)
+kept-at is i None p h some = absurd (some h)
+kept-at is i (Some n) p h some = by_kind (is n) h
+  where
+    by_kind : (b : Bool) → p ≡ option_map (λ (x : ℕ × Node). x.0) (if b then Some (i, n) else None)
+        → (second (if b then Some (i, n) else None) ≡ Some n) × (p ≡ Some i)
+    by_kind true g = (refl, g)
+    by_kind false g = absurd (some g)
+
+none-kept : (o : Option (ℕ × Node)) → None ≡ option_map (λ (x : ℕ × Node). x.0) o → second o ≡ None
+none-kept None h = refl
+none-kept (Some x) h = absurd cc
+
+-- The element that a text names stands at its place.
+second-at : (is : Node → Bool) (k : Text) (ns : List Node) (p : Option ℕ) → p ≡ place_named is k ns → second (element_of is k ns) ≡ option_and_then (slice_get ns) p
+second-at is k ns None h = none-kept (element_of is k ns) h
+second-at is k ns (Some j) h = by_number (number_of k) h
+  where
+    by_number : (o : Option ℕ) → Some j ≡ option_map (λ (x : ℕ × Node). x.0) (at_number is ns o) → second (at_number is ns o) ≡ slice_get ns j
+    by_number None g = absurd cc
+    by_number (Some i) g =
+        let kept = kept-at is i (slice_get ns i) (Some j) g (λ e. absurd cc) in
+        kept.0 ∙ ap (slice_get ns) (sym (some-is j i kept.1))
+
+pub element-at : (is : Node → Bool) (k : Text) (path : List Text) (ns : List Node) (p : Option ℕ) → p ≡ place_named is k ns
+    → and_then (item_below path) (second (element_of is k ns)) ≡ and_then (item_below path) (option_and_then (slice_get ns) p)
+element-at is k path ns p h = ap (and_then (item_below path)) (second-at is k ns p h)
+
 module _ {F R : Type 0} (g : Change F R) (f : F) where
   -- ---- what a part is a part of
 
@@ -41,6 +77,10 @@ module _ {F R : Type 0} (g : Change F R) (f : F) where
 
   pub renamed : {A : Type 0} (found : Option Node) (put : Node → Answer A) (a b c d : A) (r : Option R) → a ≡ c → b ≡ d → ChangesFound g f found put a b r → ChangesFound g f found put c d r
   renamed found put a b c d r e h change = subst (λ x. ChangesFound g f found put c x r) h (subst (λ x. ChangesFound g f found put x b r) e change)
+
+  -- the closure may be called on the item of the part that is found
+  pub takes : (found found' : Option Node) → found' ≡ found → TakesFound g f found' → TakesFound g f found
+  takes found found' e h = λ item is. h item (e ∙ is)
 
   -- ---- the kinds of items
 

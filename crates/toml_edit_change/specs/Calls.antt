@@ -1,6 +1,6 @@
 -- A call of a closure on the item at a path.
 use Rattle.std.specs.Borrow.{MutBor}
-use Rattle.std.specs.Fn.{Once, FnOnceReturnsAtMut}
+use Rattle.std.specs.Fn.{Once, FnOnceReturnsAtMut, FnOnceTakesAtMut}
 use Rattle.std.specs.Prelude.{◌≡◌, Bool, false, List, [], ◌∷◌, Option, Some, None}
 use Rattle.toml_edit_model.specs.Slots.{Slot, lookup_slot}
 use Rattle.toml_edit_model.specs.Text.{Text}
@@ -26,6 +26,11 @@ replaced_at path m t = mapped (with_slots t) (replaced_below path m (root_item t
 -- a closure that is called once on a `&mut Item`
 abbrev pub Change : Type 0 → Type 0 → Type 1
 Change F R = Once F (MutBor Item × Unit {0}) (R × (MutBor Item × Unit {0}))
+
+-- The closure may be called on the item that is found, if there is one, and so on no other.
+abbrev pub TakesFound : {F R : Type 0} → Change F R → F → Option Node → Type 0
+TakesFound g f found =
+    (item : Item) → found ≡ Some (item_view item) → FnOnceTakesAtMut g f item
 
 -- The closure was called on the item that is found, and what it left there was put back.
 pub record CallsOn {F R A : Type 0} (g : Change F R) (f : F) (found : Option Node)

@@ -1,13 +1,14 @@
 //! Changing the item at a path by a closure.
-ghost use Rattle.std.specs.Prelude.{◌≡◌, ◌<◌, ◌∷◌, Bool, IfSome, length};
+ghost use Rattle.std.specs.Prelude.{◌≡◌, ◌<◌, ◌∷◌, Bool, IfSome, length, option_and_then, slice_get};
 ghost use Rattle.toml_edit_model.specs.Lists.{is_item, only};
+ghost use Rattle.toml_edit_model.specs.Slots.{lookup_slot};
 ghost use Rattle.toml_edit_model.specs.Text.{Text};
 ghost use Rattle.toml_edit_model.specs.Tree.{Node};
-ghost use Rattle.toml_edit_laws.specs.Commands.{and_then, item_below};
+ghost use Rattle.toml_edit_laws.specs.Commands.{and_then, item_below, present};
 ghost use Rattle.toml_edit_tree.specs.Containers.{array_node, inline_node, table_node, tables_node};
 ghost use Rattle.toml_edit_tree.specs.Indexed.{shown_slots};
 ghost use Rattle.toml_edit_tree.specs.View.{array_view, inline_view, item_view, table_view, tables_view, value_view};
-ghost use Rattle.toml_edit_change.specs.Calls.{ChangesBelow, ChangesElement, ChangesFound, ChangesSlot, item_inside, replaced_below};
+ghost use Rattle.toml_edit_change.specs.Calls.{ChangesBelow, ChangesElement, ChangesFound, ChangesSlot, TakesFound, item_inside, replaced_below};
 ghost use Rattle.toml_edit_change.specs.Changes.{names};
 ghost use Rattle.toml_edit_change.specs.Elements.{nodes, place_named};
 
@@ -24,7 +25,8 @@ use toml_edit_tree::{Array, ArrayOfTables, InlineTable, Item, Table, Value};
 pub fn change<R, F: FnOnce(&mut Item) -> R>(root: &mut Table, path: &[Key], change: F) -> Option<R>
 where
     F: Drop,
-    requires { F.IsAlwaysCallable change }
+    requires { TakesFound F.FnOnce change
+        (item_inside (names path.now) (table_node (table_view root.old))) }
     ensures { ChangesFound F.FnOnce change
         (item_inside (names path.now) (table_node (table_view root.old)))
         (λ left. replaced_below (names path.now) left (table_node (table_view root.old)))
@@ -48,7 +50,7 @@ fn change_in_item<R, F: FnOnce(&mut Item) -> R>(
 ) -> Option<R>
 where
     F: Drop,
-    requires { F.IsAlwaysCallable change }
+    requires { TakesFound F.FnOnce change (item_below (names path.now) (item_view item.old)) }
     ensures { ChangesBelow F.FnOnce change (names path.now) (item_view item.old)
         (item_view item.new) result }
 {
@@ -76,7 +78,8 @@ fn change_in_value<R, F: FnOnce(&mut Item) -> R>(
 ) -> Option<R>
 where
     F: Drop,
-    requires { F.IsAlwaysCallable change }
+    requires { TakesFound F.FnOnce change
+        (item_below (key.now.name ∷ names rest.now) (value_view holder.old)) }
     ensures { ChangesBelow F.FnOnce change (key.now.name ∷ names rest.now)
         (value_view holder.old) (value_view holder.new) result }
 {
@@ -100,7 +103,8 @@ fn change_in_table<R, F: FnOnce(&mut Item) -> R>(
 ) -> Option<R>
 where
     F: Drop,
-    requires { F.IsAlwaysCallable change }
+    requires { TakesFound F.FnOnce change
+        (item_below (key.now.name ∷ names rest.now) (table_node (table_view table.old))) }
     ensures { ChangesBelow F.FnOnce change (key.now.name ∷ names rest.now)
         (table_node (table_view table.old)) (table_node (table_view table.new)) result }
 {
@@ -117,7 +121,8 @@ fn change_in_inline<R, F: FnOnce(&mut Item) -> R>(
 ) -> Option<R>
 where
     F: Drop,
-    requires { F.IsAlwaysCallable change }
+    requires { TakesFound F.FnOnce change
+        (item_below (key.now.name ∷ names rest.now) (inline_node (inline_view table.old))) }
     ensures { ChangesBelow F.FnOnce change (key.now.name ∷ names rest.now)
         (inline_node (inline_view table.old)) (inline_node (inline_view table.new)) result }
 {
@@ -134,7 +139,8 @@ fn change_in_array<R, F: FnOnce(&mut Item) -> R>(
 ) -> Option<R>
 where
     F: Drop,
-    requires { F.IsAlwaysCallable change }
+    requires { TakesFound F.FnOnce change
+        (item_below (key.now.name ∷ names rest.now) (array_node (array_view array.old))) }
     ensures { ChangesBelow F.FnOnce change (key.now.name ∷ names rest.now)
         (array_node (array_view array.old)) (array_node (array_view array.new)) result }
 {
@@ -153,7 +159,8 @@ fn change_in_tables<R, F: FnOnce(&mut Item) -> R>(
 ) -> Option<R>
 where
     F: Drop,
-    requires { F.IsAlwaysCallable change }
+    requires { TakesFound F.FnOnce change
+        (item_below (key.now.name ∷ names rest.now) (tables_node (tables_view tables.old))) }
     ensures { ChangesBelow F.FnOnce change (key.now.name ∷ names rest.now)
         (tables_node (tables_view tables.old)) (tables_node (tables_view tables.new)) result }
 {
@@ -173,7 +180,8 @@ fn change_in_element<R, F: FnOnce(&mut Item) -> R>(
 where
     F: Drop,
     requires within { IfSome at (λ place. place < length items.old) }
-    requires callable { F.IsAlwaysCallable change }
+    requires callable { TakesFound F.FnOnce change (and_then (item_below (names rest.now))
+        (option_and_then (slice_get (nodes items.old)) at)) }
     ensures { (is : Node → Bool) (k : Text) → at ≡ place_named is k (nodes items.old)
         → ChangesElement F.FnOnce change is k (names rest.now) (nodes items.old)
         (nodes items.new) result }
@@ -198,7 +206,8 @@ fn change_in_slots<R, F: FnOnce(&mut Item) -> R>(
 ) -> Option<R>
 where
     F: Drop,
-    requires { F.IsAlwaysCallable change }
+    requires { TakesFound F.FnOnce change (and_then (item_below (names rest.now))
+        (present (lookup_slot key.now.name (shown_slots slots.old)))) }
     ensures { ChangesSlot F.FnOnce change key.now.name (names rest.now) (shown_slots slots.old)
         (shown_slots slots.new) result }
 {
@@ -223,7 +232,8 @@ fn change_in_slot<R, F: FnOnce(&mut Item) -> R>(
 ) -> Option<R>
 where
     F: Drop,
-    requires { F.IsAlwaysCallable change }
+    requires { TakesFound F.FnOnce change
+        (and_then (item_below (names rest.now)) (only is_item (item_view item.old))) }
     ensures { ChangesFound F.FnOnce change
         (and_then (item_below (names rest.now)) (only is_item (item_view item.old)))
         (λ left. replaced_below (names rest.now) left (item_view item.old))

@@ -3,7 +3,7 @@ use std::alloc::AllocError;
 use std::error::Error;
 use std::fmt;
 
-/// The error of [`set`](crate::set) and [`remove`](crate::remove).
+/// The error of a change at a path that is refused.
 #[derive(Clone, Copy, Debug, PartialEq, Eq, Hash)]
 pub enum ChangeFault {
     /// A segment names no element, or there is no item to remove.

@@ -6,6 +6,7 @@ use Rattle.std.specs.Fmt.{decimal}
 use Rattle.std.proofs.lemmas.List.{map-append}
 use Rattle.toml_edit_model.specs.Mode.{Mode}
 use Rattle.toml_edit_model.specs.Text.{Text}
+use Rattle.toml_edit_model.specs.Keys.{new_key}
 use Rattle.toml_edit_model.specs.Paths.{Path, to_key, to_element}
 use Rattle.toml_edit_model.specs.Tree.{Key, TableFields, Node, nothing, leaf, list, inline, table, tables, Items, no_items, item, Slots, no_slots, slot, Tree}
 use Rattle.toml_edit_model.specs.HeaderOrder.{Visit, PlacedVisit, visit_of, node_walk, items_walk, slots_walk, place_of, places_from}
@@ -84,10 +85,10 @@ past-element f ss p ks i m =
 
 -- ---- located tables
 
-abbrev visits : List Located → List Visit
+abbrev pub visits : List Located → List Visit
 visits xs = map (λ (x : Located). x.1) xs
 
-abbrev placed : List Headed → List PlacedVisit
+abbrev pub placed : List Headed → List PlacedVisit
 placed hs = map (λ (x : Headed). x.1) hs
 
 abbrev under : Text → Headed → Headed
@@ -102,7 +103,7 @@ visits-both k xs ys us vs e g =
     map-append (λ (x : Located). x.1) (map (in_step k) xs) ys ∙ (ap (λ ws. ws ++ visits ys) (visits-step k xs ∙ e) ∙ ap (λ ws. us ++ ws) g)
 
 mutual
-  visits-slots : (ss : Slots) (p : Path) (ks : List Key) → visits (located_slots ss p ks) ≡ slots_walk ss p ks
+  pub visits-slots : (ss : Slots) (p : Path) (ks : List Key) → visits (located_slots ss p ks) ≡ slots_walk ss p ks
   visits-slots no_slots p ks = refl
   visits-slots (slot k n ss) p ks =
       visits-both k.name (located_node n (to_key p k.name) (ks ++ (k ∷ []))) (located_slots ss p ks) (node_walk n (to_key p k.name) (ks ++ (k ∷ [])) false) (slots_walk ss p ks)
@@ -168,7 +169,7 @@ headed-all P (x ∷ xs) seen h =
     by_tests false true ih = (h.0, ih (place_of seen x.1))
     by_tests false false ih = ih (place_of seen x.1)
 
-headed-placed : (xs : List Located) (seen : ℤ) → placed (headed_from seen xs) ≡ heads seen (visits xs)
+pub headed-placed : (xs : List Located) (seen : ℤ) → placed (headed_from seen xs) ≡ heads seen (visits xs)
 headed-placed [] seen = refl
 headed-placed (x ∷ xs) seen = by_dot x.1.fields.is_dotted (headed-placed xs seen) (headed-placed xs (place_of seen x.1))
   where
@@ -194,7 +195,7 @@ late_too x c z = is_too_early x z || c z
 
 abbrev among : Test → List Headed → List MisfitView
 among c [] = []
-among c (y ∷ hs) = (if c y.1 then record { path = y.0; rule = rule.Order } ∷ [] else []) ++ among (late_too y.1 c) hs
+among c (y ∷ hs) = (if c y.1 then record { path = map new_key y.0; rule = rule.Order } ∷ [] else []) ++ among (late_too y.1 c) hs
 
 abbrev after : Test → List Headed → Test
 after c [] = c
@@ -203,19 +204,19 @@ after c (y ∷ hs) = after (late_too y.1 c) hs
 early-among : (before : List PlacedVisit) (hs : List Headed) → early_after before hs ≡ among (λ z. list_any (λ x. is_too_early x z) before) hs
 early-among before [] = refl
 early-among before (y ∷ hs) =
-    ap (λ ms. (if list_any (λ x. is_too_early x y.1) before then record { path = y.0; rule = rule.Order } ∷ [] else []) ++ ms) (early-among (y.1 ∷ before) hs)
+    ap (λ ms. (if list_any (λ x. is_too_early x y.1) before then record { path = map new_key y.0; rule = rule.Order } ∷ [] else []) ++ ms) (early-among (y.1 ∷ before) hs)
 
 among-append : (hs gs : List Headed) (c : Test) → among c (hs ++ gs) ≡ among c hs ++ among (after c hs) gs
 among-append [] gs c = refl
 among-append (y ∷ hs) gs c =
-    let one : List MisfitView = if c y.1 then record { path = y.0; rule = rule.Order } ∷ [] else [] in
+    let one : List MisfitView = if c y.1 then record { path = map new_key y.0; rule = rule.Order } ∷ [] else [] in
     ap (λ ms. one ++ ms) (among-append hs gs (late_too y.1 c)) ∙ sym (append_assoc one (among (late_too y.1 c) hs) (among (after (late_too y.1 c) hs) gs))
 
 among-alike : (hs : List Headed) (c d : Test) → AllByRecursion (λ (y : Headed). c y.1 ≡ d y.1) hs → among c hs ≡ among d hs
 among-alike [] c d h = refl
 among-alike (y ∷ hs) c d h =
-    ap (λ b. (if b then record { path = y.0; rule = rule.Order } ∷ [] else []) ++ among (late_too y.1 c) hs) h.0
-    ∙ ap (λ ms. (if d y.1 then record { path = y.0; rule = rule.Order } ∷ [] else []) ++ ms)
+    ap (λ b. (if b then record { path = map new_key y.0; rule = rule.Order } ∷ [] else []) ++ among (late_too y.1 c) hs) h.0
+    ∙ ap (λ ms. (if d y.1 then record { path = map new_key y.0; rule = rule.Order } ∷ [] else []) ++ ms)
     (among-alike hs (late_too y.1 c) (late_too y.1 d)
     (all-map (λ (z : Headed). c z.1 ≡ d z.1) (λ (z : Headed). late_too y.1 c z.1 ≡ late_too y.1 d z.1) hs (λ z e. ap (λ b. is_too_early y.1 z.1 || b) e) h.1))
 
@@ -224,9 +225,9 @@ among-step k [] c = refl
 among-step k (y ∷ hs) c = by_test (c y.1) (among-step k hs (late_too y.1 c))
   where
     by_test : (b : Bool) → among (late_too y.1 c) (map (under k) hs) ≡ below k (among (late_too y.1 c) hs)
-        → (if b then record { path = k ∷ y.0; rule = rule.Order } ∷ [] else []) ++ among (late_too y.1 c) (map (under k) hs)
-        ≡ below k ((if b then record { path = y.0; rule = rule.Order } ∷ [] else []) ++ among (late_too y.1 c) hs)
-    by_test true h = ap (λ (ms : List MisfitView). record { path = k ∷ y.0; rule = rule.Order } ∷ ms) h
+        → (if b then record { path = new_key k ∷ map new_key y.0; rule = rule.Order } ∷ [] else []) ++ among (late_too y.1 c) (map (under k) hs)
+        ≡ below k ((if b then record { path = map new_key y.0; rule = rule.Order } ∷ [] else []) ++ among (late_too y.1 c) hs)
+    by_test true h = ap (λ (ms : List MisfitView). record { path = new_key k ∷ map new_key y.0; rule = rule.Order } ∷ ms) h
     by_test false h = h
 
 after-calm : (hs : List Headed) (c : Test) (z : PlacedVisit) → AllByRecursion (λ (x : Headed). is_too_early x.1 z ≡ false) hs → after c hs z ≡ c z

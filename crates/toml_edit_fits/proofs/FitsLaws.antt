@@ -29,7 +29,7 @@ use Rattle.toml_edit_fits.proofs.OrderLaws.{Fine, heads, heads-all, slots-ordere
 -- ---- pairs of a sorted list
 
 -- what holds of two elements in the order in which they come
-abbrev Turned : {A : Type 0} → (A → A → Bool) → (A → A → Type 0) → A → A → Type 0
+abbrev pub Turned : {A : Type 0} → (A → A → Bool) → (A → A → Type 0) → A → A → Type 0
 Turned le Q x y = (le x y ≡ true → Q x y) × (le x y ≡ false → Q y x)
 
 module _ {A : Type 0} (le : A → A → Bool)
@@ -71,7 +71,7 @@ module _ {A : Type 0} (le : A → A → Bool)
         λ g. (all-insert (Q b) le a xs (g.0.0.1 e) g.1.0, more.1 (g.0.1, g.1.1)),
       )
 
-  sorted-pairs : (xs : List A) → AllPairs Q (sorted_by le xs) ↔ AllPairs (Turned le Q) xs
+  pub sorted-pairs : (xs : List A) → AllPairs Q (sorted_by le xs) ↔ AllPairs (Turned le Q) xs
   sorted-pairs [] = (λ g. tt, λ g. tt)
   sorted-pairs (a ∷ xs) =
       let here = insert-pairs a (sorted_by le xs) (sorted-up xs) in
@@ -95,7 +95,7 @@ all-calm (g ∷ rest) h =
 abbrev CalmAt : PlacedVisit → PlacedVisit → Type 0
 CalmAt x y = Calm x.1 y.1
 
-pairs-unimage : {A B : Type 0} (f : A → B) (R : B → B → Type 0) (xs : List A) → AllPairs R (map f xs) → AllPairs (λ a b. R (f a) (f b)) xs
+pub pairs-unimage : {A B : Type 0} (f : A → B) (R : B → B → Type 0) (xs : List A) → AllPairs R (map f xs) → AllPairs (λ a b. R (f a) (f b)) xs
 pairs-unimage f R [] h = tt
 pairs-unimage {A} f R (x ∷ xs) h = (each xs h.0, pairs-unimage f R xs h.1)
   where
@@ -142,15 +142,15 @@ module _ (mode : Mode) (t : Tree) where
       by_dot true = own-heads (pos 0)
       by_dot false = own-heads (unwrap_or t.root.position (pos 0))
 
-  headed-is : headed mode t ≡ map (λ (v : PlacedVisit). v.1) (sorted_by comes_before (heads (root_place t.root) (slots_walk t.slots [] [])))
+  pub headed-is : headed mode t ≡ map (λ (v : PlacedVisit). v.1) (sorted_by comes_before (heads (root_place t.root) (slots_walk t.slots [] [])))
   headed-is =
       filter-image (λ (v : PlacedVisit). v.1) (has_header mode) (in_header_order t)
       ∙ ap (map (λ (v : PlacedVisit). v.1)) (filter-sorted comes_before before-trans before-total has_own (places_from (pos 0) (walk t)) ∙ ap (sorted_by comes_before) with-headers)
 
-  heads-below : AllByRecursion (λ (v : PlacedVisit). IsBelowRoot v.1) (heads (root_place t.root) (slots_walk t.slots [] []))
+  pub heads-below : AllByRecursion (λ (v : PlacedVisit). IsBelowRoot v.1) (heads (root_place t.root) (slots_walk t.slots [] []))
   heads-below = heads-all IsBelowRoot (root_place t.root) (slots_walk t.slots [] []) (slots-below t.slots [] [])
 
-  before-is : (x y : PlacedVisit) → IsBelowRoot x.1 → IsBelowRoot y.1 → comes_before x y ≡ int_le x.0 y.0
+  pub before-is : (x y : PlacedVisit) → IsBelowRoot x.1 → IsBelowRoot y.1 → comes_before x y ≡ int_le x.0 y.0
   before-is x y h g = rw (h, g) refl
 
   to-fine : (x y : PlacedVisit) → IsBelowRoot x.1 → IsBelowRoot y.1 → Turned comes_before CalmAt x y → Fine x y

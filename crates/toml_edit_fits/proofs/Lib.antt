@@ -10,3 +10,4 @@ pub mod MadeLaws
 pub mod MisfitLaws
 pub mod FirstLaws
 pub mod EarlyLaws
+pub mod BrokenLaws

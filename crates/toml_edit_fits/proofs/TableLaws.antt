@@ -112,7 +112,7 @@ module _ (mode : Mode) where
     abbrev here : Visit
     here = visit_of p (ks ++ one k) is_element f ss
 
-    header-decides : Decides (header_fits mode r k f.decor) (HeaderFits (visit_of p (ks ++ one k) is_element f ss))
+    pub header-decides : Decides (header_fits mode r k f.decor) (HeaderFits (visit_of p (ks ++ one k) is_element f ss))
     header-decides =
         let last : last_leaf (ks ++ one k) ≡ k.leaf = last_leaf-end ks k in
         let short = short-decides mode (ks ++ one k) in
@@ -139,7 +139,7 @@ module _ (mode : Mode) where
       MatchBool v.fields.is_dotted (v.is_element ≡ false)
       (MatchBool (has_header mode v) (HeaderFits v) (Unit {0}) × AllByRecursion (PrintedLineFits mode) (lines_of mode v))
 
-  own-header : (p : Path) (ks : List Key) (k : Key) (is_element : Bool) (f : TableFields) (ss : Slots)
+  pub own-header : (p : Path) (ks : List Key) (k : Key) (is_element : Bool) (f : TableFields) (ss : Slots)
       → has_header mode (visit_of p (ks ++ one k) is_element f ss) ≡ has_own_header is_element f ss
   own-header p ks k is_element f ss = has-header mode (pos 0, visit_of p (ks ++ one k) is_element f ss) (not_empty-last ks k)
 

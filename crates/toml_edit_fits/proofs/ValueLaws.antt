@@ -21,7 +21,7 @@ use Rattle.toml_edit_fits.proofs.TriviaLaws.{whole-decides, end-decides}
 pub white-decides : (t : Text) → Decides (is_white t) (IsWhiteSpace t)
 white-decides t = (λ h. h, λ h. h)
 
-length-one : (ks : List Key) (k : Key) → length (ks ++ one k) ≡ suc (length ks)
+pub length-one : (ks : List Key) (k : Key) → length (ks ++ one k) ≡ suc (length ks)
 length-one [] k = refl
 length-one (j ∷ ks) k = ap suc (length-one ks k)
 

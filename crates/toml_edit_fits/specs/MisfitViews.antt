@@ -1,7 +1,5 @@
 -- What a misfit of the code is a view of, and what a search for the first one finds.
-use Rattle.std.specs.Prelude.{◌≡◌, List, [], ◌∷◌, map, reverse, slice_get, Option, option_map, Result, Ok, Err}
-use Rattle.toml_edit_model.specs.Text.{Text}
-use Rattle.toml_edit_model.specs.Tree.{Key}
+use Rattle.std.specs.Prelude.{◌≡◌, List, [], ◌∷◌, reverse, slice_get, Option, option_map, Result, Ok, Err}
 use Rattle.toml_edit_fits.specs.declared.misfit.Found.{Found}
 use Rattle.toml_edit_fits.specs.declared.misfit.Misfit.{Misfit}
 use Rattle.toml_edit_fits.specs.declared.order.Marks.{Marks}
@@ -9,16 +7,12 @@ use Rattle.toml_edit_fits.specs.declared.find_order.Walk.{Walk}
 use Rattle.toml_edit_fits.specs.declared.find_order.Walk.TheVariants.{On, Early}
 use Rattle.toml_edit_fits.specs.Misfits.{MisfitView}
 
--- the texts of a path's keys
-abbrev pub names : List Key → List Text
-names path = map (λ k. k.name) path
-
 abbrev pub misfit_view : Misfit → MisfitView
-misfit_view m = record { path = names m.path.items; rule = m.rule }
+misfit_view m = record { path = m.path.items; rule = m.rule }
 
 -- the steps come in reverse
 abbrev pub found_view : Found → MisfitView
-found_view m = record { path = reverse (names m.steps.items); rule = m.rule }
+found_view m = record { path = reverse m.steps.items; rule = m.rule }
 
 -- the first of these places is found, if there is one
 abbrev pub FindsFirst : List MisfitView → Option Found → Type 0

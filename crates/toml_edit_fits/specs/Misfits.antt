@@ -10,6 +10,7 @@ use Rattle.std.specs.Fmt.{decimal}
 use Rattle.toml_edit_model.specs.Mode.{Mode}
 use Rattle.toml_edit_model.specs.Text.{Text}
 use Rattle.toml_edit_model.specs.Syntax.{nesting_limit}
+use Rattle.toml_edit_model.specs.Keys.{new_key}
 use Rattle.toml_edit_model.specs.Tree.{Raw, Key, TableFields, Node, nothing, leaf, list, inline, table, tables, Items, no_items, item, Slots, no_slots, slot, Tree, shown_prefix, shown_suffix, shown_raw, node_decor, is_value_node}
 use Rattle.toml_edit_model.specs.Paths.{Path, to_key, to_element}
 use Rattle.toml_edit_model.specs.HeaderOrder.{Visit, PlacedVisit, visit_of, place_of}
@@ -22,10 +23,10 @@ use Rattle.toml_edit_fits.specs.declared.route.Route.{Route}
 use Rattle.toml_edit_fits.specs.TriviaTests.{is_whole, is_final}
 use Rattle.toml_edit_fits.specs.FitTests.{no_keys, then_key, pair_fits, element_fits, header_fits}
 
--- A place where a rule is broken: the names of the keys that lead to it from the root, and in an
--- array or an array of tables the number of the item in decimal.
+-- A place where a rule is broken: the keys that lead to it from the root, each of its name alone;
+-- in an array or an array of tables that is the number of the item in decimal.
 pub record MisfitView : Type 0 where
-  pub path : List Text
+  pub path : List Key
   pub rule : FitRule
 
 -- ---- places
@@ -37,8 +38,11 @@ here r = record { path = []; rule = r } ∷ []
 abbrev pub unless : Bool → FitRule → List MisfitView
 unless fits r = if fits then [] else here r
 
+abbrev pub below_key : Key → MisfitView → MisfitView
+below_key k m = record { path = k ∷ m.path; rule = m.rule }
+
 abbrev pub below_step : Text → MisfitView → MisfitView
-below_step k m = record { path = k ∷ m.path; rule = m.rule }
+below_step k m = below_key (new_key k) m
 
 abbrev pub below : Text → List MisfitView → List MisfitView
 below k ms = map (below_step k) ms
@@ -230,7 +234,7 @@ abbrev pub early_after : List PlacedVisit → List Headed → List MisfitView
 early_after before [] = []
 early_after before (y ∷ rest) =
     (if list_any (λ x. is_too_early x y.1) before
-    then record { path = y.0; rule = rule.Order } ∷ [] else [])
+    then record { path = map new_key y.0; rule = rule.Order } ∷ [] else [])
     ++ early_after (y.1 ∷ before) rest
 
 abbrev pub early_misfits : Tree → List MisfitView

@@ -8,6 +8,7 @@ mod find_value;
 mod first;
 mod fits;
 mod invariants;
+mod laws;
 mod misfit;
 mod order;
 mod route;
@@ -19,4 +20,5 @@ mod value;
 pub use first::first_misfit;
 #[doc(hidden)]
 pub use fits::tree_fits;
+pub use laws::broken;
 pub use misfit::{FitRule, Misfit};

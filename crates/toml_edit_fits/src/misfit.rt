@@ -1,8 +1,8 @@
 //! The rules of documents that fit, and the places where one is broken.
-ghost use Rattle.std.specs.Prelude.{◌≡◌, [], IfOk, map};
+ghost use Rattle.std.specs.Prelude.{◌≡◌, [], IfOk};
 ghost use Rattle.std.specs.Fmt.{decimal};
 ghost use Rattle.toml_edit_fits.specs.MisfitViews.{found_view, misfit_view};
-ghost use Rattle.toml_edit_fits.specs.Misfits.{below_step};
+ghost use Rattle.toml_edit_fits.specs.Misfits.{below_key, below_step};
 
 use std::alloc::Global;
 use std::fmt;
@@ -53,16 +53,17 @@ impl Misfit {
     /// Returns the path of the value or the table, from the root. It is empty for the root itself.
     ///
     /// In an array or an array of tables, a key's name is the number of the item in decimal digits,
-    /// counted from 0, as `DocumentMut::get_at` takes it.
+    /// counted from 0, as `DocumentMut::get_at` takes it. Each key has its name alone: it is spelled
+    /// as by default, and has no decor.
     pub fn path(&self) -> &[Key]
-        ensures { map (λ key. key.name) result.now ≡ (misfit_view self.now).path }
+        ensures { result.now ≡ (misfit_view self.now).path }
     {
         self.path.as_slice()
     }
 
     /// Returns the path, and drops the rest.
     pub fn into_path(self) -> Vec<Key>
-        ensures { map (λ key. key.name) result.items ≡ (misfit_view self).path }
+        ensures { result.items ≡ (misfit_view self).path }
     {
         self.path
     }
@@ -112,7 +113,7 @@ pub(crate) fn found_here(alloc: Global, rule: FitRule) -> Found
 
 /// Returns the misfit with one more step before its path.
 fn found_below(found: Found, step: Key) -> Mem<Found>
-    ensures { IfOk result (λ above. found_view above ≡ below_step step.name (found_view found)) }
+    ensures { IfOk result (λ above. found_view above ≡ below_key step (found_view found)) }
 {
     let mut above = found;
     above.steps.push(step)?;

@@ -27,4 +27,5 @@ pub mod TreesFit
 pub mod SpansWalk
 pub mod SpansLimits
 pub mod SpansSuit
+pub mod LinesInModes
 pub mod TaggedMentions

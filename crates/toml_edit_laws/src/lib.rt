@@ -12,7 +12,7 @@ ghost use Rattle.toml_edit_laws.specs.Extents.{ExtentsLie};
 ghost use Rattle.toml_edit_laws.specs.FaultMessages.{FaultMessages};
 ghost use Rattle.toml_edit_laws.specs.InOrder.{HeadersInOrder, LinesInOrder, PairsInOrder};
 ghost use Rattle.toml_edit_laws.specs.KeptKeys.{KeptKeys};
-ghost use Rattle.toml_edit_laws.specs.Locality.{Added, AddedStaysMade, CallsOnAbsent, CallsOnPresent, Entered, IndexWrites, KeepsFrame, Reached, Removed, RemovedElement, RemovedElementStaysMade, RemovedStaysMade, Replaced, ReplacedStaysMade, TextsAreSteady};
+ghost use Rattle.toml_edit_laws.specs.Locality.{Added, AddedStaysMade, CallsOnAbsent, CallsOnPresent, Entered, IndexWrites, KeepsFrame, Reached, Removed, RemovedElement, RemovedElementStaysMade, RemovedStaysMade, Replaced, ReplacedStaysMade, SteadyInEachMode, TextsAreSteady};
 ghost use Rattle.toml_edit_laws.specs.NormalTexts.{NormalTexts};
 ghost use Rattle.toml_edit_laws.specs.Offsets.{ClocksAtEnds, OneOffset, RealDatetimes, RealOffsets};
 ghost use Rattle.toml_edit_laws.specs.OneByOne.{FaultsOfFirst, FirstFaulty, OneByOne};
@@ -99,9 +99,11 @@ pub fn ways()
     ensures entered { Entered }
 {}
 
-/// The tree of a text, with owned texts, is steady.
+/// The tree of a text, with owned texts, is steady. A tree that is steady in one mode is so in the
+/// other.
 pub fn steady()
-    ensures { (mode : Mode) → TextsAreSteady mode }
+    ensures texts { (mode : Mode) → TextsAreSteady mode }
+    ensures modes { SteadyInEachMode }
 {}
 
 /// A value of a steady tree is replaced, in a table that the walk enters: one printed statement
@@ -175,7 +177,7 @@ pub fn texts_fit()
 {}
 
 /// Where the owned form of a tree with spans fits, the tree does, and also its root taken as it is,
-/// with no trailing text.
+/// with no trailing text, whatever the mode in which the text was read.
 pub fn spans_fit()
     ensures { (mode : Mode) → SpansFit mode }
 {}

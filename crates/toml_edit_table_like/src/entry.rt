@@ -23,7 +23,7 @@ pub(crate) enum EntryKey<'a> {
 /// !table.entry(key).is_occupied()
 /// ```
 ///
-/// From `is_new` of the guide, docs/GUIDE.md.
+/// From `is_new` of the crate `toml_edit_guide`.
 #[derive(Drop)]
 pub struct TableLikeEntry<'a, T: HasSlots> {
     pub(crate) table: &'a mut T,

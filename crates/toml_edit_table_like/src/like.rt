@@ -51,7 +51,7 @@ use toml_edit_tree::{InlineTable, Item, Iter, Table, Value, filled_place};
 /// Ok(table.len())
 /// ```
 ///
-/// From `sort_keys` of the guide, docs/GUIDE.md.
+/// From `sort_keys` of the crate `toml_edit_guide`.
 pub trait AnyTable: HasSlots {
     /// Returns the number of slots, placeholders included.
     ///
@@ -382,7 +382,7 @@ pub trait AnyTable: HasSlots {
 /// }
 /// ```
 ///
-/// From `has_key` of the guide, docs/GUIDE.md.
+/// From `has_key` of the crate `toml_edit_guide`.
 pub trait TableLike: AnyTable {
     /// Returns the slot of `key`, or `None` if the key is missing or has a placeholder.
     ///
@@ -401,8 +401,9 @@ pub trait TableLike: AnyTable {
     /// Returns a [`KeyMut`] of the key of this name, or `None` if it is missing. A key with a
     /// placeholder is returned too.
     ///
-    /// It changes the decors of the key and can reset its spelling. No contract says what the table
-    /// is after a change of the key. Where a proof needs that, use [`slot_mut`](Self::slot_mut).
+    /// It changes the decors of the key and can reset its spelling. The contract promises nothing
+    /// about the table after this call, even where it returns `None`. Where a proof needs that, use
+    /// [`slot_mut`](Self::slot_mut), which promises it.
     fn key_mut(&mut self, key: &str) -> Option<KeyMut<'_>>
         ensures { option_map key_of result ≡ lookup_key key.now (Self.slots_of self.old) }
     {

@@ -19,7 +19,7 @@ mod methods;
 /// pub fn item_in<'a, T: HasSlots>(slot: &'a TableLikeSlot<'_, T>) -> &'a Item
 /// ```
 ///
-/// From `item_in` of the guide, docs/GUIDE.md.
+/// From `item_in` of the crate `toml_edit_guide`.
 #[derive(Drop)]
 pub struct TableLikeSlot<'a, T: HasSlots> {
     pub(crate) table: &'a mut T,

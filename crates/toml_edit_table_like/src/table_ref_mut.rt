@@ -23,7 +23,7 @@ mod table;
 /// }
 /// ```
 ///
-/// From `remove_from` of the guide, docs/GUIDE.md.
+/// From `remove_from` of the crate `toml_edit_guide`.
 #[derive(Drop)]
 pub struct TableRefMut<'a> {
     pub(crate) item: &'a mut Item,

@@ -53,7 +53,7 @@ mod sort;
 /// }
 /// ```
 ///
-/// From `add_dependency` of the guide, docs/GUIDE.md.
+/// From `add_dependency` of the crate `toml_edit_guide`.
 #[cycle(tree)]
 #[derive(Debug)]
 pub struct Array {
@@ -95,7 +95,7 @@ impl Array {
     /// let mut names = Array::new(alloc);
     /// ```
     ///
-    /// From `add_dependency` of the guide, docs/GUIDE.md.
+    /// From `add_dependency` of the crate `toml_edit_guide`.
     pub fn new(alloc: Global) -> Array
         ensures { array_view result ≡ record { fields = new_array; items = no_items } }
     {
@@ -186,7 +186,7 @@ impl Array {
     /// array.set_trailing(end);
     /// ```
     ///
-    /// From `push_line` of the guide, docs/GUIDE.md.
+    /// From `push_line` of the crate `toml_edit_guide`.
     pub fn set_trailing_comma(&mut self, trailing_comma: bool)
         ensures { array_view self.new ≡ array_with_comma trailing_comma (array_view self.old) }
     {
@@ -214,7 +214,7 @@ impl Array {
     /// array.set_trailing(end);
     /// ```
     ///
-    /// From `push_line` of the guide, docs/GUIDE.md.
+    /// From `push_line` of the crate `toml_edit_guide`.
     pub fn set_trailing(&mut self, trailing: RawString)
         ensures { array_view self.new ≡ array_with_trailing trailing (array_view self.old) }
     {
@@ -271,7 +271,7 @@ impl Array {
     /// array.iter().next()
     /// ```
     ///
-    /// From `first_value` of the guide, docs/GUIDE.md.
+    /// From `first_value` of the crate `toml_edit_guide`.
     pub fn iter(&self) -> ArrayIter<'_>
         ensures { values_left result ≡ values_seen (items_of self.now) }
     {
@@ -291,7 +291,7 @@ impl Array {
     /// array.insert(at, value).map_err(no_memory)
     /// ```
     ///
-    /// From `insert_or_push` of the guide, docs/GUIDE.md.
+    /// From `insert_or_push` of the crate `toml_edit_guide`.
     pub fn len(&self) -> usize
         ensures { result ≡ length (items_of self.now) }
     {
@@ -307,7 +307,7 @@ impl Array {
     /// array.is_empty()
     /// ```
     ///
-    /// From `remove_string` of the guide, docs/GUIDE.md.
+    /// From `remove_string` of the crate `toml_edit_guide`.
     pub fn is_empty(&self) -> bool
         ensures { IsTrue result ↔ (items_of self.now ≡ []) }
     {
@@ -334,7 +334,7 @@ impl Array {
     /// drop(array.replace(at, value).map_err(no_memory)?);
     /// ```
     ///
-    /// From `replace_or_push` of the guide, docs/GUIDE.md.
+    /// From `replace_or_push` of the crate `toml_edit_guide`.
     pub fn get(&self, at: usize) -> Option<&Value>
         ensures { option_map (λ v. value_view v.now) result ≡ value_at at (items_of self.now) }
     {
@@ -355,7 +355,7 @@ impl Array {
     /// }
     /// ```
     ///
-    /// From `clear_suffix` of the guide, docs/GUIDE.md.
+    /// From `clear_suffix` of the crate `toml_edit_guide`.
     pub fn get_mut(&mut self, at: usize) -> Option<&mut Value>
         ensures* writes_back { sem 𝓛 (LendsValueAt self.entry at result) }
         ensures value { option_map (λ value. value_view value.now) result
@@ -395,7 +395,9 @@ impl Array {
     }
 
     /// Returns a mutable reference to slot `at`, of any kind, or `None` past the end.
-    #[doc(hidden)]
+    ///
+    /// An array can hold an item that is no value, which is not printed. [`get_mut`](Self::get_mut)
+    /// lends values alone. The contract says what the array is after a write.
     pub fn slot_at_mut(&mut self, at: usize) -> Option<&mut Item>
         ensures* writes_back { sem 𝓛 (LendsArraySlot self.entry at result) }
         ensures item { option_map (λ item. item_view item.now) result
@@ -433,7 +435,7 @@ impl Array {
     /// names.push(name).map_err(no_memory)?;
     /// ```
     ///
-    /// From `add_dependency` of the guide, docs/GUIDE.md.
+    /// From `add_dependency` of the crate `toml_edit_guide`.
     pub fn push(&mut self, value: Value) -> Result<(), NoMemory<Value>>
         ensures items { OnOk result
             (items_of self.new ≡ pushed (value_view value) (items_of self.old)) }
@@ -457,7 +459,7 @@ impl Array {
     /// to.push_formatted(value)?;
     /// ```
     ///
-    /// From `move_value` of the guide, docs/GUIDE.md.
+    /// From `move_value` of the crate `toml_edit_guide`.
     pub fn push_formatted(&mut self, value: Value) -> Result<(), NoMemory<Value>>
         ensures items { OnOk result
             (items_of self.new ≡ pushed (value_view value) (items_of self.old)) }
@@ -486,7 +488,7 @@ impl Array {
     /// array.insert(at, value).map_err(no_memory)
     /// ```
     ///
-    /// From `insert_or_push` of the guide, docs/GUIDE.md.
+    /// From `insert_or_push` of the crate `toml_edit_guide`.
     pub fn insert(&mut self, at: usize, value: Value) -> Result<(), NoMemory<Value>>
         requires { at ≤ length (items_of self.old) }
         ensures items { OnOk result
@@ -515,7 +517,7 @@ impl Array {
     /// }
     /// ```
     ///
-    /// From `put_formatted` of the guide, docs/GUIDE.md.
+    /// From `put_formatted` of the crate `toml_edit_guide`.
     pub fn insert_formatted(&mut self, at: usize, value: Value) -> Result<(), NoMemory<Value>>
         requires { at ≤ length (items_of self.old) }
         ensures items { OnOk result
@@ -546,7 +548,7 @@ impl Array {
     /// drop(array.replace(at, value).map_err(no_memory)?);
     /// ```
     ///
-    /// From `replace_or_push` of the guide, docs/GUIDE.md.
+    /// From `replace_or_push` of the crate `toml_edit_guide`.
     pub fn replace(&mut self, at: usize, value: Value) -> Result<Value, NoMemory<Value>>
         requires { IsSome (value_at at (items_of self.old)) }
         ensures value { IfOk result
@@ -591,7 +593,7 @@ impl Array {
     /// drop(array.replace_formatted(at, value));
     /// ```
     ///
-    /// From `put_formatted` of the guide, docs/GUIDE.md.
+    /// From `put_formatted` of the crate `toml_edit_guide`.
     pub fn replace_formatted(&mut self, at: usize, value: Value) -> Value
         requires { IsSome (value_at at (items_of self.old)) }
         ensures value { Some (value_view result) ≡ value_at at (items_of self.old) }
@@ -613,7 +615,7 @@ impl Array {
     /// to.push_formatted(value)?;
     /// ```
     ///
-    /// From `move_value` of the guide, docs/GUIDE.md.
+    /// From `move_value` of the crate `toml_edit_guide`.
     pub fn remove(&mut self, at: usize) -> Value
         requires { IsSome (value_at at (items_of self.old)) }
         ensures value { Some (value_view result) ≡ value_at at (items_of self.old) }
@@ -635,7 +637,7 @@ impl Array {
     /// array.is_empty()
     /// ```
     ///
-    /// From `remove_string` of the guide, docs/GUIDE.md.
+    /// From `remove_string` of the crate `toml_edit_guide`.
     pub fn retain<F: Fn(&Value) -> bool>(&mut self, keep: F)
     where
         F: Drop,

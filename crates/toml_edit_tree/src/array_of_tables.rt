@@ -45,7 +45,7 @@ use toml_edit_slots::NoMemory;
 /// drop(root.insert(name, item).map_err(no_memory)?);
 /// ```
 ///
-/// From `add_element` of the guide, docs/GUIDE.md.
+/// From `add_element` of the crate `toml_edit_guide`.
 #[cycle(tree)]
 #[derive(Debug)]
 pub struct ArrayOfTables {
@@ -77,7 +77,7 @@ impl ArrayOfTables {
     /// tables.push(element).map_err(no_memory)?;
     /// ```
     ///
-    /// From `add_element` of the guide, docs/GUIDE.md.
+    /// From `add_element` of the crate `toml_edit_guide`.
     pub fn new(alloc: Global) -> ArrayOfTables
         ensures { tables_view result ≡ record { extent = None; items = no_items } }
     {
@@ -230,7 +230,10 @@ impl ArrayOfTables {
     }
 
     /// Returns a mutable reference to slot `at`, of any kind, or `None` past the end.
-    #[doc(hidden)]
+    ///
+    /// An array of tables can hold an item that is no table, which is not printed.
+    /// [`get_mut`](Self::get_mut) lends tables alone. The contract says what the array is after a
+    /// write.
     pub fn slot_at_mut(&mut self, at: usize) -> Option<&mut Item>
         ensures* writes_back { sem 𝓛 (LendsTablesSlot self.entry at result) }
         ensures item { option_map (λ item. item_view item.now) result
@@ -269,7 +272,7 @@ impl ArrayOfTables {
     /// }
     /// ```
     ///
-    /// From `push_element` of the guide, docs/GUIDE.md.
+    /// From `push_element` of the crate `toml_edit_guide`.
     pub fn push(&mut self, table: Table) -> Result<(), NoMemory<Table>>
         ensures items { OnOk result
             (tables_of self.new ≡ pushed (table_node (table_view table)) (tables_of self.old)) }
@@ -313,7 +316,7 @@ impl ArrayOfTables {
     /// Some(tables.replace(at, element))
     /// ```
     ///
-    /// From `replace_element` of the guide, docs/GUIDE.md.
+    /// From `replace_element` of the crate `toml_edit_guide`.
     pub fn replace(&mut self, at: usize, table: Table) -> Table
         requires { IsSome (table_at at (tables_of self.old)) }
         ensures table { Some (table_node (table_view result)) ≡ table_at at (tables_of self.old) }
@@ -428,7 +431,7 @@ fn push_element(items: &mut Vec<Item>, element: Item) -> Mem<()>
 /// tables.iter().next()
 /// ```
 ///
-/// From `first_table` of the guide, docs/GUIDE.md.
+/// From `first_table` of the crate `toml_edit_guide`.
 #[derive(Drop)]
 pub struct ArrayOfTablesIter<'a> {
     items: slice::Iter<'a, Item>,
@@ -471,7 +474,7 @@ impl<'a> IntoIterator for &'a ArrayOfTables {
 /// tables.into_iter().next()
 /// ```
 ///
-/// From `into_table` of the guide, docs/GUIDE.md.
+/// From `into_table` of the crate `toml_edit_guide`.
 #[derive(Drop)]
 pub struct ArrayOfTablesIntoIter {
     items: vec::IntoIter<Item>,

@@ -33,7 +33,7 @@ use toml_edit_slots::{NoMemory, Slot, Slots};
 /// table.index_or_insert(alloc, key)?;
 /// ```
 ///
-/// From `make_slot` of the guide, docs/GUIDE.md.
+/// From `make_slot` of the crate `toml_edit_guide`.
 #[derive(Clone, Copy, Debug, PartialEq, Eq, Hash)]
 pub enum IndexFault {
     /// The item is neither a table, an inline table nor a placeholder.
@@ -85,7 +85,9 @@ impl<T: Drop> From<NoMemory<T>> for IndexFault {
 /// It is implemented for `usize`, `&str`, `String` and `&String`. A number counts the slots of an
 /// array or an array of tables from 0; a text is the name of a key of a table or an inline table.
 /// An implementation proves that both calls find the item that `stands_for` says. No contract says
-/// what the outer item is after a write through `index_mut`.
+/// what the outer item is after a write through `index_mut`; [`Item::as_slots_mut`],
+/// [`Array::slot_at_mut`](crate::Array::slot_at_mut) and
+/// [`ArrayOfTables::slot_at_mut`](crate::ArrayOfTables::slot_at_mut) say it.
 ///
 /// # Examples
 ///
@@ -93,7 +95,7 @@ impl<T: Drop> From<NoMemory<T>> for IndexFault {
 /// root.get(table)?.get(key)?.as_integer()
 /// ```
 ///
-/// From `integer_at` of the guide, docs/GUIDE.md.
+/// From `integer_at` of the crate `toml_edit_guide`.
 pub trait Index: Drop {
     /// What the index means: a number or a text.
     ghost stands_for: { Self → indexing.Index };

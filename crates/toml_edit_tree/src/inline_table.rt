@@ -65,7 +65,7 @@ mod spans;
 /// drop(dependency.insert("version", version).map_err(no_memory)?);
 /// ```
 ///
-/// From `add_dependency` of the guide, docs/GUIDE.md.
+/// From `add_dependency` of the crate `toml_edit_guide`.
 #[cycle(tree)]
 #[derive(Debug)]
 pub struct InlineTable {
@@ -111,7 +111,7 @@ impl InlineTable {
     /// let mut dependency = InlineTable::new(alloc);
     /// ```
     ///
-    /// From `add_dependency` of the guide, docs/GUIDE.md.
+    /// From `add_dependency` of the crate `toml_edit_guide`.
     pub fn new(alloc: Global) -> InlineTable
         ensures { inline_view result ≡ record { fields = new_inline; slots = no_slots } }
     {
@@ -221,7 +221,7 @@ impl InlineTable {
     /// drop(below.insert(inner, value).map_err(no_memory)?);
     /// ```
     ///
-    /// From `add_dotted` of the guide, docs/GUIDE.md.
+    /// From `add_dotted` of the crate `toml_edit_guide`.
     pub fn set_dotted(&mut self, dotted: bool)
         ensures { inline_view self.new ≡ inline_with_dotted dotted (inline_view self.old) }
     {
@@ -523,7 +523,7 @@ impl InlineTable {
     /// drop(dependency.insert("version", version).map_err(no_memory)?);
     /// ```
     ///
-    /// From `add_dependency` of the guide, docs/GUIDE.md.
+    /// From `add_dependency` of the crate `toml_edit_guide`.
     pub fn insert(&mut self, key: &str, value: Value) -> Result<Option<Value>, NoMemory<Value>>
         ensures old { IfOk result
             (λ old. option_map value_view old ≡ old_value key.now (inline_slots_of self.old)) }

@@ -47,7 +47,7 @@ use toml_edit_slots::Slots;
 /// root.get(table)?.get(key)?.as_integer()
 /// ```
 ///
-/// From `integer_at` of the guide, docs/GUIDE.md.
+/// From `integer_at` of the crate `toml_edit_guide`.
 #[cycle(tree)]
 #[derive(Debug, Drop)]
 pub enum Item {
@@ -110,7 +110,7 @@ impl Item {
     /// root.get(table)?.get(key)?.as_integer()
     /// ```
     ///
-    /// From `integer_at` of the guide, docs/GUIDE.md.
+    /// From `integer_at` of the crate `toml_edit_guide`.
     pub fn get<I: Index>(&self, index: I) -> Option<&Item>
         ensures { option_map (λ x. item_view x.now) result
             ≡ indexed (I.stands_for index) (item_view self.now) }
@@ -121,8 +121,10 @@ impl Item {
     /// Returns a mutable reference to the item that [`get`](Self::get) finds, or `None`.
     ///
     /// It never inserts: see [`index_or_insert`](Self::index_or_insert). No contract says what this
-    /// item is after a write through the reference. Where a proof needs that, take the table by
-    /// [`as_table_mut`](Self::as_table_mut) and call [`Table::get_mut`](crate::Table::get_mut).
+    /// item is after a write through the reference. Where a proof needs that, lend the slots by
+    /// [`as_slots_mut`](Self::as_slots_mut), or an element by
+    /// [`Array::slot_at_mut`](crate::Array::slot_at_mut) or
+    /// [`ArrayOfTables::slot_at_mut`](crate::ArrayOfTables::slot_at_mut).
     pub fn get_mut<I: Index>(&mut self, index: I) -> Option<&mut Item>
         ensures { option_map (λ x. item_view x.now) result
             ≡ indexed (I.stands_for index) (item_view self.old) }
@@ -137,7 +139,8 @@ impl Item {
     /// end. A placeholder first becomes an inline table, made by `alloc`.
     ///
     /// No contract says what this item is after an error, or after a write through the reference.
-    /// [`Table::index_or_insert`](crate::Table::index_or_insert) has one that does.
+    /// Where a proof needs that, call [`make_place`](Self::make_place) and then
+    /// [`as_slots_mut`](Self::as_slots_mut).
     ///
     /// # Errors
     ///
@@ -160,12 +163,15 @@ impl Item {
         }
     }
 
-    /// Finds the slot of the key, or makes it as `index_or_insert` does, and returns its number.
+    /// Returns the number of the slot under `key`, after adding a placeholder if it is missing.
+    ///
+    /// It changes this item as [`index_or_insert`](Self::index_or_insert) does, and lends nothing:
+    /// [`as_slots_mut`](Self::as_slots_mut) then lends the slot. In place of `index_or_insert` the
+    /// two say what this item is after an error and after a write.
     ///
     /// # Errors
     ///
-    /// Those of `index_or_insert`.
-    #[doc(hidden)]
+    /// Those of [`index_or_insert`](Self::index_or_insert). This item is unchanged then.
     pub fn make_place(&mut self, alloc: Global, key: &str) -> Result<usize, IndexFault>
         ensures made { OnOk result
             (index_or_inserted key.now (item_view self.old) ≡ Some (item_view self.new)) }
@@ -215,7 +221,8 @@ impl Item {
     }
 
     /// Returns the slots of a table or an inline table, or `None` for any other item.
-    #[doc(hidden)]
+    ///
+    /// The other fields of the table, such as its decor, are not part of them.
     pub fn as_slots(&self) -> Option<&Slots<Item>>
         ensures { option_map (λ es. shown_slots es.now) result ≡ slots_in (item_view self.now) }
     {
@@ -226,8 +233,11 @@ impl Item {
         }
     }
 
-    /// Returns a mutable reference to the slots of a table or an inline table, or `None`.
-    #[doc(hidden)]
+    /// Returns a mutable reference to the slots of a table or an inline table, or `None` for any
+    /// other item.
+    ///
+    /// Its contract says what this item is after a write, which that of
+    /// [`get_mut`](Self::get_mut) does not.
     pub fn as_slots_mut(&mut self) -> Option<&mut Slots<Item>>
         ensures* writes_back { sem 𝓛 (LendsSlotsIn self.entry result) }
         ensures slots { option_map (λ es. shown_slots es.now) result
@@ -411,7 +421,7 @@ impl Item {
     /// let table = root.get_mut(table).and_then(|item| item.as_table_mut());
     /// ```
     ///
-    /// From `set_value` of the guide, docs/GUIDE.md.
+    /// From `set_value` of the crate `toml_edit_guide`.
     pub fn as_table_mut(&mut self) -> Option<&mut Table>
         ensures* writes_back { sem 𝓛 (LendsTable self.entry result) }
         ensures table { option_map (λ t. table_view t.now) result ≡ table_in (item_view self.old) }
@@ -484,7 +494,7 @@ impl Item {
     /// root.get(table)?.get(key)?.as_integer()
     /// ```
     ///
-    /// From `integer_at` of the guide, docs/GUIDE.md.
+    /// From `integer_at` of the crate `toml_edit_guide`.
     pub fn as_integer(&self) -> Option<i64>
         ensures { result ≡ integer_in (item_view self.now) }
     {
@@ -673,7 +683,7 @@ impl Item {
     /// root.get(key)?.span()
     /// ```
     ///
-    /// From `span_at` of the guide, docs/GUIDE.md.
+    /// From `span_at` of the crate `toml_edit_guide`.
     pub fn span(&self) -> Option<Range<usize>>
         ensures { result ≡ item_span (item_view self.now) }
     {

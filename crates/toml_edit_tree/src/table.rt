@@ -59,7 +59,7 @@ mod spans;
 /// drop(root.insert(name, Item::Table(table)).map_err(no_memory)?);
 /// ```
 ///
-/// From `add_table` of the guide, docs/GUIDE.md.
+/// From `add_table` of the crate `toml_edit_guide`.
 #[cycle(tree)]
 #[derive(Debug)]
 pub struct Table {
@@ -104,7 +104,7 @@ impl Table {
     /// drop(table.insert(key, Item::Value(value)).map_err(no_memory)?);
     /// ```
     ///
-    /// From `add_table` of the guide, docs/GUIDE.md.
+    /// From `add_table` of the crate `toml_edit_guide`.
     pub fn new(alloc: Global) -> Table
         ensures { table_view result ≡ record { fields = new_table; slots = no_slots } }
     {
@@ -179,7 +179,7 @@ impl Table {
     /// drop(above.insert(inner, Item::Table(table)).map_err(no_memory)?);
     /// ```
     ///
-    /// From `add_nested` of the guide, docs/GUIDE.md.
+    /// From `add_nested` of the crate `toml_edit_guide`.
     pub fn set_implicit(&mut self, implicit: bool)
         ensures { table_view self.new ≡ table_with_implicit implicit (table_view self.old) }
     {
@@ -230,7 +230,7 @@ impl Table {
     /// Some(tables.replace(at, element))
     /// ```
     ///
-    /// From `replace_element` of the guide, docs/GUIDE.md.
+    /// From `replace_element` of the crate `toml_edit_guide`.
     pub fn set_position(&mut self, position: Option<isize>)
         ensures { table_view self.new ≡ table_with_position position (table_view self.old) }
     {
@@ -261,12 +261,13 @@ impl Table {
     /// # Examples
     ///
     /// ```rust,ignore
-    /// if table.key(old).is_none() || table.key(new).is_some() {
+    /// if table.key(name).is_some() {
+    ///     drop(value);
     ///     return Ok(false);
     /// }
     /// ```
     ///
-    /// From `rename` of the guide, docs/GUIDE.md.
+    /// From `add_sorted` of the guide, docs/GUIDE.md.
     pub fn key(&self, key: &str) -> Option<&Key>
         ensures { option_copied result ≡ lookup_key key.now (slots_of self.now) }
     {
@@ -277,7 +278,7 @@ impl Table {
     /// Copies the table, with all spellings, decors, spans and positions.
     ///
     /// The copy of a table that has a position is printed beside its original. Use
-    /// [`set_position`](Self::set_position) to free it.
+    /// [`forget_positions`](Self::forget_positions) to free it, and the tables inside it.
     ///
     /// # Errors
     ///
@@ -305,7 +306,7 @@ impl Table {
     /// }
     /// ```
     ///
-    /// From `names` of the guide, docs/GUIDE.md.
+    /// From `names` of the crate `toml_edit_guide`.
     pub fn iter(&self) -> Iter<'_>
         ensures { held_left result ≡ filled_pairs (slots_of self.now) }
     {
@@ -377,7 +378,7 @@ impl Table {
     /// let item = table.and_then(|table| table.get_mut(key));
     /// ```
     ///
-    /// From `set_value` of the guide, docs/GUIDE.md.
+    /// From `set_value` of the crate `toml_edit_guide`.
     pub fn get_mut(&mut self, key: &str) -> Option<&mut Item>
         ensures* writes_back { sem 𝓛 (LendsHeld self.entry key.now result) }
         ensures item { option_map (λ x. item_view x.now) result ≡ get key.now (slots_of self.old) }
@@ -550,7 +551,7 @@ impl Table {
     /// drop(root.insert(name, Item::Table(table)).map_err(no_memory)?);
     /// ```
     ///
-    /// From `add_table` of the guide, docs/GUIDE.md.
+    /// From `add_table` of the crate `toml_edit_guide`.
     pub fn insert(&mut self, key: &str, item: Item) -> Result<Option<Item>, NoMemory<Item>>
         ensures old { IfOk result
             (λ old. option_map item_view old ≡ lookup key.now (slots_of self.old)) }
@@ -583,7 +584,7 @@ impl Table {
     /// drop(from.remove(name));
     /// ```
     ///
-    /// From `move_table` of the guide, docs/GUIDE.md.
+    /// From `move_table` of the crate `toml_edit_jobs`.
     pub fn insert_formatted(
         &mut self,
         key: &Key,
@@ -627,7 +628,7 @@ impl Table {
     ///     Some((key, item)) => {
     /// ```
     ///
-    /// From `exchange` of the guide, docs/GUIDE.md.
+    /// From `exchange` of the crate `toml_edit_guide`.
     pub fn remove_entry(&mut self, key: &str) -> Option<(Key, Item)>
         ensures slot { option_map slot_taken result ≡ lookup_slot key.now (slots_of self.old) }
         ensures slots { slots_of self.new ≡ without key.now (slots_of self.old) }

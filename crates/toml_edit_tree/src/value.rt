@@ -47,7 +47,7 @@ use toml_edit_token::Scalar;
 /// names.push(name).map_err(no_memory)?;
 /// ```
 ///
-/// From `add_dependency` of the guide, docs/GUIDE.md.
+/// From `add_dependency` of the crate `toml_edit_guide`.
 #[cycle(tree)]
 #[derive(Debug, Drop)]
 pub enum Value {
@@ -84,7 +84,7 @@ impl Value {
     /// names.push(name).map_err(no_memory)?;
     /// ```
     ///
-    /// From `add_dependency` of the guide, docs/GUIDE.md.
+    /// From `add_dependency` of the crate `toml_edit_guide`.
     pub fn string(alloc: Global, text: &str) -> Mem<Value>
         ensures { IfOk result (λ v. value_view v ≡ leaf (string text.now) None unset) }
     {
@@ -179,7 +179,7 @@ impl Value {
     /// array.sort_by(|a, b| a.as_str().cmp(&b.as_str()))
     /// ```
     ///
-    /// From `sort_strings` of the guide, docs/GUIDE.md.
+    /// From `sort_strings` of the crate `toml_edit_guide`.
     pub fn as_str(&self) -> Option<&str>
         ensures { option_map (λ t. t.now) result ≡ text_in (value_view self.now) }
     {
@@ -257,7 +257,7 @@ impl Value {
     /// Some(value.as_datetime()?.date()?.year())
     /// ```
     ///
-    /// From `year_of` of the guide, docs/GUIDE.md.
+    /// From `year_of` of the crate `toml_edit_guide`.
     pub fn as_datetime(&self) -> Option<&Datetime>
         ensures { option_map (λ x. datetime_view x.now) result ≡ datetime_in (value_view self.now) }
     {
@@ -357,7 +357,7 @@ impl Value {
     /// array.get(array.len().saturating_sub(1))?.decor().prefix()
     /// ```
     ///
-    /// From `before_last` of the guide, docs/GUIDE.md.
+    /// From `before_last` of the crate `toml_edit_guide`.
     pub fn decor(&self) -> &Decor
         ensures { result.now ≡ node_decor (value_view self.now) }
     {
@@ -381,7 +381,7 @@ impl Value {
     /// mem::swap(old, &mut value);
     /// ```
     ///
-    /// From `replace_value` of the guide, docs/GUIDE.md.
+    /// From `replace_value` of the crate `toml_edit_guide`.
     pub fn decor_mut(&mut self) -> &mut Decor
         ensures* writes_back { sem 𝓛 (LendsDecor self.entry result) }
         ensures decor { result.now ≡ node_decor (value_view self.old) }
@@ -422,7 +422,7 @@ impl Value {
     /// let value = Value::string(alloc, text)?.decorated(prefix, RawString::default());
     /// ```
     ///
-    /// From `push_line` of the guide, docs/GUIDE.md.
+    /// From `push_line` of the crate `toml_edit_guide`.
     pub fn decorated(self, prefix: RawString, suffix: RawString) -> Value
         ensures { value_view result ≡ with_decor (both_sides prefix suffix) (value_view self) }
     {

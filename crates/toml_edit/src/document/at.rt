@@ -2,7 +2,7 @@
 ghost use Rattle.std.specs.Prelude.{◌≡◌, IfErr, option_map};
 ghost use Rattle.toml_edit_laws.specs.Commands.{item_at, remove_at, root_item, set_at};
 ghost use Rattle.toml_edit_tree.specs.View.{item_view, value_view};
-ghost use Rattle.toml_edit_change.specs.Calls.{ChangesFound, item_inside, replaced_at};
+ghost use Rattle.toml_edit_change.specs.Calls.{ChangesFound, TakesFound, item_inside, replaced_at};
 ghost use Rattle.toml_edit_change.specs.Changes.{Changes, names};
 ghost use Rattle.toml_edit_change.specs.Headed.{set_at_with_headers};
 ghost use Rattle.toml_edit_change.specs.declared.fault.ChangeFault.TheVariants.{NoSuchPath};
@@ -92,7 +92,8 @@ impl DocumentMut {
     pub fn change_at<R, F: FnOnce(&mut Item) -> R>(&mut self, path: &[Key], change: F) -> Option<R>
     where
         F: Drop,
-        requires { F.IsAlwaysCallable change }
+        requires { TakesFound F.FnOnce change
+            (item_inside (names path.now) (root_item (tree_owned self.old))) }
         ensures changes { ChangesFound F.FnOnce change
             (item_inside (names path.now) (root_item (tree_owned self.old)))
             (λ left. replaced_at (names path.now) left (tree_owned self.old))

@@ -51,6 +51,12 @@ impl<'a, T: HasSlots> TableLikeSlot<'a, T> {
     pub fn key_mut(&mut self) -> KeyMut<'_>
         ensures* writes_back { sem 𝓛 (SlotLendsKey T.row self.entry result) }
         ensures key { slot_key self.old ≡ Some (key_of result) }
+        // What the table is after a change of the key.
+        ensures leaves { (h : Key → Key) → T.slots_of (slot_ref (with_slot_key self.old h)).now
+            ≡ changed_at (slot_place self.old) (on_key h) (T.slots_of (slot_ref self.old).now) }
+        ensures keeps { (h : Key → Key)
+            → T.beside (slot_ref (with_slot_key self.old h)).now
+            ≡ T.beside (slot_ref self.old).now }
     {
         let at = self.at;
         self.table.key_at_mut(at)

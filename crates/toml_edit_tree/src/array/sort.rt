@@ -27,7 +27,7 @@ impl Array {
     /// array.sort_by(|a, b| a.as_str().cmp(&b.as_str()))
     /// ```
     ///
-    /// From `sort_strings` of the guide, docs/GUIDE.md.
+    /// From `sort_strings` of the crate `toml_edit_guide`.
     pub fn sort_by<F: Fn(&Value, &Value) -> Ordering>(&mut self, compare: F) -> Mem<()>
     where
         F: Drop,

@@ -36,7 +36,7 @@ use toml_edit_repr::Decor;
 /// pub fn key_in<'a>(slot: &'a InlineSlotMut<'_>) -> &'a Key
 /// ```
 ///
-/// From `key_in` of the guide, docs/GUIDE.md.
+/// From `key_in` of the crate `toml_edit_guide`.
 #[derive(Drop)]
 pub struct InlineSlotMut<'a> {
     table: &'a mut InlineTable,
@@ -203,9 +203,9 @@ impl InlineTable {
     /// Returns a [`KeyMut`] of the key of this name, or `None` if it is missing. A key without a
     /// value is returned too.
     ///
-    /// It changes the decors of the key and can reset its spelling. No contract says what the
-    /// inline table is after a change of the key. Where a proof needs that, use
-    /// [`slot_mut`](Self::slot_mut).
+    /// It changes the decors of the key and can reset its spelling. The contract promises nothing
+    /// about the inline table after this call, even where it returns `None`. Where a proof needs
+    /// that, use [`slot_mut`](Self::slot_mut), which promises it.
     pub fn key_mut(&mut self, key: &str) -> Option<KeyMut<'_>>
         ensures { option_map key_of result ≡ lookup_key key.now (inline_slots_of self.old) }
     {

@@ -33,7 +33,7 @@ use toml_edit_slots::{NoMemory, Slot};
 /// table.entry(key)?.or_insert(item)?;
 /// ```
 ///
-/// From `set_default` of the guide, docs/GUIDE.md.
+/// From `set_default` of the crate `toml_edit_guide`.
 #[derive(Drop)]
 pub enum Entry<'a> {
     /// The key has a slot, which may be a placeholder.
@@ -53,7 +53,7 @@ impl<'a> Entry<'a> {
     /// entry.key()
     /// ```
     ///
-    /// From `name_of` of the guide, docs/GUIDE.md.
+    /// From `name_of` of the crate `toml_edit_guide`.
     pub fn key(&self) -> &str
         ensures { Some result.now ≡ option_map (λ key. key.name) (entry_key self.now) }
     {
@@ -82,7 +82,7 @@ impl<'a> Entry<'a> {
     /// table.entry(key)?.or_insert(item)?;
     /// ```
     ///
-    /// From `set_default` of the guide, docs/GUIDE.md.
+    /// From `set_default` of the crate `toml_edit_guide`.
     pub fn or_insert(self, item: Item) -> Result<&'a mut Item, NoMemory<Item>>
         ensures* writes_back { sem 𝓛 (EntryLendsOk self.entry result) }
         ensures item { IfOk result (λ x. x.now ≡ unwrap_or (entry_item self.entry) item) }
@@ -156,7 +156,7 @@ impl<'a> Entry<'a> {
 /// }
 /// ```
 ///
-/// From `set_comment` of the guide, docs/GUIDE.md.
+/// From `set_comment` of the crate `toml_edit_guide`.
 #[derive(Drop)]
 pub struct OccupiedEntry<'a> {
     table: &'a mut Table,
@@ -176,7 +176,7 @@ impl<'a> OccupiedEntry<'a> {
     /// Entry::Occupied(slot) => format!(in alloc; "replaces {}", slot.key()),
     /// ```
     ///
-    /// From `describe` of the guide, docs/GUIDE.md.
+    /// From `describe` of the crate `toml_edit_guide`.
     pub fn key(&self) -> &str
         ensures { Some result.now ≡ option_map (λ key. key.name) (entry_key (Occupied self.now)) }
     {
@@ -340,7 +340,7 @@ impl<'a> OccupiedEntry<'a> {
 /// Entry::Vacant(place) => format!(in alloc; "adds {}", place.key()),
 /// ```
 ///
-/// From `describe` of the guide, docs/GUIDE.md.
+/// From `describe` of the crate `toml_edit_guide`.
 #[derive(Drop)]
 pub struct VacantEntry<'a> {
     table: &'a mut Table,
@@ -360,7 +360,7 @@ impl<'a> VacantEntry<'a> {
     /// Entry::Vacant(place) => format!(in alloc; "adds {}", place.key()),
     /// ```
     ///
-    /// From `describe` of the guide, docs/GUIDE.md.
+    /// From `describe` of the crate `toml_edit_guide`.
     pub fn key(&self) -> &str
         ensures { Some result.now ≡ option_map (λ key. key.name) (entry_key (Vacant self.now)) }
     {
@@ -412,7 +412,7 @@ impl Table {
     /// table.entry(key)?.or_insert(item)?;
     /// ```
     ///
-    /// From `set_default` of the guide, docs/GUIDE.md.
+    /// From `set_default` of the crate `toml_edit_guide`.
     pub fn entry(&mut self, key: &str) -> Mem<Entry<'_>>
         ensures* refused { sem 𝓛 (RestsIfRefused self.entry result) }
         ensures same_table { IfOk result (λ e. (entry_ref e).ghost_name ≡ self.entry.ghost_name) }
@@ -465,7 +465,7 @@ impl Table {
     /// }
     /// ```
     ///
-    /// From `set_comment` of the guide, docs/GUIDE.md.
+    /// From `set_comment` of the crate `toml_edit_guide`.
     pub fn slot_mut(&mut self, key: &str) -> Option<OccupiedEntry<'_>>
         ensures* absent { sem 𝓛 (RestsIfAbsent self.entry result) }
         ensures same_table { IfSome result
@@ -521,8 +521,9 @@ impl Table {
     /// Returns a [`KeyMut`] of the key of this name, or `None` if it is missing. A key with a
     /// placeholder is returned too.
     ///
-    /// It changes the decors of the key and can reset its spelling. No contract says what the table
-    /// is after a change of the key. Where a proof needs that, use [`slot_mut`](Self::slot_mut).
+    /// It changes the decors of the key and can reset its spelling. The contract promises nothing
+    /// about the table after this call, even where it returns `None`. Where a proof needs that, use
+    /// [`slot_mut`](Self::slot_mut), which promises it.
     pub fn key_mut(&mut self, key: &str) -> Option<KeyMut<'_>>
         ensures { option_map key_of result ≡ lookup_key key.now (slots_of self.old) }
     {

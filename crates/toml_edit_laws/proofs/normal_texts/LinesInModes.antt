@@ -1,4 +1,4 @@
--- The lines and the headers of a tree, and whether what it prints keeps limits, are the same in every two modes.
+-- The lines and the headers of a tree, whether it is steady, and whether what it prints keeps limits, are the same in every two modes.
 use Rattle.std.proofs.Common.{◌≡◌, refl, sym, ◌∙◌, ap, suc, Bool, true, false, List, [], ◌∷◌, ◌++◌, length}
 use Rattle.std.specs.Prelude.{◌&&◌, ◌||◌, not, max, nat_le, map, filter, if◌then◌else◌}
 use Rattle.std.specs.List.{list_all}
@@ -8,9 +8,10 @@ use Rattle.toml_edit_model.specs.Text.{Text, one, is_empty}
 use Rattle.toml_edit_model.specs.Syntax.{Frame, Around, Value, Elements, no_elements, element, Pairs, no_pairs, pair, depth, elements_depth, pairs_depth, nesting_limit, is_short, has_short_keys, elements_have_short_keys, pairs_have_short_keys, keeps_limits}
 use Rattle.toml_edit_model.specs.Paths.{Path}
 use Rattle.toml_edit_model.specs.Tree.{Key, Node, nothing, leaf, list, inline, table, tables, Items, no_items, item, Slots, no_slots, slot, Tree, shown_raw}
-use Rattle.toml_edit_model.specs.HeaderOrder.{Visit, PlacedVisit, is_root, in_header_order}
+use Rattle.toml_edit_model.specs.HeaderOrder.{Visit, PlacedVisit, is_root, walk, in_header_order}
 use Rattle.toml_edit_model.specs.Print.{one_space, Line, segments, segments_after, is_line_node, table_lines, dotted_lines, inside_lines, lines_inside, lines_of, line_of, value_of, elements_of, around_of, frame_of, add_after, close_array, add_after_pairs, close_inline, pairs_of_lines, line_statement, has_header, header_statement, Printed, printed_line, printed_header, printed_table, printed_tables, statements_of}
-use Rattle.toml_edit_model.specs.Fits.{none_too_late, elements_are_ordered}
+use Rattle.toml_edit_model.specs.Fits.{none_too_late, elements_are_ordered, has_no_dotted_inline, has_steady_header, is_steady_visit, is_undotted}
+use Rattle.toml_edit_laws.specs.Locality.{SteadyInEachMode}
 
 -- ---- values of one depth, with keys as short
 
@@ -195,6 +196,12 @@ module _ (mode other : Mode) where
   pub ordered-same : (t : Tree) → elements_are_ordered mode t ≡ elements_are_ordered other t
   ordered-same t = ap none_too_late (headed-same (map (λ v. v.1) (in_header_order t)))
 
+  visits-same : (vs : List Visit) → list_all (is_steady_visit mode) vs ≡ list_all (is_steady_visit other) vs
+  visits-same [] = refl
+  visits-same (v ∷ vs) =
+      ap (λ b. (has_no_dotted_inline v.slots && ((v.fields.is_dotted || not b) || has_steady_header v)) && list_all (is_steady_visit mode) vs) (header-same v)
+      ∙ ap (λ b. is_steady_visit other v && b) (visits-same vs)
+
   -- ---- limits
 
   abbrev keeps : Printed → Bool
@@ -249,3 +256,6 @@ module _ (mode other : Mode) where
   limits-same t =
       all-statements (printed_tables mode true (in_header_order t)) ∙ tables-keep true true (in_header_order t)
       ∙ sym (all-statements (printed_tables other true (in_header_order t)))
+
+pub steady_in_each_mode : SteadyInEachMode
+steady_in_each_mode mode other t = ap (λ b. is_undotted t && b) (visits-same mode other (walk t))
