@@ -121,7 +121,7 @@ pub fn is_float(text: &str) -> bool
 /// }
 /// ```
 ///
-/// From `float_of` of the guide, docs/GUIDE.md.
+/// From `float_of` of the crate `toml_edit_guide`.
 #[derive(Debug, Drop)]
 pub struct FloatText {
     text: String,

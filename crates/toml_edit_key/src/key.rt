@@ -34,8 +34,8 @@ mod parse;
 /// space before `=`. The dotted decor is the whitespace beside the dots of a dotted key or a
 /// header. (TOML, "Keys".)
 ///
-/// Keys are equal, ordered and hashed by their names. The spelling always spells the name, so a key
-/// is renamed by making another one.
+/// Keys are equal, ordered and hashed by their names. The spelling always spells the name:
+/// `Table::rename` gives the key of a slot another one.
 ///
 /// # Examples
 ///
@@ -46,7 +46,7 @@ mod parse;
 /// Ok(key.with_leaf_decor(leaf).with_dotted_decor(dotted))
 /// ```
 ///
-/// From `renamed` of the guide, docs/GUIDE.md.
+/// From `renamed` of the crate `toml_edit_guide`.
 #[derive(Debug)]
 pub struct Key {
     text: String,

@@ -1,9 +1,9 @@
 -- The comments of a decor, line by line (TOML 1.1.0, "Comment"), and what a change of them leaves.
 -- A decor may be any text: of one that is no trivia, too, a change leaves the rest.
-use Rattle.std.specs.Prelude.{◌≡◌, ℕ, ◌-◌, ◌==◌, if◌then◌else◌, List, [], ◌∷◌, ◌++◌, length, take, drop, filter, flat_map, take_while, Option, Some, None, is_some, is_none}
-use Rattle.std.specs.List.{AllByRecursion, before_first, filter_map, suffix_len}
-use Rattle.toml_edit_model.specs.Text.{Text, line_feed, space, hash, newline, one, joined}
-use Rattle.toml_edit_model.specs.Mode.{exact, line_end}
+use Rattle.std.specs.Prelude.{◌≡◌, ℕ, suc, ◌-◌, ◌==◌, not, if◌then◌else◌, List, [], ◌∷◌, ◌++◌, length, take, drop, filter, flat_map, take_while, Option, Some, None, is_some, is_none}
+use Rattle.std.specs.List.{AllByRecursion, before_first, filter_map, prefix_len, suffix_len}
+use Rattle.toml_edit_model.specs.Text.{Text, line_feed, space, hash, one, joined}
+use Rattle.toml_edit_model.specs.Mode.{exact, line_end, line_newline}
 use Rattle.toml_edit_model.specs.Trivia.{is_blank, comment, Piece, blank, break, remark, piece_text, IsPiece}
 use Rattle.toml_edit_model.specs.Tree.{Raw, owned, Decor}
 
@@ -26,6 +26,18 @@ first_line t = line_end exact (before_first (λ c. c == line_feed) t)
 -- that newline, and all after it
 abbrev pub after_first_line : Text → Text
 after_first_line t = drop (length (first_line t)) t
+
+-- what is before the last line feed, if there is one
+abbrev pub before_last_feed : Text → Text
+before_last_feed t = take (length t - suc (suffix_len (λ c. not (c == line_feed)) t)) t
+
+-- the last newline of a text: CR LF, or else LF
+abbrev pub last_newline : Text → Text
+last_newline t = line_newline exact (before_last_feed t)
+
+-- a line without the white space that begins it
+abbrev pub words : Text → Text
+words l = drop (prefix_len is_blank l) l
 
 -- where the white space that ends a line begins
 abbrev pub end_of_words : Text → ℕ
@@ -64,10 +76,10 @@ AreBodies t found =
 abbrev pub without_comments : Text → Text
 without_comments t = joined (filter (λ l. is_none (first_comment l)) (lines t))
 
--- One more line at the end, and then the white space that the text ended in: it is before both the
--- new comment and what follows.
+-- One more line at the end, with the newline of the last one, and then the white space that the text
+-- ended in: it is before both the new comment and what follows.
 abbrev pub with_comment_line : Text → Text → Text
-with_comment_line body t = t ++ (comment body ++ (newline ++ drop (end_of_words t) t))
+with_comment_line body t = t ++ (comment body ++ (last_newline t ++ drop (end_of_words t) t))
 
 -- What is before a comment that is put on the line: the white space before its old one, or else the
 -- line without the white space that ends it, and one space.

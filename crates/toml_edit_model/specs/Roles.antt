@@ -2,8 +2,8 @@
 -- "Table", "Inline Table" and "Array of Tables").
 use Rattle.std.specs.Prelude.{Bool, true, false}
 
--- what a statement says of a path. `through`: a header goes on in the last element of an array
--- there, and says no more.
+-- what a statement says of a path. `continued_role`: a header goes on in the last element
+-- of an array there, and says no more.
 pub data Role : Type 0 where
   dotted_role : Role
   implied_role : Role

@@ -5,12 +5,12 @@ use Rattle.std.specs.Borrow.{Bor}
 use Rattle.std.specs.Option.{option_copied}
 use Rattle.std.specs.Str.{IsUtf8, IsCharBoundary}
 use Rattle.std.proofs.lemmas.Str.{IsCharBoundary-before_ascii, IsCharBoundary-after_ascii}
-use Rattle.toml_edit_model.specs.Text.{Text, line_feed, hash, space, newline, one, has_byte}
+use Rattle.toml_edit_model.specs.Text.{Text, line_feed, hash, space, one, has_byte}
 use Rattle.toml_edit_model.specs.Mode.{Mode, shown_text}
 use Rattle.toml_edit_model.specs.Trivia.{is_blank, comment, IsWholeTrivia}
 use Rattle.toml_edit_model.specs.Tree.{Raw, owned, span, Decor, shown_side, shown_prefix, shown_suffix}
 use Rattle.toml_edit_model.specs.Fits.{EndsLine}
-use Rattle.toml_edit_model.specs.Comments.{first_line, after_first_line, end_of_words, body_in, first_comment, without_comments, with_comment_line, before_comment, with_first_comment, without_first_comment, side_text, changed_side, with_comment_before, without_comments_before, with_comment_after}
+use Rattle.toml_edit_model.specs.Comments.{first_line, after_first_line, last_newline, end_of_words, body_in, first_comment, without_comments, with_comment_line, before_comment, with_first_comment, without_first_comment, side_text, changed_side, with_comment_before, without_comments_before, with_comment_after}
 use Rattle.toml_edit_laws.proofs.common.WhiteSpace.{shown-none}
 use Rattle.toml_edit_repr.specs.CommentPlaces.{HasHashAt}
 use Rattle.toml_edit_repr.specs.Comments.{PutsComment}
@@ -50,10 +50,11 @@ put-joined t l b s c a new is before line after =
     ∙ ap (λ u. u ++ (one hash ++ (c ++ (a ++ [])))) (before ∙ ap before_comment line)
     ∙ ap (λ u. before_comment (first_line t) ++ (comment c ++ u)) (append-nil a ∙ after)
 
-pub add-joined : (t c w new : Text) (n : ℕ) → new ≡ t ++ (one hash ++ (c ++ (newline ++ (w ++ [])))) → n ≡ end_of_words t → w ≡ drop n t
-    → new ≡ with_comment_line c t
-add-joined t c w new n is place rest =
-    is ∙ ap (λ u. t ++ (comment c ++ (newline ++ u))) (append-nil w ∙ rest ∙ ap (λ k. drop k t) place)
+pub add-joined : (t c end w new : Text) (n : ℕ) → new ≡ t ++ (one hash ++ (c ++ (end ++ (w ++ [])))) → end ≡ last_newline t → n ≡ end_of_words t
+    → w ≡ drop n t → new ≡ with_comment_line c t
+add-joined t c end w new n is ends place rest =
+    is ∙ ap (λ u. t ++ (comment c ++ (u ++ (w ++ [])))) ends
+    ∙ ap (λ u. t ++ (comment c ++ (last_newline t ++ u))) (append-nil w ∙ rest ∙ ap (λ k. drop k t) place)
 
 -- ---- sides of a decor
 

@@ -1,16 +1,16 @@
 -- The first line of a text, and the comment of a line, by the places that the code finds.
 use Rattle.std.proofs.Common.{◌≡◌, refl, sym, ap, subst, ◌∙◌, ℕ, zero, suc, ◌+◌, ◌-◌, ◌<◌, ◌≤◌, ◌==◌, arith, Bool, true, false, [], ◌∷◌, length, take, drop, get_or, Option, Some, None, length-take}
-use Rattle.std.specs.Prelude.{if◌then◌else◌, unwrap_or, take_while}
-use Rattle.std.specs.List.{before_first, suffix_len}
+use Rattle.std.specs.Prelude.{if◌then◌else◌, not, unwrap_or, take_while}
+use Rattle.std.specs.List.{before_first, prefix_len, suffix_len}
 use Rattle.std.specs.Str.{IsUtf8, IsCharBoundary}
-use Rattle.std.proofs.lemmas.Bool.Decides.{Decides-eqb}
+use Rattle.std.proofs.lemmas.Bool.Decides.{Decides-eqb, nat_tests}
 use Rattle.std.proofs.lemmas.List.Sums.{position_or_len_is, prefix_len_is, suffix_len_is}
-use Rattle.std.proofs.lemmas.Str.{IsCharBoundary-after_ascii}
-use Rattle.memchr.specs.Find.{IsFirstByte, is_byte}
-use Rattle.toml_edit_model.specs.Text.{Text, line_feed, carriage_return, hash, one}
+use Rattle.std.proofs.lemmas.Str.{IsCharBoundary-after_ascii, IsCharBoundary-start}
+use Rattle.memchr.specs.Find.{IsFirstByte, IsLastByte, is_byte}
+use Rattle.toml_edit_model.specs.Text.{Text, line_feed, carriage_return, hash, newline, one}
 use Rattle.toml_edit_model.specs.Mode.{exact, ends_in_return, but_last, line_end}
 use Rattle.toml_edit_model.specs.Trivia.{is_blank}
-use Rattle.toml_edit_model.specs.Comments.{begun_with, lines, first_line, after_first_line, body_in, end_of_words}
+use Rattle.toml_edit_model.specs.Comments.{begun_with, lines, first_line, after_first_line, before_last_feed, last_newline, body_in, end_of_words}
 use Rattle.toml_edit_laws.proofs.common.Tests.{false-by, true-false}
 use Rattle.toml_edit_repr.specs.CommentPlaces.{HasHashAt}
 
@@ -201,3 +201,66 @@ words-end t s n same within blanks stop =
     let rest : suffix_len is_blank s ≡ length s - n = suffix_len_is is_blank s n 0 within blanks stop in
     let place : n ≡ end_of_words s = omega (arith, rest) in
     place ∙ ap end_of_words same
+
+-- ---- the white space that a text begins with
+
+blank-ascii : (c : ℕ) → is_blank c ≡ true → c < 128
+blank-ascii c h = grind (arith, nat_tests)
+
+pub white-boundary : (t s : Text) (n : ℕ) → s ≡ t → IsUtf8 t → n ≤ length s → BlankBelow n s → IsCharBoundary t n
+white-boundary t s zero same utf8 within blanks = IsCharBoundary-start t utf8
+white-boundary t s (suc n) same utf8 within blanks =
+    let white : is_blank (get_or t n 0) ≡ true = ap (λ u. is_blank (get_or u n 0)) (sym same) ∙ blanks n (omega arith) in
+    let next : n + 1 ≡ suc n = omega arith in
+    subst (IsCharBoundary t) next
+    (IsCharBoundary-after_ascii t n utf8 (omega (arith, within, ap length same)) (blank-ascii (get_or t n 0) white))
+
+pub white-place : (t s : Text) (n : ℕ) → s ≡ t → n ≤ length s → BlankBelow n s → (n < length s → is_blank (get_or s n 0) ≡ false) → n ≡ prefix_len is_blank t
+white-place t s n same within blanks stop =
+    sym (prefix_len_is is_blank s n 0 within blanks stop) ∙ ap (prefix_len is_blank) same
+
+-- ---- the last newline
+
+-- the place of the last line feed, or 0
+pub record LastFeedAt (t : Text) (n : ℕ) : Type 0 where
+  pub within : n ≤ length t
+  pub before : before_last_feed t ≡ take n t
+
+last-feed-at : (t : Text) (n m : ℕ) → n ≤ length t → m ≡ n - 1 → ((k : ℕ) → n ≤ k → k < length t → (get_or t k 0 == line_feed) ≡ true → ⊥)
+    → (0 < n → (get_or t m 0 == line_feed) ≡ true) → LastFeedAt t m
+last-feed-at t n m within is none here =
+    let rest : suffix_len (λ c. not (c == line_feed)) t ≡ length t - n =
+    suffix_len_is (λ c. not (c == line_feed)) t n 0 within (λ k low high. ap not (false-by (get_or t k 0 == line_feed) (none k low high)))
+    (λ some. ap (λ k. not (get_or t k 0 == line_feed)) (sym is) ∙ ap not (here some)) in
+    let place : length t - suc (suffix_len (λ c. not (c == line_feed)) t) ≡ m = omega (arith, rest, is) in
+    record { within = omega (arith, within, is); before = ap (λ k. take k t) place }
+
+last-place : (t : Text) (o : Option ℕ) → IsLastByte (is_byte line_feed) t o → LastFeedAt t (unwrap_or o 0)
+last-place t None none = last-feed-at t 0 0 (omega arith) (omega arith) (λ k low high. none k (omega arith) high) (λ some. absurd (omega arith))
+last-place t (Some n) found =
+    last-feed-at t (suc n) n (omega (arith, found.0.high)) (omega arith) (λ k low high. found.0.after k (omega arith) high) (λ some. found.1)
+
+pub last-feed : (t s : Text) (o : Option ℕ) (e : ℕ) → s ≡ t → IsLastByte (is_byte line_feed) s o → e ≡ unwrap_or o 0 → LastFeedAt t e
+last-feed t s o e same found is =
+    subst (LastFeedAt t) (sym is) (subst (λ u. LastFeedAt u (unwrap_or o 0)) same (last-place s o found))
+
+newline-by : (t : Text) (e : ℕ) (b : Bool) → LastFeedAt t e → ends_in_return (take e t) ≡ b
+    → (if b then carriage_return ∷ newline else newline) ≡ last_newline t
+newline-by t e b h is =
+    ap (λ b. if b then carriage_return ∷ newline else newline) (sym is)
+    ∙ ap (λ u. if ends_in_return u then carriage_return ∷ newline else newline) (sym h.before)
+
+pub newline-alone : (t : Text) (e : ℕ) → LastFeedAt t e → e ≡ 0 → newline ≡ last_newline t
+newline-alone t e h none = newline-by t e false h (ap (λ k. ends_in_return (take k t)) none)
+
+pub newline-lean : (t s : Text) (e n : ℕ) → s ≡ t → LastFeedAt t e → e ≡ suc n → (get_or s n 0 ≡ carriage_return → ⊥) → newline ≡ last_newline t
+newline-lean t s e n same h is other =
+    newline-by t e false h
+    (ap (λ k. ends_in_return (take k t)) is ∙ ends-at n t (omega (arith, h.within))
+    ∙ false-by (get_or t n 0 == carriage_return) (λ x. other (ap (λ u. get_or u n 0) same ∙ (Decides-eqb _ _).0 x)))
+
+pub newline-full : (t s : Text) (e n : ℕ) → s ≡ t → LastFeedAt t e → e ≡ suc n → get_or s n 0 ≡ carriage_return → carriage_return ∷ newline ≡ last_newline t
+newline-full t s e n same h is here =
+    newline-by t e true h
+    (ap (λ k. ends_in_return (take k t)) is ∙ ends-at n t (omega (arith, h.within))
+    ∙ (Decides-eqb _ _).1 (ap (λ u. get_or u n 0) (sym same) ∙ here))

@@ -10,11 +10,11 @@ use Rattle.std.proofs.lemmas.List.Sums.{take_while-cons, prefix_len_passes, suff
 use Rattle.std.proofs.Math.Seq.{drop-append_seam}
 use Rattle.toml_edit_model.specs.Text.{Text, line_feed, carriage_return, space, newline, one, joined, without_returns}
 use Rattle.toml_edit_model.specs.Mode.{Mode, plain, exact, shown_text, ends_in_return, but_last, line_end}
-use Rattle.toml_edit_model.specs.Trivia.{is_blank, is_visible, Each, IsWhiteSpace, lf, crlf, comment, Piece, blank, break, remark, piece_text, IsPiece, IsWholeTrivia, IsLineEnd}
+use Rattle.toml_edit_model.specs.Trivia.{is_blank, is_visible, Each, IsWhiteSpace, lf, crlf, newline_text, IsNewline, comment, Piece, blank, break, remark, piece_text, IsPiece, IsWholeTrivia, IsLineEnd}
 use Rattle.toml_edit_model.specs.Fits.{EndsLine}
-use Rattle.toml_edit_model.specs.Comments.{begun_with, lines, first_line, after_first_line, end_of_words, body_in, first_comment, without_comments, with_comment_line, before_comment, with_first_comment, without_first_comment}
+use Rattle.toml_edit_model.specs.Comments.{begun_with, lines, first_line, after_first_line, before_last_feed, last_newline, end_of_words, body_in, first_comment, without_comments, with_comment_line, before_comment, with_first_comment, without_first_comment}
 use Rattle.toml_edit_laws.proofs.common.Each.{all-append, all-filter, each-append}
-use Rattle.toml_edit_laws.proofs.common.LineEnds.{ended}
+use Rattle.toml_edit_laws.proofs.common.LineEnds.{ended, newline-is}
 use Rattle.toml_edit_laws.proofs.common.Tests.{and_left, and_right, true-false}
 use Rattle.toml_edit_laws.proofs.common.Trivia.{empty-trivia, no-byte, visible-returns, shown-append, empty-end}
 use Rattle.toml_edit_laws.proofs.common.WhiteSpace.{white-shown, shown-none}
@@ -61,12 +61,13 @@ whole-append s t (ps, h, e) (qs, g, f) = (
   ap (λ u. u ++ t) e ∙ ap (λ u. flat_map piece_text ps ++ u) f ∙ sym (flat_map-append piece_text ps qs),
 )
 
-line-whole : (body w : Text) → Each is_visible body → IsWhiteSpace w → IsWholeTrivia (comment body ++ (newline ++ w))
-line-whole body w h g =
+line-whole : (body end w : Text) → Each is_visible body → IsNewline end → IsWhiteSpace w → IsWholeTrivia (comment body ++ (end ++ w))
+line-whole body end w h (n, is) g =
     let (ps, each, e) = white-whole w g in (
-      remark body lf ∷ ps,
+      remark body n ∷ ps,
       (h, each),
-      ap (λ u. comment body ++ (newline ++ u)) e ∙ sym (append_assoc (comment body) newline (flat_map piece_text ps)),
+      ap (λ u. comment body ++ (u ++ w)) is ∙ ap (λ u. comment body ++ (newline_text n ++ u)) e
+          ∙ sym (append_assoc (comment body) (newline_text n) (flat_map piece_text ps)),
     )
 
 -- ---- one more line
@@ -98,8 +99,9 @@ pub with_line-suits : (mode : Mode) (body t : Text) → Each is_visible body →
     → IsWholeTrivia (shown_text mode (with_comment_line body t))
 with_line-suits mode body t h whole =
     let w = drop (end_of_words t) t in
-    subst IsWholeTrivia (sym (shown-append mode t (comment body ++ (newline ++ w))))
-    (whole-append _ _ whole (lean-trivia mode _ (line-whole body w h (end-white t))))
+    let end = last_newline t in
+    subst IsWholeTrivia (sym (shown-append mode t (comment body ++ (end ++ w))))
+    (whole-append _ _ whole (lean-trivia mode _ (line-whole body end w h (newline-is exact (before_last_feed t)) (end-white t))))
 
 -- ---- fewer lines
 

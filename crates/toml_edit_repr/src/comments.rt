@@ -1,9 +1,9 @@
 //! The comments of a decor: those before a key, a value or a header, and the one after it.
-ghost use Rattle.std.specs.Prelude.{◌≡◌, ◌<◌, [], ◌∷◌, ◌++◌, if◌then◌else◌, IfOk, IfSome, IsTrue, MatchOption, OnErr, OnOk, Some, None, is_none, length, string_bytes, take};
-ghost use Rattle.std.specs.List.{list_all};
+ghost use Rattle.std.specs.Prelude.{◌≡◌, ◌<◌, [], ◌∷◌, ◌++◌, if◌then◌else◌, IfOk, IfSome, IsTrue, MatchOption, OnErr, OnOk, Some, None, is_none, length, string_bytes, take, take_while};
+ghost use Rattle.std.specs.List.{list_all, prefix_len};
 ghost use Rattle.std.specs.Option.{option_copied};
 ghost use Rattle.std.specs.Str.{IsCharBoundary};
-ghost use Rattle.toml_edit_model.specs.Comments.{after_first_line, before_comment, body_in, comments, end_of_words, first_comment, first_line, lines, side_text, with_comment_line, with_first_comment, without_comments};
+ghost use Rattle.toml_edit_model.specs.Comments.{after_first_line, before_comment, body_in, comments, end_of_words, first_comment, first_line, last_newline, lines, side_text, with_comment_line, with_first_comment, without_comments, words};
 ghost use Rattle.toml_edit_model.specs.Text.{has_byte, line_feed};
 ghost use Rattle.toml_edit_model.specs.Trivia.{is_blank, is_visible};
 ghost use Rattle.toml_edit_repr.specs.CommentPlaces.{IsHashPlace};
@@ -11,7 +11,7 @@ ghost use Rattle.toml_edit_repr.specs.CommentPlaces.{IsHashPlace};
 use crate::raw_string::{Mem, RawString};
 use crate::repr::Decor;
 use crate::write::side_text;
-use memchr::memchr;
+use memchr::{memchr, memrchr};
 use std::alloc::{AllocError, Global};
 use std::error::Error;
 use std::fmt;
@@ -174,7 +174,8 @@ impl Decor {
     /// Adds a comment on a line of its own before the line of the key, value or header.
     ///
     /// The comment is the text after the `#`, which is added here. The new line is indented as the
-    /// line of the key, value or header is. A side that is unset or a span counts as empty.
+    /// line of the key, value or header is, and ends as the line before it does: in CR LF, or else in
+    /// LF. A side that is unset or a span counts as empty.
     ///
     /// # Errors
     ///
@@ -196,7 +197,9 @@ impl Decor {
 
     /// Removes the comments before the key, value or header, each with its line.
     ///
-    /// Empty lines stay, and so does the indentation of the key, value or header.
+    /// Empty lines stay, and so does the indentation of the key, value or header. In an array the
+    /// first line of a value's prefix is the rest of the line of the value before it, so a comment
+    /// there is removed too: it is the `line_comment` of that value.
     ///
     /// # Errors
     ///
@@ -233,7 +236,8 @@ fn is_comment(text: &str) -> bool
 }
 
 /// Splits off the first line, with its newline, or returns `None` if the text is empty.
-fn split_line(text: &str) -> Option<(&str, &str)>
+#[doc(hidden)]
+pub fn split_line(text: &str) -> Option<(&str, &str)>
     ensures parts { MatchOption result (lines text.now ≡ [])
         (λ p. lines text.now ≡ p.0.now ∷ lines p.1.now) }
     ensures shorter { IfSome result (λ p. length p.1.now < length text.now) }
@@ -329,6 +333,41 @@ fn end_of_words(text: &str) -> usize
     end
 }
 
+/// Splits the text where the white space that it begins with ends.
+#[doc(hidden)]
+pub fn split_white(text: &str) -> (&str, &str)
+    ensures white { result.0.now ≡ take_while is_blank text.now }
+    ensures words { result.1.now ≡ words text.now }
+{
+    text.split_at(white_len(text))
+}
+
+/// Returns the place where the white space that the text begins with ends.
+fn white_len(text: &str) -> usize
+    ensures boundary { IsCharBoundary text.now result }
+    ensures place { result ≡ prefix_len is_blank text.now }
+{
+    let bytes = text.as_bytes();
+    for (at, byte) in bytes.iter().enumerate() {
+        if !is_blank(*byte) {
+            return at;
+        }
+    }
+    text.len()
+}
+
+/// Returns the last newline of the text, or LF if it has none.
+fn last_newline(text: &str) -> &str
+    ensures { result.now ≡ last_newline text.now }
+{
+    let bytes = text.as_bytes();
+    let end = memrchr(b'\n', bytes).unwrap_or(0);
+    if end == 0 || bytes[end - 1] != b'\r' {
+        return "\n";
+    }
+    "\r\n"
+}
+
 /// Returns whether the byte is a space or a tab.
 fn is_blank(byte: u8) -> bool
     ensures { result ≡ is_blank byte }
@@ -363,11 +402,11 @@ fn put_first_comment(alloc: Global, text: &str, comment: &str) -> Mem<String>
 }
 
 /// Returns the text with one more line, which has this comment.
-fn add_comment_line(alloc: Global, text: &str, comment: &str) -> Mem<String>
+fn add_comment_line<'a>(alloc: Global, text: &'a str, comment: &'a str) -> Mem<String>
     ensures { IfOk result (λ new. string_bytes new ≡ with_comment_line comment.now text.now) }
 {
     let (_, indent) = text.split_at(end_of_words(text));
-    let changed = [text, "#", comment, "\n", indent].concat(alloc)?;
+    let changed = [text, "#", comment, last_newline(text), indent].concat(alloc)?;
     Ok(changed)
 }
 

@@ -20,7 +20,7 @@ use toml_edit_text::{BoxedText, LeakedText};
 /// let version = Value::string(alloc, version)?;
 /// ```
 ///
-/// From `add_dependency` of the guide, docs/GUIDE.md.
+/// From `add_dependency` of the crate `toml_edit_guide`.
 pub type Mem<T> = Result<T, AllocError>;
 
 /// The forms of a raw text. Each fits into three words, since a slot of a table holds eight texts.
@@ -50,7 +50,7 @@ const _: () = prove!(size_of::<Inner>() == 24);
 /// let end = RawString::from_text(alloc, "\n")?;
 /// ```
 ///
-/// From `push_line` of the guide, docs/GUIDE.md.
+/// From `push_line` of the crate `toml_edit_guide`.
 #[derive(Debug)]
 pub struct RawString {
     inner: Inner,

@@ -30,7 +30,7 @@ use toml_edit_stream::{Printed, Sink, print, show};
 /// Value::Integer(number) => number.as_repr()?.as_raw().as_str(),
 /// ```
 ///
-/// From `spelling_of` of the guide, docs/GUIDE.md.
+/// From `spelling_of` of the crate `toml_edit_guide`.
 #[derive(Debug, Drop)]
 pub struct Repr {
     raw: RawString,
@@ -132,7 +132,7 @@ impl Hash for Repr {
 /// mem::swap(old, &mut value);
 /// ```
 ///
-/// From `replace_value` of the guide, docs/GUIDE.md.
+/// From `replace_value` of the crate `toml_edit_guide`.
 pub struct Decor {
     // Each side has a flag beside it, since two options would take a word more. An unset side is
     // empty.
@@ -380,7 +380,7 @@ pub fn clone_spelling(alloc: Global, repr: &Option<Repr>) -> Mem<Option<Repr>>
 /// pub fn put_default<T: ScalarValue, S: Sink>(scalar: &T, out: &mut S)
 /// ```
 ///
-/// From `put_default` of the guide, docs/GUIDE.md.
+/// From `put_default` of the crate `toml_edit_guide`.
 pub trait ScalarValue: PartialEq {
     ghost use Rattle.toml_edit_model.specs.Scalars.{Scalar};
 
@@ -416,7 +416,7 @@ pub trait ScalarValue: PartialEq {
 /// pub fn default_of<T: ValueRepr>(alloc: Global, scalar: &Formatted<T>) -> Mem<Repr>
 /// ```
 ///
-/// From `default_of` of the guide, docs/GUIDE.md.
+/// From `default_of` of the crate `toml_edit_guide`.
 pub trait ValueRepr: ScalarValue {
     ghost use Rattle.std.specs.Prelude.{List, ℕ};
 
@@ -479,7 +479,7 @@ pub(crate) fn default_repr_of<T: ScalarValue>(alloc: Global, value: &T) -> Mem<R
 /// }
 /// ```
 ///
-/// From `make_decimal` of the guide, docs/GUIDE.md.
+/// From `make_decimal` of the crate `toml_edit_guide`.
 #[derive(Debug)]
 pub struct Formatted<T: ValueRepr> {
     value: T,
@@ -647,7 +647,7 @@ impl<T: ValueRepr> Formatted<T> {
     /// Value::Integer(number) => number.as_repr()?.as_raw().as_str(),
     /// ```
     ///
-    /// From `spelling_of` of the guide, docs/GUIDE.md.
+    /// From `spelling_of` of the crate `toml_edit_guide`.
     pub fn as_repr(&self) -> Option<&Repr>
         ensures { option_copied result ≡ self.now.repr }
     {

@@ -144,12 +144,28 @@ impl<O: Output> Sink for Written<'_, O> {
     }
 }
 
-/// Writes the text to the output, piece by piece.
+/// Writes the text of a value, a table, a key or any other [`Printed`] to an output.
+///
+/// `Display` writes the same text to a formatter. After a failed `Display` nothing is known of what
+/// its writer holds; after a failed `print_to` the output holds a beginning of the text. It is
+/// written some 256 bytes at a time, and never held as a whole. To write a document, use its own
+/// `print_to`.
 ///
 /// # Errors
 ///
 /// Returns [`Broken`] if the output failed. It holds a beginning of the text then, perhaps an empty
 /// one.
+///
+/// # Examples
+///
+/// ```rust,ignore
+/// match print_to(output, printed) {
+///     Ok(()) => Ok(()),
+///     Err(_) => Err(RunError::WriteFailed),
+/// }
+/// ```
+///
+/// From `write_printed` of the crate `toml_edit_command`.
 pub fn print_to<T: Printed, O: Output>(output: &mut O, printed: &T) -> Result<(), Broken>
     ensures text { OnOk result
         (Appends (O.contents output.old) (O.contents output.new) (T.text printed.now)) }

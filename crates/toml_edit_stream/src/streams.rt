@@ -18,7 +18,7 @@ use std::fmt;
 /// pub fn read_piece<I: Input>(input: &mut I, buffer: &mut [u8]) -> Result<usize, Broken>
 /// ```
 ///
-/// From `read_piece` of the guide, docs/GUIDE.md.
+/// From `read_piece` of the crate `toml_edit_guide`.
 #[derive(Clone, Copy, Debug, PartialEq, Eq)]
 pub struct Broken;
 
@@ -43,7 +43,7 @@ impl Error for Broken {}
 /// input.read(buffer)
 /// ```
 ///
-/// From `read_piece` of the guide, docs/GUIDE.md.
+/// From `read_piece` of the crate `toml_edit_guide`.
 pub trait Input {
     // the bytes that are left to read, where they are known
     ghost remaining: { Self → Option (List ℕ) };
@@ -81,7 +81,7 @@ pub trait Input {
 /// document.print_to(alloc, output)
 /// ```
 ///
-/// From `write_to` of the guide, docs/GUIDE.md.
+/// From `write_to` of the crate `toml_edit_guide`.
 pub trait Output {
     // the bytes that the output holds, where they are known
     ghost contents: { Self → Option (List ℕ) };
@@ -92,7 +92,7 @@ pub trait Output {
     /// Writes a beginning of `piece`, and returns how many bytes it has: at least one, unless
     /// `piece` is empty.
     ///
-    /// To write all of it, use [`write_all`](crate::write_all).
+    /// To write all of `piece`, call it again with the rest.
     ///
     /// # Errors
     ///

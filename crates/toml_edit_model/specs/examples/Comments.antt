@@ -3,7 +3,7 @@ use Rattle.std.specs.Prelude.{◌≡◌, refl, [], ◌∷◌, codes, Some, None}
 use Rattle.toml_edit_model.specs.Text.{space}
 use Rattle.toml_edit_model.specs.Trivia.{lf, crlf, blank, break, remark}
 use Rattle.toml_edit_model.specs.Tree.{owned, span, unset}
-use Rattle.toml_edit_model.specs.Comments.{lines, comments, bodies, first_comment, without_comments, with_comment_line, with_first_comment, without_first_comment, comments_before, with_comment_before, without_comments_before, comment_after, with_comment_after}
+use Rattle.toml_edit_model.specs.Comments.{lines, words, last_newline, comments, bodies, first_comment, without_comments, with_comment_line, with_first_comment, without_first_comment, comments_before, with_comment_before, without_comments_before, comment_after, with_comment_after}
 
 -- ---- lines
 
@@ -61,6 +61,24 @@ removed_none = refl
 -- the last line is indented as the key is
 added_line : with_comment_line (codes " new") (codes "# one\n  ") ≡ codes "# one\n  # new\n  "
 added_line = refl
+
+-- and ends as the one before it does
+added_after_return : with_comment_line (codes " new") (codes "# one\r\n\t")
+    ≡ codes "# one\r\n\t# new\r\n\t"
+added_after_return = refl
+
+added_after_both : with_comment_line (codes " new") (codes "\r\n\n  ")
+    ≡ codes "\r\n\n  # new\n  "
+added_after_both = refl
+
+newlines : last_newline (codes "\n\r\n") ∷ last_newline (codes "\r\n\r") ∷ last_newline (codes "\r")
+    ∷ last_newline (codes "\n") ∷ []
+    ≡ codes "\r\n" ∷ codes "\r\n" ∷ codes "\n" ∷ codes "\n" ∷ []
+newlines = refl
+
+words_of_lines : words (codes " \t# a  ") ∷ words (codes "# a") ∷ words (codes "  ") ∷ []
+    ≡ codes "# a  " ∷ codes "# a" ∷ [] ∷ []
+words_of_lines = refl
 
 added_to_none : with_comment_line (codes " new") [] ≡ codes "# new\n"
 added_to_none = refl
