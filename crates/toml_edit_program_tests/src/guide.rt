@@ -13,7 +13,6 @@ use toml_edit_guide::fault::EditFault;
 use toml_edit_guide::normalizing::{normalize, reload};
 use toml_edit_guide::reading::{integer_at, names, span_at};
 use toml_edit_guide::removing::remove_key;
-use toml_edit_guide::rename;
 use toml_edit_tests::holding::is_text;
 
 const SERVER: &str = "title = 'x'\n\n# two servers\n[server]\nport = 80  # http\nhost = 'a'\n";
@@ -83,9 +82,9 @@ fn push_alan(alloc: Global, root: &mut Table) -> Mem<()> {
 }
 
 fn rename_keys(root: &mut Table) -> Mem<()> {
-    let is_done = rename(root, "b", "x")? == Renamed::Done;
-    let is_absent = rename(root, "missing", "y")? == Renamed::Absent;
-    let is_taken = rename(root, "a", "c")? == Renamed::Taken;
+    let is_done = root.rename("b", "x")? == Renamed::Done;
+    let is_absent = root.rename("missing", "y")? == Renamed::Absent;
+    let is_taken = root.rename("a", "c")? == Renamed::Taken;
     done(is_done && is_absent && is_taken)
 }
 

@@ -2,7 +2,7 @@
 use crate::{date_time, document, key, run, scalar, tokens, value};
 use toml_edit_rows_read::{Answer, Program, Row};
 
-const KINDS: [&str; 19] = [
+const KINDS: [&str; 20] = [
     "text",
     "strict_text",
     "exact_text",
@@ -13,6 +13,7 @@ const KINDS: [&str; 19] = [
     "integer",
     "boolean",
     "float",
+    "float_text",
     "date_time",
     "date",
     "time",

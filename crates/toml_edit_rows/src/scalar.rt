@@ -8,6 +8,7 @@ use toml_edit_rows_read::{Answer, Row, refusal, steps};
 pub fn answer(row: Row<'_>, out: &mut Answer) {
     match row.kind {
         "float" => float(String::from_str(out.alloc, row.text()), row, out),
+        "float_text" => copied_float(FloatText::from_text(out.alloc, row.text()), row, out),
         "integer" => steps::found::<Texts, _>(integer(row.text()), row, out),
         _ => steps::made::<Texts, _>(made(out.alloc, row), row, out),
     }
@@ -28,6 +29,14 @@ fn integer(text: &str) -> Option<Value> {
 fn float(text: Mem<String>, row: Row<'_>, out: &mut Answer) {
     match text {
         Ok(text) => checked_float(FloatText::new(text), row, out),
+        Err(_) => out.refuse(),
+    }
+}
+
+/// Answers a question on the float that was made of a text, if that is one.
+fn copied_float(made: Mem<Option<FloatText>>, row: Row<'_>, out: &mut Answer) {
+    match made {
+        Ok(float) => steps::found::<Texts, _>(float.map(Value::from), row, out),
         Err(_) => out.refuse(),
     }
 }

@@ -6,7 +6,7 @@ use toml_edit_repr::{Mem, RawString, Repr};
 use toml_edit_slots::NoMemory;
 
 /// The number of bytes that an answer makes room for if the rest of a row is to take no memory.
-/// `bench/refusals` knows the request by this number, and refuses each one after it.
+/// `tools/refusals.py` knows the request by this number, and refuses each one after it.
 const ROOM: usize = 77777;
 
 /// An answer that is being written.

@@ -96,7 +96,7 @@ fn ask_inline_end(table: &InlineTable, words: &[Json], out: &mut Answer) {
         "list_clone" => out.made(table.clone(out.alloc)),
         "get_values" => lines::tell(table.get_values(out.alloc), out),
         "into_iter" => steps::given_up(table.clone(out.alloc), out),
-        "into_table" => lines_of(table.clone(out.alloc), out),
+        "list_into_table" => lines_of(table.clone(out.alloc), out),
         "brackets" => read_brackets(table, word(words, 1), out),
         call => out.no_such(call),
     }

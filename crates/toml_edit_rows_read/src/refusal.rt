@@ -19,6 +19,7 @@ fn error_answer(error: &TomlError, question: &str, out: &mut Answer) {
         "line" => out.shown_or_none(error.line().as_ref()),
         "column" => out.shown_or_none(error.column().as_ref()),
         "error" | "from_str_error" => out.shown(error),
+        "error_clone" => out.made(error.clone(out.alloc)),
         _ => {
             out.text("refused: ");
             out.text(error.message());
@@ -44,6 +45,7 @@ pub fn of_accepted(question: &str, out: &mut Answer) {
         | "line"
         | "column"
         | "error"
+        | "error_clone"
         | "fault"
         | "from_str_at"
         | "from_str_error" => out.text("not refused"),

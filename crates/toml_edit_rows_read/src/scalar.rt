@@ -1,5 +1,6 @@
 //! Questions on scalars.
 use crate::answer::Answer;
+use toml_edit_datetime::FloatText;
 use toml_edit_repr::{Formatted, Repr, ValueRepr};
 use toml_edit_tree::Value;
 
@@ -27,12 +28,30 @@ pub fn ask(value: &Value, call: &str, out: &mut Answer) {
     }
 }
 
-fn ask_scalar<T: ValueRepr>(scalar: &Formatted<T>, call: &str, out: &mut Answer) {
+fn ask_scalar<T: ValueRepr + Drop>(scalar: &Formatted<T>, call: &str, out: &mut Answer) {
     match call {
         "as_repr" => out.raw(scalar.as_repr().map(Repr::as_raw)),
         "repr_span" => out.span(scalar.as_repr().and_then(Repr::span)),
         "default_repr" => out.repr(scalar.default_repr(out.alloc)),
+        "repr_clone" => repr_copied(scalar.as_repr(), out),
+        "scalar_clone" => out.made(scalar.clone(out.alloc)),
         _ => out.made(scalar.display_repr(out.alloc)),
+    }
+}
+
+/// Writes a copy of a spelling.
+fn repr_copied(repr: Option<&Repr>, out: &mut Answer) {
+    match repr {
+        Some(repr) => out.repr(repr.clone(out.alloc)),
+        None => out.text("none"),
+    }
+}
+
+/// Writes a copy of a float.
+pub fn float_copied(float: Option<&FloatText>, out: &mut Answer) {
+    match float {
+        Some(float) => out.made(float.clone(out.alloc)),
+        None => out.text("none"),
     }
 }
 

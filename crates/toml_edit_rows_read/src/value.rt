@@ -3,7 +3,7 @@ use crate::answer::Answer;
 use crate::steps::{Asks, behind, copied, word};
 use crate::{date_time, list, scalar};
 use serde_json::Value as Json;
-use toml_edit_repr::{CommentFault, Comments, Decor, RawString};
+use toml_edit_repr::{CommentFault, Comments, Decor, Mem, RawString};
 use toml_edit_tree::Value;
 
 /// Makes a step with the value. The answer to a call that changes it is empty.
@@ -67,7 +67,36 @@ pub fn ask_decor(decor: &Decor, side: &str, out: &mut Answer) {
         "suffix" => out.raw(decor.suffix()),
         "comments_before" => comments(decor.comments_before(), out),
         "comment_after" => out.text_or_none(decor.comment_after()),
+        "decor_clone" => decor_copied(decor.clone(out.alloc), out),
+        "prefix_clone" => side_copied(decor.prefix(), out),
         _ => out.no_such(side),
+    }
+}
+
+/// Writes both sides of a copy.
+fn decor_copied(copy: Mem<Decor>, out: &mut Answer) {
+    match copy {
+        Ok(copy) => {
+            out.raw(copy.prefix());
+            out.text("|");
+            out.raw(copy.suffix());
+        }
+        Err(_) => out.refuse(),
+    }
+}
+
+/// Writes a copy of a side.
+fn side_copied(side: Option<&RawString>, out: &mut Answer) {
+    match side {
+        Some(raw) => raw_copied(raw.clone(out.alloc), out),
+        None => out.text("none"),
+    }
+}
+
+fn raw_copied(copy: Mem<RawString>, out: &mut Answer) {
+    match copy {
+        Ok(copy) => out.raw(Some(&copy)),
+        Err(_) => out.refuse(),
     }
 }
 
@@ -119,7 +148,9 @@ fn ask_plain(value: &Value, words: &[Json], out: &mut Answer) {
 fn ask_more(value: &Value, words: &[Json], out: &mut Answer) {
     let call = word(words, 0);
     match call {
-        "as_repr" | "default_repr" | "display_repr" | "repr_span" => scalar::ask(value, call, out),
+        "as_repr" | "default_repr" | "display_repr" | "repr_span" | "repr_clone" | "scalar_clone" =>
+            scalar::ask(value, call, out),
+        "float_clone" => scalar::float_copied(value.as_float_text(), out),
         _ => {
             if !scalar::cast(value, call, out) {
                 list::ask(value, words, out);

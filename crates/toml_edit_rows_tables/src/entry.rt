@@ -60,11 +60,10 @@ fn fill(entry: Mem<Entry<'_>>, made: Option<Item>, out: &mut Answer) {
 fn or_insert(entry: Entry<'_>, item: Item, out: &mut Answer) {
     out.text(entry.key());
     out.text("=");
-    if let Ok(there) = entry.or_insert(item) {
-        there.tell(out);
-        return;
+    match entry.or_insert(item) {
+        Ok(there) => there.tell(out),
+        Err(refused) => out.given_back(refused),
     }
-    out.refuse();
 }
 
 /// Writes the item of the entry after the insertion of the value 0 of a closure.
@@ -76,11 +75,11 @@ fn fill_with(entry: Mem<Entry<'_>>, out: &mut Answer) {
 }
 
 fn or_insert_with(entry: Entry<'_>, out: &mut Answer) {
-    if let Ok(there) = entry.or_insert_with(|| toml_edit::value(0_i64)) {
-        there.tell(out);
-        return;
+    drop(out.handed(toml_edit::value(0_i64)));
+    match entry.or_insert_with(|| toml_edit::value(0_i64)) {
+        Ok(there) => there.tell(out),
+        Err(refused) => out.given_back(refused),
     }
-    out.refuse();
 }
 
 /// Removes a slot by the entry of its key.
@@ -125,11 +124,10 @@ fn insert_vacant(entry: VacantEntry<'_>, made: Option<Item>, out: &mut Answer) {
     let Some(item) = made else {
         return out.text("no item");
     };
-    if let Ok(there) = entry.insert(item) {
-        there.tell(out);
-        return;
+    match entry.insert(item) {
+        Ok(there) => there.tell(out),
+        Err(refused) => out.given_back(refused),
     }
-    out.refuse();
 }
 
 /// Makes a step with a slot that the table lends.

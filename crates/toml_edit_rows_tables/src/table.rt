@@ -9,16 +9,16 @@ use toml_edit_rows_read::{Answer, Row, key, lines, make, refusal, steps, value};
 /// Answers rows on an item that is made from the row's words.
 pub fn answer(row: Row<'_>, out: &mut Answer) {
     match row.question {
-        "steps" => steps::found::<Tables, _>(make::item::<Tables>(row.text(), out), row, out),
-        _ => out.no_such(row.question),
+        "as_item" | "into_item" | "owned_into_item" => out.no_such(row.question),
+        _ => steps::found::<Tables, _>(make::item::<Tables>(row.text(), out), row, out),
     }
 }
 
 /// Answers rows on a lone value that is parsed as an item.
 pub fn read(row: Row<'_>, out: &mut Answer) {
     match row.question {
-        "as_item" => steps::read::<Tables, _>(Item::from_str(out.alloc, row.text()), row, out),
-        _ => out.no_such(row.question),
+        "steps" | "into_item" | "owned_into_item" => out.no_such(row.question),
+        _ => steps::read::<Tables, _>(Item::from_str(out.alloc, row.text()), row, out),
     }
 }
 

@@ -59,11 +59,10 @@ fn fill(entry: Mem<InlineEntry<'_>>, made: Option<Value>, out: &mut Answer) {
 fn or_insert(entry: InlineEntry<'_>, value: Value, out: &mut Answer) {
     out.text(entry.key());
     out.text("=");
-    if let Ok(there) = entry.or_insert(value) {
-        out.shown(there);
-        return;
+    match entry.or_insert(value) {
+        Ok(there) => out.shown(there),
+        Err(refused) => out.given_back(refused),
     }
-    out.refuse();
 }
 
 /// Writes the value of the entry after the insertion of the value 0 of a closure.
@@ -75,11 +74,11 @@ fn fill_with(entry: Mem<InlineEntry<'_>>, out: &mut Answer) {
 }
 
 fn or_insert_with(entry: InlineEntry<'_>, out: &mut Answer) {
-    if let Ok(there) = entry.or_insert_with(|| Value::from(0_i64)) {
-        out.shown(there);
-        return;
+    drop(out.handed(Value::from(0_i64)));
+    match entry.or_insert_with(|| Value::from(0_i64)) {
+        Ok(there) => out.shown(there),
+        Err(refused) => out.given_back(refused),
     }
-    out.refuse();
 }
 
 /// Removes a slot by the entry of its key.
@@ -159,11 +158,10 @@ fn insert_vacant(entry: InlineVacantEntry<'_>, made: Option<Value>, out: &mut An
     let Some(value) = made else {
         return out.text("no value");
     };
-    if let Ok(there) = entry.insert(value) {
-        out.shown(there);
-        return;
+    match entry.insert(value) {
+        Ok(there) => out.shown(there),
+        Err(refused) => out.given_back(refused),
     }
-    out.refuse();
 }
 
 /// Changes the decor of the key, or the value. The answer to a call that returns nothing is empty.
@@ -194,9 +192,8 @@ pub fn get_or_insert(table: &mut InlineTable, name: &str, made: Option<Value>, o
     let Some(value) = made else {
         return out.text("no value");
     };
-    if let Ok(there) = table.get_or_insert(name, value) {
-        out.shown(there);
-        return;
+    match table.get_or_insert(name, value) {
+        Ok(there) => out.shown(there),
+        Err(refused) => out.given_back(refused),
     }
-    out.refuse();
 }

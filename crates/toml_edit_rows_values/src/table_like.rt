@@ -128,20 +128,19 @@ fn put_in<T: AnyTable>(entry: &mut TableLikeEntry<'_, T>, made: Option<Item>, ou
     let Some(item) = made else {
         return out.text("no item");
     };
-    if let Ok(there) = entry.or_insert(item) {
-        there.tell(out);
-        return;
+    match entry.or_insert(item) {
+        Ok(there) => there.tell(out),
+        Err(refused) => out.given_back(refused),
     }
-    out.refuse();
 }
 
 /// Inserts the value 0 of a closure if the entry is vacant, and writes its item.
 fn put_made<T: AnyTable>(entry: &mut TableLikeEntry<'_, T>, out: &mut Answer) {
-    if let Ok(there) = entry.or_insert_with(|| Item::from(Value::from(0_i64))) {
-        there.tell(out);
-        return;
+    drop(out.handed(Item::from(Value::from(0_i64))));
+    match entry.or_insert_with(|| Item::from(Value::from(0_i64))) {
+        Ok(there) => there.tell(out),
+        Err(refused) => out.given_back(refused),
     }
-    out.refuse();
 }
 
 /// Inserts the item by the entry of a key with its spelling and decor, which comes after the item,
@@ -162,11 +161,10 @@ fn put<T: AnyTable>(table: &mut T, name: &str, made: Option<Item>, out: &mut Ans
     let Some(item) = made else {
         return out.text("no item");
     };
-    if let Ok(there) = table.or_insert(name, item) {
-        there.tell(out);
-        return;
+    match table.or_insert(name, item) {
+        Ok(there) => there.tell(out),
+        Err(refused) => out.given_back(refused),
     }
-    out.refuse();
 }
 
 /// Inserts the item under a key with its spelling and decor, which comes after the item, if that is
@@ -182,11 +180,10 @@ fn put_under<T: AnyTable>(table: &mut T, key: &Key, made: Option<Item>, out: &mu
     let Some(item) = made else {
         return out.text("no item");
     };
-    if let Ok(there) = table.or_insert_format(key, item) {
-        there.tell(out);
-        return;
+    match table.or_insert_format(key, item) {
+        Ok(there) => there.tell(out),
+        Err(refused) => out.given_back(refused),
     }
-    out.refuse();
 }
 
 /// Makes a step with a slot that the table lends.

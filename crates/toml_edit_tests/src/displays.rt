@@ -5,8 +5,8 @@ use std::alloc::Global;
 use std::fmt::Display;
 use std::str::FromStr;
 use toml_edit::{
-    Broken, Date, Datetime, DatetimeFault, Document, DocumentMut, FloatText, Formatted, Item, Key,
-    NoMemory, ParseFault, PrintFault, Time, Value,
+    Broken, Date, Datetime, DatetimeFault, Document, DocumentMut, Excerpt, FloatText, Formatted,
+    Item, Key, NoMemory, ParseFault, ParseOptions, PrintFault, Time, Value, ValueRepr,
 };
 use toml_edit_stream::ReadFault;
 
@@ -42,11 +42,37 @@ fn float(alloc: Global, text: &str) -> Option<FloatText> {
     FloatText::from_text(alloc, text).ok()?
 }
 
+fn scalar<T: ValueRepr + Drop>(made: Option<T>) -> Option<Formatted<T>> {
+    made.map(Formatted::new)
+}
+
 #[test]
 fn shows_scalars(rt: HostRuntime) {
     let alloc = rt.alloc();
     assert!(rt; shows_made(alloc, float(alloc, "1e400"), "1e400"));
     assert!(rt; shows(alloc, Formatted::new(-7i64), "-7"));
+    assert!(rt; shows(alloc, Formatted::new(true), "true"));
+    assert!(rt; shows_made(alloc, scalar(float(alloc, "6.626e-34")), "6.626e-34"));
+}
+
+#[test]
+fn shows_strings(rt: HostRuntime) {
+    let alloc = rt.alloc();
+    let lines = String::from_str(alloc, "a\n'\"\r\n").ok();
+    assert!(rt; shows_made(alloc, scalar(lines), "\"\"\"\na\n'\\\"\\r\n\"\"\""));
+    let path = String::from_str(alloc, "\\d").ok();
+    assert!(rt; shows_made(alloc, scalar(path), "'\\d'"));
+}
+
+#[test]
+fn shows_formatted_dates(rt: HostRuntime) {
+    assert!(rt;
+        shows_made(
+            rt.alloc(),
+            scalar(Datetime::from_str("2024-02-29 07:32:00.5-01:30").ok()),
+            "2024-02-29T07:32:00.5-01:30"
+        )
+    );
 }
 
 fn shows_lent_key(alloc: Global, key: &mut Key) -> bool {
@@ -62,6 +88,26 @@ fn shows_keys(rt: HostRuntime) {
     let alloc = rt.alloc();
     assert!(rt; shows_made(alloc, Key::from_str(alloc, "'a'").ok(), "'a'"));
     assert!(rt; holds_moved(alloc, Key::from_str(alloc, "'a'").ok(), lends_key));
+}
+
+/// The name of a key, and its default spelling.
+const NAME: &str = "it's\na \"b\"";
+
+const SPELLED: &str = "\"it's\\na \\\"b\\\"\"";
+
+fn shows_lent_name(alloc: Global, key: &mut Key) -> bool {
+    shows(alloc, key.as_mut(), SPELLED)
+}
+
+fn lends_name(alloc: Global, key: Key) -> bool {
+    holds_changed(alloc, key, shows_lent_name)
+}
+
+#[test]
+fn shows_keys_that_are_made(rt: HostRuntime) {
+    let alloc = rt.alloc();
+    assert!(rt; shows_made(alloc, Key::from_text(alloc, NAME).ok(), SPELLED));
+    assert!(rt; holds_moved(alloc, Key::from_text(alloc, NAME).ok(), lends_name));
 }
 
 fn shows_array(alloc: Global, value: Value) -> bool {
@@ -127,15 +173,71 @@ fn shows_documents(rt: HostRuntime) {
     );
 }
 
-fn shows_error(alloc: Global, fault: &ParseFault) -> bool {
+/// A document whose end is open, and one whose end is not. Line endings are kept.
+const OPEN: &str = "# a\r\na = 1 # c\r\n[[t]]\r\nb = ['x',\r\n]\r\n# end";
+
+const CLOSED: &str = "# a\r\na = 1 # c\r\n[[t]]\r\nb = ['x',\r\n]\r\n\r\n";
+
+const OPEN_LINE: &str = "a = 1\nb = { c = 'd' }";
+
+fn exact(alloc: Global, text: &str) -> Option<DocumentMut> {
+    DocumentMut::from_str_with(alloc, text, ParseOptions::new().exact(true)).ok()
+}
+
+#[test]
+fn shows_exact_documents(rt: HostRuntime) {
+    let alloc = rt.alloc();
+    assert!(rt; shows_made(alloc, exact(alloc, OPEN), OPEN));
+    assert!(rt; shows_made(alloc, exact(alloc, OPEN_LINE), OPEN_LINE));
+    assert!(rt; shows_made(alloc, exact(alloc, CLOSED), CLOSED));
+}
+
+/// The order of these headers is not that of their tables.
+const HEADERS: &str = "[a.x]\nk = 1\n[b]\n[a.y]\n[a]\nz = 2\n";
+
+#[test]
+fn shows_headers_in_the_order_of_the_text(rt: HostRuntime) {
+    let alloc = rt.alloc();
+    assert!(rt; shows_made(alloc, DocumentMut::from_str(alloc, HEADERS).ok(), HEADERS));
+}
+
+fn shows_error(alloc: Global, fault: &ParseFault, shown: &str) -> bool {
     match fault {
-        ParseFault::Toml(error) => writes(alloc, error, "recursion limit\n"),
+        ParseFault::Toml(error) => writes(alloc, error, shown),
         ParseFault::Memory => false,
     }
 }
 
+fn shows_fault_so(alloc: Global, fault: &ParseFault, shown: &str) -> bool {
+    shows_error(alloc, fault, shown) && writes(alloc, fault, shown)
+}
+
 fn shows_fault(alloc: Global, fault: ParseFault) -> bool {
-    shows_error(alloc, &fault) && writes(alloc, &fault, "recursion limit\n")
+    shows_fault_so(alloc, &fault, "recursion limit\n")
+}
+
+/// A text that is refused, and its excerpt.
+const REFUSED: &str = "a = 1\n\"é\" = 24:00 # é\n";
+
+const EXCERPT: &str = "TOML parse error at line 2, column 7\n  |\n2 | \"é\" = 24:00 # é\n  |       \
+    ^^^^^\ninvalid date-time\n";
+
+fn shows_excerpt(alloc: Global, fault: ParseFault) -> bool {
+    shows_fault_so(alloc, &fault, EXCERPT)
+}
+
+#[test]
+fn shows_excerpts(rt: HostRuntime) {
+    let alloc = rt.alloc();
+    assert!(rt; holds_moved(alloc, Document::parse(alloc, REFUSED).err(), shows_excerpt));
+    let excerpt = Excerpt {
+        title: "warning",
+        source: "a = 1\nb=2\n",
+        span: (7, 8),
+        message: "no space before =",
+    };
+    let shown = "warning at line 2, column 2\n  |\n2 | b=2\n  |  ^\nno space before =\n";
+    assert!(rt; shows(alloc, excerpt, shown));
 }
 
 #[test]

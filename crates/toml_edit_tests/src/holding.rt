@@ -44,42 +44,85 @@ pub fn holds_changed<T: Drop, F: Fn(Global, &mut T) -> bool>(
     test(alloc, &mut made)
 }
 
-/// A writer that takes so many bytes, and then fails. It compares them with what is wanted.
+/// A writer that fails at one of its calls, or once it has taken so many bytes. It compares what it
+/// takes with what is wanted. Nothing may come after its fault.
 #[derive(Drop)]
 struct Narrow<'a> {
     wanted: &'a [u8],
     room: usize,
+    calls_until_fault: usize,
+    has_failed: bool,
     agrees: bool,
+}
+
+impl<'a> Narrow<'a> {
+    fn of(shown: &'a str, room: usize, calls_until_fault: usize) -> Narrow<'a> {
+        Narrow {
+            wanted: shown.as_bytes(),
+            room,
+            calls_until_fault,
+            has_failed: false,
+            agrees: true,
+        }
+    }
+
+    /// Takes the bytes of the piece for which there is room.
+    fn take(&mut self, piece: &[u8]) {
+        let count = self.room.min(piece.len());
+        self.agrees = self.agrees && !self.has_failed && self.wanted.starts_with(&piece[..count]);
+        self.wanted = self.wanted.get(count..).unwrap_or(&[]);
+        self.room -= count;
+        self.has_failed = count < piece.len();
+    }
 }
 
 impl Write for Narrow<'_> {
     fn write_str(&mut self, piece: &str) -> fmt::Result {
-        let count = self.room.min(piece.len());
-        let taken = &piece.as_bytes()[..count];
-        self.agrees = self.agrees && self.wanted.starts_with(taken);
-        self.wanted = self.wanted.get(count..).unwrap_or(&[]);
-        self.room -= count;
-        if count < piece.len() {
-            return Err(fmt::Error);
+        if self.calls_until_fault == 0 {
+            self.agrees = self.agrees && !self.has_failed;
+            self.has_failed = true;
+        } else {
+            self.calls_until_fault -= 1;
+            self.take(piece.as_bytes());
         }
-        Ok(())
+        if self.has_failed {
+            Err(fmt::Error)
+        } else {
+            Ok(())
+        }
     }
 }
 
 /// Returns `true` if a writer with so much room gets a beginning of the text, and its fault is
 /// returned.
 fn fills<T: Display>(made: &T, shown: &str, room: usize) -> bool {
-    let mut narrow = Narrow {
-        wanted: shown.as_bytes(),
-        room,
-        agrees: true,
-    };
-    write!(narrow, "{made}").is_err() && narrow.agrees && narrow.room == 0
+    let mut narrow = Narrow::of(shown, room, usize::MAX);
+    write!(narrow, "{made}").is_err() && narrow.has_failed && narrow.agrees && narrow.room == 0
 }
 
-/// Returns `true` if it is written so, and a beginning of that to a writer that has less room.
+/// More calls than a `Display` of these tests makes.
+const MANY_CALLS: usize = 1000;
+
+/// Returns `true` if a writer that fails at one of its calls, whichever, gets a beginning of the
+/// text and its fault is returned, and one that never fails gets the whole text.
+fn stops_at_each_call<T: Display>(made: &T, shown: &str) -> bool {
+    for calls in 0..MANY_CALLS {
+        let mut narrow = Narrow::of(shown, usize::MAX, calls);
+        let is_written = write!(narrow, "{made}").is_ok();
+        if !narrow.agrees || is_written == narrow.has_failed {
+            return false;
+        }
+        if is_written {
+            return narrow.wanted.is_empty();
+        }
+    }
+    false
+}
+
+/// Returns `true` if it is written so, and a beginning of that to a writer that fails at a byte or
+/// at a call.
 pub fn writes<T: Display>(alloc: Global, made: &T, shown: &str) -> bool {
-    let mut is_filled = true;
+    let mut is_filled = stops_at_each_call(made, shown);
     for room in 0..shown.len() {
         is_filled = is_filled && fills(made, shown, room);
     }

@@ -102,6 +102,6 @@ fn reads_a_text_of_its_own(rt: HostRuntime) {
 }
 
 #[test]
-fn shows_want_of_memory(rt: HostRuntime) {
+fn shows_that_memory_ran_out(rt: HostRuntime) {
     assert!(rt; shows(rt.alloc(), ParseFault::Memory, "out of memory\n"));
 }

@@ -4,7 +4,7 @@ use crate::holding::holds_changed;
 use std::alloc::{AllocError, Global};
 use std::fmt::Write;
 use std::mem;
-use toml_edit::{InlineTable, Item, Mem, NoMemory, Table, TableLike, Value};
+use toml_edit::{AnyTable, InlineTable, Item, Mem, NoMemory, Table, TableLike, Value};
 
 /// Returns the integer that the item is.
 fn integer(item: Option<Item>) -> Option<i64> {
@@ -34,6 +34,10 @@ fn integer_of(value: Option<Value>) -> Option<i64> {
 trait Mixed: TableLike {
     /// Inserts an integer by the table's own call, and returns the one that was there.
     fn put(&mut self, name: &str, number: i64) -> Mem<Option<i64>>;
+
+    /// Returns the integer that is there, after this one was inserted by the table's own entry if
+    /// there was none.
+    fn enter(&mut self, name: &str, number: i64) -> Mem<Option<i64>>;
 
     /// Retains the integers that this divides.
     fn keep(&mut self, divisor: i64);
@@ -72,6 +76,14 @@ impl Mixed for Table {
         old_item(Table::insert(self, name, Item::from(Value::from(number))))
     }
 
+    fn enter(&mut self, name: &str, number: i64) -> Mem<Option<i64>> {
+        let entry = Table::entry(self, name)?;
+        if let Ok(there) = entry.or_insert(Item::from(Value::from(number))) {
+            return Ok(there.as_integer());
+        }
+        Err(AllocError)
+    }
+
     fn keep(&mut self, divisor: i64) {
         self.retain(|_, item| divides(divisor, item.as_integer()));
     }
@@ -80,6 +92,14 @@ impl Mixed for Table {
 impl Mixed for InlineTable {
     fn put(&mut self, name: &str, number: i64) -> Mem<Option<i64>> {
         old_value(InlineTable::insert(self, name, Value::from(number)))
+    }
+
+    fn enter(&mut self, name: &str, number: i64) -> Mem<Option<i64>> {
+        let entry = InlineTable::entry(self, name)?;
+        if let Ok(there) = entry.or_insert(Value::from(number)) {
+            return Ok(there.as_integer());
+        }
+        Err(AllocError)
     }
 
     fn keep(&mut self, divisor: i64) {
@@ -154,22 +174,19 @@ fn writes_in_both<T: Mixed>(table: &mut T, pairs: &mut Pairs, name: &str, number
     at.is_none()
 }
 
-/// Returns the integer that is there, after this one was inserted if there was none.
+/// Returns the integer that is there, after this one was inserted by the entry of `TableLike` if
+/// there was none.
 fn entered<T: Mixed>(table: &mut T, name: &str, number: i64) -> Mem<Option<i64>> {
-    let mut entry = table.entry(name);
+    let mut entry = AnyTable::entry(table, name);
     if let Ok(there) = entry.or_insert(Item::from(Value::from(number))) {
         return Ok(there.as_integer());
     }
     Err(AllocError)
 }
 
-fn enters_in_both<T: Mixed>(
-    table: &mut T,
-    pairs: &mut Pairs,
-    name: String,
-    number: i64,
-) -> Mem<bool> {
-    let there = entered(table, name.as_str(), number)?;
+/// Returns `true` if `there`, which is what an entry has lent, is the integer of the plain list,
+/// after the same insertion there.
+fn is_entered(there: Option<i64>, pairs: &mut Pairs, name: String, number: i64) -> Mem<bool> {
     match place_of(pairs, name.as_str()) {
         Some(at) => Ok(pairs.get(at).map(|pair| pair.1) == there),
         None => {
@@ -224,7 +241,8 @@ fn calls<T: Mixed>(
         0 => orders_both(table, pairs, at),
         1..=15 => Ok(removes_from_both(table, pairs, name.as_str())),
         16..=31 => Ok(writes_in_both(table, pairs, name.as_str(), number)),
-        32..=47 => enters_in_both(table, pairs, name, number),
+        32..=39 => is_entered(entered(table, name.as_str(), number)?, pairs, name, number),
+        40..=47 => is_entered(table.enter(name.as_str(), number)?, pairs, name, number),
         _ => puts_in_both(table, pairs, name, number),
     }
 }
