@@ -160,7 +160,7 @@ told text name key x out t u law keeps r (root, trailing, (n, m, there, (f, ss, 
     let found : get name (slot_list t.slots) ≡ Some (table f ss) = there ∙ ap (λ (y : Node). Some y) n-is in
     let made : SlotsAreWellMade t.slots = r.tree.made in
     let a : AllApply plain (setting name key new) t = applies t made name key f ss old new found inside value refl (tt, tt) in
-    let local = law plain (setting name key new) t made r.tree.steady a in
+    let local = law plain (setting name key new) t made (r.tree.steady plain) a in
     let inner : xs ≡ slots_from (changed key (with_item new) (slot_list ss)) = sym (slots_from-list xs) ∙ ap slots_from changes in
     let outer : u.slots ≡ slots_from (changed name (with_item (table f (slots_from (changed key (with_item new) (slot_list ss))))) (slot_list t.slots)) =
     sym (slots_from-list u.slots) ∙ ap slots_from others

@@ -29,7 +29,7 @@ told text name key x out t u law r (root, trailing, (mid, (s, f, ss, there, s-is
       (root_visit t, s, refl, there),
       ((root_visit (record t { slots = slots_from (without name (slot_list t.slots)) }), refl, ap (lookup_slot key) rest ∙ new, refl, refl, (tt, (tt, tt))), tt),
     ) in
-    let local = law plain (exchanging name key x) t r.tree.made r.tree.steady a in
+    let local = law plain (exchanging name key x) t r.tree.made (r.tree.steady plain) a in
     let slots : slots_from (slot_list (slots_from (without name (slot_list t.slots))) ++ one (keyed (new_key key) n)) ≡ u.slots =
     ap (λ es. slots_from (es ++ one (keyed (new_key key) n))) rest ∙ ap slots_from (sym more) ∙ slots_from-list u.slots in
     let is : after_all (exchanging name key x) t ≡ u =

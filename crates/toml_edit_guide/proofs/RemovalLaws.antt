@@ -20,7 +20,7 @@ pub told : (text name out : Text) (t : Tree) → ((mode : Mode) → Removed mode
     → HasKeyRemoved text name out
 told text name out t law r there print back =
     let s = slot-of (lookup_slot name (slot_list t.slots)) there in
-    let gone = law plain t [] (root_visit t) name s.0 r.tree.made r.tree.steady refl s.1 in
+    let gone = law plain t [] (root_visit t) name s.0 r.tree.made (r.tree.steady plain) refl s.1 in
     record {
       document = r.document;
       tree = t;

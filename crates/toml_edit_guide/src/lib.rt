@@ -1,4 +1,5 @@
-//! The functions of `docs/GUIDE.md`: what programs do with documents, task by task.
+//! What programs do with documents, as the library's documentation quotes it. `docs/PROVING.md` shows
+//! one of these functions with its proof.
 #![tactic(auto)]
 
 pub mod adding;
@@ -17,12 +18,3 @@ pub mod normalizing;
 pub mod reading;
 pub mod removing;
 pub mod spelling;
-
-// Jobs of tools for manifests, proved by a crate that lists `toml_edit` alone.
-pub use toml_edit_jobs::add::add_sorted;
-pub use toml_edit_jobs::comments::{comment_of, explain, explain_key};
-pub use toml_edit_jobs::convert::give_header;
-pub use toml_edit_jobs::lines::append;
-pub use toml_edit_jobs::lint::{empty_strings, misfit};
-pub use toml_edit_jobs::paths::{configure, set_string_at, string_at};
-pub use toml_edit_jobs::relocate::{move_table, rename};

@@ -1,5 +1,6 @@
-pub mod Sorted
 pub mod Findings
 pub mod Headed
-pub mod Moves
 pub mod Misfit
+pub mod Moves
+pub mod Placed
+pub mod Sorted

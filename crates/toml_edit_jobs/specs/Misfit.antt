@@ -5,4 +5,4 @@ use Rattle.toml_edit.specs.model.Text.{Text}
 
 -- each key of its path, and the rule
 abbrev pub report_of : MisfitView → Text
-report_of m = flat_map (λ k. k ++ codes ": ") m.path ++ rule_text m.rule
+report_of m = flat_map (λ k. k.name ++ codes ": ") m.path ++ rule_text m.rule

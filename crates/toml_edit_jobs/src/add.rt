@@ -1,4 +1,4 @@
-//! Adding to a sorted table, and to an array that has one value a line.
+//! Adding to a sorted table.
 ghost use Rattle.std.specs.Prelude.{◌≡◌, ◌≤◌, IfOk, IsTrue, OnErr, false, is_some, length, not, slice_get};
 ghost use Rattle.std.specs.Option.{option_map_or};
 ghost use Rattle.toml_edit.specs.model.Keys.{new_key};
@@ -9,12 +9,7 @@ ghost use Rattle.toml_edit.specs.tree.View.{fields_view, value_view};
 ghost use Rattle.toml_edit_jobs.specs.Sorted.{comes_before, sorted_place};
 
 use std::alloc::{AllocError, Global};
-use toml_edit::{Item, Key, Mem, NoMemory, Table, Value};
-
-/// Drops what found no memory, and returns the error.
-pub fn no_memory<T: Drop>(_refused: NoMemory<T>) -> AllocError {
-    AllocError
-}
+use toml_edit::{Item, Key, Mem, Table, Value};
 
 /// Adds a value before the first key that sorts after its own, so that a sorted table stays sorted.
 /// Returns `false` if the key is there.
@@ -48,13 +43,12 @@ fn place_for(table: &Table, name: &str) -> usize
     ensures place { result ≡ sorted_place name.now (slots_of table.now) }
     ensures within { result ≤ length (slots_of table.now) }
 {
-    let slots = table.slots();
-    for at in 0..slots {
+    for at in 0..table.slots() {
         if sorts_before(name, table, at) {
             return at;
         }
     }
-    slots
+    table.slots()
 }
 
 /// Returns `true` if there is a key at a place, and the name sorts before it.

@@ -1,14 +1,14 @@
 //! Comments beside keys and values.
 ghost use Rattle.std.specs.Prelude.{◌≡◌, OnErr, OnOk, Some};
 ghost use Rattle.std.specs.Option.{option_copied};
-ghost use Rattle.toml_edit.specs.model.Comments.{comment_after, with_comment_after, with_comment_before};
+ghost use Rattle.toml_edit.specs.model.Comments.{comment_after, with_comment_after};
 ghost use Rattle.toml_edit.specs.model.Conversions.{with_decor};
 ghost use Rattle.toml_edit.specs.model.Tree.{node_decor};
-ghost use Rattle.toml_edit.specs.repr.Comments.{PutsComment};
 ghost use Rattle.toml_edit.specs.tree.View.{value_view};
 
+use anyhow::{Result, bail};
 use std::alloc::Global;
-use toml_edit::{CommentFault, Key, Value};
+use toml_edit::{CommentFault, Table, Value};
 
 /// Returns the comment after a value, without its `#`.
 pub fn comment_of(value: &Value) -> Option<&str>
@@ -28,9 +28,10 @@ pub fn explain(alloc: Global, value: &mut Value, comment: &str) -> Result<(), Co
 }
 
 /// Adds a comment line above a key.
-pub fn explain_key(alloc: Global, key: &mut Key, comment: &str) -> Result<(), CommentFault>
-    ensures { PutsComment (Some comment.now)
-        (with_comment_before comment.now key.old.leaf) key.old.leaf key.new.leaf result }
-{
-    key.leaf_decor_mut().add_comment_before(alloc, comment)
+pub fn explain_key(alloc: Global, table: &mut Table, key: &str, comment: &str) -> Result<()> {
+    match table.slot_mut(key) {
+        Some(mut slot) => slot.leaf_decor_mut().add_comment_before(alloc, comment)?,
+        None => bail!("{key} is missing"),
+    }
+    Ok(())
 }

@@ -7,7 +7,7 @@ ghost use Rattle.toml_edit.specs.tree.SlotsOf.{slots_of};
 ghost use Rattle.toml_edit.specs.tree.View.{fields_view, inline_view, table_view};
 ghost use Rattle.toml_edit_jobs.specs.Headed.{headed, headed_table};
 
-use crate::add::no_memory;
+use crate::memory::no_memory;
 use std::alloc::Global;
 use toml_edit::{Decor, InlineTable, Item, Key, Mem, RawString, Table};
 

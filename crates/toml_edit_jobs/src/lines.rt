@@ -6,13 +6,13 @@ ghost use Rattle.toml_edit.specs.tree.ArrayLines.{fields_inserted, fields_remove
 ghost use Rattle.toml_edit.specs.tree.Elements.{array_fields, items_of};
 ghost use Rattle.toml_edit.specs.tree.View.{array_view};
 
-use crate::add::no_memory;
+use anyhow::Result;
 use std::alloc::Global;
-use toml_edit::{Array, Mem, Value};
+use toml_edit::{Array, Value};
 
 /// Appends a string, on a line of its own if the array has one value a line. The comment after the
 /// last value stays on its line.
-pub fn append(alloc: Global, array: &mut Array, text: &str) -> Mem<()>
+pub fn append(alloc: Global, array: &mut Array, text: &str) -> Result<()>
     ensures items { OnOk result (items_of array.new
         ≡ line_inserted (length (items_of array.old)) (leaf (string text.now) None unset)
         (array_fields array.old) (items_of array.old)) }
@@ -21,6 +21,6 @@ pub fn append(alloc: Global, array: &mut Array, text: &str) -> Mem<()>
         (array_fields array.old) (items_of array.old)) }
     ensures err { OnErr result (array_view array.new ≡ array_view array.old) }
 {
-    let value = Value::string(alloc, text)?;
-    array.push_line(value).map_err(no_memory)
+    array.push_line(Value::string(alloc, text)?)?;
+    Ok(())
 }

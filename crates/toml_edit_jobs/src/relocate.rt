@@ -1,26 +1,13 @@
-//! Moving a table, and giving a key another name.
-ghost use Rattle.std.specs.Prelude.{◌≡◌, IfOk, IsTrue, OnErr, OnOk, Some, is_some};
-ghost use Rattle.toml_edit.specs.model.Rearranging.{renamed_slot};
+//! Moving a table.
+ghost use Rattle.std.specs.Prelude.{◌≡◌, IfOk, IsTrue, OnErr, Some, is_some};
 ghost use Rattle.toml_edit.specs.model.Slots.{without};
-ghost use Rattle.toml_edit.specs.slots.Renaming.{renaming};
 ghost use Rattle.toml_edit.specs.tree.SlotsOf.{slots_of};
 ghost use Rattle.toml_edit.specs.tree.View.{fields_view};
 ghost use Rattle.toml_edit_jobs.specs.Moves.{table_at, with_table};
 
-use crate::add::no_memory;
+use crate::memory::no_memory;
 use std::alloc::Global;
-use toml_edit::{Item, Mem, Renamed, Table};
-
-/// Renames a key, which keeps its place, its comments and its item.
-pub fn rename(table: &mut Table, old: &str, new: &str) -> Mem<Renamed>
-    ensures outcome { IfOk result
-        (λ outcome. outcome ≡ renaming old.now new.now (slots_of table.old)) }
-    ensures slots { OnOk result
-        (slots_of table.new ≡ renamed_slot old.now new.now (slots_of table.old)) }
-    ensures err { OnErr result (table.new ≡ table.old) }
-{
-    table.rename(old, new)
-}
+use toml_edit::{Item, Mem, Table};
 
 /// Moves a table to the end of another one, with its comments. Its headers are printed there.
 /// Returns `false` if there is no such table.

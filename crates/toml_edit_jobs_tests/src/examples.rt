@@ -1,5 +1,5 @@
 //! The first example of each type in the documentation of the Rust crate, with the changes that
-//! `docs/DIFFERENCES.md` lists.
+//! `docs/MIGRATING.md` lists.
 use std::alloc::Global;
 use std::mem;
 use toml_edit::{

@@ -1,30 +1,29 @@
 //! Each job of tools for manifests, on documents whose texts before and after are written by hand.
 use crate::paths::path;
 use std::alloc::{AllocError, Global};
-use toml_edit::{
-    Array, Document, DocumentMut, Item, Mem, ParseFault, RawString, Renamed, Table, Value,
-};
+use toml_edit::{Array, Document, DocumentMut, Item, Mem, ParseFault, RawString, Table, Value};
 use toml_edit_jobs::add::add_sorted;
 use toml_edit_jobs::comments::{comment_of, explain};
 use toml_edit_jobs::convert::give_header;
 use toml_edit_jobs::lines::append;
 use toml_edit_jobs::lint::{empty_strings, misfit};
 use toml_edit_jobs::paths::{configure, set_string_at};
-use toml_edit_jobs::relocate::{move_table, rename};
+use toml_edit_jobs::relocate::move_table;
+use toml_edit_jobs::rename::rename;
 use toml_edit_tests::holding::is_text;
 
 /// Fails if it was not done.
-fn done(is_done: bool) -> Mem<()> {
+pub fn done(is_done: bool) -> Mem<()> {
     if is_done { Ok(()) } else { Err(AllocError) }
 }
 
 /// Returns the array under a key.
-fn array_mut<'a>(root: &'a mut Table, key: &str) -> Option<&'a mut Array> {
+pub fn array_mut<'a>(root: &'a mut Table, key: &str) -> Option<&'a mut Array> {
     root.get_mut(key).and_then(|item| item.as_array_mut())
 }
 
 /// Returns the table under a key.
-fn table_mut<'a>(root: &'a mut Table, key: &str) -> Option<&'a mut Table> {
+pub fn table_mut<'a>(root: &'a mut Table, key: &str) -> Option<&'a mut Table> {
     root.get_mut(key).and_then(|item| item.as_table_mut())
 }
 
@@ -44,12 +43,12 @@ fn add_key(alloc: Global, root: &mut Table, name: &str, wanted: bool) -> Mem<()>
 }
 
 fn rename_old(root: &mut Table) -> Mem<()> {
-    done(rename(root, "old", "new")? == Renamed::Done)
+    done(rename(root, "old", "new").is_ok())
 }
 
 fn append_alan(alloc: Global, root: &mut Table) -> Mem<()> {
     match array_mut(root, "all") {
-        Some(all) => append(alloc, all, "Alan"),
+        Some(all) => done(append(alloc, all, "Alan").is_ok()),
         None => Err(AllocError),
     }
 }

@@ -8,3 +8,7 @@ mod examples;
 mod jobs;
 #[cfg(test)]
 mod paths;
+#[cfg(test)]
+mod tasks;
+#[cfg(test)]
+mod threads;
