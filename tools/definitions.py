@@ -1,12 +1,12 @@
 #!/usr/bin/env python3
-"""Tries the changes of definitions in `bench/changes`, each by itself, and prints which crate is no longer proved with it.
+"""Tries the changes of definitions in `tools/changes`, each by itself, and prints which crate is no longer proved with it.
 
-`bench/definitions [WORD]` takes the changes whose file or title holds WORD (all), in a copy of the repository, and wants `rt` on the path.
+`tools/definitions.py [WORD]` takes the changes whose file or title holds WORD (all), in a copy of the repository, and wants `rt` on the path.
 A change of a definition is checked in the definition's own crate, whose worked examples are checked with it, and if that is still proved in
 `toml_edit_laws`. It is refused by the first that is no longer proved; after the name of that crate come the first examples and lemmas that
 no longer hold. A change that the checker can't read shows nothing. The last line counts, and the status is 1 where a change is still proved
 or can't be read.
-`bench/definitions --list` proves nothing: it prints the changes that can't be made, since their old text isn't found once in their file.
+`tools/definitions.py --list` proves nothing: it prints the changes that can't be made, since their old text isn't found once in their file.
 """
 import os, re, shutil, subprocess, sys, tempfile
 
@@ -17,7 +17,7 @@ FIELDS = ("title", "file", "old", "new")
 
 def changes():
     """The changes, each a dictionary of its four fields."""
-    with open(TOP + "/bench/changes", encoding="utf-8") as file:
+    with open(TOP + "/tools/changes", encoding="utf-8") as file:
         blocks = re.split(r"\n\n+", file.read().strip())[1:]
     found = [dict(line.split(": ", 1) for line in block.split("\n")) for block in blocks]
     return [{field: change[field].replace("\\n", "\n") for field in FIELDS} for change in found]

@@ -1,7 +1,7 @@
 #!/usr/bin/env python3
 """Tries all rows, each with each of its allocations refused in turn, and prints how the runs ended.
 
-`bench/refusals [STEP [WORD]]` takes the rows of `stdin` of each of the three programs, of the generated ones at the end of the first each
+`tools/refusals.py [STEP [WORD]]` takes the rows of `stdin` of each of the three programs, of the generated ones at the end of the first each
 STEP-th (4), and of all these the ones that hold WORD. It wants the built programs (run `rt run < stdin` in the folder of each once) and a C
 compiler, by which it puts a counting `malloc` and `realloc` before those of the C library.
 

@@ -5,8 +5,8 @@
 It counts with valgrind's callgrind and massif, so the numbers are the same on every run of one build. It wants the built program:
 run `rt run` in crates/tomled once, or name another program as the first argument.
 
-    bench/run [--memory] [PROGRAM]
-    bench/run --beside OTHER [--beside OTHER ..] [PROGRAM]
+    bench/run.py [--memory] [PROGRAM]
+    bench/run.py --beside OTHER [--beside OTHER ..] [PROGRAM]
                                               instructions at 128 KB and memory at 1 MB, beside those of other programs that read
                                               a document and print it, such as that of bench/crate ("-" if not as it was)
 """

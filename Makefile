@@ -1,0 +1,49 @@
+# The common commands. `make check C=toml_edit_key` takes the name of a crate; so do `test` and `edits`.
+C = toml_edit
+RT = PATH="/opt/rattle/bin:$$PATH" rt
+ROWS = toml_edit_rows toml_edit_rows_tables toml_edit_rows_values
+
+help: ## lists these commands
+	@sed -n 's/^\([a-z]*\):.*## /\1\t/p' Makefile
+
+check: ## proves one crate, C, and first those below it
+	cd crates/$(C) && $(RT) check
+
+test: ## runs the tests in code of one crate, C, unproved
+	cd crates/$(C) && $(RT) try --test
+
+edits: check ## tries the must-fail edits of one crate, C
+	$(RT) must-fail $(C)
+
+rows: ## tries all rows, unproved
+	for program in $(ROWS); do (cd crates/$$program && $(RT) try --seconds 1500 < stdin) || exit; done
+
+gate: ## checks the pages and everything else, as before a push
+	.ci/run
+
+pages: ## checks what the pages say
+	tools/check.py
+
+faults: ## plants faults into the pages, each of which tools/check.py must notice
+	tools/faults.py
+
+api: ## makes docs/api from the sources
+	tools/api.py
+
+fmt: ## lays out the sources of all crates
+	for crate in crates/*/; do (cd $$crate && $(RT) fmt) || exit; done
+
+definitions: ## tries changes of definitions, each of which must be refused
+	PATH="/opt/rattle/bin:$$PATH" tools/definitions.py
+
+refusals: ## refuses each allocation of each row in turn (needs the proved programs)
+	tools/refusals.py
+
+bench: ## counts instructions and heap (needs the proved program and valgrind)
+	bench/run.py
+	bench/run.py --memory
+
+collisions: ## the same with keys that collide
+	bench/collisions.py
+
+.PHONY: help check test edits rows gate pages faults api fmt definitions refusals bench collisions

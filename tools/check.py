@@ -1,0 +1,422 @@
+#!/usr/bin/env python3
+"""Checks that what the pages say is so, without proving anything.
+
+    tools/check.py              prints each fault as `file:line: what`, and ends with status 1 if there is one
+    tools/check.py --numbers    prints the numbers that pages may give
+
+- docs/api is as tools/api.py makes it.
+- Each function of a ```rust block in README, GUIDE, PROVING and MIGRATING is in a crate to the letter, and its imports are in that file.
+  A function that is shown without a contract is compared without one. So is each ```agda block, with the definitions and proofs.
+- Each example of a doc comment is in the function that the comment names.
+- Links, their anchors, paths in backticks, and pages that sources name lead somewhere.
+- Numbers that are marked, as `2,385<!-- rows -->`, are those of the repository. One that ends in zeros is a rounded one.
+- The list of files that share code, in DECISIONS between two comments, is that of tools/duplicates.py.
+- Pages are not too large, no sentence is too long, and no word of tools/words.txt is used.
+"""
+import fnmatch
+import glob
+import os
+import re
+import subprocess
+import sys
+
+import api
+import duplicates
+import sources
+from sources import TOP, read
+
+GUIDES = ("toml_edit_guide", "toml_edit_jobs", "toml_edit_example")
+SHOWING = ("README.md", "docs/GUIDE.md", "docs/PROVING.md", "docs/MIGRATING.md")
+# The most bytes that a page may have, and some together.
+SIZES = {
+    "README.md": 7000, "docs/GUIDE.md": 16000, "docs/PROVING.md": 14000, "docs/MIGRATING.md": 16000, "docs/ERRORS.md": 8000,
+    "docs/ASSURANCE.md": 28000, "docs/LAWS.md": 15000, "docs/BENCH.md": 6000, "CONTRIBUTING.md docs/MAP.md docs/DECISIONS.md": 34000,
+}
+ALL = 140000
+# References beside code, which are no pages.
+REFERENCES = ("crates/*", "docs/api/*")
+WORDS = 35
+ROWS = ("toml_edit_rows", "toml_edit_rows_tables", "toml_edit_rows_values")
+PATH = re.compile(r"(?<![\w./*-])(?:crates|docs|bench|tools|\.ci)/[\w*./-]*[\w*]")
+
+
+class Check:
+    """The pages and sources, and the faults that were found."""
+
+    def __init__(self):
+        names = subprocess.run(["git", "ls-files", "-co", "--exclude-standard"], cwd=TOP, capture_output=True, text=True).stdout.split("\n")
+        self.files = sorted(name for name in names if name and os.path.exists(TOP + "/" + name)) or walked()
+        self.texts = {name: read(TOP + "/" + name) for name in self.files if name.endswith(".md")}
+        self.pages = [name for name in self.texts if not any(fnmatch.fnmatch(name, pattern) for pattern in REFERENCES)]
+        self.library = sources.Library(sources.crates())
+        self.items = [item for module in self.library.modules() for item in module.items]
+        self.functions = {}
+        for item in self.items + [member for item in self.items for member in item.members]:
+            if item.kind == "fn":
+                self.functions.setdefault(item.name, []).append(item)
+        self.pages_made = api.Pages(self.library)
+        self.faults = []
+
+    def fault(self, file, line, what):
+        self.faults.append("%s:%d: %s" % (file, line, what))
+
+    def reference(self):
+        """docs/api is as it would be made."""
+        made = self.pages_made
+        pages = made.all()
+        self.faults.extend(made.faults)
+        for name in api.differing(pages):
+            self.fault("docs/api/" + name, 1, "is not as tools/api.py makes it")
+
+    def shown(self):
+        """Each function of a block is in a crate."""
+        for page in SHOWING:
+            for line, language, lines in blocks(self.texts.get(page, "")):
+                if language == "rust":
+                    self.block(page, line, lines)
+                elif language in ("agda", "antt"):
+                    self.definition(page, line, lines)
+                elif language.startswith("rust") and page != "docs/MIGRATING.md":
+                    self.fault(page, line, "a block that is not checked: ```%s" % language)
+
+    def block(self, page, line, lines):
+        """The items of a block."""
+        margin = min((len(text) - len(text.lstrip()) for text in lines if text.strip()), default=0)
+        lines = [text[margin:] for text in lines]
+        masks = sources.masked("\n".join(lines)).split("\n")
+        try:
+            items = sources.items_of(page, lines, masks, 0, len(lines), 0)
+        except ValueError:
+            return self.fault(page, line, "a block that is cut off")
+        imports, files = [item for item in items if item.kind == "use" or (item.kind == "ghost" and item.name == "use")], set()
+        for item in items:
+            if item.kind not in ("use", "mod") and item not in imports:
+                files |= {item.file for item in self.found(page, line + item.line, item)}
+        for item in imports:
+            if files and not any(self.imports(file, item) for file in files):
+                self.fault(page, line + item.line, "%s is not in %s" % (item.lines[0].strip(), ", ".join(sorted(files))))
+        if not files and not imports:
+            self.fault(page, line, "a block without a function")
+        return None
+
+    def definition(self, page, line, lines):
+        """A definition or a proof is in a file of the guide's crates."""
+        wanted = "\n%s\n" % "\n".join(stripped(lines))
+        files = [file for file in self.files if file.endswith(".antt") and file.split("/")[1] in GUIDES]
+        if not any(wanted in "\n%s\n" % "\n".join(stripped(read(TOP + "/" + file).split("\n"))) for file in files):
+            self.fault(page, line, "no crate of the guide has this definition")
+
+    def found(self, page, line, item):
+        """The items of the crates that a shown one is, to the letter."""
+        if item.kind == "fn":
+            known = self.functions.get(item.name, [])
+        else:
+            known = [other for other in self.items if other.kind == item.kind and squeezed(other.head) == squeezed(item.head)]
+        known = [other for other in known if other.file != page]
+        equal = [other for other in known if same(item, other)]
+        if not known:
+            self.fault(page, line, "no crate has `%s`" % " ".join(item.head[0].split()))
+        elif not equal:
+            self.fault(page, line, "`%s` differs from that of %s" % (item.name, ", ".join("%s:%d" % (o.file, o.line) for o in known)))
+        return equal
+
+    def imports(self, file, item):
+        """Whether a file, or the root of its crate, has an import."""
+        root = "/".join(file.split("/")[:3]) + "/lib.rt"
+        modules = [module for module in self.library.modules() if module.file in (file, root)]
+        if item.kind == "ghost":
+            return any(item.lines == other.lines for module in modules for other in module.items)
+        wanted = {(path, alias) for alias, (path, _, _) in sources.uses_of([item]).items()}
+        return any(wanted <= {(path, alias) for alias, (path, _, _) in module.uses.items()} for module in modules)
+
+    def examples(self):
+        """Each example of a doc comment is in its function."""
+        shown = {item for page in ["docs/GUIDE.md"] for item in self.names(page)}
+        for item in self.items + [member for item in self.items for member in item.members]:
+            self.example(item.file, item.line - len(item.docs), item.docs, shown)
+        for module in self.library.modules():
+            self.example(module.file, 1, module.docs, shown)
+
+    def names(self, page):
+        """The names of the functions that a page shows."""
+        return re.findall(r"\bfn (\w+)", "\n".join("\n".join(lines) for _, language, lines in blocks(self.texts.get(page, "")) if language == "rust"))
+
+    def example(self, file, line, docs, shown):
+        """The examples of a doc comment."""
+        text = "\n".join(docs)
+        for code, name, place in re.findall(r"```rust,ignore\n((?:(?!```).*\n)*)```\n\nFrom `(\w+)` of the (guide|crate\s+`\w+`)", text):
+            crate = re.search(r"`(\w+)`", place)
+            crates = [crate[1]] if crate else GUIDES
+            known = [item for item in self.functions.get(name, []) if item.file.split("/")[1] in crates]
+            if not crate and name not in shown:
+                self.fault(file, line, "docs/GUIDE.md doesn't show `%s`" % name)
+            if not known:
+                self.fault(file, line, "no function `%s` in %s" % (name, " and ".join(crates)))
+            elif not any(in_order(code.split("\n"), item.lines) for item in self.beside(known)):
+                self.fault(file, line, "the example is not in `%s` of %s" % (name, known[0].file))
+
+    def beside(self, known):
+        """Functions, and the others of their files, which they may call."""
+        files = {item.file for item in known}
+        return [item for items in self.functions.values() for item in items if item.file in files]
+
+    def links(self):
+        """Links and paths lead somewhere."""
+        anchors = {name: set(numbered(api.anchors(text))) for name, text in self.texts.items()}
+        for name, text in self.texts.items():
+            for line, words, is_code in lines_of(text):
+                if not is_code:
+                    self.links_of(name, line, words, anchors)
+                if not name.startswith("docs/api/"):
+                    for path in PATH.findall(words if is_code else " ".join(re.findall(r"`[^`]+`", words))):
+                        self.path(name, line, path)
+
+    def links_of(self, name, line, words, anchors):
+        """The links of a line."""
+        for target in re.findall(r"\[(?:`[^`]*`|[^\[\]`]|\[[^\]]*\])*\]\(([^()\s]+)\)|`[^`]*`", words):
+            if not target or re.match(r"\w+:", target):
+                continue
+            path, _, anchor = target.partition("#")
+            there = os.path.normpath(os.path.join(os.path.dirname(name), path)) if path else name
+            if there.startswith("..") or not os.path.exists(TOP + "/" + there):
+                self.fault(name, line, "no file for the link %s" % target)
+            elif anchor and there in anchors and anchor not in anchors[there]:
+                self.fault(name, line, "no anchor for the link %s" % target)
+
+    def mentions(self):
+        """Pages that sources name are there."""
+        for file in self.matching("crates/*.rt") + self.matching("crates/*/specs/*.antt"):
+            text = read(TOP + "/" + file)
+            for found in re.finditer(r"(?<![\w./])docs/\w+\.md|(?<![\w./])(?:tools|bench)/\w+\.py", text) if "docs/" in text or ".py" in text else ():
+                if not os.path.exists(TOP + "/" + found[0]):
+                    self.fault(file, text[: found.start()].count("\n") + 1, "no file %s" % found[0])
+
+    def path(self, name, line, path):
+        """A path in backticks or in a command."""
+        if re.search(r"/(out|target)(/|$)", path):
+            return
+        pattern = re.sub(r"\b(NAME|CRATE|crate|X)\b", "*", path)
+        if not glob.glob(TOP + "/" + pattern):
+            self.fault(name, line, "no file %s" % path)
+
+    def numbers(self):
+        """The numbers that pages may give, by their words."""
+        found = {"rows": 0, "edits": len(self.matching("crates/*/must-fail/*.edit")), "crates": len(sources.crates())}
+        for program in ROWS:
+            lines = read("%s/crates/%s/stdin" % (TOP, program)).split("\n")
+            count = sum(1 for line in lines if line.strip() and not line.startswith("#"))
+            found["rows of " + program] = count
+            found["rows"] += count
+            stored = read("%s/crates/%s/stdout" % (TOP, program)).strip()
+            if stored != "%d rows hold" % count:
+                self.fault("crates/%s/stdout" % program, 1, "says `%s`, and stdin has %d rows" % (stored, count))
+        found["library crates"] = len(sources.libraries())
+        found["laws"] = len(self.pages_made.modules["laws"][1])
+        found["changes of definitions"] = read(TOP + "/tools/changes").count("\ntitle: ")
+        examples = self.matching("crates/toml_edit_model/specs/examples*")
+        models = [file for file in self.matching("crates/toml_edit_model/specs/*.antt") if file not in examples and "/Lib." not in file]
+        for word, files in (("definition %s", models), ("example %s", examples), ("definition %s of contracts", self.pages_made.definitions())):
+            found[word % "files"] = len(files)
+            found[word % "lines"] = sum(read(TOP + "/" + file).count("\n") for file in files)
+        code = {file: read(TOP + "/" + file) for file in self.matching("crates/*/src/*.rt")}
+        unsafe = {file: sources.masked(text) for file, text in code.items()}
+        found["files with unsafe"] = sum(1 for text in unsafe.values() if re.search(r"\bunsafe\b", text))
+        found["declared Send and Sync"] = sum(len(re.findall(r"\bunsafe impl\b", text)) for text in unsafe.values())
+        found["tests"] = sum(text.count("#[test]") for text in code.values())
+        return found
+
+    def matching(self, pattern):
+        return [file for file in self.files if fnmatch.fnmatch(file, pattern)]
+
+    def counts(self):
+        """Marked numbers are true."""
+        found = self.numbers()
+        for name in self.pages:
+            for line, words, _ in lines_of(self.texts[name]):
+                for digits, word in re.findall(r"([\d,]*)<!-- ((?:(?!-->).)*?) -->", words):
+                    if word in found and not is_about(digits, found[word]):
+                        self.fault(name, line, "%s is said of %s, of which there are %d" % (digits or "nothing", word, found[word]))
+                    elif word not in found and digits:
+                        self.fault(name, line, "no number is known as %s" % word)
+
+    def twice(self):
+        """The list of DECISIONS is that of the files that share code."""
+        page, listed = "docs/DECISIONS.md", []
+        text = self.texts.get(page, "")
+        part = re.search(r"<!-- duplicates -->(.*?)<!-- end of duplicates -->", text, re.S)
+        for line in (part[1] if part else "").split("\n"):
+            files = ["crates/" + file.removeprefix("crates/") for file in re.findall(r"`([^`]+/[^`]+\.(?:rt|antt))`", line)]
+            listed += [files] if files else []
+        at = text[: part.start()].count("\n") + 1 if part else 1
+        found = duplicates.pairs()
+        for (one, other), (first, second, _) in sorted(found.items()):
+            if not any(one in files and other in files for files in listed):
+                self.fault(page, at, "%s:%d and %s:%d share code, which is not listed" % (one, first, other, second))
+        for files in listed:
+            for file in files:
+                if not any(file in pair and set(pair) <= set(files) for pair in found):
+                    self.fault(page, at, "%s is listed, and shares nothing with the others" % file)
+
+    def sizes(self):
+        """Pages are not too large."""
+        for names, most in SIZES.items():
+            size = sum(len(self.texts.get(name, "").encode()) for name in names.split())
+            if size > most:
+                self.fault(names.split()[0], 1, "%s: %d bytes, and may have %d" % (names, size, most))
+        size = sum(len(self.texts[name].encode()) for name in self.pages)
+        if size > ALL:
+            self.fault("README.md", 1, "all pages: %d bytes, and may have %d" % (size, ALL))
+
+    def sentences(self):
+        """No sentence is too long."""
+        for name in self.pages:
+            for line, text in passages(self.texts[name]):
+                for sentence in re.split(r"(?<=[.!?])[\"')\]*_]*\s+(?=[A-Z`\"'(\[*_\d])", spoken(text)):
+                    count = len([word for word in sentence.split() if re.search(r"\w", word)])
+                    if count > WORDS:
+                        self.fault(name, line, "a sentence of %d words: %s .." % (count, " ".join(sentence.split()[:8])))
+
+    def words(self):
+        """No word is used that the house does not use."""
+        lines = [line for line in read(TOP + "/tools/words.txt").split("\n") if line and line[0] != "#"]
+        words = {line.split(":")[0]: line.split(":")[1].strip() for line in lines}
+        pattern = re.compile(r"\b(%s)\b" % "|".join(map(re.escape, words)), re.I)
+        texts = dict(self.texts)
+        for kind in ("crates/*/src/*.rt", "crates/*/specs/*.antt"):
+            texts.update({file: read(TOP + "/" + file) for file in self.matching(kind)})
+        for name, text in texts.items():
+            for found in pattern.finditer(text) if pattern.search(text) else ():
+                word = found[1]
+                self.fault(name, text[: found.start()].count("\n") + 1, "says `%s`, not `%s`" % (word, words[word.lower()]))
+
+
+def walked():
+    """The files of a copy that is no repository."""
+    found = []
+    for folder, folders, files in os.walk(TOP):
+        folders[:] = [name for name in folders if name not in ("out", "target", ".git", "__pycache__")]
+        found += [os.path.relpath(os.path.join(folder, name), TOP) for name in files]
+    return sorted(found)
+
+
+def lines_of(text):
+    """The lines of a page: the number, the text, and whether it is code."""
+    is_code = False
+    for number, line in enumerate(text.split("\n"), 1):
+        if line.lstrip().startswith("```"):
+            is_code = not is_code
+            yield number, "", True
+        else:
+            yield number, line, is_code or line.startswith("    ")
+
+
+def blocks(text):
+    """The blocks of code of a page: the line before the first, the language, and the lines."""
+    language, lines, start = None, [], 0
+    for number, line in enumerate(text.split("\n"), 1):
+        fence = line.strip().startswith("```")
+        if fence and language is None:
+            language, lines, start = line.strip()[3:].strip(), [], number
+        elif fence:
+            yield start, language, lines
+            language = None
+        elif language is not None:
+            lines.append(line)
+
+
+def squeezed(lines):
+    """Lines of a signature without layout."""
+    return re.sub(r",(?=[)>])", "", re.sub(r"\s+", "", "".join(lines)))
+
+
+def stripped(lines):
+    return [line.strip() for line in lines if line.strip()]
+
+
+def body_of(item):
+    """The lines of a function behind its signature and its contract."""
+    masks = sources.masked("\n".join(item.lines)).split("\n")
+    margin = len(item.lines[0]) - len(item.lines[0].lstrip())
+    _, numbers = sources.split_body(item.lines, masks, margin)
+    return stripped(item.lines[number] for number in numbers)
+
+
+def same(shown, known):
+    """Whether a shown item is that of a crate."""
+    if shown.docs and shown.docs != known.docs:
+        return False
+    if shown.kind in ("impl", "trait"):
+        others = {member.name: member for member in known.members}
+        return all(member.name in others and same(member, others[member.name]) for member in shown.members if member.kind == "fn")
+    if shown.kind != "fn":
+        return stripped(shown.lines) == stripped(known.lines)
+    if shown.clauses and [stripped(clause.lines) for clause in shown.clauses] != [stripped(clause.lines) for clause in known.clauses]:
+        return False
+    return squeezed(shown.head) == squeezed(known.head) and body_of(shown) == body_of(known)
+
+
+def in_order(lines, others):
+    """Whether lines are among others, in order."""
+    rest = iter(stripped(others))
+    return all(line in rest for line in stripped(lines))
+
+
+def numbered(anchors):
+    """The anchors of a page, where later ones of a name get a number."""
+    seen = {}
+    for anchor in anchors:
+        seen[anchor] = seen.get(anchor, -1) + 1
+        yield "%s-%d" % (anchor, seen[anchor]) if seen[anchor] else anchor
+
+
+def is_about(digits, number):
+    """Whether digits are a number, or a rounded one."""
+    if not digits.replace(",", ""):
+        return False
+    said = int(digits.replace(",", ""))
+    zeros = len(str(said)) - len(str(said).rstrip("0"))
+    unit = 10**zeros if zeros > 1 else 1
+    return abs(said - number) * 2 <= unit if unit > 1 else said == number
+
+
+def spoken(text):
+    """A text as it is read: code is a word, and links have no targets."""
+    text = re.sub(r"<!--.*?-->|<[^>]*>", "", text)
+    text = re.sub(r"`[^`]*`", "X", text)
+    return re.sub(r"\[((?:[^\[\]]|\[[^\]]*\])*)\]\([^()]*\)", r"\1", text)
+
+
+def passages(text):
+    """What sentences are looked for in: paragraphs, points of lists, and cells, each with the number of its first line."""
+    start, gathered = 0, []
+    for number, line, is_code in list(lines_of(text)) + [(0, "", False)]:
+        bare = line.strip()
+        is_cell = bare.startswith("|")
+        if gathered and (not bare or is_code or is_cell or re.match(r"([-*]|\d+\.) |#", bare)):
+            yield start, " ".join(gathered)
+            gathered = []
+        if is_cell and not is_code:
+            for cell in re.split(r"(?<!\\)\|", bare):
+                yield number, cell
+        elif bare and not (is_code and not line.startswith("    ")) and not (is_code and not gathered):
+            start = start if gathered else number
+            gathered.append(re.sub(r"^([-*]|\d+\.|#+) ", "", bare))
+
+
+def main():
+    check = Check()
+    if "--numbers" in sys.argv:
+        for word, number in check.numbers().items():
+            print("%s<!-- %s -->" % (format(number, ","), word))
+        return 0
+    for part in (check.reference, check.shown, check.examples, check.links, check.mentions, check.counts, check.twice, check.sizes, check.sentences, check.words):
+        part()
+    for fault in check.faults:
+        print(fault)
+    count = len(check.faults)
+    print("no faults" if not count else "1 fault" if count == 1 else "%d faults" % count)
+    return 1 if count else 0
+
+
+if __name__ == "__main__":
+    sys.exit(main())

@@ -1,0 +1,187 @@
+#!/usr/bin/env python3
+"""Plants ten faults, each by itself, into a copy of the repository, and tries whether tools/check.py notices them.
+
+    tools/faults.py [WORD]      plants those whose names hold WORD (all)
+
+Prints for each what was noticed. Ends with status 1 unless all were.
+"""
+import glob
+import os
+import re
+import shutil
+import subprocess
+import sys
+import tempfile
+
+from sources import TOP
+
+NEEDED = ("*.md", "crates.txt", "docs", "tools", "bench", ".ci")
+KEPT = re.compile(r".*/(src|specs|must-fail)(/.*)?|.*/toml_edit_(guide|jobs|example)/proofs|.*/(stdin|stdout|args|WORDS\.md)")
+
+
+class Copy:
+    """A copy of what tools/check.py reads."""
+
+    def __init__(self, folder):
+        self.top = folder
+        for pattern in NEEDED:
+            for path in glob.glob(TOP + "/" + pattern):
+                target = folder + "/" + os.path.basename(path)
+                if os.path.isdir(path):
+                    shutil.copytree(path, target, ignore=shutil.ignore_patterns("__pycache__", "target"))
+                else:
+                    shutil.copy(path, target)
+        for path in glob.glob(TOP + "/crates/*/*"):
+            if KEPT.fullmatch(path):
+                target = folder + path[len(TOP) :]
+                os.makedirs(os.path.dirname(target), exist_ok=True)
+                (shutil.copytree if os.path.isdir(path) else shutil.copy)(path, target)
+        self.before = {}
+
+    def read(self, name):
+        with open(self.top + "/" + name, encoding="utf-8") as file:
+            return file.read()
+
+    def write(self, name, text):
+        """Writes a file, and remembers what it was."""
+        if name not in self.before:
+            self.before[name] = self.read(name) if os.path.exists(self.top + "/" + name) else None
+        with open(self.top + "/" + name, "w", encoding="utf-8") as file:
+            file.write(text)
+
+    def restore(self):
+        for name, text in self.before.items():
+            if text is None:
+                os.remove(self.top + "/" + name)
+            else:
+                self.write(name, text)
+        self.before = {}
+
+    def run(self, *words):
+        """The lines that a tool of the copy prints."""
+        ran = subprocess.run([sys.executable, self.top + "/tools/" + words[0], *words[1:]], capture_output=True, text=True)
+        return set((ran.stdout + ran.stderr).split("\n")[:-2])
+
+    def names(self, *patterns):
+        found = [path for pattern in patterns for path in glob.glob(self.top + "/" + pattern, recursive=True)]
+        return sorted(path[len(self.top) + 1 :] for path in found)
+
+    def replace(self, names, pattern, by):
+        """Replaces the first place of some files that a pattern finds, and returns whether there is one."""
+        for name in names:
+            text = self.read(name)
+            if re.search(pattern, text):
+                self.write(name, re.sub(pattern, by, text, count=1))
+                return True
+        return False
+
+    def add(self, name, text):
+        self.write(name, self.read(name) + text)
+
+
+PAGES = ("*.md", "docs/*.md")
+
+
+def stale_example(copy):
+    """An example of a doc comment calls what its function doesn't."""
+    example = r"(```rust,ignore\n(?: *///.*\n)*? *)///(.*\n(?: *///.*\n)*? */// ```\n *///\n *//+ From `\w+` of the )"
+    copy.replace(copy.names("crates/toml_edit*/src/**/*.rt"), example, r"\1/// stale();\2")
+
+
+def wrong_number(copy):
+    """A page has one row too many."""
+    rows = re.compile(r"([\d,]+)<!-- rows -->")
+    if not copy.replace(copy.names(*PAGES), rows, "1,000,001<!-- rows -->"):
+        copy.add("README.md", "\n1,000,001<!-- rows --> rows.\n")
+
+
+def dead_anchor(copy):
+    """A link names a heading that isn't there."""
+    if not copy.replace(copy.names(*PAGES), r"\]\(([\w/.]+\.md)#[^)]+\)", r"](\1#no-such-heading)"):
+        copy.add("README.md", "\n[no such heading](docs/GUIDE.md#no-such-heading)\n")
+
+
+def dead_path(copy):
+    """A page names a file that isn't there."""
+    if not copy.replace(copy.names(*PAGES), r"`crates/(\w+)/src(/\w+\.rt)?`", r"`crates/\1/src/no_such_file.rt`"):
+        copy.add("README.md", "\n`crates/toml_edit/src/no_such_file.rt`\n")
+
+
+def renamed_clause(copy):
+    """A clause has another name, docs/api is made anew, and a page still has the old one."""
+    link = "](%sapi/DocumentMut.md#fits.reparse)"
+    if not any(link % "" in copy.read(name) for name in copy.names("docs/*.md")):
+        copy.add("README.md", "\n[`fits.reparse`" + link % "docs/" + "\n")
+    copy.replace(["crates/toml_edit/src/document.rt"], r"ensures reparse \{", "ensures read_again {")
+    remember(copy)
+    copy.run("api.py")
+
+
+def remember(copy):
+    """Lets the pages of docs/api be restored."""
+    for name in copy.names("docs/api/*.md"):
+        copy.write(name, copy.read(name))
+
+
+def changed_signature(copy):
+    """A page of docs/api has a parameter more than the source."""
+    copy.replace(["docs/api/DocumentMut.md"], r"pub fn get_at\(", "pub fn get_at(more: bool, ")
+
+
+def large_page(copy):
+    """A page is too large."""
+    copy.add("README.md", "\nIt reads and writes.\n" * 400)
+
+
+def long_sentence(copy):
+    """A sentence has 41 words."""
+    copy.add("docs/ERRORS.md", "\nThis sentence" + " goes on and" * 13 + ".\n")
+
+
+def unlisted_duplicate(copy):
+    """A function is copied into another file."""
+    text = copy.read("crates/toml_edit_error/src/place.rt")
+    copy.add("crates/toml_edit_error/src/excerpt.rt", "\n" + text[text.index("use ") :])
+
+
+def stale_function(copy):
+    """A function of the guide does what that of the crate doesn't."""
+    shown = r"(```rust\n(?:(?!```).*\n)*?(?:pub )?fn \w+(?:(?!```).*\n)*?(?:.*\{|\{)\n)"
+    copy.replace(["docs/GUIDE.md", "README.md"], shown, r"\1    stale();\n")
+
+
+# Each with words of the line that has to be printed.
+FAULTS = {
+    stale_example: "the example is not in",
+    wrong_number: "is said of rows",
+    dead_anchor: "no anchor for the link",
+    dead_path: "no_such_file",
+    renamed_clause: "no anchor for the link",
+    changed_signature: "docs/api/DocumentMut.md",
+    large_page: "README.md: ",
+    long_sentence: "a sentence of",
+    unlisted_duplicate: "share code",
+    stale_function: "differs from that of",
+}
+
+
+def main():
+    word = sys.argv[1] if len(sys.argv) > 1 else ""
+    lost = 0
+    with tempfile.TemporaryDirectory() as folder:
+        copy = Copy(folder)
+        known = copy.run("check.py")
+        for plant, words in FAULTS.items():
+            if word in plant.__name__:
+                plant(copy)
+                is_planted = any(copy.before[name] != copy.read(name) for name in copy.before)
+                new = sorted(line for line in copy.run("check.py") - known if words in line) if is_planted else []
+                print("%s: %s" % (plant.__name__, new[0] if new else "NOT NOTICED" if is_planted else "NOT PLANTED"), flush=True)
+                lost += not new
+                copy.restore()
+    print("all faults were noticed" if not lost else "%d not noticed" % lost)
+    return 1 if lost else 0
+
+
+if __name__ == "__main__":
+    sys.exit(main())
