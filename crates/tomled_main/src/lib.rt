@@ -12,8 +12,8 @@ use toml_edit_stream::Watched;
 ///
 /// It is that of [`toml_edit_command::run`], but for two faults: out of memory for the arguments or
 /// for the buffer of standard output, and a fault when what the buffer holds is written at the end.
-/// A program crate has one stored run, so each run has a crate, whose `main` is a call of this.
-pub fn main(rt: HostRuntime) -> ExitCode {
+/// A program crate has one stored run, so each run has a crate, whose `main` calls this.
+pub fn run_process(rt: HostRuntime) -> ExitCode {
     let words = match words_of(&rt) {
         Ok(words) => words,
         Err(error) => {

@@ -4,5 +4,5 @@
 use std::process::ExitCode;
 
 fn main(rt: HostRuntime) -> ExitCode {
-    tomled_main::main(rt)
+    tomled_main::run_process(rt)
 }
