@@ -69,9 +69,6 @@ impl<'a> Entry<'a> {
     /// An existing item stays, a placeholder too, and `item` is dropped. A new key is added at the
     /// end.
     ///
-    /// To use the reference, take the result apart with `if let Ok(..)`, since a `match` on it gets
-    /// no proof.
-    ///
     /// # Errors
     ///
     /// Returns a [`NoMemory`] with `item` if out of memory. An existing key takes no memory.
