@@ -1,21 +1,25 @@
 -- The values of an array that a line is added to or removed from.
-use Rattle.std.proofs.Common.{◌≡◌, ℕ, zero, suc, ◌+◌, ◌-◌, ◌<◌, ◌≤◌, ◌==◌, Bor, Bool, true, false, codes, drop, get_or, subst, MatchOption, List, [], ◌∷◌, Option, Some, None, ap, sym, refl, ◌∙◌, inl, inr, arith, length, leb, IsSome, if◌then◌else◌}
-use Rattle.std.specs.Prelude.{nat_lt, not, ◌||◌}
+use Rattle.std.proofs.Common.{append-nil, append_assoc, ◌≡◌, ℕ, zero, suc, ◌+◌, ◌-◌, ◌<◌, ◌≤◌, ◌==◌, Bor, Bool, true, false, drop, get_or, subst, MatchOption, List, [], ◌∷◌, Option, Some, None, ap, sym, refl, ◌∙◌, inl, inr, arith, length, leb, IsSome, if◌then◌else◌}
+use Rattle.std.specs.Prelude.{filter, flat_map, nat_lt, not, option_and_then, option_map, ◌++◌, ◌||◌}
 use Rattle.std.proofs.lemmas.Bool.{cases_Bool, eqb-true}
 use Rattle.std.proofs.lemmas.Bool.Decides.{nat_tests}
 use Rattle.std.proofs.lemmas.List.Edits.{length-insert, length-remove}
 use Rattle.std.proofs.lemmas.Option.{none-some, same_Some}
 use Rattle.std.proofs.lemmas.Str.{len_utf8_ascii}
 use Rattle.std.proofs.lemmas.Str.Pattern.{NoCharPasses-char}
-use Rattle.std.specs.Option.{option_map_or}
+use Rattle.std.specs.Option.{option_or}
+use Rattle.toml_edit_model.specs.Comments.{side_text}
 use Rattle.std.specs.Str.{NoCharPasses}
 use Rattle.std.specs.Str.Pattern.{RFindsChar, SplitsAroundMatch}
 use Rattle.toml_edit_model.specs.ArrayCalls.{inserted_at, removed_at, value_at, written_at}
 use Rattle.toml_edit_model.specs.Conversions.{with_decor}
 use Rattle.toml_edit_model.specs.Slots.{changed_at}
 use Rattle.toml_edit_model.specs.Text.{Text, one}
-use Rattle.toml_edit_model.specs.Tree.{Decor, Node, Raw, nothing, leaf, list, inline, table, tables, is_value_node, node_decor}
-use Rattle.toml_edit_tree.specs.ArrayLines.{after_newline, indent_of, is_last, placed, without_suffix}
+use Rattle.toml_edit_model.specs.Tree.{Decor, Node, Raw, owned, nothing, leaf, list, inline, table, tables, is_value_node, node_decor}
+use Rattle.toml_edit_tree.specs.ArrayLines.{after_newline, first_newline, is_broken, is_last, line_begun, newline_in, placed, prefix_at, prefixes, suffix_at, with_suffix}
+
+abbrev without_suffix : Node → Node
+without_suffix = with_suffix (owned [])
 
 -- ---- a change of a decor
 
@@ -162,7 +166,7 @@ inserted-between comma before v xs i l =
           ]
     ]
 
--- ---- the indentation
+-- ---- the last newline
 
 none-after : (t : Text) → ((k : ℕ) → k < length t → get_or t k 0 ≡ 10 → ⊥) → after_newline t ≡ None
 none-after [] h = refl
@@ -178,12 +182,87 @@ some-after [] i l e h = absurd (omega arith)
 some-after (b ∷ t) zero l e h = rw (none-after t h, e) refl
 some-after (b ∷ t) (suc i) l e h = rw (some-after t i (omega arith) e h) refl
 
-pub indent-is : (t : Text) (r : Option (Bor Text × Bor Text))
+pub after-is : (t : Text) (r : Option (Bor Text × Bor Text))
     → MatchOption r (RFindsChar 10 t None) (λ x. SplitsAroundMatch (RFindsChar 10) t x.0.now x.1.now)
-    → option_map_or (λ x. x.1.now) r (codes "    ") ≡ indent_of t
-indent-is t None h = rw (none-after t (λ k l e. NoCharPasses-char 10 t k h (omega arith) l e)) refl
-indent-is t (Some x) (i, j, found, front, back, le, at, long) =
+    → option_map (λ x. x.1.now) r ≡ after_newline t
+after-is t None h = rw (none-after t (λ k l e. NoCharPasses-char 10 t k h (omega arith) l e)) refl
+after-is t (Some x) (i, j, found, front, back, le, at, long) =
     let next : j ≡ suc i = omega (arith, found.1.ends, len_utf8_ascii 10 (omega arith)) in
     let after = some-after t i (omega arith) (found.1.byte (omega arith))
     (λ k l e. NoCharPasses-char 10 (drop (suc i) t) k (subst (λ n. NoCharPasses (λ d. d == 10) (drop n t)) next found.0) (omega arith) l e) in
-    rw after (back ∙ ap (λ n. drop n t) next)
+    rw after (ap Some (back ∙ ap (λ n. drop n t) next))
+
+-- ---- the value before the last one, once that is removed
+
+value-before : (xs : List Node) (i j : ℕ) → j < i → value_at j (removed_at i xs) ≡ value_at j xs
+value-before [] i j l = refl
+value-before (x ∷ xs) zero j l = absurd (omega (arith, l))
+value-before (x ∷ xs) (suc i) zero l = refl
+value-before (x ∷ xs) (suc i) (suc j) l = value-before xs i j (omega (arith, l))
+
+length-last : (xs : List Node) (i : ℕ) → i < length xs → is_last i xs ≡ true → length (removed_at i xs) ≡ i
+length-last xs i l e =
+    let past : length xs ≤ suc i = grind (arith, nat_tests, e) in
+    omega (arith, length-remove xs i l, past, l)
+
+pub suffix-removed : (xs : List Node) (i : ℕ) → i < length xs → is_last i xs ≡ true
+    → side_text (suffix_at (length (removed_at i xs) - 1) (removed_at i xs)) ≡ (if i == 0 then [] else side_text (suffix_at (i - 1) xs))
+suffix-removed xs zero l e =
+    let none : length (removed_at 0 xs) ≡ 0 = length-last xs 0 l e in
+    nothing-left (removed_at 0 xs) none
+  where
+    nothing-left : (ys : List Node) → length ys ≡ 0 → side_text (suffix_at (length ys - 1) ys) ≡ []
+    nothing-left [] h = refl
+    nothing-left (y ∷ ys) h = absurd (omega (arith, h))
+suffix-removed xs (suc i) l e =
+    let long : length (removed_at (suc i) xs) ≡ suc i = length-last xs (suc i) l e in
+    let at : length (removed_at (suc i) xs) - 1 ≡ i = omega (arith, long) in
+    let back : i ≡ suc i - 1 = omega arith in
+    ap (λ k. side_text (suffix_at k (removed_at (suc i) xs))) at
+    ∙ ap (λ o. side_text (option_and_then (λ n. (node_decor n).suffix) o)) (value-before xs (suc i) i (omega arith))
+    ∙ ap (λ k. side_text (suffix_at k xs)) back
+
+-- ---- the first newline
+
+prefix-is : (n : Node) → side_text (option_and_then (λ n. (node_decor n).prefix) (if is_value_node n then Some n else None)) ≡ side_text (node_decor n).prefix
+prefix-is (leaf s spelling d) = refl
+prefix-is (list f xs) = refl
+prefix-is (inline f ss) = refl
+prefix-is (table f ss) = refl
+prefix-is (tables f xs) = refl
+prefix-is nothing = refl
+
+pub newline-next : (xs : List Node) (ts : List Text) (i : ℕ) → i < length xs
+    → newline_in (drop i (prefixes xs) ++ ts)
+    ≡ (if is_broken (side_text (prefix_at i xs)) then first_newline (side_text (prefix_at i xs)) else newline_in (drop (i + 1) (prefixes xs) ++ ts))
+newline-next [] ts i l = absurd (omega (arith, l))
+newline-next (x ∷ xs) ts zero l =
+    ap (λ t. if is_broken t then first_newline t else newline_in (prefixes xs ++ ts)) (sym (prefix-is x))
+newline-next (x ∷ xs) ts (suc i) l = newline-next xs ts i (omega (arith, l))
+
+pub newline-end : (xs : List Node) (ts : List Text) (i : ℕ) → length xs ≤ i → newline_in (drop i (prefixes xs) ++ ts) ≡ newline_in ts
+newline-end [] ts zero l = refl
+newline-end [] ts (suc i) l = refl
+newline-end (x ∷ xs) ts zero l = absurd (omega (arith, l))
+newline-end (x ∷ xs) ts (suc i) l = newline-end xs ts i (omega (arith, l))
+
+-- ---- one more line
+
+pub added-line : (t : Text) (p : Text → Bool) (h : Text → Text) (l : Text) (ls : List Text)
+    → (t ++ (if p l then h l else [])) ++ flat_map h (filter p ls) ≡ t ++ flat_map h (filter p (l ∷ ls))
+added-line t p h l ls =
+    elim (cases_Bool (p l)) [
+      | inl is ↦ rw is (append_assoc t (h l) (flat_map h (filter p ls)))
+      | inr other ↦ rw other (ap (λ u. u ++ flat_map h (filter p ls)) (append-nil t))
+    ]
+
+-- ---- the line of a value
+
+pub line-before : (xs : List Node) (i : ℕ) → 0 < i → after_newline (side_text (prefix_at i xs)) ≡ None → after_newline (side_text (suffix_at (i - 1) xs)) ≡ None
+    → line_begun i xs ≡ line_begun (i - 1) xs
+line-before xs zero l h g = absurd (omega (arith, l))
+line-before xs (suc i) l h g =
+    let back : suc i - 1 ≡ i = omega arith in
+    let after : after_newline (side_text (suffix_at i xs)) ≡ None = ap (λ k. after_newline (side_text (suffix_at k xs))) (sym back) ∙ g in
+    ap (λ o. option_or o (option_or (after_newline (side_text (suffix_at i xs))) (line_begun i xs))) h
+    ∙ ap (λ o. option_or o (line_begun i xs)) after ∙ ap (λ k. line_begun k xs) (sym back)

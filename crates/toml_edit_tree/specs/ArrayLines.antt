@@ -2,16 +2,18 @@
 -- (TOML 1.1.0, "Array" and "Comment"). The gap at a place is the text before the slot there, after
 -- the comma or the bracket; the last gap is before the closing bracket. A gap that has a newline
 -- begins with the rest of the line before it, where that line's comment is.
-use Rattle.std.specs.Prelude.{ℕ, suc, ◌-◌, ◌==◌, nat_lt, Bool, not, ◌&&◌, ◌||◌, if◌then◌else◌, List, [], ◌∷◌, ◌++◌, codes, length, Option, None, Some, is_some, option_and_then}
+use Rattle.std.specs.Prelude.{ℕ, zero, suc, ◌-◌, ◌==◌, nat_lt, Bool, not, ◌&&◌, ◌||◌, if◌then◌else◌, List, [], ◌∷◌, ◌++◌, codes, drop, filter, flat_map, length, map, take_while, Option, None, Some, is_none, is_some, option_and_then}
+use Rattle.std.specs.List.{list_all}
 use Rattle.std.specs.Option.{option_or, unwrap_or}
 use Rattle.toml_edit_model.specs.ArrayCalls.{inserted_at, removed_at, value_at}
-use Rattle.toml_edit_model.specs.Comments.{after_first_line, comment_after, first_comment, first_line, side_text}
+use Rattle.toml_edit_model.specs.Comments.{after_first_line, comment_after, first_comment, first_line, lines, side_text, words}
 use Rattle.toml_edit_model.specs.Conversions.{with_decor}
 use Rattle.toml_edit_model.specs.Mode.{exact}
 use Rattle.toml_edit_model.specs.Print.{element_default, one_space}
 use Rattle.toml_edit_model.specs.Slots.{changed_at}
-use Rattle.toml_edit_model.specs.Text.{Text, carriage_return, has_byte, line_feed, newline}
+use Rattle.toml_edit_model.specs.Text.{Text, carriage_return, has_byte, is_empty, line_feed, newline, one}
 use Rattle.toml_edit_model.specs.Tree.{ArrayFields, Decor, Node, Raw, node_decor, owned, shown_side}
+use Rattle.toml_edit_model.specs.Trivia.{is_blank}
 
 -- ---- texts
 
@@ -32,13 +34,13 @@ abbrev pub after_newline : Text → Option Text
 after_newline [] = None
 after_newline (c ∷ t) = option_or (after_newline t) (if c == line_feed then Some t else None)
 
--- the indentation of what comes after the text: four spaces if the text has no newline
-abbrev pub indent_of : Text → Text
-indent_of t = unwrap_or (after_newline t) (codes "    ")
+-- what the first line has but white space before it, and at its end the newline
+abbrev pub line_words : Text → Text
+line_words l = words (first_line l)
 
--- the newline and the indentation that a text ends in, or else another text
-abbrev pub line_start : Text → Text → Text
-line_start t other = if is_broken t then first_newline t ++ indent_of t else other
+-- the line on a new one: after this newline and, unless it is empty, this indentation
+abbrev pub moved : Text → Text → Text → Text
+moved end indent l = end ++ (if is_empty (line_words l) then [] else indent ++ line_words l)
 
 -- the comment on the first line, with its newline
 abbrev pub commented_line : Text → Text
@@ -53,74 +55,146 @@ prefix_at i xs = option_and_then (λ n. (node_decor n).prefix) (value_at i xs)
 abbrev pub suffix_at : ℕ → List Node → Option Raw
 suffix_at i xs = option_and_then (λ n. (node_decor n).suffix) (value_at i xs)
 
--- what is between the last value, or the comma after it, and the closing bracket
+-- what is between the last value and the closing bracket, if no comma ends the array
+abbrev pub last_suffix : ArrayFields → List Node → Text
+last_suffix f xs = if f.comma then [] else side_text (suffix_at (length xs - 1) xs)
+
 abbrev pub last_gap : ArrayFields → List Node → Text
-last_gap f xs =
-    (if f.comma then [] else side_text (suffix_at (length xs - 1) xs)) ++ side_text (Some f.trailing)
+last_gap f xs = last_suffix f xs ++ side_text (Some f.trailing)
 
 abbrev pub gap : ℕ → ArrayFields → List Node → Text
 gap i f xs =
     if nat_lt i (length xs) then shown_side exact (element_default (i == 0)) (prefix_at i xs)
     else last_gap f xs
 
--- ---- insertion
-
--- the comment after a value, which goes after its comma
-abbrev pub own_comment : Decor → Text
-own_comment d = if is_some (comment_after d) then first_line (side_text d.suffix) else []
-
--- the lines before a value: its own, or else a newline and the indentation
-abbrev pub own_lines : Decor → Text → Text
-own_lines d indented =
-    if is_broken (side_text d.prefix) then after_first_line (side_text d.prefix) else indented
-
--- what is before the value beside the place: the one there, or the last
-abbrev pub beside : ℕ → List Node → Text
-beside i xs = side_text (prefix_at (if nat_lt i (length xs) then i else length xs - 1) xs)
-
--- `insert_line` of a value with the decor d: the gaps before it and after it
-abbrev pub gap_before : ℕ → Decor → ArrayFields → List Node → Text
-gap_before i d f xs =
-    let g = gap i f xs in
-    if is_broken g then
-    first_line g ++ own_lines d (first_newline g ++ indent_of (beside i xs))
-    else if nat_lt i (length xs) then g else line_start (beside i xs) (element_default (i == 0))
-
-abbrev pub gap_after : ℕ → Decor → ArrayFields → List Node → Text
-gap_after i d f xs =
-    let g = gap i f xs in
-    if is_broken g then own_comment d ++ after_first_line g
-    else if nat_lt i (length xs) then one_space else g
-
--- the item with another prefix, or with nothing between it and its comma, where it is a value
+-- the item with another side of its decor, where it is a value
 abbrev pub with_prefix : Raw → Node → Node
 with_prefix r n = with_decor (record (node_decor n) { prefix = Some r }) n
 
-abbrev pub without_suffix : Node → Node
-without_suffix n = with_decor (record (node_decor n) { suffix = Some (owned []) }) n
+abbrev pub with_suffix : Raw → Node → Node
+with_suffix r n = with_decor (record (node_decor n) { suffix = Some r }) n
 
--- the value after a gap, with a comma to follow
+-- a comma or no value is before the last gap
+abbrev pub is_closed : ArrayFields → List Node → Bool
+is_closed f xs = f.comma || is_none (value_at (length xs - 1) xs)
+
+-- The array with this as the gap at a place. It is where parsing puts it: the last one is the suffix
+-- of the last value, unless a comma ends the array.
+abbrev pub with_gap : ℕ → Raw → ArrayFields → List Node → List Node
+with_gap i r f xs =
+    if nat_lt i (length xs) then changed_at i (with_prefix r) xs
+    else if is_closed f xs then xs
+    else changed_at (length xs - 1) (with_suffix r) xs
+
+abbrev pub fields_with_gap : ℕ → Raw → ArrayFields → List Node → ArrayFields
+fields_with_gap i r f xs =
+    if nat_lt i (length xs) then f
+    else record f { trailing = if is_closed f xs then r else owned [] }
+
+-- ---- the lines of an array
+
+-- the first newline of the texts: CR LF, or else LF
+abbrev pub newline_in : List Text → Text
+newline_in [] = newline
+newline_in (t ∷ ts) = if is_broken t then first_newline t else newline_in ts
+
+abbrev pub prefixes : List Node → List Text
+prefixes xs = map (λ n. side_text (node_decor n).prefix) xs
+
+-- the newline for lines where this gap is: its own, or else that of the array's gaps
+abbrev pub newline_at : Text → ArrayFields → List Node → Text
+newline_at g f xs =
+    newline_in (g ∷ (prefixes xs ++ (last_suffix f xs ∷ side_text (Some f.trailing) ∷ [])))
+
+-- what is after the last newline before a value, on whichever value's line that is
+abbrev pub line_begun : ℕ → List Node → Option Text
+line_begun zero xs = after_newline (side_text (prefix_at zero xs))
+line_begun (suc i) xs =
+    option_or (after_newline (side_text (prefix_at (suc i) xs)))
+    (option_or (after_newline (side_text (suffix_at i xs))) (line_begun i xs))
+
+-- the value beside a place: the one there, or the last
+abbrev pub beside : ℕ → List Node → ℕ
+beside i xs = if nat_lt i (length xs) then i else length xs - 1
+
+-- the white space that begins its line: four spaces if no newline is before it
+abbrev pub indent_at : ℕ → List Node → Text
+indent_at i xs = take_while is_blank (unwrap_or (line_begun (beside i xs) xs) (codes "    "))
+
+-- ---- insertion
+
+-- the lines of a value's prefix, but for a first one that is white space: the rest of another line
+abbrev pub whole_lines : List Text → List Text
+whole_lines [] = []
+whole_lines (l ∷ ls) = filter is_broken (if is_empty (line_words l) then ls else l ∷ ls)
+
+abbrev pub text_above : Text → Text → Decor → Text
+text_above end indent d = flat_map (moved end indent) (whole_lines (lines (side_text d.prefix)))
+
+-- the comment after a value, which goes after its comma, and the lines below that have text
+abbrev pub own_comment : Decor → Text
+own_comment d = if is_some (comment_after d) then first_line (side_text d.suffix) else []
+
+abbrev pub lines_below : List Text → List Text
+lines_below ls = filter (λ l. not (is_empty (line_words l))) (drop 1 ls)
+
+abbrev pub text_after : Text → Text → Decor → Text
+text_after end indent d =
+    own_comment d ++ flat_map (moved end indent) (lines_below (lines (side_text d.suffix)))
+
+-- the gap at a place with a newline, then a line for what follows: indented, but for the bracket
+abbrev pub broken_gap : Text → Text → Text → Bool → Text
+broken_gap g end indent is_last =
+    if is_broken g then g else end ++ (if is_last then [] else indent)
+
+-- a value there gets lines of its own
+abbrev pub takes_lines : Text → Text → Text → Bool
+takes_lines g above after = is_broken g || (not (is_empty above) || not (is_empty after))
+
+-- The gaps before and after a value that is put at a place: where it gets no lines of its own, and
+-- in all.
+abbrev pub gaps_on_line : ℕ → Text → Text → List Node → Text × Text
+gaps_on_line i g start xs =
+    if nat_lt i (length xs) then (g, one_space)
+    else (
+      if is_broken (side_text (prefix_at (beside i xs) xs)) then start else element_default (i == 0),
+      g,
+    )
+
+abbrev pub gaps_around : ℕ → Decor → ArrayFields → List Node → Text × Text
+gaps_around i d f xs =
+    let g = gap i f xs in
+    let end = newline_at g f xs in
+    let indent = indent_at i xs in
+    let above = text_above end indent d in
+    let after = text_after end indent d in
+    let h = broken_gap g end indent (not (nat_lt i (length xs))) in
+    if takes_lines g above after
+    then (first_line h ++ (above ++ (end ++ indent)), after ++ after_first_line h)
+    else gaps_on_line i g (end ++ indent) xs
+
+-- the value after a gap
 abbrev pub placed : Raw → Node → Node
 placed r n = with_decor (record { prefix = Some r; suffix = None }) n
 
 -- At the end, if no comma ends the array, one follows the value that was the last.
 abbrev pub followed : ℕ → ArrayFields → List Node → List Node
 followed i f xs =
-    if f.comma || nat_lt i (length xs) then xs else changed_at (length xs - 1) without_suffix xs
+    if f.comma || nat_lt i (length xs) then xs
+    else changed_at (length xs - 1) (with_suffix (owned [])) xs
+
+-- `insert_line`: the value in its place, before its second gap is put there
+abbrev pub with_line : ℕ → Node → ArrayFields → List Node → List Node
+with_line i v f xs =
+    inserted_at i (placed (owned (gaps_around i (node_decor v) f xs).0) v) (followed i f xs)
 
 abbrev pub line_inserted : ℕ → Node → ArrayFields → List Node → List Node
 line_inserted i v f xs =
-    let d = node_decor v in
-    changed_at (suc i) (with_prefix (owned (gap_after i d f xs)))
-    (inserted_at i (placed (owned (gap_before i d f xs)) v) (followed i f xs))
-
--- the fields, if the gap at a place is the last one
-abbrev pub with_last_gap : Bool → Raw → ArrayFields → ArrayFields
-with_last_gap is_last r f = if is_last then record f { trailing = r } else f
+    with_gap (suc i) (owned (gaps_around i (node_decor v) f xs).1) f (with_line i v f xs)
 
 abbrev pub fields_inserted : ℕ → Node → ArrayFields → List Node → ArrayFields
 fields_inserted i v f xs =
-    with_last_gap (not (nat_lt i (length xs))) (owned (gap_after i (node_decor v) f xs)) f
+    fields_with_gap (suc i) (owned (gaps_around i (node_decor v) f xs).1) f (with_line i v f xs)
 
 -- ---- removal
 
@@ -151,9 +225,12 @@ is_last i xs = not (nat_lt (suc i) (length xs))
 abbrev pub before_comma : ℕ → ArrayFields → List Node → Text
 before_comma i f xs = if f.comma || not (is_last i xs) then side_text (suffix_at i xs) else []
 
--- `remove_line`: the gap that is left at the place
+-- `remove_line`: the gap that is left at the place, after the suffix of the value before it if that
+-- is the last one now
 abbrev pub gap_left : ℕ → ArrayFields → List Node → Text
-gap_left i f xs = left_of (gap i f xs) (gap (suc i) f xs) (is_last i xs)
+gap_left i f xs =
+    (if is_last i xs then last_suffix f (removed_at i xs) else [])
+    ++ left_of (gap i f xs) (gap (suc i) f xs) (is_last i xs)
 
 -- the value, with the decor that it takes or else its own
 abbrev pub redecorated : Option Decor → Node → Node
@@ -165,10 +242,10 @@ line_taken i f xs n =
     redecorated (decor_taken (gap i f xs) (before_comma i f xs) (gap (suc i) f xs)) n
 
 abbrev pub line_removed : ℕ → ArrayFields → List Node → List Node
-line_removed i f xs = changed_at i (with_prefix (owned (gap_left i f xs))) (removed_at i xs)
+line_removed i f xs = with_gap i (owned (gap_left i f xs)) f (removed_at i xs)
 
 abbrev pub fields_removed : ℕ → ArrayFields → List Node → ArrayFields
-fields_removed i f xs = with_last_gap (is_last i xs) (owned (gap_left i f xs)) f
+fields_removed i f xs = fields_with_gap i (owned (gap_left i f xs)) f (removed_at i xs)
 
 -- ---- comments
 
@@ -176,8 +253,8 @@ fields_removed i f xs = with_last_gap (is_last i xs) (owned (gap_left i f xs)) f
 abbrev pub behind : ℕ → ArrayFields → List Node → Text
 behind i f xs =
     if not (is_last i xs) then side_text (prefix_at (suc i) xs)
-    else if f.comma || not (is_broken (side_text (suffix_at i xs))) then side_text (Some f.trailing)
-    else side_text (suffix_at i xs)
+    else if list_all is_blank (last_suffix f xs) then side_text (Some f.trailing)
+    else last_suffix f xs
 
 -- `line_comment`
 abbrev pub comment_behind : ℕ → ArrayFields → List Node → Option Text

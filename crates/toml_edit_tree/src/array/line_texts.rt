@@ -1,44 +1,174 @@
 //! The texts before and after the values of an array, line by line.
-ghost use Rattle.std.specs.Prelude.{◌++◌, ◌==◌, ◌≡◌, IfOk, string_bytes};
+ghost use Rattle.std.specs.Prelude.{[], ◌++◌, ◌==◌, ◌≡◌, IfOk, OnOk, drop, filter, if◌then◌else◌, not, string_bytes};
+ghost use Rattle.std.specs.List.{list_all};
 ghost use Rattle.std.specs.Option.{option_copied};
-ghost use Rattle.toml_edit_model.specs.Comments.{first_line, side_text};
+ghost use Rattle.toml_edit_model.specs.Comments.{after_first_line, first_line, lines, side_text};
 ghost use Rattle.toml_edit_model.specs.Mode.{exact};
 ghost use Rattle.toml_edit_model.specs.Print.{element_default};
+ghost use Rattle.toml_edit_model.specs.Text.{is_empty};
 ghost use Rattle.toml_edit_model.specs.Tree.{owned, shown_side};
-ghost use Rattle.toml_edit_tree.specs.ArrayLines.{commented_line, decor_taken, first_newline, indent_of, is_broken, left_of, line_start, own_comment, own_lines};
+ghost use Rattle.toml_edit_model.specs.Trivia.{is_blank};
+ghost use Rattle.toml_edit_tree.specs.ArrayLines.{after_newline, commented_line, decor_taken, first_newline, is_broken, left_of, line_words, moved, own_comment, takes_lines, text_above, text_after, whole_lines};
 
 use std::alloc::Global;
-use toml_edit_repr::comments::{first_comment, split_first_line};
+use toml_edit_repr::comments::{first_comment, split_first_line, split_line, split_white};
 use toml_edit_repr::{Decor, Mem, RawString};
 
-/// Returns the gap before a value that gets a line of its own, with this indentation if it brings
-/// no lines.
-pub(crate) fn before_line(alloc: Global, gap: &str, decor: &Decor, indent: &str) -> Mem<String>
-    ensures { IfOk result (λ text. string_bytes text
-        ≡ first_line gap.now ++ own_lines decor.now (first_newline gap.now ++ indent.now)) }
+/// Returns the gaps before and after a value that gets lines of its own.
+pub(crate) fn gaps_of_line(
+    alloc: Global,
+    gap: &str,
+    above: &str,
+    after: &str,
+    newline: &str,
+    indent: &str,
+) -> Mem<(RawString, RawString)>
+    ensures before { IfOk result (λ gaps. gaps.0
+        ≡ owned (first_line gap.now ++ (above.now ++ (newline.now ++ indent.now)))) }
+    ensures after { IfOk result (λ gaps. gaps.1 ≡ owned (after.now ++ after_first_line gap.now)) }
 {
-    let (line, _) = split_first_line(gap);
-    let own = text_of(decor.prefix());
-    if is_broken(own) {
-        joined(alloc, line, split_first_line(own).1, "")
+    let (line, next) = split_first_line(gap);
+    let start = joined(alloc, above, newline, indent)?;
+    let before = joined(alloc, line, start.as_str(), "")?;
+    let after = joined(alloc, after, next, "")?;
+    Ok((RawString::from(before), RawString::from(after)))
+}
+
+/// Returns the gap, or else a newline and the indentation, if the gap has no newline.
+pub(crate) fn broken_gap(alloc: Global, gap: &str, newline: &str, indent: &str) -> Mem<String>
+    ensures { IfOk result (λ text. string_bytes text
+        ≡ (if is_broken gap.now then gap.now else newline.now ++ indent.now)) }
+{
+    if is_broken(gap) {
+        String::from_str(alloc, gap)
     } else {
-        joined(alloc, line, first_newline(gap), indent)
+        joined(alloc, newline, indent, "")
     }
 }
 
+/// Returns whether a value between these texts gets lines of its own.
+pub(crate) fn takes_lines(gap: &str, above: &str, after: &str) -> bool
+    ensures { result ≡ takes_lines gap.now above.now after.now }
+{
+    is_broken(gap) || !above.is_empty() || !after.is_empty()
+}
+
+/// Returns the lines of the prefix of a value, each on a new line.
+pub(crate) fn text_above(
+    alloc: Global,
+    decor: &Decor,
+    newline: &str,
+    indent: &str,
+) -> Mem<String>
+    ensures { IfOk result (λ text. string_bytes text
+        ≡ text_above newline.now indent.now decor.now) }
+{
+    let mut above = String::new(alloc);
+    let mut rest = own_lines(text_of(decor.prefix()));
+    'lines: while let Some((line, after)) = split_line(rest) {
+        add_whole_line(&mut above, line, newline, indent)?;
+        rest = after;
+    }
+    Ok(above)
+}
+
+/// Returns the text without its first line, if that is white space.
+fn own_lines(text: &str) -> &str
+    ensures { filter is_broken (lines result.now) ≡ whole_lines (lines text.now) }
+{
+    if let Some((line, after)) = split_line(text) {
+        if line_words(line).is_empty() {
+            return after;
+        }
+    }
+    text
+}
+
+/// Adds the line on a new one, if it has a newline.
+fn add_whole_line(text: &mut String, line: &str, newline: &str, indent: &str) -> Mem<()>
+    ensures { OnOk result (string_bytes text.new ≡ string_bytes text.old
+        ++ (if is_broken line.now then moved newline.now indent.now line.now else [])) }
+{
+    if is_broken(line) {
+        add_moved(text, line, newline, indent)?;
+    }
+    Ok(())
+}
+
+/// Returns the comment after a value, and each further line of its suffix on a new line.
+pub(crate) fn text_after(
+    alloc: Global,
+    decor: &Decor,
+    newline: &str,
+    indent: &str,
+) -> Mem<String>
+    ensures { IfOk result (λ text. string_bytes text
+        ≡ text_after newline.now indent.now decor.now) }
+{
+    let mut below = String::from_str(alloc, own_comment(decor))?;
+    let mut rest = further_lines(text_of(decor.suffix()));
+    'lines: while let Some((line, after)) = split_line(rest) {
+        add_line_with_words(&mut below, line, newline, indent)?;
+        rest = after;
+    }
+    Ok(below)
+}
+
+/// Returns the text without its first line.
+fn further_lines(text: &str) -> &str
+    ensures { lines result.now ≡ drop 1 (lines text.now) }
+{
+    match split_line(text) {
+        Some((_, after)) => after,
+        None => text,
+    }
+}
+
+/// Adds the line on a new one, unless it is white space.
+fn add_line_with_words(text: &mut String, line: &str, newline: &str, indent: &str) -> Mem<()>
+    ensures { OnOk result (string_bytes text.new ≡ string_bytes text.old
+        ++ (if not (is_empty (line_words line.now)) then moved newline.now indent.now line.now
+        else [])) }
+{
+    if !line_words(line).is_empty() {
+        add_moved(text, line, newline, indent)?;
+    }
+    Ok(())
+}
+
+/// Adds the line on a new one: after the newline and, unless it is empty, the indentation.
+fn add_moved(text: &mut String, line: &str, newline: &str, indent: &str) -> Mem<()>
+    ensures { OnOk result (string_bytes text.new
+        ≡ string_bytes text.old ++ moved newline.now indent.now line.now) }
+{
+    let words = line_words(line);
+    text.push_str(newline)?;
+    if words.is_empty() {
+        return Ok(());
+    }
+    text.push_str(indent)?;
+    text.push_str(words)
+}
+
+/// Returns the first line without the white space that it begins with.
+fn line_words(line: &str) -> &str
+    ensures { result.now ≡ line_words line.now }
+{
+    split_white(split_first_line(line).0).1
+}
+
 /// Returns what is left of the gaps before and after a value.
-pub(crate) fn left_of(alloc: Global, before: &str, after: &str, is_last: bool) -> Mem<RawString>
-    ensures { IfOk result (λ left. left ≡ owned (left_of before.now after.now is_last)) }
+pub(crate) fn left_of(alloc: Global, before: &str, after: &str, is_last: bool) -> Mem<String>
+    ensures { IfOk result (λ left. string_bytes left ≡ left_of before.now after.now is_last) }
 {
     if is_broken(before) && is_broken(after) {
         let (line, _) = split_first_line(before);
-        let left = joined(alloc, line, split_first_line(after).1, "")?;
-        return Ok(RawString::from(left));
+        return joined(alloc, line, split_first_line(after).1, "");
     }
     if is_broken(after) || is_last {
-        return Ok(RawString::from(after_comment(alloc, before, after)?));
+        return after_comment(alloc, before, after);
     }
-    RawString::from_text(alloc, before)
+    String::from_str(alloc, before)
 }
 
 /// Returns the decor that a value takes with it, if it is alone on its line.
@@ -72,17 +202,6 @@ fn after_comment(alloc: Global, before: &str, text: &str) -> Mem<String>
             text,
         ),
         None => String::from_str(alloc, text),
-    }
-}
-
-/// Returns the newline and the indentation that a text ends in, or else another text.
-pub(crate) fn line_start(alloc: Global, text: &str, other: &str) -> Mem<String>
-    ensures { IfOk result (λ start. string_bytes start ≡ line_start text.now other.now) }
-{
-    if is_broken(text) {
-        joined(alloc, first_newline(text), indent_of(text), "")
-    } else {
-        String::from_str(alloc, other)
     }
 }
 
@@ -153,12 +272,21 @@ pub(crate) fn first_newline(text: &str) -> &'static str
     }
 }
 
-/// Returns the text after the last newline, or four spaces if there is none.
-pub(crate) fn indent_of(before: &str) -> &str
-    ensures { result.now ≡ indent_of before.now }
+/// Returns the text after the last newline, if there is one.
+pub(crate) fn after_newline(text: &str) -> Option<&str>
+    ensures { option_copied result ≡ after_newline text.now }
 {
-    match before.rsplit_once('\n') {
-        Some((_, indent)) => indent,
-        None => "    ",
+    match text.rsplit_once('\n') {
+        Some((_, after)) => Some(after),
+        None => None,
     }
+}
+
+/// Returns whether the text is white space.
+pub(crate) fn is_white(text: &str) -> bool
+    ensures { result ≡ list_all is_blank text.now }
+{
+    text.as_bytes()
+        .iter()
+        .all(|byte| *byte == b' ' || *byte == b'\t')
 }

@@ -1,27 +1,27 @@
 //! Values of an array with lines of their own: inserting and removing them with their comments.
-ghost use Rattle.std.specs.Prelude.{[], ◌++◌, ◌-◌, ◌<◌, ◌==◌, ◌||◌, ◌≡◌, ◌≤◌, IfErr, IfOk, IsSome, OnErr, OnOk, Some, if◌then◌else◌, length, nat_lt, not, option_map, string_bytes, suc};
+ghost use Rattle.std.specs.Prelude.{[], ◌++◌, ◌-◌, ◌<◌, ◌==◌, ◌||◌, ◌≡◌, ◌≤◌, ◌∷◌, IfErr, IfOk, IsSome, OnErr, OnOk, Some, if◌then◌else◌, length, nat_lt, not, option_map, string_bytes, suc};
 ghost use Rattle.std.specs.Option.{option_copied};
 ghost use Rattle.toml_edit_model.specs.ArrayCalls.{inserted_at, removed_at, value_at};
-ghost use Rattle.toml_edit_model.specs.Comments.{after_first_line, first_line, side_text};
-ghost use Rattle.toml_edit_model.specs.Print.{element_default, one_space};
+ghost use Rattle.toml_edit_model.specs.Comments.{side_text};
+ghost use Rattle.toml_edit_model.specs.Print.{element_default};
 ghost use Rattle.toml_edit_model.specs.Slots.{changed_at};
 ghost use Rattle.toml_edit_model.specs.Tree.{owned};
-ghost use Rattle.toml_edit_tree.specs.ArrayLines.{before_comma, behind, beside, comment_behind, decor_taken, fields_inserted, fields_removed, first_newline, followed, gap, gap_after, gap_before, gap_left, indent_of, is_last, line_inserted, line_removed, line_start, line_taken, own_comment, own_lines, placed, prefix_at, redecorated, suffix_at, with_last_gap, with_prefix, without_suffix};
+ghost use Rattle.toml_edit_tree.specs.ArrayLines.{before_comma, behind, beside, broken_gap, comment_behind, decor_taken, fields_inserted, fields_removed, fields_with_gap, followed, gap, gap_left, gaps_around, gaps_on_line, indent_at, is_broken, is_closed, is_last, last_suffix, line_begun, line_inserted, line_removed, line_taken, newline_at, newline_in, placed, prefix_at, redecorated, suffix_at, with_gap, with_prefix, with_suffix};
 ghost use Rattle.toml_edit_tree.specs.Elements.{array_fields, items_of};
 ghost use Rattle.toml_edit_tree.specs.View.{array_view, value_view};
 
 use super::line_texts::{
-    before_line, decor_taken, default_before, first_newline, indent_of, is_broken, joined, left_of,
-    line_start, own_comment, text_of, text_or,
+    after_newline, broken_gap, decor_taken, default_before, first_newline, gaps_of_line, is_broken,
+    is_white, joined, left_of, takes_lines, text_above, text_after, text_of, text_or,
 };
 use crate::array::Array;
 use crate::value::Value;
-use toml_edit_repr::comments::{first_comment, split_first_line};
+use toml_edit_repr::comments::{first_comment, split_white};
 use toml_edit_repr::{Decor, Mem, RawString};
 use toml_edit_slots::NoMemory;
 
 impl Array {
-    /// Adds `value` at the end, on a line of its own if the array has one value a line.
+    /// Adds `value` at the end, on a line of its own if the last value begins a line.
     ///
     /// This is [`insert_line`](Self::insert_line) at the end. The comment after the last value
     /// stays on its line.
@@ -45,13 +45,19 @@ impl Array {
 
     /// Inserts `value` before what is at index `at`, on a line of its own if that begins a line.
     ///
-    /// The value is indented as the one at `at`, or at the end as the last one. A comment after the
-    /// value before it stays on the line of that one, and the lines above the value at `at` stay
-    /// above it. The decor of `value` is replaced: a comment in its suffix is put after its comma,
-    /// and the lines in its prefix, such as comments above it, are kept.
+    /// The comments of `value` are kept, and the rest of its decor is replaced. The lines of its
+    /// prefix are put above it, but for a first one that is only white space. A comment at the
+    /// beginning of its suffix is put after its comma, and the lines after that below it, but for
+    /// those that are only white space. Comments of other values stay where they are.
     ///
-    /// Where other values are on the same line, `value` is put between them, and its comment is
-    /// dropped. A contract requires that `at` is at most [`len`](Self::len).
+    /// These lines and `value` are indented as the line of the value at `at` or, at the end, of the
+    /// last one: by four spaces if that line begins with the bracket. They end in CR LF if the first
+    /// newline of the text at `at`, or else of the array, is one, and otherwise in LF.
+    ///
+    /// Where other values are on the same line, `value` is put between them if it has no comments
+    /// and no lines above it. Otherwise it gets lines of its own, and what follows begins another:
+    /// inserting `9` with the suffix ` # c` into `[1, 2]` at the end gives `[1, 2,`, `9 # c` and `]`
+    /// on three lines. A contract requires that `at` is at most [`len`](Self::len).
     ///
     /// # Errors
     ///
@@ -65,7 +71,7 @@ impl Array {
         ensures err { OnErr result (array_view self.new ≡ array_view self.old) }
         ensures back { IfErr result (λ refused. refused.0 ≡ value) }
     {
-        match gaps_beside(self, at, value.decor()) {
+        match gaps_around(self, at, value.decor()) {
             Ok((before, after)) => insert_between(self, at, value, before, after),
             Err(_) => Err(NoMemory(value)),
         }
@@ -73,10 +79,11 @@ impl Array {
 
     /// Removes the value at index `at` and returns it, with its line if it is alone there.
     ///
-    /// The value then has its comment in its suffix, and the comments above it in its prefix. The
-    /// comments of the values before and after it stay. Where other values are on the same line, it
-    /// is returned with its decor, and a comment at the end of the line stays. A contract requires
-    /// that there is a value: check with [`get`](Self::get).
+    /// The value then has its comment in its suffix, and the comments above it in its prefix, so
+    /// [`insert_line`](Self::insert_line) puts them back. The comments of the values before and
+    /// after it stay. Where other values are on the same line, it is returned with its decor, and a
+    /// comment at the end of the line stays. A contract requires that there is a value: check with
+    /// [`get`](Self::get).
     ///
     /// # Errors
     ///
@@ -114,41 +121,56 @@ impl Array {
 }
 
 /// Returns the gaps before and after a value that is put at the place with this decor.
-fn gaps_beside(array: &Array, at: usize, decor: &Decor) -> Mem<(RawString, RawString)>
+fn gaps_around(array: &Array, at: usize, decor: &Decor) -> Mem<(RawString, RawString)>
     ensures before { IfOk result (λ gaps. gaps.0
-        ≡ owned (gap_before at decor.now (array_fields array.now) (items_of array.now))) }
+        ≡ owned (gaps_around at decor.now (array_fields array.now) (items_of array.now)).0) }
     ensures after { IfOk result (λ gaps. gaps.1
-        ≡ owned (gap_after at decor.now (array_fields array.now) (items_of array.now))) }
-{
-    let gap = gap_at(array, at)?;
-    if is_broken(gap.as_str()) {
-        gaps_of_line(array, at, gap.as_str(), decor)
-    } else {
-        gaps_on_line(array, at, gap.as_str())
-    }
-}
-
-/// Returns the gaps before and after a value that gets a line of its own.
-fn gaps_of_line(array: &Array, at: usize, gap: &str, decor: &Decor) -> Mem<(RawString, RawString)>
-    ensures before { IfOk result (λ gaps. gaps.0
-        ≡ owned (first_line gap.now ++ own_lines decor.now (first_newline gap.now
-        ++ indent_of (beside at (items_of array.now))))) }
-    ensures after { IfOk result (λ gaps. gaps.1
-        ≡ owned (own_comment decor.now ++ after_first_line gap.now)) }
+        ≡ owned (gaps_around at decor.now (array_fields array.now) (items_of array.now)).1) }
 {
     let alloc = *array.values.allocator();
-    let before = before_line(alloc, gap, decor, indent_of(beside(array, at)))?;
-    let after = joined(alloc, own_comment(decor), split_first_line(gap).1, "")?;
-    Ok((RawString::from(before), RawString::from(after)))
+    let gap = gap_at(array, at)?;
+    let newline = newline_at(array, gap.as_str());
+    let indent = indent_at(array, at);
+    let above = text_above(alloc, decor, newline, indent)?;
+    let after = text_after(alloc, decor, newline, indent)?;
+    if takes_lines(gap.as_str(), above.as_str(), after.as_str()) {
+        let next = next_indent(array, at, indent);
+        let broken = broken_gap(alloc, gap.as_str(), newline, next)?;
+        let gaps = gaps_of_line(
+            alloc,
+            broken.as_str(),
+            above.as_str(),
+            after.as_str(),
+            newline,
+            indent,
+        )?;
+        return Ok(gaps);
+    }
+    let start = joined(alloc, newline, indent, "")?;
+    let gaps = gaps_on_line(array, at, gap.as_str(), start.as_str())?;
+    Ok(gaps)
 }
 
-/// Returns the gaps before and after a value where the gap at the place has no newline.
-fn gaps_on_line(array: &Array, at: usize, gap: &str) -> Mem<(RawString, RawString)>
+/// Returns the indentation of what is at the place, which is empty for the closing bracket.
+fn next_indent<'a>(array: &Array, at: usize, indent: &'a str) -> &'a str
+    ensures { result.now
+        ≡ (if not (nat_lt at (length (items_of array.now))) then [] else indent.entry.now) }
+{
+    if at < array.len() { indent } else { "" }
+}
+
+/// Returns the gaps before and after a value that goes on the line of its neighbours, or at the end
+/// after `start` if the last value begins a line.
+fn gaps_on_line(
+    array: &Array,
+    at: usize,
+    gap: &str,
+    start: &str,
+) -> Mem<(RawString, RawString)>
     ensures before { IfOk result (λ gaps. gaps.0
-        ≡ owned (if nat_lt at (length (items_of array.now)) then gap.now
-        else line_start (beside at (items_of array.now)) (element_default (at == 0)))) }
+        ≡ owned (gaps_on_line at gap.now start.now (items_of array.now)).0) }
     ensures after { IfOk result (λ gaps. gaps.1
-        ≡ owned (if nat_lt at (length (items_of array.now)) then one_space else gap.now)) }
+        ≡ owned (gaps_on_line at gap.now start.now (items_of array.now)).1) }
 {
     let alloc = *array.values.allocator();
     if at < array.len() {
@@ -156,9 +178,94 @@ fn gaps_on_line(array: &Array, at: usize, gap: &str) -> Mem<(RawString, RawStrin
         let after = RawString::from_text(alloc, " ")?;
         return Ok((before, after));
     }
-    let before = line_start(alloc, beside(array, at), default_before(at))?;
+    let before = RawString::from_text(alloc, end_start(array, at, start))?;
     let after = RawString::from_text(alloc, gap)?;
-    Ok((RawString::from(before), after))
+    Ok((before, after))
+}
+
+/// Returns `start` if the value beside the place begins a line, or else what is before a value.
+fn end_start<'a>(array: &Array, at: usize, start: &'a str) -> &'a str
+    ensures { result.now
+        ≡ (if is_broken (side_text (prefix_at (beside at (items_of array.now)) (items_of array.now)))
+        then start.entry.now else element_default (at == 0)) }
+{
+    if is_broken(text_of(prefix_at(array, beside(array, at)))) {
+        start
+    } else {
+        default_before(at)
+    }
+}
+
+/// Returns the place of the value there, or else that of the last one.
+fn beside(array: &Array, at: usize) -> usize
+    ensures { result ≡ beside at (items_of array.now) }
+{
+    let count = array.len();
+    if at < count {
+        at
+    } else {
+        count.saturating_sub(1)
+    }
+}
+
+/// Returns the newline for lines where this gap is.
+fn newline_at(array: &Array, gap: &str) -> &'static str
+    ensures { result.now ≡ newline_at gap.now (array_fields array.now) (items_of array.now) }
+{
+    if is_broken(gap) {
+        return first_newline(gap);
+    }
+    let count = array.len();
+    for at in 0..count {
+        let before = text_of(prefix_at(array, at));
+        if is_broken(before) {
+            return first_newline(before);
+        }
+    }
+    newline_at_end(array)
+}
+
+/// Returns the first newline after the last value.
+fn newline_at_end(array: &Array) -> &'static str
+    ensures { result.now ≡ newline_in (last_suffix (array_fields array.now) (items_of array.now)
+        ∷ side_text (Some (array_fields array.now).trailing) ∷ []) }
+{
+    let suffix = last_suffix(array);
+    let trailing = text_of(Some(array.trailing()));
+    if is_broken(suffix) {
+        first_newline(suffix)
+    } else if is_broken(trailing) {
+        first_newline(trailing)
+    } else {
+        "\n"
+    }
+}
+
+/// Returns the white space that begins the line of the value beside the place.
+fn indent_at(array: &Array, at: usize) -> &str
+    ensures { result.now ≡ indent_at at (items_of array.now) }
+{
+    match line_begun(array, beside(array, at)) {
+        Some(line) => split_white(line).0,
+        None => "    ",
+    }
+}
+
+/// Returns what is after the last newline before the value at the place.
+fn line_begun(array: &Array, at: usize) -> Option<&str>
+    ensures { option_copied result ≡ line_begun at (items_of array.now) }
+{
+    let mut place = at;
+    'places: while place > 0 {
+        if let Some(line) = after_newline(text_of(prefix_at(array, place))) {
+            return Some(line);
+        }
+        place -= 1;
+        if let Some(line) = after_newline(text_of(suffix_at(array, place))) {
+            return Some(line);
+        }
+    }
+    after_newline(text_of(prefix_at(array, 0)))
 }
 
 /// Inserts the value between two gaps in place of the one at the place.
@@ -171,63 +278,74 @@ fn insert_between(
 ) -> Result<(), NoMemory<Value>>
     requires { at ≤ length (items_of array.old) }
     ensures items { OnOk result (items_of array.new
-        ≡ changed_at (suc at) (with_prefix after) (inserted_at at (placed before (value_view value))
+        ≡ with_gap (suc at) after (array_fields array.old)
+        (inserted_at at (placed before (value_view value))
         (followed at (array_fields array.old) (items_of array.old)))) }
     ensures fields { OnOk result (array_fields array.new
-        ≡ with_last_gap (not (nat_lt at (length (items_of array.old)))) after
-        (array_fields array.old)) }
+        ≡ fields_with_gap (suc at) after (array_fields array.old)
+        (inserted_at at (placed before (value_view value))
+        (followed at (array_fields array.old) (items_of array.old)))) }
     ensures err { OnErr result (array_view array.new ≡ array_view array.old) }
     ensures back { IfErr result (λ refused. refused.0 ≡ value) }
 {
     array.insert(at, value)?;
-    put_gaps(array, at, before, after);
-    Ok(())
-}
-
-/// Sets the gaps before and after the value at the place.
-fn put_gaps(array: &mut Array, at: usize, before: RawString, after: RawString)
-    requires { at < length (items_of array.old) }
-    ensures items { items_of array.new
-        ≡ changed_at (suc at) (with_prefix after) (changed_at at (placed before)
-        (if (array_fields array.old).comma || not (is_last at (items_of array.old))
-        then items_of array.old
-        else changed_at (at - 1) without_suffix (items_of array.old))) }
-    ensures fields { array_fields array.new
-        ≡ with_last_gap (is_last at (items_of array.old)) after (array_fields array.old) }
-{
-    let count = array.len();
-    let next = at + 1;
-    let is_last = next >= count;
-    follow(array, at, is_last);
+    follow(array, at);
     place(array, at, before);
-    put_after(array, next, is_last, after);
+    put_gap(array, at + 1, after);
+    Ok(())
 }
 
 /// Removes what is after the value before the last one, unless a comma ends the array: one follows
 /// that value now.
-fn follow(array: &mut Array, at: usize, is_last: bool)
+fn follow(array: &mut Array, at: usize)
     ensures items { items_of array.new
-        ≡ (if (array_fields array.old).comma || not is_last then items_of array.old
-        else changed_at (at - 1) without_suffix (items_of array.old)) }
+        ≡ (if (array_fields array.old).comma || not (is_last at (items_of array.old))
+        then items_of array.old
+        else changed_at (at - 1) (with_suffix (owned [])) (items_of array.old)) }
     ensures fields { array_fields array.new ≡ array_fields array.old }
 {
-    if is_last && !array.trailing_comma() {
-        clear_suffix(array, at.saturating_sub(1));
+    if at + 1 >= array.len() && !array.trailing_comma() {
+        set_suffix(array, at.saturating_sub(1), RawString::default());
     }
 }
 
 /// Sets the gap at the place, which may be the last one.
-fn put_after(array: &mut Array, at: usize, is_last: bool, after: RawString)
+fn put_gap(array: &mut Array, at: usize, gap: RawString)
     ensures items { items_of array.new
-        ≡ (if is_last then items_of array.old
-        else changed_at at (with_prefix after) (items_of array.old)) }
-    ensures fields { array_fields array.new ≡ with_last_gap is_last after (array_fields array.old) }
+        ≡ with_gap at gap (array_fields array.old) (items_of array.old) }
+    ensures fields { array_fields array.new
+        ≡ fields_with_gap at gap (array_fields array.old) (items_of array.old) }
 {
-    if is_last {
-        array.set_trailing(after);
+    if at < array.len() {
+        set_prefix(array, at, gap);
     } else {
-        set_prefix(array, at, after);
+        put_last_gap(array, gap);
     }
+}
+
+/// Sets what is before the closing bracket: the suffix of the last value, unless a comma follows
+/// it.
+fn put_last_gap(array: &mut Array, gap: RawString)
+    ensures items { items_of array.new
+        ≡ (if is_closed (array_fields array.old) (items_of array.old) then items_of array.old
+        else changed_at (length (items_of array.old) - 1) (with_suffix gap) (items_of array.old)) }
+    ensures fields { array_fields array.new ≡ record (array_fields array.old) { trailing =
+        (if is_closed (array_fields array.old) (items_of array.old) then gap else owned []) } }
+{
+    if is_closed(array) {
+        array.set_trailing(gap);
+    } else {
+        let last = array.len().saturating_sub(1);
+        set_suffix(array, last, gap);
+        array.set_trailing(RawString::default());
+    }
+}
+
+/// Returns whether a comma or no value is before the last gap.
+fn is_closed(array: &Array) -> bool
+    ensures { result ≡ is_closed (array_fields array.now) (items_of array.now) }
+{
+    array.trailing_comma() || array.get(array.len().saturating_sub(1)).is_none()
 }
 
 /// Returns the gap that the value at the place leaves, and the decor that it takes with it.
@@ -246,9 +364,26 @@ fn parts_removed(array: &Array, at: usize) -> Mem<(RawString, Option<Decor>)>
     let before = gap_at(array, at)?;
     let after = gap_at(array, at + 1)?;
     let suffix = before_comma(array, at, is_last);
-    let left = left_of(alloc, before.as_str(), after.as_str(), is_last)?;
+    let rest = left_of(alloc, before.as_str(), after.as_str(), is_last)?;
+    let left = joined(alloc, suffix_left(array, at), rest.as_str(), "")?;
     let decor = decor_taken(alloc, before.as_str(), suffix, after.as_str())?;
-    Ok((left, decor))
+    Ok((RawString::from(left), decor))
+}
+
+/// Returns what is after the value before the one at the place, if the array then ends in it.
+fn suffix_left(array: &Array, at: usize) -> &str
+    requires { at < length (items_of array.now) }
+    ensures { result.now ≡ (if is_last at (items_of array.now)
+        then last_suffix (array_fields array.now) (removed_at at (items_of array.now)) else []) }
+{
+    let count = array.len();
+    if at + 1 < count {
+        return "";
+    }
+    if array.trailing_comma() || at == 0 {
+        return "";
+    }
+    text_of(suffix_at(array, at - 1))
 }
 
 /// Returns what is between the value at the place and the comma after it.
@@ -268,14 +403,12 @@ fn take_between(array: &mut Array, at: usize, left: RawString) -> Value
     requires { IsSome (value_at at (items_of array.old)) }
     ensures value { Some (value_view result) ≡ value_at at (items_of array.old) }
     ensures items { items_of array.new
-        ≡ changed_at at (with_prefix left) (removed_at at (items_of array.old)) }
+        ≡ with_gap at left (array_fields array.old) (removed_at at (items_of array.old)) }
     ensures fields { array_fields array.new
-        ≡ with_last_gap (is_last at (items_of array.old)) left (array_fields array.old) }
+        ≡ fields_with_gap at left (array_fields array.old) (removed_at at (items_of array.old)) }
 {
-    let count = array.len();
-    let is_last = at + 1 >= count;
     let value = array.remove(at);
-    put_after(array, at, is_last, left);
+    put_gap(array, at, left);
     value
 }
 
@@ -301,13 +434,14 @@ fn set_prefix(array: &mut Array, at: usize, prefix: RawString)
     }
 }
 
-/// Removes what is between the value at the place, if there is one, and the comma after it.
-fn clear_suffix(array: &mut Array, at: usize)
-    ensures items { items_of array.new ≡ changed_at at without_suffix (items_of array.old) }
+/// Sets the suffix of the value at the place, if there is one.
+fn set_suffix(array: &mut Array, at: usize, suffix: RawString)
+    ensures items { items_of array.new
+        ≡ changed_at at (with_suffix suffix) (items_of array.old) }
     ensures fields { array_fields array.new ≡ array_fields array.old }
 {
     if let Some(value) = array.get_mut(at) {
-        value.decor_mut().set_suffix(RawString::default());
+        value.decor_mut().set_suffix(suffix);
     }
 }
 
@@ -343,25 +477,12 @@ fn gap_at(array: &Array, at: usize) -> Mem<String>
 
 /// Returns what is between the last value and the closing bracket, if no comma ends the array.
 fn last_suffix(array: &Array) -> &str
-    ensures { result.now ≡ (if (array_fields array.now).comma then []
-        else side_text (suffix_at (length (items_of array.now) - 1) (items_of array.now))) }
+    ensures { result.now ≡ last_suffix (array_fields array.now) (items_of array.now) }
 {
     if array.trailing_comma() {
         return "";
     }
     text_of(suffix_at(array, array.len().saturating_sub(1)))
-}
-
-/// Returns what is before the value beside the place: the one there, or the last.
-fn beside(array: &Array, at: usize) -> &str
-    ensures { result.now ≡ beside at (items_of array.now) }
-{
-    let count = array.len();
-    if at < count {
-        text_of(prefix_at(array, at))
-    } else {
-        text_of(prefix_at(array, count.saturating_sub(1)))
-    }
 }
 
 /// Returns what is after the value at the place and its comma.
@@ -374,8 +495,8 @@ fn behind(array: &Array, at: usize) -> &str
     if next < count {
         return text_of(prefix_at(array, next));
     }
-    let suffix = text_of(suffix_at(array, at));
-    if array.trailing_comma() || !is_broken(suffix) {
+    let suffix = last_suffix(array);
+    if is_white(suffix) {
         text_of(Some(array.trailing()))
     } else {
         suffix

@@ -1,25 +1,25 @@
--- The value at the place has its decor with an empty suffix.
-use Rattle.std.proofs.Common.{◌≡◌, [], Some, ap, sym, ◌∙◌, rules}
+-- The value at the place has its decor with another suffix.
+use Rattle.std.proofs.Common.{◌≡◌, Some, ap, sym, ◌∙◌, rules}
 use Rattle.toml_edit_model.specs.ArrayCalls.{written_at}
 use Rattle.toml_edit_model.specs.Conversions.{with_decor}
-use Rattle.toml_edit_model.specs.Tree.{Decor, node_decor, owned}
+use Rattle.toml_edit_model.specs.Tree.{Decor, node_decor}
 use Rattle.toml_edit_tree.specs.Casts.{decorated}
 use Rattle.toml_edit_tree.specs.Elements.{items_of}
 use Rattle.toml_edit_tree.specs.View.{value_view}
 use Rattle.toml_edit_tree.proofs.ArrayLineLaws.{decor-none, decor-written}
 use Rattle.toml_edit_tree.proofs.ViewLaws.{decorated-view}
-use Rattle.toml_edit_tree.proofs.array.lines.clear_suffix.Goals as goal
+use Rattle.toml_edit_tree.proofs.array.lines.set_suffix.Goals as goal
 
 pub returns-in-Some-clause-items : goal.returns-in-Some-clause-items
 returns-in-Some-clause-items c =
     let xs = items_of c.args.array.now in
     let v = c.in-Some.value.now in
     let d = c.set_suffix.new.self in
-    let is : d ≡ record (node_decor (value_view v)) { suffix = Some (owned []) } = search rules in
+    let is : d ≡ record (node_decor (value_view v)) { suffix = Some c.args.suffix } = search rules in
     c.in-Some.ensures.leaves (decorated d v)
     ∙ ap (λ n. written_at c.args.at n xs) (decorated-view d v ∙ ap (λ (d : Decor). with_decor d (value_view v)) is)
-    ∙ decor-written (λ d. record d { suffix = Some (owned []) }) xs c.args.at (value_view v) (sym c.in-Some.ensures.value)
+    ∙ decor-written (λ d. record d { suffix = Some c.args.suffix }) xs c.args.at (value_view v) (sym c.in-Some.ensures.value)
 
 pub returns-in_default-clause-items : goal.returns-in_default-clause-items
 returns-in_default-clause-items c =
-    decor-none (λ d. record d { suffix = Some (owned []) }) (items_of c.args.array.now) c.args.at (search rules)
+    decor-none (λ d. record d { suffix = Some c.args.suffix }) (items_of c.args.array.now) c.args.at (search rules)
