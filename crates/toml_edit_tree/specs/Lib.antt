@@ -29,3 +29,5 @@ pub mod Indexed
 pub mod Faults
 -- Cited inside this crate alone.
 pub mod Converting
+-- Worked examples: nothing cites them.
+pub mod examples

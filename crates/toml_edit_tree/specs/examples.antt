@@ -1,0 +1,2 @@
+-- Worked examples of the lines of an array.
+pub mod ArrayLines
