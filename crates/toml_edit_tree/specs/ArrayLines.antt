@@ -11,7 +11,7 @@ use Rattle.toml_edit_model.specs.Conversions.{with_decor}
 use Rattle.toml_edit_model.specs.Mode.{exact}
 use Rattle.toml_edit_model.specs.Print.{element_default, one_space}
 use Rattle.toml_edit_model.specs.Slots.{changed_at}
-use Rattle.toml_edit_model.specs.Text.{Text, carriage_return, has_byte, is_empty, line_feed, newline, one}
+use Rattle.toml_edit_model.specs.Text.{Text, carriage_return, has_byte, is_empty, line_feed, newline}
 use Rattle.toml_edit_model.specs.Tree.{ArrayFields, Decor, Node, Raw, node_decor, owned, shown_side}
 use Rattle.toml_edit_model.specs.Trivia.{is_blank}
 
@@ -123,13 +123,17 @@ indent_at i xs = take_while is_blank (unwrap_or (line_begun (beside i xs) xs) (c
 
 -- ---- insertion
 
--- the lines of a value's prefix, but for a first one that is white space: the rest of another line
-abbrev pub whole_lines : List Text → List Text
-whole_lines [] = []
-whole_lines (l ∷ ls) = filter is_broken (if is_empty (line_words l) then ls else l ∷ ls)
+-- a line of a value's prefix that is kept: the last one has no newline, and is mostly indentation
+abbrev pub is_kept : Text → Bool
+is_kept l = is_broken l || not (is_empty (line_words l))
+
+-- these lines, but for a first one that is white space: the rest of another line
+abbrev pub lines_above : List Text → List Text
+lines_above [] = []
+lines_above (l ∷ ls) = filter is_kept (if is_empty (line_words l) then ls else l ∷ ls)
 
 abbrev pub text_above : Text → Text → Decor → Text
-text_above end indent d = flat_map (moved end indent) (whole_lines (lines (side_text d.prefix)))
+text_above end indent d = flat_map (moved end indent) (lines_above (lines (side_text d.prefix)))
 
 -- the comment after a value, which goes after its comma, and the lines below that have text
 abbrev pub own_comment : Decor → Text

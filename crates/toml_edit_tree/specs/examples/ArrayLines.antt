@@ -37,6 +37,11 @@ comment_first : text_above (codes "\r\n") (codes "\t") (owned_decor (codes " # o
     ≡ codes "\r\n\t# one"
 comment_first = refl
 
+-- a last line with text is kept too
+comment_last : text_above newline (codes "  ") (owned_decor (codes "\n  # one\n# two") [])
+    ≡ codes "\n  # one\n  # two"
+comment_last = refl
+
 none_above : text_above newline (codes "  ") (owned_decor (codes "\n  ") (codes " # c\n"))
     ∷ text_above newline (codes "  ") unset ∷ []
     ≡ [] ∷ [] ∷ []

@@ -8,7 +8,7 @@ ghost use Rattle.toml_edit_model.specs.Print.{element_default};
 ghost use Rattle.toml_edit_model.specs.Text.{is_empty};
 ghost use Rattle.toml_edit_model.specs.Tree.{owned, shown_side};
 ghost use Rattle.toml_edit_model.specs.Trivia.{is_blank};
-ghost use Rattle.toml_edit_tree.specs.ArrayLines.{after_newline, commented_line, decor_taken, first_newline, is_broken, left_of, line_words, moved, own_comment, takes_lines, text_above, text_after, whole_lines};
+ghost use Rattle.toml_edit_tree.specs.ArrayLines.{after_newline, commented_line, decor_taken, first_newline, is_broken, is_kept, left_of, line_words, lines_above, moved, own_comment, takes_lines, text_above, text_after};
 
 use std::alloc::Global;
 use toml_edit_repr::comments::{first_comment, split_first_line, split_line, split_white};
@@ -54,19 +54,14 @@ pub(crate) fn takes_lines(gap: &str, above: &str, after: &str) -> bool
 }
 
 /// Returns the lines of the prefix of a value, each on a new line.
-pub(crate) fn text_above(
-    alloc: Global,
-    decor: &Decor,
-    newline: &str,
-    indent: &str,
-) -> Mem<String>
+pub(crate) fn text_above(alloc: Global, decor: &Decor, newline: &str, indent: &str) -> Mem<String>
     ensures { IfOk result (λ text. string_bytes text
         ≡ text_above newline.now indent.now decor.now) }
 {
     let mut above = String::new(alloc);
     let mut rest = own_lines(text_of(decor.prefix()));
     'lines: while let Some((line, after)) = split_line(rest) {
-        add_whole_line(&mut above, line, newline, indent)?;
+        add_kept_line(&mut above, line, newline, indent)?;
         rest = after;
     }
     Ok(above)
@@ -74,7 +69,7 @@ pub(crate) fn text_above(
 
 /// Returns the text without its first line, if that is white space.
 fn own_lines(text: &str) -> &str
-    ensures { filter is_broken (lines result.now) ≡ whole_lines (lines text.now) }
+    ensures { filter is_kept (lines result.now) ≡ lines_above (lines text.now) }
 {
     if let Some((line, after)) = split_line(text) {
         if line_words(line).is_empty() {
@@ -84,24 +79,26 @@ fn own_lines(text: &str) -> &str
     text
 }
 
-/// Adds the line on a new one, if it has a newline.
-fn add_whole_line(text: &mut String, line: &str, newline: &str, indent: &str) -> Mem<()>
+/// Adds the line on a new one, unless it is indentation.
+fn add_kept_line(text: &mut String, line: &str, newline: &str, indent: &str) -> Mem<()>
     ensures { OnOk result (string_bytes text.new ≡ string_bytes text.old
-        ++ (if is_broken line.now then moved newline.now indent.now line.now else [])) }
+        ++ (if is_kept line.now then moved newline.now indent.now line.now else [])) }
 {
-    if is_broken(line) {
+    if is_kept(line) {
         add_moved(text, line, newline, indent)?;
     }
     Ok(())
 }
 
+/// Returns whether a line of a prefix is more than indentation.
+fn is_kept(line: &str) -> bool
+    ensures { result ≡ is_kept line.now }
+{
+    is_broken(line) || !line_words(line).is_empty()
+}
+
 /// Returns the comment after a value, and each further line of its suffix on a new line.
-pub(crate) fn text_after(
-    alloc: Global,
-    decor: &Decor,
-    newline: &str,
-    indent: &str,
-) -> Mem<String>
+pub(crate) fn text_after(alloc: Global, decor: &Decor, newline: &str, indent: &str) -> Mem<String>
     ensures { IfOk result (λ text. string_bytes text
         ≡ text_after newline.now indent.now decor.now) }
 {

@@ -51,8 +51,9 @@ impl Array {
     /// those that are only white space. Comments of other values stay where they are.
     ///
     /// These lines and `value` are indented as the line of the value at `at` or, at the end, of the
-    /// last one: by four spaces if that line begins with the bracket. They end in CR LF if the first
-    /// newline of the text at `at`, or else of the array, is one, and otherwise in LF.
+    /// last one: by four spaces if that line begins with the bracket or inside a value. They end in
+    /// CR LF if the first newline of the text before `at`, or else before the values and the
+    /// bracket, is one, and otherwise in LF.
     ///
     /// Where other values are on the same line, `value` is put between them if it has no comments
     /// and no lines above it. Otherwise it gets lines of its own, and what follows begins another:
@@ -161,12 +162,7 @@ fn next_indent<'a>(array: &Array, at: usize, indent: &'a str) -> &'a str
 
 /// Returns the gaps before and after a value that goes on the line of its neighbours, or at the end
 /// after `start` if the last value begins a line.
-fn gaps_on_line(
-    array: &Array,
-    at: usize,
-    gap: &str,
-    start: &str,
-) -> Mem<(RawString, RawString)>
+fn gaps_on_line(array: &Array, at: usize, gap: &str, start: &str) -> Mem<(RawString, RawString)>
     ensures before { IfOk result (λ gaps. gaps.0
         ≡ owned (gaps_on_line at gap.now start.now (items_of array.now)).0) }
     ensures after { IfOk result (λ gaps. gaps.1
@@ -329,8 +325,10 @@ fn put_last_gap(array: &mut Array, gap: RawString)
     ensures items { items_of array.new
         ≡ (if is_closed (array_fields array.old) (items_of array.old) then items_of array.old
         else changed_at (length (items_of array.old) - 1) (with_suffix gap) (items_of array.old)) }
-    ensures fields { array_fields array.new ≡ record (array_fields array.old) { trailing =
-        (if is_closed (array_fields array.old) (items_of array.old) then gap else owned []) } }
+    ensures fields { array_fields array.new ≡ record (array_fields array.old) {
+      trailing =
+          (if is_closed (array_fields array.old) (items_of array.old) then gap else owned []);
+    } }
 {
     if is_closed(array) {
         array.set_trailing(gap);

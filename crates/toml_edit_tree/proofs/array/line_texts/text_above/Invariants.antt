@@ -5,13 +5,13 @@ use denote.Text.{Utf8}
 use denote.Shadow.{shadow}
 use Rattle.toml_edit_model.specs.Comments.{lines}
 use Rattle.toml_edit_model.specs.Text.{is_empty}
-use Rattle.toml_edit_tree.specs.ArrayLines.{is_broken, line_words, moved, text_above}
+use Rattle.toml_edit_tree.specs.ArrayLines.{is_kept, moved, text_above}
 use Rattle.toml_edit_tree.proofs.array.line_texts.text_above.Given as goal
 
 abbrev pub invariant-lines : goal.invariant-lines
 invariant-lines l =
     shadow (Utf8 l.rest)
-    × (string_bytes l.above ++ flat_map (moved l.fn.newline l.fn.indent) (filter is_broken (lines l.rest)) ≡ text_above l.fn.newline l.fn.indent l.fn.decor)
+    × (string_bytes l.above ++ flat_map (moved l.fn.newline l.fn.indent) (filter is_kept (lines l.rest)) ≡ text_above l.fn.newline l.fn.indent l.fn.decor)
 
 abbrev pub decreases-lines : goal.decreases-lines
 decreases-lines l = length l.rest
