@@ -26,7 +26,10 @@ pub fn remove_member(array: &mut Array, member: &str) -> Result<bool>
     ensures err { OnErr result (array_view array.new ≡ array_view array.old) }
 {
     for at in 0..array.len() {
-        if array.get(at).and_then(|value| value.as_str()) == Some(member) {
+        let Some(value) = array.get(at) else {
+            continue;
+        };
+        if value.as_str() == Some(member) {
             drop(array.remove_line(at)?);
             return Ok(true);
         }
