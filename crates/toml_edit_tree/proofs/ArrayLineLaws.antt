@@ -8,15 +8,15 @@ use Rattle.std.proofs.lemmas.Option.{none-some, same_Some}
 use Rattle.std.proofs.lemmas.Str.{len_utf8_ascii}
 use Rattle.std.proofs.lemmas.Str.Pattern.{NoCharPasses-char}
 use Rattle.std.specs.Option.{option_or}
-use Rattle.toml_edit_model.specs.Comments.{side_text}
+use Rattle.toml_edit_model.specs.Comments.{after_first_line, first_line, side_text}
 use Rattle.std.specs.Str.{NoCharPasses}
 use Rattle.std.specs.Str.Pattern.{RFindsChar, SplitsAroundMatch}
 use Rattle.toml_edit_model.specs.ArrayCalls.{inserted_at, removed_at, value_at, written_at}
 use Rattle.toml_edit_model.specs.Conversions.{with_decor}
 use Rattle.toml_edit_model.specs.Slots.{changed_at}
 use Rattle.toml_edit_model.specs.Text.{Text, one}
-use Rattle.toml_edit_model.specs.Tree.{Decor, Node, Raw, owned, nothing, leaf, list, inline, table, tables, is_value_node, node_decor}
-use Rattle.toml_edit_tree.specs.ArrayLines.{after_newline, first_newline, is_broken, is_last, line_begun, newline_in, placed, prefix_at, prefixes, suffix_at, with_suffix}
+use Rattle.toml_edit_model.specs.Tree.{ArrayFields, Decor, Node, Raw, owned, nothing, leaf, list, inline, table, tables, is_value_node, node_decor}
+use Rattle.toml_edit_tree.specs.ArrayLines.{after_newline, broken_gap, first_newline, followed, gap, gaps_around, gaps_on_line, indent_at, is_broken, is_last, line_begun, newline_at, newline_in, placed, prefix_at, prefixes, suffix_at, takes_lines, text_above, text_after, with_suffix}
 
 abbrev without_suffix : Node → Node
 without_suffix = with_suffix (owned [])
@@ -166,6 +166,35 @@ inserted-between comma before v xs i l =
           ]
     ]
 
+-- the value that is inserted is there
+pub placed-within : (before : Raw) (v : Node) (f : ArrayFields) (xs : List Node) (i : ℕ) → i ≤ length xs
+    → i < length (inserted_at i (placed before v) (followed i f xs))
+placed-within before v f xs i l =
+    let long : length (followed i f xs) ≡ length xs =
+    length-followed (with_suffix (owned [])) (f.comma || nat_lt i (length xs)) xs (length xs - 1) in
+    let more = length-insert (followed i f xs) i (placed before v) (subst (λ n. i ≤ n) (sym long) l) in
+    omega (arith, long, more, l)
+
+-- ---- the gaps of a value with lines of its own
+
+pub around-lines : (i : ℕ) (d : Decor) (f : ArrayFields) (xs : List Node)
+    → takes_lines (gap i f xs) (text_above (newline_at (gap i f xs) f xs) (indent_at i xs) d) (text_after (newline_at (gap i f xs) f xs) (indent_at i xs) d) ≡ true
+    → gaps_around i d f xs
+    ≡ (
+      first_line (broken_gap (gap i f xs) (newline_at (gap i f xs) f xs) (indent_at i xs) (not (nat_lt i (length xs))))
+          ++ (text_above (newline_at (gap i f xs) f xs) (indent_at i xs) d ++ (newline_at (gap i f xs) f xs ++ indent_at i xs)),
+      text_after (newline_at (gap i f xs) f xs) (indent_at i xs) d
+          ++ after_first_line (broken_gap (gap i f xs) (newline_at (gap i f xs) f xs) (indent_at i xs) (not (nat_lt i (length xs)))),
+    )
+around-lines i d f xs is =
+    let g = gap i f xs in
+    let end = newline_at g f xs in
+    let indent = indent_at i xs in
+    let above = text_above end indent d in
+    let after = text_after end indent d in
+    let h = broken_gap g end indent (not (nat_lt i (length xs))) in
+    ap (λ (b : Bool). if b then (first_line h ++ (above ++ (end ++ indent)), after ++ after_first_line h) else gaps_on_line i g (end ++ indent) xs) is
+
 -- ---- the last newline
 
 none-after : (t : Text) → ((k : ℕ) → k < length t → get_or t k 0 ≡ 10 → ⊥) → after_newline t ≡ None
@@ -195,7 +224,8 @@ after-is t (Some x) (i, j, found, front, back, le, at, long) =
 -- ---- the value before the last one, once that is removed
 
 value-before : (xs : List Node) (i j : ℕ) → j < i → value_at j (removed_at i xs) ≡ value_at j xs
-value-before [] i j l = refl
+value-before [] zero j l = absurd (omega (arith, l))
+value-before [] (suc i) j l = refl
 value-before (x ∷ xs) zero j l = absurd (omega (arith, l))
 value-before (x ∷ xs) (suc i) zero l = refl
 value-before (x ∷ xs) (suc i) (suc j) l = value-before xs i j (omega (arith, l))
@@ -221,6 +251,10 @@ suffix-removed xs (suc i) l e =
     ap (λ k. side_text (suffix_at k (removed_at (suc i) xs))) at
     ∙ ap (λ o. side_text (option_and_then (λ n. (node_decor n).suffix) o)) (value-before xs (suc i) i (omega arith))
     ∙ ap (λ k. side_text (suffix_at k xs)) back
+    ∙ ap (λ (b : Bool). if b then [] else side_text (suffix_at (suc i - 1) xs)) (sym (not-zero i))
+  where
+    not-zero : (n : ℕ) → (suc n == 0) ≡ false
+    not-zero n = grind (arith, nat_tests)
 
 -- ---- the first newline
 
@@ -238,7 +272,10 @@ pub newline-next : (xs : List Node) (ts : List Text) (i : ℕ) → i < length xs
 newline-next [] ts i l = absurd (omega (arith, l))
 newline-next (x ∷ xs) ts zero l =
     ap (λ t. if is_broken t then first_newline t else newline_in (prefixes xs ++ ts)) (sym (prefix-is x))
-newline-next (x ∷ xs) ts (suc i) l = newline-next xs ts i (omega (arith, l))
+newline-next (x ∷ xs) ts (suc i) l =
+    let next : suc (i + 1) ≡ suc i + 1 = omega arith in
+    newline-next xs ts i (omega (arith, l))
+    ∙ ap (λ k. if is_broken (side_text (prefix_at i xs)) then first_newline (side_text (prefix_at i xs)) else newline_in (drop k (prefixes (x ∷ xs)) ++ ts)) next
 
 pub newline-end : (xs : List Node) (ts : List Text) (i : ℕ) → length xs ≤ i → newline_in (drop i (prefixes xs) ++ ts) ≡ newline_in ts
 newline-end [] ts zero l = refl

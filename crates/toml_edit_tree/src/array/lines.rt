@@ -287,21 +287,40 @@ fn insert_between(
     array.insert(at, value)?;
     follow(array, at);
     place(array, at, before);
-    put_gap(array, at + 1, after);
+    put_gap_after(array, at, after);
     Ok(())
 }
 
 /// Removes what is after the value before the last one, unless a comma ends the array: one follows
 /// that value now.
 fn follow(array: &mut Array, at: usize)
+    requires { at < length (items_of array.old) }
     ensures items { items_of array.new
         ≡ (if (array_fields array.old).comma || not (is_last at (items_of array.old))
         then items_of array.old
         else changed_at (at - 1) (with_suffix (owned [])) (items_of array.old)) }
     ensures fields { array_fields array.new ≡ array_fields array.old }
 {
-    if at + 1 >= array.len() && !array.trailing_comma() {
+    let count = array.len();
+    if at + 1 >= count && !array.trailing_comma() {
         set_suffix(array, at.saturating_sub(1), RawString::default());
+    }
+}
+
+/// Sets the gap after the value at the place.
+fn put_gap_after(array: &mut Array, at: usize, gap: RawString)
+    requires { at < length (items_of array.old) }
+    ensures items { items_of array.new
+        ≡ with_gap (suc at) gap (array_fields array.old) (items_of array.old) }
+    ensures fields { array_fields array.new
+        ≡ fields_with_gap (suc at) gap (array_fields array.old) (items_of array.old) }
+{
+    let count = array.len();
+    let next = at + 1;
+    if next < count {
+        set_prefix(array, next, gap);
+    } else {
+        put_last_gap(array, gap);
     }
 }
 
