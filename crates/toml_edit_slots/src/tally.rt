@@ -10,18 +10,28 @@ const GROUP: usize = 9;
 /// The groups of a region.
 const REGION: usize = 8;
 
+/// The classes of keys in a region. A group tells its keys apart by their tags, and those of one tag
+/// are of one class.
+const CLASSES: usize = 2;
+
 /// The fewest regions that are counted. In a smaller map a search is short anyway.
 const FEWEST: usize = 4;
 
 /// The most keys whose search begins in one region, of the 96 that its groups can hold.
 ///
-/// So no search passes more than some sixty groups. By chance fewer than one region in a million has
-/// so many, as there are at most 40 on average.
-const MOST: u8 = 76;
+/// So no search passes more than some eighty groups. By chance fewer than one region in a million has
+/// more, as there are at most 44 on average.
+const MOST: u8 = 80;
+
+/// The most of these that are of one class.
+///
+/// By chance fewer than one region in a million has more, as there are at most 22 on average.
+const MOST_ALIKE: u8 = 48;
 
 /// How many keys of a map begin their search in each region, which is a run of groups.
 #[derive(Debug, Drop)]
 pub(crate) struct Tally {
+    // A count for each class of each region.
     counts: Vec<u8>,
 }
 
@@ -38,7 +48,7 @@ impl Tally {
     pub(crate) fn resize(&mut self, room: usize) -> Mem<()> {
         let regions = room / (GROUP * REGION);
         if regions >= FEWEST {
-            self.counts.resize(regions, 0)?;
+            self.counts.resize(regions * CLASSES, 0)?;
         }
         Ok(())
     }
@@ -52,35 +62,47 @@ impl Tally {
             *count = 0;
         }
         for key in map.keys() {
-            let region = self.region_of(key);
-            self.count(region);
+            let class = self.class_of(key);
+            self.count(class);
         }
     }
 
-    /// Returns the region where the search for the key begins, or 0 if none are counted.
+    /// Returns the class of the key in the region where the search for it begins, or 0 if none are
+    /// counted.
     #[inline(always)]
-    pub(crate) fn region_of<K: Hash>(&self, key: &K) -> usize {
+    pub(crate) fn class_of<K: Hash>(&self, key: &K) -> usize {
         if self.counts.is_empty() {
             return 0;
         }
-        // The map takes the lower half of this, of which the last bits tell the group.
+        // The map takes the lower half of this, of which the last bits tell the group, and the first
+        // eight the tag.
         let hash = BuildHasherDefault::<FoldHasher>::new().hash_one(key);
-        (hash ^ (hash >> 32)) as usize / REGION & (self.counts.len() - 1)
+        let hash = (hash ^ (hash >> 32)) as usize;
+        // The last bit of the tag is left out, since the map takes a tag of 0 for 1.
+        let class = (hash >> 25) % CLASSES;
+        (hash / REGION * CLASSES + class) & (self.counts.len() - 1)
     }
 
-    /// Returns whether no further key may begin in the region.
+    /// Returns whether no further key of the class may begin in its region.
     #[inline(always)]
-    pub(crate) fn is_full(&self, region: usize) -> bool {
-        match self.counts.get(region) {
-            Some(count) => *count >= MOST,
-            None => false,
+    pub(crate) fn is_full(&self, class: usize) -> bool {
+        let alike = self.counted(class);
+        alike >= MOST_ALIKE || alike.saturating_add(self.counted(class ^ 1)) >= MOST
+    }
+
+    /// Returns how many keys of the class are counted.
+    #[inline(always)]
+    fn counted(&self, class: usize) -> u8 {
+        match self.counts.get(class) {
+            Some(count) => *count,
+            None => 0,
         }
     }
 
-    /// Counts one key more in the region.
+    /// Counts one key more of the class.
     #[inline(always)]
-    pub(crate) fn count(&mut self, region: usize) {
-        if let Some(count) = self.counts.get_mut(region) {
+    pub(crate) fn count(&mut self, class: usize) {
+        if let Some(count) = self.counts.get_mut(class) {
             *count = count.saturating_add(1);
         }
     }
