@@ -172,7 +172,7 @@ fn put<K: Eq + Hash + Drop>(
         drop(key);
         return Err(Full::Memory);
     }
-    let class = tally.class_of(&key);
+    let class = tally.class_of(map, &key);
     if tally.is_full(class) {
         drop(key);
         return Err(Full::Crowded);

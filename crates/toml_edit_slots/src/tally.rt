@@ -1,7 +1,7 @@
 //! How many keys of a map begin their search close together.
 use indexmap::IndexMap;
 use std::alloc::Global;
-use std::hash::{BuildHasher, BuildHasherDefault, FoldHasher, Hash};
+use std::hash::{BuildHasher, Hash};
 use toml_edit_repr::Mem;
 
 /// The entries that a group of the map holds on average when the map is full.
@@ -62,7 +62,7 @@ impl Tally {
             *count = 0;
         }
         for key in map.keys() {
-            let class = self.class_of(key);
+            let class = self.class_of(map, key);
             self.count(class);
         }
     }
@@ -70,14 +70,14 @@ impl Tally {
     /// Returns the class of the key in the region where the search for it begins, or 0 if none are
     /// counted.
     #[inline(always)]
-    pub(crate) fn class_of<K: Hash>(&self, key: &K) -> usize {
+    pub(crate) fn class_of<K: Eq + Hash>(&self, map: &IndexMap<K, usize>, key: &K) -> usize {
+        // Before the test, so that the map need not hash a short name again. The map takes the lower half
+        // of this, of which the last bits tell the group, and the first eight the tag.
+        let hash = map.hasher().hash_one(key);
+        let hash = (hash ^ (hash >> 32)) as usize;
         if self.counts.is_empty() {
             return 0;
         }
-        // The map takes the lower half of this, of which the last bits tell the group, and the first
-        // eight the tag.
-        let hash = BuildHasherDefault::<FoldHasher>::new().hash_one(key);
-        let hash = (hash ^ (hash >> 32)) as usize;
         // The last bit of the tag is left out, since the map takes a tag of 0 for 1.
         let class = (hash >> 25) % CLASSES;
         (hash / REGION * CLASSES + class) & (self.counts.len() - 1)
@@ -87,7 +87,7 @@ impl Tally {
     #[inline(always)]
     pub(crate) fn is_full(&self, class: usize) -> bool {
         let alike = self.counted(class);
-        alike >= MOST_ALIKE || alike.saturating_add(self.counted(class ^ 1)) >= MOST
+        alike >= MOST_ALIKE || self.counted(class ^ 1) >= MOST - alike
     }
 
     /// Returns how many keys of the class are counted.

@@ -1,7 +1,6 @@
 -- A name and zeros after it.
-use Rattle.std.proofs.Common.{rules, ◌≡◌, ◌-◌, ◌≤◌, ◌++◌, false, true, Some, refl, sym, ap, ◌∙◌, length, drop, replicate, slice_get}
-use Rattle.toml_edit_model.specs.Text.{Text}
-use Rattle.toml_edit_slots.specs.ShortNames.{filled, is_short, is_zero, trimmed}
+use Rattle.std.proofs.Common.{rules, ◌≡◌, ◌-◌, ◌≤◌, false, true, Some, refl, sym, ap, ◌∙◌, length, slice_get}
+use Rattle.toml_edit_slots.specs.ShortNames.{filled, is_short, is_zero}
 use Rattle.toml_edit_slots.proofs.ShortLaws.{is-filled, length-filled, short, trimmed-filled}
 use Rattle.toml_edit_slots.proofs.short_name.ShortName.new.Goals as goal
 
