@@ -125,10 +125,20 @@ impl Hashed {
         ensures { (t : Text) → place_of self.new t
             ≡ if same_text name.now t then None else place_of self.old t }
     {
-        let _ = match ShortName::new(name) {
-            Some(short) => self.short.swap_remove(&short),
-            None => self.long.swap_remove(name),
-        };
+        match ShortName::new(name) {
+            Some(short) => {
+                let class = self.short_tally.class_of(&self.short, &short);
+                if self.short.swap_remove(&short).is_some() {
+                    self.short_tally.take_off(class);
+                }
+            }
+            None => {
+                let class = self.long_tally.class_of(&self.long, name);
+                if self.long.swap_remove(name).is_some() {
+                    self.long_tally.take_off(class);
+                }
+            }
+        }
     }
 
     /// Removes the names that are not at their places among these slots. Allocates nothing.

@@ -28,11 +28,18 @@ const MOST: u8 = 80;
 /// By chance fewer than one region in a million has more, as there are at most 22 on average.
 const MOST_ALIKE: u8 = 48;
 
+/// The most keys that are taken off before the map is built anew.
+///
+/// A group that was full once makes a search go on even if it is empty. So a search may pass some
+/// twenty groups more.
+const MOST_TAKEN_OFF: u8 = 240;
+
 /// How many keys of a map begin their search in each region, which is a run of groups.
 #[derive(Debug, Drop)]
 pub(crate) struct Tally {
     // A count for each class of each region.
     counts: Vec<u8>,
+    taken_off: u8,
 }
 
 impl Tally {
@@ -40,12 +47,14 @@ impl Tally {
     pub(crate) fn new(alloc: Global) -> Tally {
         Tally {
             counts: Vec::new(alloc),
+            taken_off: 0,
         }
     }
 
-    /// Makes this the tally of an empty map with room for so many keys. Fails only if memory runs
-    /// out.
+    /// Makes this the tally of an empty map that was built with room for so many keys. Fails only if
+    /// memory runs out.
     pub(crate) fn resize(&mut self, room: usize) -> Mem<()> {
+        self.taken_off = 0;
         let regions = room / (GROUP * REGION);
         if regions >= FEWEST {
             self.counts.resize(regions * CLASSES, 0)?;
@@ -70,7 +79,11 @@ impl Tally {
     /// Returns the class of the key in the region where the search for it begins, or 0 if none are
     /// counted.
     #[inline(always)]
-    pub(crate) fn class_of<K: Eq + Hash>(&self, map: &IndexMap<K, usize>, key: &K) -> usize {
+    pub(crate) fn class_of<K: Eq + Hash, Q: Hash + Drop>(
+        &self,
+        map: &IndexMap<K, usize>,
+        key: Q,
+    ) -> usize {
         // Before the test, so that the map need not hash a short name again. The map takes the lower half
         // of this, of which the last bits tell the group, and the first eight the tag.
         let hash = map.hasher().hash_one(key);
@@ -87,6 +100,10 @@ impl Tally {
     #[inline(always)]
     pub(crate) fn is_full(&self, class: usize) -> bool {
         let alike = self.counted(class);
+        // With so few, the others would have to be more than `MOST_ALIKE`.
+        if alike < MOST - MOST_ALIKE {
+            return false;
+        }
         alike >= MOST_ALIKE || self.counted(class ^ 1) >= MOST - alike
     }
 
@@ -104,6 +121,17 @@ impl Tally {
     pub(crate) fn count(&mut self, class: usize) {
         if let Some(count) = self.counts.get_mut(class) {
             *count = count.saturating_add(1);
+        }
+    }
+
+    /// Takes one key of the class off, unless too many were.
+    pub(crate) fn take_off(&mut self, class: usize) {
+        if self.taken_off >= MOST_TAKEN_OFF {
+            return;
+        }
+        if let Some(count) = self.counts.get_mut(class) {
+            *count = count.saturating_sub(1);
+            self.taken_off += 1;
         }
     }
 }
