@@ -8,10 +8,11 @@ of `src/places.rt`, which take the map's place once too many names begin their s
 - colliding: all names have one hash. Names of at most 16 bytes cannot have one: a hundred of them begin in one region, so that the trees
   take over, and the others are found there.
 - descending: the same names in falling order of their second hashes, so that each goes before all that the trees have.
-- full regions: the regions of one half of the map are next to each other, and filled with as many names as they may have. All names of a
-  region begin in its last group, or in its first one, so that those of two regions begin side by side.
-- one tag: tables of 1,000 keys with such regions, where all names have the tag by which a group tells its names apart.
-- small tables: tables of 80 keys, for which nothing is counted, whose names all begin in one group and have one tag.
+- full regions: the regions of one half of the map are next to each other, and filled with as many names as they may have, half of them of
+  each class. All names of a region begin in its last group, or in its first one, so that those of two regions begin side by side.
+- one tag: tables of 768 keys with such regions, where all names have the tag by which a group tells its names apart, and so are of one
+  class.
+- small tables: tables of 88 keys, for which nothing is counted, whose names all begin in one group and have one tag.
 
 All names of an attack begin alike, up to their last 8 bytes. None are made to agree in the second hash: by hashing names until two agree,
 8,000 such pairs take some 2^39 names. Where names agree in it too, the later ones are found in a second tree, of the names themselves.
@@ -25,7 +26,7 @@ instructions of ordinary ones.
     bench/collisions.py [PROGRAM]
     bench/collisions.py --text TABLE ATTACK SIZE COUNT     prints one of the texts
 """
-import concurrent.futures, os, re, subprocess, sys, tempfile
+import concurrent.futures, itertools, os, re, subprocess, sys, tempfile
 
 TOP = os.path.dirname(os.path.dirname(os.path.abspath(__file__)))
 COUNTS = (8000, 16000)
@@ -39,9 +40,9 @@ FIRST, TIMES, WORD = 0x243F6A8885A308D3, 0x9E3779B97F4A7C15, 2**64 - 1
 # The second hasher, SipHash-1-3 with both keys 0, as std's `DefaultHasher` has it: its first state.
 SECOND = (0x736F6D6570736575, 0x646F72616E646F6D, 0x6C7967656E657261, 0x7465646279746573)
 
-# The longest name that is hashed with zeros after it; the groups of a region; the most names of a region; the most slots of a table that
-# has no tally; and the slots for which a map has a group.
-SHORT, REGION, MOST, UNCOUNTED, LOAD = 16, 8, 76, 80, 5
+# The longest name that is hashed with zeros after it; the groups of a region; the most names of a region, and of a class of it; the most
+# slots of a table that has no tally; the slots for which a map has a group; and the bit of the hash that tells the class.
+SHORT, REGION, MOST, MOST_ALIKE, UNCOUNTED, LOAD, CLASS = 16, 8, 80, 48, 88, 5.5, 1 << 25
 
 
 def folded(a, b):
@@ -166,15 +167,27 @@ def groups_for(count):
     return groups
 
 
-def full_regions(count, size, tag=0):
-    """Names of which each region has as many as it may, from the first region on: two regions' names begin in two groups side by side."""
-    groups = groups_for(count)
-    wanted = {region * REGION + (0 if region % 2 else REGION - 1): MOST for region in range(-(-count // MOST))}
-    return chosen(count, b"q" * (size - 8), groups - 1 | tag << 24, wanted)
+def in_regions(count, size, tags, most):
+    """Names of which each region has so many with each of the tags, from the first region on: two regions' names begin in two groups side
+    by side. The tags are what is wanted of the hash, by the mask of the bits that are looked at."""
+    mask, wanted = tags
+    groups, prefix = groups_for(count), b"q" * (size - 8)
+    starts = [region * REGION + (0 if region % 2 else REGION - 1) for region in range(-(-count // (most * len(wanted))))]
+    names = chosen(count, prefix, groups - 1 | mask, {start | tag: most for start in starts for tag in wanted})
+    # The regions take turns, so that those of a smaller map have no more.
+    hashed, of = hasher(prefix), {start: [] for start in starts}
+    for name in names:
+        of[hashed(name[-8:]) & groups - 1].append(name)
+    return [name for turn in itertools.zip_longest(*of.values()) for name in turn if name]
+
+
+def full_regions(count, size):
+    return in_regions(count, size, (CLASS, (0, CLASS)), MOST // 2)
 
 
 def one_tag(count, size):
-    return in_tables(full_regions(1000, size, 0xFF), count)
+    # So few regions are one half of those that a map has for these names.
+    return in_tables(in_regions(16 * MOST_ALIKE, size, (0xFF << 24, (0xFF << 24,)), MOST_ALIKE), count)
 
 
 def small_tables(count, size):

@@ -1,4 +1,5 @@
 -- Lemmas of this crate.
+pub mod ShortLaws
 pub mod HashedLaws
 pub mod IndexLaws
 pub mod PlacesLaws

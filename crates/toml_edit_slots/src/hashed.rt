@@ -3,6 +3,7 @@ ghost use Rattle.std.specs.Prelude.{◌≡◌, None, Some, [], true, false, is_s
 ghost use Rattle.indexmap.specs.IndexMap.{get, IsUnchanged, Updates};
 ghost use Rattle.toml_edit_model.specs.Text.{Text, same_text};
 ghost use Rattle.toml_edit_slots.specs.ShortNames.{is_short};
+ghost use Rattle.toml_edit_slots.specs.SlotIndex.{stands_at};
 ghost use Rattle.toml_edit_slots.specs.Slots.{names};
 ghost use Rattle.toml_edit_slots.specs.Hashed.{HasSame, IsHashed, IsHashedBefore, IsPutAt, place_of};
 
@@ -124,10 +125,20 @@ impl Hashed {
         ensures { (t : Text) → place_of self.new t
             ≡ if same_text name.now t then None else place_of self.old t }
     {
-        let _ = match ShortName::new(name) {
-            Some(short) => self.short.swap_remove(&short),
-            None => self.long.swap_remove(name),
-        };
+        match ShortName::new(name) {
+            Some(short) => {
+                let class = self.short_tally.class_of(&self.short, &short);
+                if self.short.swap_remove(&short).is_some() {
+                    self.short_tally.take_off(class);
+                }
+            }
+            None => {
+                let class = self.long_tally.class_of(&self.long, name);
+                if self.long.swap_remove(name).is_some() {
+                    self.long_tally.take_off(class);
+                }
+            }
+        }
     }
 
     /// Removes the names that are not at their places among these slots. Allocates nothing.
@@ -135,10 +146,21 @@ impl Hashed {
         requires { IsHashedBefore (length entries.now) self.old (names entries.now) }
         ensures { IsHashed self.new (names entries.now) }
     {
-        self.short.retain(|name, place| is_named_at(entries, *place, name.as_bytes()));
+        self.short
+            .retain(|name, place| is_short_at(entries, *place, name));
         self.long.retain(|name, place| is_named_at(entries, *place, name.as_bytes()));
         self.short_tally.recount(&self.short);
         self.long_tally.recount(&self.long);
+    }
+}
+
+/// Returns whether the slot at the place has the name.
+fn is_short_at<T>(entries: &[Slot<T>], at: usize, name: &ShortName) -> bool
+    ensures { result ≡ stands_at (names entries.now) at name.now }
+{
+    match entries.get(at) {
+        Some(slot) => name.is(slot.key.get()),
+        None => false,
     }
 }
 
@@ -160,8 +182,8 @@ fn put<K: Eq + Hash + Drop>(
         drop(key);
         return Err(Full::Memory);
     }
-    let region = tally.region_of(&key);
-    if tally.is_full(region) {
+    let class = tally.class_of(map, &key);
+    if tally.is_full(class) {
         drop(key);
         return Err(Full::Crowded);
     }
@@ -169,13 +191,13 @@ fn put<K: Eq + Hash + Drop>(
         return Err(Full::Memory);
     };
     if old.is_none() {
-        tally.count(region);
+        tally.count(class);
     }
     Ok(old)
 }
 
-/// Makes room for more keys, in a table of which five ninths are used: for `more` where that is known
-/// to be many, or else for twice as many groups. Fails only if memory runs out.
+/// Makes room for more keys, in a table of which 11 of 18 places are used: for `more` where that is
+/// known to be many, or else for twice as many groups. Fails only if memory runs out.
 #[cold]
 #[inline(never)]
 fn grow<K: Eq + Hash>(map: &mut IndexMap<K, usize>, tally: &mut Tally, more: usize) -> Mem<()>
@@ -184,11 +206,15 @@ fn grow<K: Eq + Hash>(map: &mut IndexMap<K, usize>, tally: &mut Tally, more: usi
     let len = map.len();
     let known = more > len;
     let all = len.saturating_add(if known { more } else { 1 });
-    let wide = all.saturating_mul(9) / 5;
+    let wide = all.saturating_mul(18).saturating_add(10) / 11;
     map.reserve(wide.saturating_sub(len))?;
     let room = map.capacity();
     // Keys and places need less than the groups, which stay as many if that is more than half.
-    let used = if known { all } else { room / 9 * 5 };
+    let used = if known {
+        all
+    } else {
+        room.saturating_mul(11) / 18
+    };
     map.shrink_to(used.max(room / 2 + 1));
     tally.resize(room)?;
     tally.recount(map);

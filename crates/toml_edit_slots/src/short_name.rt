@@ -1,9 +1,9 @@
 //! Short names, which are stored in place.
-ghost use Rattle.std.specs.Prelude.{◌≡◌, ◌∷◌, [], None, Some, if◌then◌else◌};
+ghost use Rattle.std.specs.Prelude.{◌≡◌, ◌∷◌, [], ◌-◌, None, Some, if◌then◌else◌, length, slice_get};
 ghost use Rattle.std.specs.Cmp.{partial_equiv_from_equiv};
 ghost use Rattle.std.specs.Cmp.Lexicographic.{bytes_decides, nat_list_eq_equiv};
 ghost use Rattle.toml_edit_model.specs.Text.{same_text};
-ghost use Rattle.toml_edit_slots.specs.ShortNames.{filled, is_short};
+ghost use Rattle.toml_edit_slots.specs.ShortNames.{filled, is_short, is_zero};
 
 use std::hash::{Hash, Hasher};
 use std::marker::Model;
@@ -11,34 +11,42 @@ use std::marker::Model;
 /// The most bytes of a short name.
 const MOST: usize = 16;
 
-/// A name of at most 16 bytes, with zeros after it.
+/// A name of at most 16 bytes, with zeros after it. It does not end in one itself, so its length need
+/// not be stored.
 ///
 /// All 16 bytes are hashed, so a hash takes one multiplication, whatever the name. (The kit's
 /// `ArrayString` is hashed as a text of any length, and takes 24 bytes.)
 #[derive(Debug, Clone, Copy)]
 pub(crate) struct ShortName {
-    len: u8,
     bytes: [u8; MOST],
 }
 
 impl Model for ShortName {
-    ghost use Rattle.std.specs.Prelude.{◌≡◌, ◌≤◌, length, take};
-    ghost use Rattle.std.proofs.Common.{length-take-le, sym, subst};
+    ghost use Rattle.std.specs.Prelude.{◌≡◌, true, length};
+    ghost use Rattle.std.proofs.Common.{sym};
     ghost use Rattle.toml_edit_model.specs.Text.{Text};
-    ghost use Rattle.toml_edit_slots.specs.ShortNames.{filled};
+    ghost use Rattle.toml_edit_slots.specs.ShortNames.{filled, is_short, trimmed};
 
     ghost Value = { Text };
 
-    ghost view = { λ a. take a.len a.bytes };
+    ghost view = { λ a. trimmed a.bytes };
 
-    ghost invariant = { λ a. (a.len ≤ 16) × (length a.bytes ≡ 16) × (a.bytes ≡ filled (take a.len a.bytes)) };
+    ghost invariant = { λ a. (length a.bytes ≡ 16) × (a.bytes ≡ filled (trimmed a.bytes)) × (is_short (trimmed a.bytes) ≡ true) };
 
-    ghost inverse = { λ t. record { len = length t; bytes = filled t } };
+    ghost inverse = { λ t. record { bytes = filled t } };
 
-    ghost inverse_ok = { λ a h i. record {
-      len = length-take-le a.len a.bytes (subst (λ n. a.len ≤ n) (sym h.1) h.0) i;
-      bytes = sym h.2 i;
-    } };
+    ghost inverse_ok = { λ a h i. record { bytes = sym h.1 i } };
+}
+
+/// Returns whether the last of the bytes is a zero.
+#[inline(always)]
+fn ends_in_zero(bytes: &[u8]) -> bool
+    ensures { result ≡ is_zero (slice_get bytes.now (length bytes.now - 1)) }
+{
+    match bytes.last() {
+        Some(byte) => *byte == 0,
+        None => false,
+    }
 }
 
 impl ShortName {
@@ -47,23 +55,24 @@ impl ShortName {
     pub(crate) fn new(name: &str) -> Option<ShortName>
         ensures { result ≡ if is_short name.now then Some name.now else None }
     {
-        let len = name.len();
-        if len > MOST {
+        let name = name.as_bytes();
+        if ends_in_zero(name) || name.len() > MOST {
             return None;
         }
         let mut bytes = [0; MOST];
-        bytes[..len].copy_from_slice(name.as_bytes());
-        Some(ShortName {
-            len: len as u8,
-            bytes,
-        })
+        bytes[..name.len()].copy_from_slice(name);
+        Some(ShortName { bytes })
     }
 
-    /// Returns the bytes of the name.
-    pub(crate) fn as_bytes(&self) -> &[u8]
-        ensures { result.now ≡ self.now }
+    /// Returns whether this is the name.
+    pub(crate) fn is(&self, name: &str) -> bool
+        ensures { result ≡ same_text name.now self.now }
     {
-        &self.bytes[..self.len as usize]
+        let _ = &self.bytes;
+        match ShortName::new(name) {
+            Some(short) => short == *self,
+            None => false,
+        }
     }
 }
 
@@ -75,7 +84,7 @@ impl PartialEq for ShortName {
     // Not inlined: the compiler would take the 16 bytes apart for each look-up.
     #[inline(never)]
     fn eq(&self, other: &ShortName) -> bool {
-        self.len == other.len && self.bytes == other.bytes
+        self.bytes == other.bytes
     }
 }
 

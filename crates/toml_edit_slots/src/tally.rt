@@ -1,7 +1,7 @@
 //! How many keys of a map begin their search close together.
 use indexmap::IndexMap;
 use std::alloc::Global;
-use std::hash::{BuildHasher, BuildHasherDefault, FoldHasher, Hash};
+use std::hash::{BuildHasher, Hash};
 use toml_edit_repr::Mem;
 
 /// The entries that a group of the map holds on average when the map is full.
@@ -10,19 +10,36 @@ const GROUP: usize = 9;
 /// The groups of a region.
 const REGION: usize = 8;
 
+/// The classes of keys in a region. A group tells its keys apart by their tags, and those of one tag
+/// are of one class.
+const CLASSES: usize = 2;
+
 /// The fewest regions that are counted. In a smaller map a search is short anyway.
 const FEWEST: usize = 4;
 
 /// The most keys whose search begins in one region, of the 96 that its groups can hold.
 ///
-/// So no search passes more than some sixty groups. By chance fewer than one region in a million has
-/// so many, as there are at most 40 on average.
-const MOST: u8 = 76;
+/// So no search passes more than some eighty groups. By chance fewer than one region in a million has
+/// more, as there are at most 44 on average.
+const MOST: u8 = 80;
+
+/// The most of these that are of one class.
+///
+/// By chance fewer than one region in a million has more, as there are at most 22 on average.
+const MOST_ALIKE: u8 = 48;
+
+/// The most keys that are taken off before the map is built anew.
+///
+/// A group that was full once makes a search go on even if it is empty. So a search may pass some
+/// twenty groups more.
+const MOST_TAKEN_OFF: u8 = 240;
 
 /// How many keys of a map begin their search in each region, which is a run of groups.
 #[derive(Debug, Drop)]
 pub(crate) struct Tally {
+    // A count for each class of each region.
     counts: Vec<u8>,
+    taken_off: u8,
 }
 
 impl Tally {
@@ -30,15 +47,17 @@ impl Tally {
     pub(crate) fn new(alloc: Global) -> Tally {
         Tally {
             counts: Vec::new(alloc),
+            taken_off: 0,
         }
     }
 
-    /// Makes this the tally of an empty map with room for so many keys. Fails only if memory runs
-    /// out.
+    /// Makes this the tally of an empty map that was built with room for so many keys. Fails only if
+    /// memory runs out.
     pub(crate) fn resize(&mut self, room: usize) -> Mem<()> {
+        self.taken_off = 0;
         let regions = room / (GROUP * REGION);
         if regions >= FEWEST {
-            self.counts.resize(regions, 0)?;
+            self.counts.resize(regions * CLASSES, 0)?;
         }
         Ok(())
     }
@@ -52,36 +71,67 @@ impl Tally {
             *count = 0;
         }
         for key in map.keys() {
-            let region = self.region_of(key);
-            self.count(region);
+            let class = self.class_of(map, key);
+            self.count(class);
         }
     }
 
-    /// Returns the region where the search for the key begins, or 0 if none are counted.
+    /// Returns the class of the key in the region where the search for it begins, or 0 if none are
+    /// counted.
     #[inline(always)]
-    pub(crate) fn region_of<K: Hash>(&self, key: &K) -> usize {
+    pub(crate) fn class_of<K: Eq + Hash, Q: Hash + Drop>(
+        &self,
+        map: &IndexMap<K, usize>,
+        key: Q,
+    ) -> usize {
+        // Before the test, so that the map need not hash a short name again. The map takes the lower half
+        // of this, of which the last bits tell the group, and the first eight the tag.
+        let hash = map.hasher().hash_one(key);
+        let hash = (hash ^ (hash >> 32)) as usize;
         if self.counts.is_empty() {
             return 0;
         }
-        // The map takes the lower half of this, of which the last bits tell the group.
-        let hash = BuildHasherDefault::<FoldHasher>::new().hash_one(key);
-        (hash ^ (hash >> 32)) as usize / REGION & (self.counts.len() - 1)
+        // The last bit of the tag is left out, since the map takes a tag of 0 for 1.
+        let class = (hash >> 25) % CLASSES;
+        (hash / REGION * CLASSES + class) & (self.counts.len() - 1)
     }
 
-    /// Returns whether no further key may begin in the region.
+    /// Returns whether no further key of the class may begin in its region.
     #[inline(always)]
-    pub(crate) fn is_full(&self, region: usize) -> bool {
-        match self.counts.get(region) {
-            Some(count) => *count >= MOST,
-            None => false,
+    pub(crate) fn is_full(&self, class: usize) -> bool {
+        let alike = self.counted(class);
+        // With so few, the others would have to be more than `MOST_ALIKE`.
+        if alike < MOST - MOST_ALIKE {
+            return false;
+        }
+        alike >= MOST_ALIKE || self.counted(class ^ 1) >= MOST - alike
+    }
+
+    /// Returns how many keys of the class are counted.
+    #[inline(always)]
+    fn counted(&self, class: usize) -> u8 {
+        match self.counts.get(class) {
+            Some(count) => *count,
+            None => 0,
         }
     }
 
-    /// Counts one key more in the region.
+    /// Counts one key more of the class.
     #[inline(always)]
-    pub(crate) fn count(&mut self, region: usize) {
-        if let Some(count) = self.counts.get_mut(region) {
+    pub(crate) fn count(&mut self, class: usize) {
+        if let Some(count) = self.counts.get_mut(class) {
             *count = count.saturating_add(1);
+        }
+    }
+
+    /// Takes one key of the class off, unless too many were.
+    pub(crate) fn take_off(&mut self, class: usize) {
+        if self.taken_off >= MOST_TAKEN_OFF {
+            return;
+        }
+        if let Some(count) = self.counts.get_mut(class) {
+            *count = count.saturating_sub(1);
+            self.taken_off += 1;
         }
     }
 }
