@@ -21,18 +21,22 @@ fn write_value(out: &mut String, value: &Value, levels: usize) -> Result<()> {
         Value::Boolean(flag) => write!(out, "{}", flag.value())?,
         Value::Datetime(datetime) => write!(out, "\"{}\"", datetime.value())?,
         Value::Array(array) => {
-            for (at, value) in array.iter().enumerate() {
-                out.push(if at == 0 { '[' } else { ',' })?;
+            let mut start = '[';
+            for value in array.iter() {
+                out.push(start)?;
                 write_value(out, value, levels - 1)?;
+                start = ',';
             }
             out.push_str(if array.is_empty() { "[]" } else { "]" })?;
         }
         Value::InlineTable(table) => {
-            for (at, (key, value)) in table.iter().enumerate() {
-                out.push(if at == 0 { '{' } else { ',' })?;
+            let mut start = '{';
+            for (key, value) in table.iter() {
+                out.push(start)?;
                 write_text(out, key)?;
                 out.push(':')?;
                 write_value(out, value, levels - 1)?;
+                start = ',';
             }
             out.push_str(if table.is_empty() { "{}" } else { "}" })?;
         }
