@@ -13,10 +13,12 @@ use crate::get::get;
 use crate::read::read_document;
 use crate::words::Command;
 use std::alloc::Global;
+use std::mem;
 use toml_edit::{DocumentMut, ParseOptions, PrintFault};
 use toml_edit_stream::{Input, Output};
 
-/// Reads the document from the input, by these options, and runs the command on it.
+/// Reads the document from the input, by these options, and runs the command on it. The memory of
+/// the document is not given back.
 pub fn perform<I: Input, O: Output>(
     alloc: Global,
     command: Command,
@@ -41,7 +43,8 @@ pub fn perform<I: Input, O: Output>(
     match read_document(alloc, input, options) {
         Ok(mut document) => {
             let done = act(alloc, command, &mut document, output);
-            drop(document);
+            // The process ends after this, which frees the document in one step.
+            mem::forget(document);
             done
         }
         Err(error) => {

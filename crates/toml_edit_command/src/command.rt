@@ -16,7 +16,7 @@ use toml_edit_stream::{Input, Output};
 const DONE: u8 = 0;
 
 /// Runs the command that the words say, which are the arguments after the program's name, and
-/// returns the exit status.
+/// returns the exit status. The memory of the document is not given back: the process is to end.
 ///
 /// Each command reads the input to its end:
 ///
@@ -29,7 +29,8 @@ const DONE: u8 = 0;
 ///
 /// In an array, or an array of tables, a segment of PATH is the decimal number of an element.
 ///
-/// The word `strict` before the command reads the input and VALUE as TOML 1.0 instead of 1.1.
+/// The word `strict` before the command reads the input and VALUE as TOML 1.0 instead of 1.1. That
+/// `set` and `remove` then write TOML 1.0 is not proved.
 ///
 /// The word `exact` before both keeps the line endings of the input: `print`, `set` and `remove`
 /// write its carriage returns (CR), and no newline after the last statement if the input has none.
