@@ -281,7 +281,15 @@ def print_beside(program, others):
         print("| %s |" % " | ".join(means))
 
 
+def print_help():
+    print(__doc__.strip() + "\n\nThe kinds of documents:\n")
+    for name, make in KINDS:
+        print("- %s: %s" % (name, " ".join(make.__doc__.split())))
+
+
 def main():
+    if "--help" in sys.argv:
+        return print_help()
     words = [word for word in sys.argv[1:] if word != "--memory"]
     others = []
     while words[:1] == ["--beside"] and words[1:]:
