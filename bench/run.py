@@ -30,15 +30,22 @@ def prose(size):
     return "".join(text)[:-1] + "\n"
 
 
+def grown(size, make):
+    """The texts that `make` gives for 0, 1, 2, .. until they reach the size."""
+    parts, at, number = [], 0, 0
+    while at < size:
+        parts.append(make(number))
+        at += len(parts[-1])
+        number += 1
+    return "".join(parts)
+
+
+SCALARS = ("true", "0x1F", "1_000", "'plain'", '"with \\t escape"', "-42")
+
+
 def lines(size):
     """Many short lines."""
-    text, at, key = [], 0, 0
-    values = ("true", "0x1F", "1_000", "'plain'", '"with \\t escape"', "-42")
-    while at < size:
-        text.append("key_%d = %s # c\n" % (key, values[key % len(values)]))
-        at += len(text[-1])
-        key += 1
-    return "".join(text)
+    return grown(size, lambda key: "key_%d = %s # c\n" % (key, SCALARS[key % len(SCALARS)]))
 
 
 NUMBERS = ("0", "17", "-4", "305", "1_000", "0x1F", "6.25", "9041", "-0.5e3", "65535")
@@ -46,24 +53,13 @@ NUMBERS = ("0", "17", "-4", "305", "1_000", "0x1F", "6.25", "9041", "-0.5e3", "6
 
 def numbers(size):
     """Few keys, each with an array of 400 short numbers on one line."""
-    text, at, key = [], 0, 0
-    while at < size:
-        row = ", ".join(NUMBERS[(key + i) % len(NUMBERS)] for i in range(400))
-        text.append("numbers_%d = [%s]\n" % (key, row))
-        at += len(text[-1])
-        key += 1
-    return "".join(text)
+    return grown(size, lambda key: "numbers_%d = [%s]\n" % (key, ", ".join(NUMBERS[(key + i) % len(NUMBERS)] for i in range(400))))
 
 
 def tables(size):
     """Few keys, each with an array of 100 small inline tables, one a line."""
-    text, at, key = [], 0, 0
-    while at < size:
-        rows = ",\n".join("    { name = \"part %d\", size = %d, used = true }" % (i, 37 * i % 1000) for i in range(100))
-        text.append("tables_%d = [\n%s,\n]\n" % (key, rows))
-        at += len(text[-1])
-        key += 1
-    return "".join(text)
+    rows = ",\n".join("    { name = \"part %d\", size = %d, used = true }" % (i, 37 * i % 1000) for i in range(100))
+    return grown(size, lambda key: "tables_%d = [\n%s,\n]\n" % (key, rows))
 
 
 def inline(size):
@@ -74,16 +70,6 @@ def inline(size):
         at += len(pairs[-1]) + 2
         key += 1
     return "table = { %s }\n" % ", ".join(pairs)
-
-
-def grown(size, make):
-    """The texts that `make` gives for 0, 1, 2, .. until they reach the size."""
-    parts, at, number = [], 0, 0
-    while at < size:
-        parts.append(make(number))
-        at += len(parts[-1])
-        number += 1
-    return "".join(parts)
 
 
 def lock(size):
