@@ -42,7 +42,7 @@ SECOND = (0x736F6D6570736575, 0x646F72616E646F6D, 0x6C7967656E657261, 0x74656462
 
 # The longest name that is hashed with zeros after it; the groups of a region; the most names of a region, and of a class of it; the most
 # slots of a table that has no tally; the slots for which a map has a group; and the bit of the hash that tells the class.
-SHORT, REGION, MOST, MOST_ALIKE, UNCOUNTED, LOAD, CLASS = 16, 8, 80, 48, 88, 5.5, 1 << 25
+SHORT, REGION, MOST, MOST_ALIKE, UNCOUNTED, LOAD, CLASS = 16, 8, 80, 30, 88, 5.5, 1 << 25
 
 
 def folded(a, b):
@@ -182,7 +182,7 @@ def in_regions(count, size, tags, most):
 
 
 def full_regions(count, size):
-    return in_regions(count, size, (CLASS, (0, CLASS)), MOST // 2)
+    return in_regions(count, size, (3 * CLASS, tuple(CLASS * it for it in range(4))), MOST // 4)
 
 
 def one_tag(count, size):

@@ -12,7 +12,11 @@ const REGION: usize = 8;
 
 /// The classes of keys in a region. A group tells its keys apart by their tags, and those of one tag
 /// are of one class.
-const CLASSES: usize = 2;
+const CLASSES: usize = 4;
+
+/// The counts of a region: that of all its keys, those of its classes, and some that are not used.
+/// There is one for each group, so the number of a group leads to those of its region.
+const COUNTS: usize = REGION;
 
 /// The fewest regions that are counted. In a smaller map a search is short anyway.
 const FEWEST: usize = 4;
@@ -25,8 +29,8 @@ const MOST: u8 = 80;
 
 /// The most of these that are of one class.
 ///
-/// By chance fewer than one region in a million has more, as there are at most 22 on average.
-const MOST_ALIKE: u8 = 48;
+/// By chance fewer than one region in a million has more, as there are at most 11 on average.
+const MOST_ALIKE: u8 = 30;
 
 /// The most keys that are taken off before the map is built anew.
 ///
@@ -37,7 +41,7 @@ const MOST_TAKEN_OFF: u8 = 240;
 /// How many keys of a map begin their search in each region, which is a run of groups.
 #[derive(Debug, Drop)]
 pub(crate) struct Tally {
-    // A count for each class of each region.
+    // `COUNTS` for each region.
     counts: Vec<u8>,
     taken_off: u8,
 }
@@ -57,7 +61,7 @@ impl Tally {
         self.taken_off = 0;
         let regions = room / (GROUP * REGION);
         if regions >= FEWEST {
-            self.counts.resize(regions * CLASSES, 0)?;
+            self.counts.resize(regions * COUNTS, 0)?;
         }
         Ok(())
     }
@@ -93,24 +97,19 @@ impl Tally {
         }
         // The last bit of the tag is left out, since the map takes a tag of 0 for 1.
         let class = (hash >> 25) % CLASSES;
-        (hash / REGION * CLASSES + class) & (self.counts.len() - 1)
+        (hash & (self.counts.len() - 1) & !(COUNTS - 1)) | (class + 1)
     }
 
     /// Returns whether no further key of the class may begin in its region.
     #[inline(always)]
     pub(crate) fn is_full(&self, class: usize) -> bool {
-        let alike = self.counted(class);
-        // With so few, the others would have to be more than `MOST_ALIKE`.
-        if alike < MOST - MOST_ALIKE {
-            return false;
-        }
-        alike >= MOST_ALIKE || self.counted(class ^ 1) >= MOST - alike
+        self.counted(class) >= MOST_ALIKE || self.counted(class / COUNTS * COUNTS) >= MOST
     }
 
-    /// Returns how many keys of the class are counted.
+    /// Returns the count at the place.
     #[inline(always)]
-    fn counted(&self, class: usize) -> u8 {
-        match self.counts.get(class) {
+    fn counted(&self, at: usize) -> u8 {
+        match self.counts.get(at) {
             Some(count) => *count,
             None => 0,
         }
@@ -119,8 +118,10 @@ impl Tally {
     /// Counts one key more of the class.
     #[inline(always)]
     pub(crate) fn count(&mut self, class: usize) {
-        if let Some(count) = self.counts.get_mut(class) {
-            *count = count.saturating_add(1);
+        for at in [class, class / COUNTS * COUNTS] {
+            if let Some(count) = self.counts.get_mut(at) {
+                *count = count.saturating_add(1);
+            }
         }
     }
 
@@ -129,9 +130,11 @@ impl Tally {
         if self.taken_off >= MOST_TAKEN_OFF {
             return;
         }
-        if let Some(count) = self.counts.get_mut(class) {
-            *count = count.saturating_sub(1);
-            self.taken_off += 1;
+        self.taken_off += 1;
+        for at in [class, class / COUNTS * COUNTS] {
+            if let Some(count) = self.counts.get_mut(at) {
+                *count = count.saturating_sub(1);
+            }
         }
     }
 }
