@@ -1,16 +1,11 @@
 -- What a closure does to a part of an item, as what it does to the item.
-use Rattle.std.proofs.Common.{◌≡◌, ◌∙◌, refl, sym, ap, subst, ℕ, ◌<◌, Bool, true, false, List, [], ◌∷◌, length, get_or, set, slice_get, Option, Some, None, option_map, arith}
-use Rattle.std.specs.Prelude.{if◌then◌else◌, option_and_then}
+use Rattle.std.proofs.Common.{◌≡◌, ◌∙◌, refl, sym, ap, subst, ℕ, ◌<◌, Bool, false, List, [], ◌∷◌, length, get_or, set, slice_get, Option, Some, None, option_map, arith}
 use Rattle.toml_edit_model.specs.Text.{Text}
-use Rattle.toml_edit_model.specs.Tree.{Key, Node, list, inline, table, tables, Items, Slots, is_value_node}
+use Rattle.toml_edit_model.specs.Tree.{Key, Node, nothing, leaf, list, inline, table, tables, is_value_node}
 use Rattle.toml_edit_model.specs.ArrayCalls.{written_at}
 use Rattle.toml_edit_model.specs.Slots.{Slot, changed, lookup_slot, with_item}
-use Rattle.toml_edit_model.specs.Lists.{slot_list, slots_from, item_list, items_from, is_item, only}
-use Rattle.toml_edit_model.specs.Shown.{is_table_node}
-use Rattle.toml_edit_laws.specs.Commands.{Answer, done, mapped, present, second, and_then, item_below, number_of, kept_item, at_number, element_of, change_slot, change_element}
-use Rattle.toml_edit_laws.proofs.common.OptionSteps.{some-is}
-use Rattle.toml_edit_laws.proofs.locality.Slots.{slots_from-list, items_from-list}
-use Rattle.toml_edit_tree.specs.Containers.{ArrayView, InlineView, TableView, TablesView, array_node, inline_node, table_node, tables_node}
+use Rattle.toml_edit_model.specs.Lists.{is_item, items_in, on_items, on_slots, only, slots_in}
+use Rattle.toml_edit_laws.specs.Commands.{Answer, done, mapped, present, second, and_then, item_below, element_of, change_slot, change_element}
 use Rattle.toml_edit_slots.specs.Slots as held
 use Rattle.toml_edit_slots.specs.declared.slots.Slot as held_slot
 use Rattle.toml_edit_tree.specs.Indexed.{shown_slots}
@@ -19,8 +14,10 @@ use Rattle.toml_edit_tree.specs.declared.item.Item.{Item}
 use Rattle.toml_edit_change.specs.Calls.{Change, ChangesBelow, ChangesElement, ChangesFound, ChangesSlot, TakesFound, replaced_below}
 use Rattle.toml_edit_change.specs.Changes.{names}
 use Rattle.toml_edit_change.specs.Elements.{nodes, place_named}
+use Rattle.toml_edit_change.specs.Items.{kind_of}
 use Rattle.toml_edit_change.proofs.ElementLaws.{element-is, nodes-same, nodes-set}
 use Rattle.toml_edit_change.proofs.SlotLaws.{IsFirstOfName, pairs-with, slot-some, with-same}
+use Rattle.toml_edit_change.proofs.StepLaws.{items-child, items-go, items-kept, slots-child, slots-go, slots-kept}
 
 -- ---- the end of a path
 
@@ -34,37 +31,21 @@ replaced-at-end (k ∷ path) m n h = absurd (omega arith)
 
 -- ---- what is found
 
--- at the rest of a path below the slot of a key
-abbrev pub found-in : List Text → Text → Slots → Option Node
-found-in path k ss = and_then (item_below path) (present (lookup_slot k (slot_list ss)))
+pub filled-only : (n : Node) → (n ≡ nothing → ⊥) → only is_item n ≡ Some n
+filled-only nothing full = absurd (full refl)
+filled-only (leaf s r d) full = refl
+filled-only (list f xs) full = refl
+filled-only (inline f ss) full = refl
+filled-only (table f ss) full = refl
+filled-only (tables e xs) full = refl
 
-kept-at : (is : Node → Bool) (i : ℕ) (o : Option Node) (p : Option ℕ) → p ≡ option_map (λ (x : ℕ × Node). x.0) (kept_item is i o) → (p ≡ None → ⊥) → (second (kept_item is i o) ≡ o) × (p ≡ Some i)
-kept-at is i None p h some = absurd (some h)
-kept-at is i (Some n) p h some = by_kind (is n) h
-  where
-    by_kind : (b : Bool) → p ≡ option_map (λ (x : ℕ × Node). x.0) (if b then Some (i, n) else None)
-        → (second (if b then Some (i, n) else None) ≡ Some n) × (p ≡ Some i)
-    by_kind true g = (refl, g)
-    by_kind false g = absurd (some g)
+-- at the rest of a path below the slot of a key, and below an element
+pub found-in-slots : (k : Text) (path : List Text) (n : Node) (ss : List (Slot Node)) → slots_in n ≡ Some ss → item_below (k ∷ path) n ≡ and_then (item_below path) (present (lookup_slot k ss))
+found-in-slots k path n ss h = ap (and_then (item_below path)) (slots-child k n ss h)
 
-none-kept : (o : Option (ℕ × Node)) → None ≡ option_map (λ (x : ℕ × Node). x.0) o → second o ≡ None
-none-kept None h = refl
-none-kept (Some x) h = absurd cc
-
--- The element that a text names stands at its place.
-second-at : (is : Node → Bool) (k : Text) (ns : List Node) (p : Option ℕ) → p ≡ place_named is k ns → second (element_of is k ns) ≡ option_and_then (slice_get ns) p
-second-at is k ns None h = none-kept (element_of is k ns) h
-second-at is k ns (Some j) h = by_number (number_of k) h
-  where
-    by_number : (o : Option ℕ) → Some j ≡ option_map (λ (x : ℕ × Node). x.0) (at_number is ns o) → second (at_number is ns o) ≡ slice_get ns j
-    by_number None g = absurd cc
-    by_number (Some i) g =
-        let kept = kept-at is i (slice_get ns i) (Some j) g (λ e. absurd cc) in
-        kept.0 ∙ ap (slice_get ns) (sym (some-is j i kept.1))
-
-pub element-at : (is : Node → Bool) (k : Text) (path : List Text) (ns : List Node) (p : Option ℕ) → p ≡ place_named is k ns
-    → and_then (item_below path) (second (element_of is k ns)) ≡ and_then (item_below path) (option_and_then (slice_get ns) p)
-element-at is k path ns p h = ap (and_then (item_below path)) (second-at is k ns p h)
+pub found-in-items : (k : Text) (path : List Text) (n : Node) (ns : List Node) → items_in n ≡ Some ns
+    → item_below (k ∷ path) n ≡ and_then (item_below path) (second (element_of (kind_of (is_value_node n)) k ns))
+found-in-items k path n ns h = ap (and_then (item_below path)) (items-child k n ns h)
 
 module _ {F R : Type 0} (g : Change F R) (f : F) where
   -- ---- what a part is a part of
@@ -82,43 +63,19 @@ module _ {F R : Type 0} (g : Change F R) (f : F) where
   pub takes : (found found' : Option Node) → found' ≡ found → TakesFound g f found' → TakesFound g f found
   takes found found' e h = λ item is. h item (e ∙ is)
 
-  -- ---- the kinds of items
+  -- ---- the slots of an item, and its items
 
-  in-slots : (make : Slots → Node) (k : Text) (path : List Text) (held es new : Slots) (r : Option R) → es ≡ held → ChangesSlot g f k path (slot_list es) (slot_list new) r
-      → ChangesFound g f (and_then (item_below path) (present (lookup_slot k (slot_list held))))
-      (λ left. mapped (λ xs. make (slots_from xs)) (change_slot false k (replaced_below path left) (slot_list held) (lookup_slot k (slot_list held)))) (make held) (make new) r
-  in-slots make k path held es new r e change =
-      renamed _ _ (make (slots_from (slot_list held))) (make (slots_from (slot_list new))) _ _ r (ap make (slots_from-list held)) (ap make (slots_from-list new))
-      (carried (λ xs. make (slots_from xs)) _ _ _ _ (slot_list held) (slot_list new) r refl (λ n. refl) (subst (λ ss. ChangesSlot g f k path (slot_list ss) (slot_list new) r) e change))
+  pub in-slots : (k : Text) (path : List Text) (n : Node) (ss new : List (Slot Node)) (r : Option R) → slots_in n ≡ Some ss → ChangesSlot g f k path ss new r
+      → ChangesBelow g f (k ∷ path) n (on_slots (λ _. new) n) r
+  in-slots k path n ss new r h change =
+      renamed _ _ _ _ _ _ r (slots-kept n ss h) refl
+      (carried (λ xs. on_slots (λ _. xs) n) _ _ _ _ ss new r (found-in-slots k path n ss h) (λ m. sym (slots-go false k (replaced_below path m) n ss h)) change)
 
-  in-items : (make : Items → Node) (is : Node → Bool) (k : Text) (path : List Text) (held es new : Items) (r : Option R) → es ≡ held
-      → ChangesElement g f is k path (item_list es) (item_list new) r
-      → ChangesFound g f (and_then (item_below path) (second (element_of is k (item_list held))))
-      (λ left. mapped (λ ns. make (items_from ns)) (change_element (replaced_below path left) (item_list held) (element_of is k (item_list held)))) (make held) (make new) r
-  in-items make is k path held es new r e change =
-      renamed _ _ (make (items_from (item_list held))) (make (items_from (item_list new))) _ _ r (ap make (items_from-list held)) (ap make (items_from-list new))
-      (carried (λ ns. make (items_from ns)) _ _ _ _ (item_list held) (item_list new) r refl (λ n. refl)
-      (subst (λ xs. ChangesElement g f is k path (item_list xs) (item_list new) r) e change))
-
-  pub in-table : (k : Text) (path : List Text) (held made : TableView) (es new : Slots) (r : Option R) → es ≡ held.slots → made ≡ record { fields = held.fields; slots = new }
-      → ChangesSlot g f k path (slot_list es) (slot_list new) r → ChangesBelow g f (k ∷ path) (table_node held) (table_node made) r
-  in-table k path held made es new r e is change =
-      renamed _ _ (table_node held) _ _ _ r refl (ap table_node (sym is)) (in-slots (table held.fields) k path held.slots es new r e change)
-
-  pub in-inline : (k : Text) (path : List Text) (held made : InlineView) (es new : Slots) (r : Option R) → es ≡ held.slots → made ≡ record { fields = held.fields; slots = new }
-      → ChangesSlot g f k path (slot_list es) (slot_list new) r → ChangesBelow g f (k ∷ path) (inline_node held) (inline_node made) r
-  in-inline k path held made es new r e is change =
-      renamed _ _ (inline_node held) _ _ _ r refl (ap inline_node (sym is)) (in-slots (inline held.fields) k path held.slots es new r e change)
-
-  pub in-array : (k : Text) (path : List Text) (held made : ArrayView) (es new : Items) (r : Option R) → es ≡ held.items → made ≡ record { fields = held.fields; items = new }
-      → ChangesElement g f is_value_node k path (item_list es) (item_list new) r → ChangesBelow g f (k ∷ path) (array_node held) (array_node made) r
-  in-array k path held made es new r e is change =
-      renamed _ _ (array_node held) _ _ _ r refl (ap array_node (sym is)) (in-items (list held.fields) is_value_node k path held.items es new r e change)
-
-  pub in-tables : (k : Text) (path : List Text) (held made : TablesView) (es new : Items) (r : Option R) → es ≡ held.items → made ≡ record { extent = held.extent; items = new }
-      → ChangesElement g f is_table_node k path (item_list es) (item_list new) r → ChangesBelow g f (k ∷ path) (tables_node held) (tables_node made) r
-  in-tables k path held made es new r e is change =
-      renamed _ _ (tables_node held) _ _ _ r refl (ap tables_node (sym is)) (in-items (tables held.extent) is_table_node k path held.items es new r e change)
+  pub in-items : (k : Text) (path : List Text) (n : Node) (ns new : List Node) (r : Option R) → items_in n ≡ Some ns → ChangesElement g f (kind_of (is_value_node n)) k path ns new r
+      → ChangesBelow g f (k ∷ path) n (on_items (λ _. new) n) r
+  in-items k path n ns new r h change =
+      renamed _ _ _ _ _ _ r (items-kept n ns h) refl
+      (carried (λ l. on_items (λ _. l) n) _ _ _ _ ns new r (found-in-items k path n ns h) (λ m. sym (items-go false k (replaced_below path m) n ns h)) change)
 
   -- ---- the item of a slot, and an element
 

@@ -104,3 +104,8 @@ element-changes is k go xs i d y r h inside change =
 pub element-dropped : (is : Node → Bool) (k : Text) (xs : List Item) (i : ℕ) (d : Item) → Some i ≡ place_named is k (nodes xs) → i < length xs
     → drop_element (nodes xs) (element_of is k (nodes xs)) ≡ done (nodes (remove xs i))
 element-dropped is k xs i d h inside = ap (drop_element (nodes xs)) (element-is is k xs i d h inside) ∙ ap done (sym (nodes-removed xs i))
+
+-- none
+pub no-element : (o : Option (ℕ × Node)) → None ≡ option_map (λ x. x.0) o → o ≡ None
+no-element None h = refl
+no-element (Some x) h = absurd cc

@@ -4,6 +4,7 @@ pub mod ElementLaws
 pub mod SlotLaws
 pub mod ChangeLaws
 pub mod ViewLaws
-pub mod FoundLaws
-pub mod HeaderLaws
+pub mod SetLaws
 pub mod AlterLaws
+pub mod ElementViews
+pub mod StepLaws

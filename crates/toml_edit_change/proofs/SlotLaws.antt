@@ -2,15 +2,12 @@
 use Rattle.std.proofs.Common.{◌≡◌, ℕ, zero, suc, true, false, List, [], ◌∷◌, ◌++◌, cond, Bool, refl, sym, ◌∙◌, ap, subst, arith, Option, Some, None, option_map, slice_get, take}
 use Rattle.std.specs.Prelude.{if◌then◌else◌, Result}
 use Rattle.std.specs.Option.{ForSome}
-use Rattle.toml_edit_model.specs.Keys.{new_key}
 use Rattle.toml_edit_model.specs.Slots as model
 use Rattle.toml_edit_model.specs.Slots.{keyed, changed}
 use Rattle.toml_edit_model.specs.Lists.{slot_list, slots_from}
 use Rattle.toml_edit_model.specs.Text.{Text, same_text}
 use Rattle.toml_edit_model.specs.Tree.{Key, Node, nothing, leaf, list, inline, table, tables, no_slots, slot}
-use Rattle.toml_edit_laws.specs.CommandLaws.{made_below}
-use Rattle.toml_edit_laws.specs.Commands.{Answer, done, refused, no_such_path, mapped, change_slot, drop_slot, present, set_below}
-use Rattle.toml_edit_laws.proofs.commands.Setting.{made-below-is}
+use Rattle.toml_edit_laws.specs.Commands.{Answer, done, refused, no_such_path, mapped, change_slot, drop_slot, present}
 use Rattle.toml_edit_laws.proofs.common.OptionSteps.{some-is}
 use Rattle.toml_edit_laws.proofs.common.Tests.{same_text-is, same_text-swap}
 use Rattle.toml_edit_laws.proofs.locality.Slots.{slots_from-list}
@@ -119,14 +116,6 @@ slot-changes makes k go es at x y r first h g change =
 pub pairs-last : (es : List (Slot Item)) (e : Slot Item) → shown_slots (es ++ (e ∷ [])) ≡ shown_slots es ++ (keyed e.key (item_view e.item) ∷ [])
 pairs-last [] e = refl
 pairs-last (x ∷ es) e = ap (λ (r : List (model.Slot Node)). (keyed x.key (item_view x.item)) ∷ r) (pairs-last es e)
-
--- what is set below a key that is missing
-pub new-slot : (k : Text) (v : Node) (path : List Text) (ss new : List (model.Slot Node)) (n : Node) → model.lookup_slot k ss ≡ None → n ≡ made_below path v
-    → new ≡ ss ++ (keyed (new_key k) n ∷ []) → change_slot true k (set_below v path) ss (model.lookup_slot k ss) ≡ done new
-new-slot k v path ss new n none made last =
-    ap (change_slot true k (set_below v path) ss) none
-    ∙ ap (mapped (λ m. ss ++ (keyed (new_key k) m ∷ []))) (made-below-is v path)
-    ∙ ap done (ap (λ (m : Node). ss ++ (keyed (new_key k) m ∷ [])) (sym made) ∙ sym last)
 
 -- ---- a slot that is taken out
 

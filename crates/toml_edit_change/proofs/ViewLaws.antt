@@ -1,8 +1,8 @@
 -- What items and values are seen as.
-use Rattle.std.proofs.Common.{◌≡◌, ap, sym, ◌∙◌, rules, true, Vec}
+use Rattle.std.proofs.Common.{◌≡◌, ap, ◌∙◌, rules, Vec}
 use Rattle.std.specs.declared.alloc.Global.{Global}
 use Rattle.toml_edit_model.specs.Conversions.{with_decor}
-use Rattle.toml_edit_model.specs.Tree.{Decor, nothing, is_value_node}
+use Rattle.toml_edit_model.specs.Tree.{Decor}
 use Rattle.toml_edit_tree.specs.Casts.{decorated, decorated_open}
 use Rattle.toml_edit_tree.specs.Containers.{array_node, inline_node, table_node, tables_node}
 use Rattle.toml_edit_tree.specs.declared.array.Array.{Array, out-Array, roll-Array}
@@ -16,9 +16,6 @@ use Rattle.toml_edit_tree.specs.declared.table.Table.{Table}
 use Rattle.toml_edit_tree.specs.declared.value.Value.{Value, out-Value}
 use Rattle.toml_edit_tree.specs.declared.value.Value.TheVariants as values
 use Rattle.toml_edit_tree.specs.View.{array_view, inline_view, item_view, items_view, table_view, tables_view, value_view}
-
-pub view-None : item_view items.None ≡ nothing
-view-None = search (rules, the_lemmas)
 
 pub view-Value : (v : Value) → item_view (items.Value v) ≡ value_view v
 view-Value v = search (rules, the_lemmas)
@@ -45,7 +42,7 @@ decorated-open d (Value-F.Datetime f) = search (rules, the_lemmas)
 decorated-open d (Value-F.Array a) = search (rules, the_lemmas)
 decorated-open d (Value-F.InlineTable t) = search (rules, the_lemmas)
 
-rolled : (v : Value) → roll-Value (out-Value v) ≡ v
+pub rolled : (v : Value) → roll-Value (out-Value v) ≡ v
 rolled v = search (rules, the_lemmas)
 
 pub decorated-view : (d : Decor) (v : Value) → value_view (decorated d v) ≡ with_decor d (value_view v)
@@ -74,17 +71,3 @@ tables-items a = search (rules, the_lemmas)
 pub tables-made : (a : ArrayOfTables) (v : Vec Item Global)
     → tables_view (roll-ArrayOfTables (record { values = v; span = (out-ArrayOfTables a).span })) ≡ record { extent = (tables_view a).extent; items = items_view v.items }
 tables-made a v = search (rules, the_lemmas)
-
--- ---- values
-
-value-kind-open : (o : Value-F Item Value Array ArrayOfTables InlineTable Table) → is_value_node (value_view (roll-Value o)) ≡ true
-value-kind-open (Value-F.String f) = search (rules, the_lemmas)
-value-kind-open (Value-F.Integer f) = search (rules, the_lemmas)
-value-kind-open (Value-F.Float f) = search (rules, the_lemmas)
-value-kind-open (Value-F.Boolean f) = search (rules, the_lemmas)
-value-kind-open (Value-F.Datetime f) = search (rules, the_lemmas)
-value-kind-open (Value-F.Array a) = search (rules, the_lemmas)
-value-kind-open (Value-F.InlineTable t) = search (rules, the_lemmas)
-
-pub value-kind : (v : Value) → is_value_node (value_view v) ≡ true
-value-kind v = ap (λ w. is_value_node (value_view w)) (sym (rolled v)) ∙ value-kind-open (out-Value v)

@@ -1,5 +1,5 @@
 -- The element that a segment of a path names.
-use Rattle.std.specs.Prelude.{◌≡◌, ℕ, ◌^◌, ◌≤◌, Bool, List, Option, Some, None, if◌then◌else◌, nat_lt, option_map}
+use Rattle.std.specs.Prelude.{◌≡◌, ℕ, ◌^◌, ◌≤◌, Bool, List, Option, Some, None, option_map}
 use Rattle.toml_edit_model.specs.Text.{Text}
 use Rattle.toml_edit_model.specs.Tree.{Node}
 use Rattle.toml_edit_model.specs.Lists.{item_list}
@@ -19,8 +19,3 @@ nodes xs = item_list (items_view xs)
 -- the place of the element of this kind that the text names
 abbrev pub place_named : (Node → Bool) → Text → List Node → Option ℕ
 place_named is k ns = option_map (λ x. x.0) (element_of is k ns)
-
--- the place that the text names among so many
-abbrev pub among : ℕ → Option ℕ → Option ℕ
-among count None = None
-among count (Some i) = if nat_lt i count then Some i else None

@@ -4,5 +4,8 @@ pub mod Changes
 pub mod Elements
 pub mod Faults
 pub mod Headed
+-- Cited by private contracts.
+pub mod Items
+pub mod Setting
 -- Worked examples: nothing cites them.
 pub mod examples

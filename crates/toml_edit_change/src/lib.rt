@@ -5,7 +5,7 @@ mod alter;
 mod element;
 mod fault;
 mod find;
-mod headers;
+mod make;
 mod put;
 mod take;
 
@@ -13,6 +13,5 @@ pub use alter::change;
 pub use element::number_of;
 pub use fault::ChangeFault;
 pub use find::get;
-pub use headers::set_with_headers;
-pub use put::set;
+pub use put::{set, set_with_headers};
 pub use take::remove;

@@ -1,31 +1,29 @@
 -- Each exit of the way down to the item that the closure is called on.
-use Rattle.std.proofs.Common.{◌≡◌, ℕ, ◌<◌, ap, subst, rules, sym, ◌∙◌, List, length, get_or, slice_get, Option, None, arith}
-use Rattle.std.specs.Prelude.{option_and_then}
-use Rattle.std.specs.Option.{IfSome}
-use Rattle.std.specs.Vec.{with_items}
-use Rattle.std.proofs.lemmas.List.{with_items_is}
-use Rattle.toml_edit_model.specs.Shown.{is_table_node}
-use Rattle.toml_edit_model.specs.Text.{Text}
-use Rattle.toml_edit_model.specs.Lists.{is_item, item_list, only}
+use Rattle.std.proofs.Common.{◌≡◌, ◌<◌, refl, ap, subst, rules, sym, ◌∙◌, List, length, Some, None, Vec, Global, option_map}
+use Rattle.std.specs.Vec.{with_item}
+use Rattle.toml_edit_model.specs.Lists.{is_item, items_in, only, slots_in}
 use Rattle.toml_edit_model.specs.Slots.{lookup_slot}
-use Rattle.toml_edit_model.specs.Tree.{Node, nothing, is_value_node}
+use Rattle.toml_edit_model.specs.Text.{Text}
+use Rattle.toml_edit_model.specs.Tree.{nothing, is_value_node}
 use Rattle.toml_edit_laws.specs.Commands.{and_then, element_of, item_below, present, second}
 use Rattle.toml_edit_slots.specs.Slots.{place}
-use Rattle.toml_edit_tree.specs.Indexed.{shown_slots}
-use Rattle.toml_edit_tree.specs.View.{array_view, inline_view, item_view, items_view, slots_view, table_view, tables_view}
+use Rattle.toml_edit_tree.specs.Indexed.{shown_slots, with_slots}
+use Rattle.toml_edit_tree.specs.View.{item_view}
 use Rattle.toml_edit_tree.specs.declared.item.Item.{Item}
+use Rattle.toml_edit_change.specs.Calls.{ChangesBelow}
 use Rattle.toml_edit_change.specs.Changes.{names}
 use Rattle.toml_edit_change.specs.Elements.{nodes, place_named}
-use Rattle.toml_edit_change.proofs.AlterLaws.{element-at, found-at-end, found-in, in-array, in-element, in-inline, in-slot, in-table, in-tables, no-element, no-slot, replaced-at-end, takes}
-use Rattle.toml_edit_change.proofs.ElementLaws.{node-at}
-use Rattle.toml_edit_change.proofs.FoundLaws.{filled-only}
+use Rattle.toml_edit_change.specs.Items.{kind_of, with_items}
+use Rattle.toml_edit_change.proofs.AlterLaws.{filled-only, found-at-end, found-in-items, found-in-slots, in-element, in-items, in-slot, in-slots, no-slot, renamed, replaced-at-end, takes}
+use Rattle.toml_edit_change.proofs.ElementLaws.{element-is, no-element}
+use Rattle.toml_edit_change.proofs.ElementViews.{items-held, items-seen}
 use Rattle.toml_edit_change.proofs.SlotLaws.{slot-none, slot-some}
-use Rattle.toml_edit_change.proofs.ViewLaws.{array-items, array-made, tables-items, tables-made}
+use Rattle.toml_edit_change.proofs.StepLaws.{items-kept, no-child}
 use Rattle.toml_edit_change.proofs.alter.+change.Goals as goal
 
-pub change_in_item-returns-in-None : goal.change_in_item-returns-in-None
-change_in_item-returns-in-None g t c =
-    let ended : length c.args.path.now ≡ 0 = c.in-None.ensures.cases in
+pub change_in_item-returns-in_default : goal.change_in_item-returns-in_default
+change_in_item-returns-in_default g t c =
+    let ended : length c.args.path.now ≡ 0 = c.in_default.ensures.cases in
     record {
       item = c.args.item.now;
       left = c.change.new.arg2;
@@ -34,48 +32,65 @@ change_in_item-returns-in-None g t c =
       put_back = replaced-at-end c.args.path.now (item_view c.change.new.arg2) (item_view c.args.item.now) ended;
     }
 
-pub change_in_array-returns : goal.change_in_array-returns
-change_in_array-returns g t c =
-    let a = c.args.array.now in
-    let ys = c.change_in_element.new.items in
-    let k = c.args.key.now.name in
-    in-array g.F.FnOnce c.args.change k (names c.args.rest.now) (array_view a) _ (items_view c.deref_mut.result.now) (items_view ys) _
-    (ap items_view c.deref_mut.ensures.value ∙ sym (array-items a)) (array-made a (with_items a.values ys)
-    ∙ ap (λ (xs : List Item). record { fields = (array_view a).fields; items = items_view xs }) (with_items_is a.values ys (omega (arith, a.values.ok.0, c.deref_mut.ensures.len))))
-    (c.change_in_element.ensures is_value_node k
-    (c.value_named-at.ensures.place ∙ ap (λ (xs : List Item). place_named is_value_node k (nodes xs)) (c.deref.ensures.value ∙ sym c.deref_mut.ensures.value)))
+pub change_in_item-returns-in-Some-as_slots_mut : goal.change_in_item-returns-in-Some-as_slots_mut
+change_in_item-returns-in-Some-as_slots_mut g t c =
+    let n = item_view c.args.item.now in
+    let k = c.in-Some.key.now.name in
+    let path = names c.in-Some.rest.now in
+    let es = c.in-Some-as_slots_mut.slots.now in
+    let new = c.change_in_slots.new.slots in
+    let is : slots_in n ≡ Some (shown_slots es) = sym c.in-Some-as_slots_mut.ensures.slots in
+    subst (λ p. ChangesBelow g.F.FnOnce c.args.change (names p) n (item_view (with_slots new c.args.item.now)) c.change_in_slots.result) (sym c.in-Some.ensures.cases.0)
+    (renamed g.F.FnOnce c.args.change _ _ _ _ _ _ _ refl (sym (c.as_slots_mut.ensures.others new))
+    (in-slots g.F.FnOnce c.args.change k path n (shown_slots es) (shown_slots new) _ is c.change_in_slots.ensures))
 
-pub change_in_tables-returns : goal.change_in_tables-returns
-change_in_tables-returns g t c =
-    let a = c.args.tables.now in
-    let ys = c.change_in_element.new.items in
-    let k = c.args.key.now.name in
-    in-tables g.F.FnOnce c.args.change k (names c.args.rest.now) (tables_view a) _ (items_view c.deref_mut.result.now) (items_view ys) _
-    (ap items_view c.deref_mut.ensures.value ∙ sym (tables-items a)) (tables-made a (with_items a.values ys)
-    ∙ ap (λ (xs : List Item). record { extent = (tables_view a).extent; items = items_view xs }) (with_items_is a.values ys (omega (arith, a.values.ok.0, c.deref_mut.ensures.len))))
-    (c.change_in_element.ensures is_table_node k
-    (c.table_named-at.ensures.place ∙ ap (λ (xs : List Item). place_named is_table_node k (nodes xs)) (c.deref.ensures.value ∙ sym c.deref_mut.ensures.value)))
+pub change_in_item-returns-in_default-items_mut : goal.change_in_item-returns-in_default-items_mut
+change_in_item-returns-in_default-items_mut g t c =
+    let n = item_view c.args.item.now in
+    let k = c.in-Some.key.now.name in
+    let path = names c.in-Some.rest.now in (
+      ap (λ p. item_below (names p) n) c.in-Some.ensures.cases.0
+          ∙ ap (and_then (item_below path)) (no-child k n (sym c.in_default-as_slots_mut.ensures.slots) (sym (ap (option_map (λ (v : Vec Item Global). nodes v.items)) c.in_default-items_mut.ensures.items ∙ items-held c.args.item.now))),
+      refl,
+    )
 
-pub change_in_element-returns-in-None : goal.change_in_element-returns-in-None
-change_in_element-returns-in-None g t c =
-    λ is k named. no-element g.F.FnOnce c.args.change is k (names c.args.rest.now) (nodes c.args.items.now) (sym c.in-None.is ∙ named)
+pub change_in_item-returns-in-Some-place_named : goal.change_in_item-returns-in-Some-place_named
+change_in_item-returns-in-Some-place_named g t c =
+    let n = item_view c.args.item.now in
+    let k = c.in-Some.key.now.name in
+    let path = names c.in-Some.rest.now in
+    let kind = kind_of (is_value_node n) in
+    let held = c.in-Some-items_mut.items.now in
+    let xs = held.items in
+    let is : items_in n ≡ Some (nodes xs) = sym (ap (option_map (λ (v : Vec Item Global). nodes v.items)) c.in-Some-items_mut.ensures.items ∙ items-held c.args.item.now) in
+    let named : Some c.in-Some-place_named.at ≡ place_named kind k (nodes xs) =
+    c.in-Some-place_named.ensures.place ∙ ap (λ (zs : List Item). place_named (kind_of c.is_value-values.result) k (nodes zs)) c.deref.ensures.value
+    ∙ ap (λ b. place_named (kind_of b) k (nodes xs)) c.is_value-values.ensures in
+    let at = c.in-Some-place_named.at in
+    let x = c.index_mut.result.now in
+    let within : at < length xs = subst (λ (zs : List Item). at < length zs) c.deref.ensures.value c.in-Some-place_named.ensures.within in
+    let y = c.change_in_item.new.item in
+    let told = subst (λ (z : Item). ChangesBelow g.F.FnOnce c.args.change path (item_view z) (item_view y) c.change_in_item.result) c.index_mut.ensures.value c.change_in_item.ensures in
+    subst (λ p. ChangesBelow g.F.FnOnce c.args.change (names p) n (item_view (with_items (with_item held at y) c.args.item.now)) c.change_in_item.result) (sym c.in-Some.ensures.cases.0)
+    (renamed g.F.FnOnce c.args.change _ _ _ _ _ _ _ refl (sym (items-seen (with_item held at y) c.args.item.now))
+    (in-items g.F.FnOnce c.args.change k path n (nodes xs) _ _ is (in-element g.F.FnOnce c.args.change kind k path xs at x y c.change_in_item.result named within told)))
 
-pub change_in_element-returns-in-Some : goal.change_in_element-returns-in-Some
-change_in_element-returns-in-Some g t c =
-    λ is k named.
-    let within = subst (λ (o : Option ℕ). IfSome o (λ place. place < length c.args.items.now)) c.in-Some.is c.requires.within in
-    in-element g.F.FnOnce c.args.change is k (names c.args.rest.now) c.args.items.now c.in-Some.place c.index-items-place.result c.change_in_item.new.item
-    c.change_in_item.result (sym c.in-Some.is ∙ named) within c.change_in_item.ensures
-
-pub change_in_inline-returns : goal.change_in_inline-returns
-change_in_inline-returns g t c =
-    in-inline g.F.FnOnce c.args.change c.args.key.now.name (names c.args.rest.now) (inline_view c.args.table.now) _ (slots_view c.slots_mut.result.now)
-    (slots_view c.change_in_slots.new.slots) _ c.slots_mut.ensures.slots (c.slots_mut.ensures.others c.change_in_slots.new.slots) c.change_in_slots.ensures
-
-pub change_in_table-returns : goal.change_in_table-returns
-change_in_table-returns g t c =
-    in-table g.F.FnOnce c.args.change c.args.key.now.name (names c.args.rest.now) (table_view c.args.table.now) _ (slots_view c.slots_mut.result.now)
-    (slots_view c.change_in_slots.new.slots) _ c.slots_mut.ensures.slots (c.slots_mut.ensures.others c.change_in_slots.new.slots) c.change_in_slots.ensures
+pub change_in_item-returns-in-None : goal.change_in_item-returns-in-None
+change_in_item-returns-in-None g t c =
+    let n = item_view c.args.item.now in
+    let k = c.in-Some.key.now.name in
+    let path = names c.in-Some.rest.now in
+    let kind = kind_of (is_value_node n) in
+    let held = c.in-Some-items_mut.items.now in
+    let xs = held.items in
+    let is : items_in n ≡ Some (nodes xs) = sym (ap (option_map (λ (v : Vec Item Global). nodes v.items)) c.in-Some-items_mut.ensures.items ∙ items-held c.args.item.now) in
+    let named : None ≡ place_named kind k (nodes xs) =
+    c.in-None.ensures.place ∙ ap (λ (zs : List Item). place_named (kind_of c.is_value-values.result) k (nodes zs)) c.deref.ensures.value
+    ∙ ap (λ b. place_named (kind_of b) k (nodes xs)) c.is_value-values.ensures in (
+      ap (λ p. item_below (names p) n) c.in-Some.ensures.cases.0 ∙ found-in-items k path n (nodes xs) is
+          ∙ ap (λ o. and_then (item_below path) (second o)) (no-element (element_of kind k (nodes xs)) named),
+      items-seen held c.args.item.now ∙ items-kept n (nodes xs) is,
+    )
 
 pub change_in_slots-returns-in-Some : goal.change_in_slots-returns-in-Some
 change_in_slots-returns-in-Some g t c =
@@ -92,59 +107,35 @@ change_in_slots-returns-in-None g t c =
 
 -- ---- the closure may be called at each call on the way
 
-pub change_in_table-change_in_slots-requires : goal.change_in_table-change_in_slots-requires
-change_in_table-change_in_slots-requires g t c =
-    let k = c.args.key.now.name in
-    let path = names c.args.rest.now in
-    let may = takes g.F.FnOnce c.args.change (found-in path k (slots_view c.slots_mut.result.now)) (found-in path k (table_view c.args.table.now).slots)
-    (ap (found-in path k) (sym c.slots_mut.ensures.slots)) c.requires in
+pub change_in_item-change_in_slots-requires : goal.change_in_item-change_in_slots-requires
+change_in_item-change_in_slots-requires g t c =
+    let n = item_view c.args.item.now in
+    let k = c.in-Some.key.now.name in
+    let path = names c.in-Some.rest.now in
+    let es = c.in-Some-as_slots_mut.slots.now in
+    let is : slots_in n ≡ Some (shown_slots es) = sym c.in-Some-as_slots_mut.ensures.slots in
+    let may = takes g.F.FnOnce c.args.change (and_then (item_below path) (present (lookup_slot k (shown_slots es)))) (item_below (names c.args.path.now) n)
+    (ap (λ p. item_below (names p) n) c.in-Some.ensures.cases.0 ∙ found-in-slots k path n (shown_slots es) is) c.requires in
     λ κs lives. (search rules, (search rules, (search rules, may)))
 
-pub change_in_inline-change_in_slots-requires : goal.change_in_inline-change_in_slots-requires
-change_in_inline-change_in_slots-requires g t c =
-    let k = c.args.key.now.name in
-    let path = names c.args.rest.now in
-    let may = takes g.F.FnOnce c.args.change (found-in path k (slots_view c.slots_mut.result.now)) (found-in path k (inline_view c.args.table.now).slots)
-    (ap (found-in path k) (sym c.slots_mut.ensures.slots)) c.requires in
-    λ κs lives. (search rules, (search rules, (search rules, may)))
-
-pub change_in_array-change_in_element-requires : goal.change_in_array-change_in_element-requires
-change_in_array-change_in_element-requires g t c =
-    let a = c.args.array.now in
-    let xs = c.deref_mut.result.now in
-    let k = c.args.key.now.name in
-    let path = names c.args.rest.now in
-    let may = takes g.F.FnOnce c.args.change (and_then (item_below path) (option_and_then (slice_get (nodes xs)) c.value_named-at.result))
-    (and_then (item_below path) (second (element_of is_value_node k (item_list (array_view a).items))))
-    (ap (λ (ns : List Node). and_then (item_below path) (second (element_of is_value_node k ns))) (ap item_list (array-items a ∙ ap items_view (sym c.deref_mut.ensures.value)))
-    ∙ element-at is_value_node k path (nodes xs) c.value_named-at.result
-    (c.value_named-at.ensures.place ∙ ap (λ (ys : List Item). place_named is_value_node k (nodes ys)) (c.deref.ensures.value ∙ sym c.deref_mut.ensures.value))) c.requires in
-    let inside = subst (λ (ys : List Item). IfSome c.value_named-at.result (λ place. place < length ys)) (c.deref.ensures.value ∙ sym c.deref_mut.ensures.value) c.value_named-at.ensures.within in
-    λ κs lives. (search rules, (search rules, (search rules, (inside, may))))
-
-pub change_in_tables-change_in_element-requires : goal.change_in_tables-change_in_element-requires
-change_in_tables-change_in_element-requires g t c =
-    let a = c.args.tables.now in
-    let xs = c.deref_mut.result.now in
-    let k = c.args.key.now.name in
-    let path = names c.args.rest.now in
-    let may = takes g.F.FnOnce c.args.change (and_then (item_below path) (option_and_then (slice_get (nodes xs)) c.table_named-at.result))
-    (and_then (item_below path) (second (element_of is_table_node k (item_list (tables_view a).items))))
-    (ap (λ (ns : List Node). and_then (item_below path) (second (element_of is_table_node k ns))) (ap item_list (tables-items a ∙ ap items_view (sym c.deref_mut.ensures.value)))
-    ∙ element-at is_table_node k path (nodes xs) c.table_named-at.result
-    (c.table_named-at.ensures.place ∙ ap (λ (ys : List Item). place_named is_table_node k (nodes ys)) (c.deref.ensures.value ∙ sym c.deref_mut.ensures.value))) c.requires in
-    let inside = subst (λ (ys : List Item). IfSome c.table_named-at.result (λ place. place < length ys)) (c.deref.ensures.value ∙ sym c.deref_mut.ensures.value) c.table_named-at.ensures.within in
-    λ κs lives. (search rules, (search rules, (search rules, (inside, may))))
-
-pub change_in_element-change_in_item-requires : goal.change_in_element-change_in_item-requires
-change_in_element-change_in_item-requires g t c =
-    let xs = c.args.items.now in
-    let d = c.index-items-place.result in
-    let path = names c.args.rest.now in
-    let within = subst (λ (o : Option ℕ). IfSome o (λ place. place < length c.args.items.now)) c.in-Some.is c.requires.within in
-    let may = takes g.F.FnOnce c.args.change (item_below path (item_view (get_or xs c.in-Some.place d))) (and_then (item_below path) (option_and_then (slice_get (nodes xs)) c.args.at))
-    (ap (λ (o : Option ℕ). and_then (item_below path) (option_and_then (slice_get (nodes xs)) o)) c.in-Some.is ∙ ap (and_then (item_below path)) (node-at xs c.in-Some.place d within))
-    c.requires.callable in
+pub change_in_item-change_in_item-requires : goal.change_in_item-change_in_item-requires
+change_in_item-change_in_item-requires g t c =
+    let n = item_view c.args.item.now in
+    let k = c.in-Some.key.now.name in
+    let path = names c.in-Some.rest.now in
+    let kind = kind_of (is_value_node n) in
+    let held = c.in-Some-items_mut.items.now in
+    let xs = held.items in
+    let is : items_in n ≡ Some (nodes xs) = sym (ap (option_map (λ (v : Vec Item Global). nodes v.items)) c.in-Some-items_mut.ensures.items ∙ items-held c.args.item.now) in
+    let named : Some c.in-Some-place_named.at ≡ place_named kind k (nodes xs) =
+    c.in-Some-place_named.ensures.place ∙ ap (λ (zs : List Item). place_named (kind_of c.is_value-values.result) k (nodes zs)) c.deref.ensures.value
+    ∙ ap (λ b. place_named (kind_of b) k (nodes xs)) c.is_value-values.ensures in
+    let at = c.in-Some-place_named.at in
+    let x = c.index_mut.result.now in
+    let within : at < length xs = subst (λ (zs : List Item). at < length zs) c.deref.ensures.value c.in-Some-place_named.ensures.within in
+    let may = takes g.F.FnOnce c.args.change (item_below path (item_view x)) (item_below (names c.args.path.now) n)
+    (ap (λ p. item_below (names p) n) c.in-Some.ensures.cases.0 ∙ found-in-items k path n (nodes xs) is
+    ∙ ap (λ o. and_then (item_below path) (second o)) (element-is kind k xs at x named within) ∙ ap (λ (z : Item). item_below path (item_view z)) (sym c.index_mut.ensures.value)) c.requires in
     λ κs lives. (search rules, (search rules, (search rules, may)))
 
 pub change_in_slots-change_in_slot-requires : goal.change_in_slots-change_in_slot-requires

@@ -1,40 +1,48 @@
 -- What a segment leads to.
-use Rattle.std.proofs.Common.{sym, ap, ◌∙◌}
+use Rattle.std.proofs.Common.{◌≡◌, sym, ap, ◌∙◌, Some, None}
 use Rattle.std.specs.Prelude.{option_map}
-use Rattle.toml_edit_tree.specs.View.{array_view, item_view, tables_view}
-use Rattle.toml_edit_change.proofs.FoundLaws.{no-table-child, no-value-child, slot-child, table-child, value-child}
+use Rattle.toml_edit_model.specs.Slots.{lookup_slot}
+use Rattle.toml_edit_model.specs.Text.{Text}
+use Rattle.toml_edit_model.specs.Tree.{is_value_node}
+use Rattle.toml_edit_laws.specs.Commands.{element_of, present, second}
+use Rattle.toml_edit_tree.specs.Indexed.{shown_slots}
+use Rattle.toml_edit_tree.specs.View.{item_view}
+use Rattle.toml_edit_tree.specs.declared.item.Item.{Item}
+use Rattle.toml_edit_change.specs.Elements.{nodes, place_named}
+use Rattle.toml_edit_change.specs.Items.{kind_of}
+use Rattle.toml_edit_change.proofs.ElementLaws.{element-is, no-element}
+use Rattle.toml_edit_change.proofs.StepLaws.{items-child, no-child, slots-child}
 use Rattle.toml_edit_change.proofs.find.child.Goals as goal
-
-pub returns-in_err-place_among : goal.returns-in_err-place_among
-returns-in_err-place_among c =
-    ap (option_map (λ x. item_view x.now)) c.from_residual.ensures
-    ∙ sym
-    (no-value-child (item_view c.args.item.now) c.args.segment.now c.len.result (array_view c.in-Some.array.now) c.in-Some.ensures c.len.ensures
-    c.in_err-place_among.ensures)
 
 pub returns-in-Some : goal.returns-in-Some
 returns-in-Some c =
-    c.value_at.ensures
-    ∙ sym
-    (value-child (item_view c.args.item.now) c.args.segment.now c.len.result (array_view c.in-Some.array.now) c.in_ok-place_among.field-0 c.in-Some.ensures
-    c.len.ensures c.in_ok-place_among.ensures)
+    let es = c.in-Some.slots.now in
+    let k = c.args.key.now.name in
+    c.filled_item.ensures ∙ ap (λ (x : Text). present (lookup_slot x (shown_slots es))) c.get.ensures.name
+    ∙ sym (slots-child k (item_view c.args.item.now) (shown_slots es) (sym c.in-Some.ensures))
 
-pub returns-in_err-place_among-2 : goal.returns-in_err-place_among-2
-returns-in_err-place_among-2 c =
-    ap (option_map (λ x. item_view x.now)) c.from_residual-in_err-place_among-2.ensures
-    ∙ sym
-    (no-table-child (item_view c.args.item.now) c.args.segment.now c.len-in-Some-as_array_of_tables.result
-    (tables_view c.in-Some-as_array_of_tables.tables.now) c.in-Some-as_array_of_tables.ensures c.len-in-Some-as_array_of_tables.ensures
-    c.in_err-place_among-2.ensures)
+pub returns-in_err-items : goal.returns-in_err-items
+returns-in_err-items c =
+    ap (option_map (λ x. item_view x.now)) c.from_residual.ensures
+    ∙ sym (no-child c.args.key.now.name (item_view c.args.item.now) (sym c.in_default.ensures) (sym c.in_err-items.ensures))
 
-pub returns-in-Some-as_array_of_tables : goal.returns-in-Some-as_array_of_tables
-returns-in-Some-as_array_of_tables c =
-    c.table_at.ensures
-    ∙ sym
-    (table-child (item_view c.args.item.now) c.args.segment.now c.len-in-Some-as_array_of_tables.result
-    (tables_view c.in-Some-as_array_of_tables.tables.now) c.in_ok-place_among-2.field-0 c.in-Some-as_array_of_tables.ensures
-    c.len-in-Some-as_array_of_tables.ensures c.in_ok-place_among-2.ensures)
+pub returns-in_err-at : goal.returns-in_err-at
+returns-in_err-at c =
+    let n = item_view c.args.item.now in
+    let k = c.args.key.now.name in
+    let kind = kind_of (is_value_node n) in
+    let ns = nodes c.in_ok-items.items.now in
+    let named : None ≡ place_named kind k ns = c.in_err-at.ensures.place ∙ ap (λ b. place_named (kind_of b) k ns) c.is_value.ensures in
+    ap (option_map (λ x. item_view x.now)) c.from_residual-in_err-at.ensures
+    ∙ sym (items-child k n ns (sym c.in_ok-items.ensures) ∙ ap second (no-element (element_of kind k ns) named))
 
 pub returns : goal.returns
 returns c =
-    c.item_under.ensures ∙ sym (slot-child (item_view c.args.item.now) c.args.segment.now c.in_default.ensures c.in_default-as_array_of_tables.ensures)
+    let n = item_view c.args.item.now in
+    let k = c.args.key.now.name in
+    let kind = kind_of (is_value_node n) in
+    let xs = c.in_ok-items.items.now in
+    let at = c.in_ok-at.at in
+    let named : Some at ≡ place_named kind k (nodes xs) = c.in_ok-at.ensures.place ∙ ap (λ b. place_named (kind_of b) k (nodes xs)) c.is_value.ensures in
+    ap (λ (x : Item). Some (item_view x)) c.index-items-at.is
+    ∙ sym (items-child k n (nodes xs) (sym c.in_ok-items.ensures) ∙ ap second (element-is kind k xs at c.index-items-at.result named c.in_ok-at.ensures.within))

@@ -1,75 +1,111 @@
 -- Each exit of the way down to a value that is set.
-use Rattle.std.proofs.Common.{◌≡◌, ℕ, ◌<◌, ◌++◌, [], ◌∷◌, ap, subst, sym, ◌∙◌, true, List, length, Option, None, arith}
-use Rattle.std.specs.Option.{IfSome}
+use Rattle.std.proofs.Common.{◌≡◌, ◌<◌, ◌++◌, [], ◌∷◌, refl, ap, subst, sym, ◌∙◌, true, rules, List, length, Some, None, Vec, Global, option_map}
+use Rattle.std.specs.Prelude.{Err}
 use Rattle.toml_edit_model.specs.Keys.{new_key}
-use Rattle.std.specs.Vec.{with_items}
-use Rattle.std.proofs.lemmas.List.{with_items_is}
-use Rattle.toml_edit_model.specs.Slots.{keyed, lookup_slot}
+use Rattle.toml_edit_model.specs.Lists.{items_in, slots_in}
+use Rattle.toml_edit_model.specs.Slots.{keyed}
 use Rattle.toml_edit_model.specs.Text.{Text}
-use Rattle.toml_edit_model.specs.Tree.{is_value_node}
-use Rattle.toml_edit_laws.specs.Commands.{change_element, change_slot, element_of, set_below}
-use Rattle.toml_edit_model.specs.Shown.{is_table_node}
+use Rattle.toml_edit_model.specs.Tree.{nothing, is_value_node}
+use Rattle.toml_edit_laws.specs.Commands.{change_element, child_changed, element_of}
 use Rattle.toml_edit_slots.specs.Slots.{place}
 use Rattle.toml_edit_tree.specs.declared.item.Item.{Item}
 use Rattle.toml_edit_tree.specs.Indexed.{shown_slots}
-use Rattle.toml_edit_tree.specs.View.{array_view, inline_view, item_view, items_view, slots_view, table_view, tables_view}
-use Rattle.toml_edit_change.specs.Changes.{names}
+use Rattle.toml_edit_tree.specs.View.{item_view}
+use Rattle.toml_edit_change.specs.Changes.{Changes, names}
 use Rattle.toml_edit_change.specs.Elements.{nodes, place_named}
-use Rattle.toml_edit_change.proofs.ChangeLaws.{in-array, in-inline, in-table, in-tables}
-use Rattle.toml_edit_change.proofs.ElementLaws.{element-changes}
-use Rattle.toml_edit_change.proofs.SlotLaws.{new-slot, slot-changes, slot-none}
-use Rattle.toml_edit_change.proofs.ViewLaws.{array-items, array-made, tables-items, tables-made}
+use Rattle.toml_edit_change.specs.Items.{kind_of}
+use Rattle.toml_edit_change.specs.Setting.{set_by}
+use Rattle.toml_edit_change.specs.declared.fault.ChangeFault.TheVariants.{NoSuchPath}
+use Rattle.toml_edit_change.proofs.ChangeLaws.{renamed}
+use Rattle.toml_edit_change.proofs.ElementLaws.{element-changes, no-element}
+use Rattle.toml_edit_change.proofs.ElementViews.{items-held, items-seen}
+use Rattle.toml_edit_change.proofs.SetLaws.{new-slot, scalar-refuses, set-end, set-step}
+use Rattle.toml_edit_change.proofs.SlotLaws.{slot-changes, slot-none}
+use Rattle.toml_edit_change.proofs.StepLaws.{items-change, items-go, slots-change, slots-go}
 use Rattle.toml_edit_change.proofs.put.+set.Goals as goal
 
-pub set_in_array-returns : goal.set_in_array-returns
-set_in_array-returns t c =
-    let a = c.args.array.now in
-    let ys = c.set_in_element.new.items in
-    let k = c.args.key.now.name in
-    let go = set_below (item_view c.args.value.now) (names c.args.rest.now) in
-    in-array (λ ns. change_element go ns (element_of is_value_node k ns)) (array_view a) _ (items_view c.deref_mut.result.now) (items_view ys) _
-    (ap items_view c.deref_mut.ensures.value ∙ sym (array-items a)) (array-made a (with_items a.values ys)
-    ∙ ap (λ (xs : List Item). record { fields = (array_view a).fields; items = items_view xs }) (with_items_is a.values ys (omega (arith, a.values.ok.0, c.deref_mut.ensures.len))))
-    (c.set_in_element.ensures is_value_node k
-    (c.value_named-at.ensures.place ∙ ap (λ (xs : List Item). place_named is_value_node k (nodes xs)) (c.deref.ensures.value ∙ sym c.deref_mut.ensures.value)))
+pub set_in_item-returns-in_default : goal.set_in_item-returns-in_default
+set_in_item-returns-in_default t c =
+    renamed _ _ _ _ _ _ _ (set-end c.args.headers (item_view c.args.value.now) c.args.path.now (item_view c.args.item.now) c.in_default.ensures.cases) refl refl c.set_here.ensures
 
-pub set_in_tables-returns : goal.set_in_tables-returns
-set_in_tables-returns t c =
-    let a = c.args.tables.now in
-    let ys = c.set_in_element.new.items in
-    let k = c.args.key.now.name in
-    let go = set_below (item_view c.args.value.now) (names c.args.rest.now) in
-    in-tables (λ ns. change_element go ns (element_of is_table_node k ns)) (tables_view a) _ (items_view c.deref_mut.result.now) (items_view ys) _
-    (ap items_view c.deref_mut.ensures.value ∙ sym (tables-items a)) (tables-made a (with_items a.values ys)
-    ∙ ap (λ (xs : List Item). record { extent = (tables_view a).extent; items = items_view xs }) (with_items_is a.values ys (omega (arith, a.values.ok.0, c.deref_mut.ensures.len))))
-    (c.set_in_element.ensures is_table_node k
-    (c.table_named-at.ensures.place ∙ ap (λ (xs : List Item). place_named is_table_node k (nodes xs)) (c.deref.ensures.value ∙ sym c.deref_mut.ensures.value)))
+pub set_in_item-returns-in-Some-as_slots_mut : goal.set_in_item-returns-in-Some-as_slots_mut
+set_in_item-returns-in-Some-as_slots_mut t c =
+    let n = item_view c.args.item.now in
+    let v = item_view c.args.value.now in
+    let k = c.in-Some.key.now.name in
+    let rest = names c.in-Some.rest.now in
+    let es = c.in-Some-as_slots_mut.slots.now in
+    let new = c.set_in_slots.new.slots in
+    let filled : n ≡ nothing → ⊥ = search rules in
+    let is : slots_in n ≡ Some (shown_slots es) = sym c.in-Some-as_slots_mut.ensures.slots in
+    renamed _ _ _ _ _ _ _
+    (slots-go true k (set_by c.has_headers-headers.result v rest) n (shown_slots es) is
+    ∙ ap (λ h. child_changed true k (set_by h v rest) n) c.has_headers-headers.ensures ∙ set-step c.args.headers v k rest n filled
+    ∙ ap (λ path. set_by c.args.headers v (names path) n) (sym c.in-Some.ensures.cases.0))
+    refl (sym (c.as_slots_mut.ensures.others new))
+    (slots-change _ n (shown_slots es) (shown_slots new) _ is c.set_in_slots.ensures)
 
-pub set_in_element-returns-in-Some : goal.set_in_element-returns-in-Some
-set_in_element-returns-in-Some t c =
-    λ is k named.
-    let within = subst (λ (o : Option ℕ). IfSome o (λ place. place < length c.args.items.now)) c.in-Some.is c.requires in
-    element-changes is k (set_below (item_view c.args.value.now) (names c.args.rest.now)) c.args.items.now c.in-Some.place c.index-items-place.result
-    c.set_in_item.new.item c.set_in_item.result (sym c.in-Some.is ∙ named) within c.set_in_item.ensures
+pub set_in_item-returns-in-Some-place_named : goal.set_in_item-returns-in-Some-place_named
+set_in_item-returns-in-Some-place_named t c =
+    let n = item_view c.args.item.now in
+    let v = item_view c.args.value.now in
+    let k = c.in-Some.key.now.name in
+    let rest = names c.in-Some.rest.now in
+    let go = set_by c.has_headers-headers.result v rest in
+    let kind = kind_of (is_value_node n) in
+    let xs = c.in-Some-items_mut.items.now.items in
+    let at = c.in-Some-place_named.at in
+    let x = c.index_mut.result.now in
+    let y = c.set_in_item.new.item in
+    let filled : n ≡ nothing → ⊥ = search rules in
+    let is : items_in n ≡ Some (nodes xs) = sym (ap (option_map (λ (v : Vec Item Global). nodes v.items)) c.in-Some-items_mut.ensures.items ∙ items-held c.args.item.now) in
+    let named : Some at ≡ place_named kind k (nodes xs) =
+    c.in-Some-place_named.ensures.place ∙ ap (λ (zs : List Item). place_named (kind_of c.is_value-values.result) k (nodes zs)) c.deref.ensures.value
+    ∙ ap (λ b. place_named (kind_of b) k (nodes xs)) c.is_value-values.ensures in
+    let within : at < length xs = subst (λ (zs : List Item). at < length zs) c.deref.ensures.value c.in-Some-place_named.ensures.within in
+    let told = subst (λ (z : Item). Changes (go (item_view z)) (item_view z) (item_view y) c.set_in_item.result) c.index_mut.ensures.value c.set_in_item.ensures in
+    renamed _ _ _ _ _ _ _
+    (items-go true k go n (nodes xs) is
+    ∙ ap (λ h. child_changed true k (set_by h v rest) n) c.has_headers-headers.ensures ∙ set-step c.args.headers v k rest n filled
+    ∙ ap (λ path. set_by c.args.headers v (names path) n) (sym c.in-Some.ensures.cases.0))
+    refl (sym (items-seen _ c.args.item.now))
+    (items-change _ n (nodes xs) _ _ is (element-changes kind k go xs at x y c.set_in_item.result named within told))
 
-pub set_in_inline-returns : goal.set_in_inline-returns
-set_in_inline-returns t c =
-    let k = c.args.key.now.name in
-    let go = set_below (item_view c.args.value.now) (names c.args.rest.now) in
-    in-inline (λ ss. change_slot true k go ss (lookup_slot k ss)) (inline_view c.args.table.now) _ (slots_view c.slots_mut.result.now) (slots_view c.set_in_slots.new.slots) _
-    c.slots_mut.ensures.slots (c.slots_mut.ensures.others c.set_in_slots.new.slots) c.set_in_slots.ensures
+pub set_in_item-returns-in-None-place_named : goal.set_in_item-returns-in-None-place_named
+set_in_item-returns-in-None-place_named t c =
+    let n = item_view c.args.item.now in
+    let v = item_view c.args.value.now in
+    let k = c.in-Some.key.now.name in
+    let rest = names c.in-Some.rest.now in
+    let go = set_by c.has_headers-headers.result v rest in
+    let kind = kind_of (is_value_node n) in
+    let xs = c.in-Some-items_mut.items.now.items in
+    let filled : n ≡ nothing → ⊥ = search rules in
+    let is : items_in n ≡ Some (nodes xs) = sym (ap (option_map (λ (v : Vec Item Global). nodes v.items)) c.in-Some-items_mut.ensures.items ∙ items-held c.args.item.now) in
+    let named : None ≡ place_named kind k (nodes xs) =
+    c.in-None-place_named.ensures.place ∙ ap (λ (zs : List Item). place_named (kind_of c.is_value-values.result) k (nodes zs)) c.deref.ensures.value
+    ∙ ap (λ b. place_named (kind_of b) k (nodes xs)) c.is_value-values.ensures in
+    renamed _ _ n _ _ _ (Err NoSuchPath)
+    (items-go true k go n (nodes xs) is
+    ∙ ap (λ h. child_changed true k (set_by h v rest) n) c.has_headers-headers.ensures ∙ set-step c.args.headers v k rest n filled
+    ∙ ap (λ path. set_by c.args.headers v (names path) n) (sym c.in-Some.ensures.cases.0))
+    refl (sym (items-seen c.in-Some-items_mut.items.now c.args.item.now))
+    (items-change (change_element go (nodes xs) (element_of kind k (nodes xs))) n (nodes xs) (nodes xs) (Err NoSuchPath) is (ap (change_element go (nodes xs)) (no-element (element_of kind k (nodes xs)) named), refl))
 
-pub set_in_table-returns : goal.set_in_table-returns
-set_in_table-returns t c =
-    let k = c.args.key.now.name in
-    let go = set_below (item_view c.args.value.now) (names c.args.rest.now) in
-    in-table (λ ss. change_slot true k go ss (lookup_slot k ss)) (table_view c.args.table.now) _ (slots_view c.slots_mut.result.now) (slots_view c.set_in_slots.new.slots) _
-    c.slots_mut.ensures.slots (c.slots_mut.ensures.others c.set_in_slots.new.slots) c.set_in_slots.ensures
+pub set_in_item-returns-in-None : goal.set_in_item-returns-in-None
+set_in_item-returns-in-None t c =
+    let n = item_view c.args.item.now in
+    let v = item_view c.args.value.now in
+    let filled : n ≡ nothing → ⊥ = search rules in (
+      ap (λ path. set_by c.args.headers v (names path) n) c.in-Some.ensures.cases.0
+          ∙ scalar-refuses c.args.headers v c.in-Some.key.now.name (names c.in-Some.rest.now) n filled (sym c.in_default-as_slots_mut.ensures.slots) (sym (ap (option_map (λ (v : Vec Item Global). nodes v.items)) c.in-None.ensures.items ∙ items-held c.args.item.now)),
+      refl,
+    )
 
 pub set_in_slots-returns-in-Some : goal.set_in_slots-returns-in-Some
 set_in_slots-returns-in-Some t c =
     let es = c.args.slots.now in
-    slot-changes true c.args.key.now.name (set_below (item_view c.args.value.now) (names c.args.rest.now)) es c.in-Some.at c.item_mut.result.now c.set_in_item.new.item
+    slot-changes true c.args.key.now.name (set_by c.args.headers (item_view c.args.value.now) (names c.args.rest.now)) es c.in-Some.at c.item_mut.result.now c.set_in_item.new.item
     c.set_in_item.result c.as_slice.ensures.apart (sym (c.in-Some.ensures.place ∙ ap (λ (x : Text). place x es) c.get.ensures.name)) c.item_mut.ensures.item c.set_in_item.ensures
 
 pub set_in_slots-returns-in_ok-push_new-in-None : goal.set_in_slots-returns-in_ok-push_new-in-None
@@ -77,6 +113,6 @@ set_in_slots-returns-in_ok-push_new-in-None t c =
     let es = c.args.slots.now in
     let k = c.args.key.now.name in
     let none : place k es ≡ None = sym (c.in-None.ensures.place ∙ ap (λ (x : Text). place x es) c.get.ensures.name) in
-    new-slot k (item_view c.args.value.now) (names c.args.rest.now) (shown_slots es) (shown_slots c.push_new.new.slots) (item_view c.make_below.new.value) (slot-none k es none)
-    c.in_ok-make_below-in-None.ensures
-    (c.in_ok-push_new-in-None.ensures.made ∙ ap (λ (x : Text). shown_slots es ++ (keyed (new_key x) (item_view c.make_below.new.value) ∷ [])) c.get-in-None.ensures.name)
+    new-slot c.args.headers k (item_view c.args.value.now) (names c.args.rest.now) (shown_slots es) (shown_slots c.push_new.new.slots) (item_view c.wrap_below.new.value) (slot-none k es none)
+    c.in_ok-wrap_below-in-None.ensures
+    (c.in_ok-push_new-in-None.ensures.made ∙ ap (λ (x : Text). shown_slots es ++ (keyed (new_key x) (item_view c.wrap_below.new.value) ∷ [])) c.get-in-None.ensures.name)

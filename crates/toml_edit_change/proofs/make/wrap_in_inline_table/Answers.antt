@@ -7,7 +7,7 @@ use Rattle.toml_edit_tree.specs.Containers.{InlineView, inline_node}
 use Rattle.toml_edit_tree.specs.View.{item_view, slots_view}
 use Rattle.toml_edit_change.proofs.SlotLaws.{none-in-empty, only-slot}
 use Rattle.toml_edit_change.proofs.ViewLaws.{view-InlineTable, view-Value}
-use Rattle.toml_edit_change.proofs.put.wrap.Goals as goal
+use Rattle.toml_edit_change.proofs.make.wrap_in_inline_table.Goals as goal
 
 pub push_new-requires : goal.push_new-requires
 push_new-requires c =

@@ -7,7 +7,7 @@ use Rattle.toml_edit_tree.specs.Containers.{TableView, table_node, table_with_im
 use Rattle.toml_edit_tree.specs.View.{item_view, slots_view}
 use Rattle.toml_edit_change.proofs.SlotLaws.{none-in-empty, only-slot}
 use Rattle.toml_edit_change.proofs.ViewLaws.{view-Table}
-use Rattle.toml_edit_change.proofs.headers.head.Goals as goal
+use Rattle.toml_edit_change.proofs.make.wrap_in_table.Goals as goal
 
 pub push_new-requires : goal.push_new-requires
 push_new-requires c =

@@ -7,7 +7,7 @@ use Rattle.toml_edit_tree.specs.declared.item.Item.{Item}
 use Rattle.toml_edit_tree.specs.Indexed.{shown_slots}
 use Rattle.toml_edit_tree.specs.View.{item_view}
 use Rattle.toml_edit_change.proofs.SlotLaws.{pairs-last}
-use Rattle.toml_edit_change.proofs.put.push_new.Goals as goal
+use Rattle.toml_edit_change.proofs.make.push_new.Goals as goal
 
 pub returns-in-Ok-clause-made : goal.returns-in-Ok-clause-made
 returns-in-Ok-clause-made c =
