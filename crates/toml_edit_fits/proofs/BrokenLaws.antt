@@ -1,6 +1,6 @@
 -- Each misfit is a place where its rule is broken.
 use Rattle.std.proofs.Common.{◌≡◌, refl, sym, ◌∙◌, ap, subst, ℕ, zero, suc, ◌+◌, ◌-◌, ◌<◌, ◌≤◌, ℤ, Bool, true, false, List, [], ◌∷◌, ◌++◌, length, append_assoc, slice_get, Some, arith}
-use Rattle.std.specs.Prelude.{◌&&◌, ◌||◌, ◌==◌, not, nat_lt, int_le, if◌then◌else◌, map, Contains, MatchBool, slice_index_or}
+use Rattle.std.specs.Prelude.{◌&&◌, ◌||◌, not, nat_lt, int_le, if◌then◌else◌, map, Contains, MatchBool}
 use Rattle.std.specs.List.{AllByRecursion, list_any}
 use Rattle.std.specs.Fmt.{decimal}
 use Rattle.std.proofs.lemmas.Bool.{eq-eqb, ne_eqb, ltb-false, ltb-true}
@@ -9,7 +9,7 @@ use Rattle.std.proofs.lemmas.List.Elements.{All-contains, All-from_recursion, Co
 use Rattle.toml_edit_model.specs.Mode.{Mode}
 use Rattle.toml_edit_model.specs.Text.{Text, one}
 use Rattle.toml_edit_model.specs.Trivia.{IsWholeTrivia}
-use Rattle.toml_edit_model.specs.Syntax.{is_short, nesting_limit}
+use Rattle.toml_edit_model.specs.Syntax.{is_short}
 use Rattle.toml_edit_model.specs.Keys.{new_key}
 use Rattle.toml_edit_model.specs.Lists.{item_list}
 use Rattle.toml_edit_model.specs.Paths.{Path, to_key, to_element}
@@ -28,8 +28,8 @@ use Rattle.toml_edit_fits.specs.declared.misfit.FitRule.TheVariants as rule
 use Rattle.toml_edit_fits.specs.declared.route.Route.{Route}
 use Rattle.toml_edit_fits.specs.TriviaTests.{is_whole, is_final}
 use Rattle.toml_edit_fits.specs.FitTests.{no_keys, then_key, pair_fits, element_fits, header_fits}
-use Rattle.toml_edit_fits.specs.Misfits.{MisfitView, here, unless, below, path_rule, pair_misfits, value_misfits, items_misfits, inside_misfits, within_misfits, lines_misfits, dotted_misfits, table_misfits, tables_misfits, node_misfits, elements_misfits, element_misfits, root_misfits, Located, in_step, located_slots, located_node, located_items, Headed, headed_from, is_too_early, early_after, early_misfits, misfits}
-use Rattle.toml_edit_fits.specs.BrokenRules.{ComesBefore, MisfitsAreBroken, names, located, Part, a_table, a_line, an_element, a_value, the_root, IsAt, MayFollow, Breaks, IsBrokenAt, root_at, table_at, line_at, pair_at, element_at, line_value_at, element_value_at}
+use Rattle.toml_edit_fits.specs.Misfits.{MisfitView, here, unless, below, path_rule, pair_misfits, value_misfits, items_misfits, inside_misfits, within_misfits, lines_misfits, dotted_misfits, table_misfits, tables_misfits, node_misfits, elements_misfits, root_misfits, Located, in_step, located_slots, located_node, located_items, Headed, headed_from, is_too_early, early_after, early_misfits, misfits}
+use Rattle.toml_edit_fits.specs.BrokenRules.{ComesBefore, MisfitsAreBroken, names, located, a_table, a_line, an_element, a_value, the_root, IsAt, MayFollow, Breaks, IsBrokenAt, root_at, table_at, line_at, pair_at, element_at, line_value_at, element_value_at}
 use Rattle.toml_edit_fits.proofs.TriviaLaws.{final-decides}
 use Rattle.toml_edit_fits.proofs.ValueLaws.{IsRouteOf, no-keys, then-route, length-one, pair-decides, whole-side, Follows}
 use Rattle.toml_edit_fits.proofs.NodeLaws.{short-decides}

@@ -1,14 +1,14 @@
 -- Slots and items of which each is well made.
 use mathlib.Core.Logic.{∥∥₁_elim, ∥∥₁_map}
-use Rattle.std.proofs.Common.{◌≡◌, refl, ◌∙◌, ◌-◌, ◌^◌, ◌<◌, arith, FitsSigned, w64, ℕ, zero, suc, Bool, true, false, List, [], ◌∷◌, Option, Some, None}
+use Rattle.std.proofs.Common.{◌≡◌, refl, sym, subst, ◌∙◌, ◌-◌, ◌^◌, ◌<◌, arith, FitsSigned, w64, ℕ, zero, suc, Bool, true, false, List, [], ◌∷◌, Option, Some, None}
 use Rattle.std.specs.Prelude.{ℤ, pos, negsuc, slice_get, take, if◌then◌else◌, option_map}
 use Rattle.std.specs.Option.{ForSome}
 use Rattle.std.specs.List.{AllByRecursion}
 use Rattle.std.proofs.lemmas.Bool.{le-leb, or_from}
-use Rattle.toml_edit_model.specs.Scalars.{fits_integer}
+use Rattle.toml_edit_model.specs.Scalars.{Scalar, fits_integer}
 use Rattle.toml_edit_model.specs.Text.{Text, same_text}
-use Rattle.toml_edit_model.specs.Spelling.{SpellsKey}
-use Rattle.toml_edit_model.specs.Tree.{has_key, HasTrueSpelling, IsWellMade, ItemsAreWellMade, SlotsAreWellMade}
+use Rattle.toml_edit_model.specs.Spelling.{SpellsInRange, SpellsKey}
+use Rattle.toml_edit_model.specs.Tree.{Raw, Decor, Node, leaf, has_key, HasTrueSpelling, IsRealScalar, IsWellMade, ItemsAreWellMade, SlotsAreWellMade}
 use Rattle.toml_edit_laws.proofs.common.Tests.{same_text-swap}
 use Rattle.toml_edit_slots.specs.Slots.{names, place, place_in}
 use Rattle.toml_edit_slots.specs.declared.slots.Slot.{Slot}
@@ -23,6 +23,10 @@ integer-fits (negsuc n) fits = let below : n < 2 ^ 63 = fits.sfits in rw (le-leb
 -- two facts that are there, at once
 pub both : {A B C : Type 0} → ∥ A ∥₁ → ∥ B ∥₁ → (A → B → C) → ∥ C ∥₁
 both a b f = ∥∥₁_elim a squash₁ (λ x. ∥∥₁_map b (λ y. f x y))
+
+-- a scalar is well made by its spelling and its range
+pub leaf-made : (n : Node) (s : Scalar) (spelling : Option Raw) (d : Decor) → n ≡ leaf s spelling d → ∥ HasTrueSpelling (SpellsInRange s) spelling ∥₁ → IsRealScalar s → ∥ IsWellMade n ∥₁
+leaf-made n s spelling d e spelled real = subst (λ (m : Node). ∥ IsWellMade m ∥₁) (sym e) (∥∥₁_map spelled (λ h. (h, real)))
 
 pub items-made : (xs : List Item) → AllByRecursion (λ x. ∥ IsWellMade (item_view x) ∥₁) xs → ∥ ItemsAreWellMade (items_view xs) ∥₁
 items-made [] h = ∣ tt ∣₁

@@ -1,15 +1,16 @@
 -- A tree has no misfits just where it passes the tests, part by part.
-use Rattle.std.proofs.Common.{◌≡◌, refl, sym, ◌∙◌, ap, ℕ, suc, ◌-◌, ℤ, Bool, true, false, List, [], ◌∷◌, ◌++◌, Option, Some, None}
+use Rattle.std.proofs.Common.{◌≡◌, refl, sym, ◌∙◌, ap, subst, ℕ, suc, ◌-◌, ℤ, Bool, true, false, List, [], ◌∷◌, ◌++◌, Option, Some, None}
 use Rattle.std.specs.Prelude.{◌&&◌, ◌||◌, ◌↔◌, not, nat_lt, if◌then◌else◌, slice_get, is_some, option_and_then, option_map}
 use Rattle.std.specs.Fmt.{decimal}
+use Rattle.std.specs.Option.{MatchOption}
 use Rattle.toml_edit_model.specs.Mode.{Mode}
 use Rattle.toml_edit_model.specs.Text.{Text, is_empty}
 use Rattle.toml_edit_model.specs.Syntax.{nesting_limit}
-use Rattle.toml_edit_model.specs.Tree.{Raw, Key, TableFields, Node, nothing, leaf, list, inline, table, tables, Items, no_items, item, Slots, no_slots, slot, Tree, shown_prefix, shown_suffix, shown_raw, node_decor, is_value_node}
+use Rattle.toml_edit_model.specs.Tree.{Raw, Key, TableFields, Node, nothing, leaf, list, inline, table, tables, Items, no_items, item, Slots, no_slots, slot, Tree, SlotsAreWellMade, shown_prefix, shown_suffix, shown_raw, node_decor, is_value_node}
 use Rattle.toml_edit_model.specs.Print.{is_line_node}
 use Rattle.toml_edit_model.specs.Fits.{FitsIn}
 use Rattle.toml_edit_laws.specs.PrintByVisits.{has_own_header}
-use Rattle.toml_edit_laws.proofs.common.Tests.{and_left, and_right}
+use Rattle.toml_edit_laws.proofs.common.Tests.{and_left, and_right, true-false}
 use Rattle.toml_edit_fits.specs.declared.misfit.FitRule.{FitRule}
 use Rattle.toml_edit_fits.specs.declared.misfit.FitRule.TheVariants as rule
 use Rattle.toml_edit_fits.specs.declared.order.Marks.{Marks}
@@ -17,9 +18,11 @@ use Rattle.toml_edit_fits.specs.declared.route.Route.{Route}
 use Rattle.toml_edit_fits.specs.TriviaTests.{is_whole, is_final}
 use Rattle.toml_edit_fits.specs.FitTests.{no_keys, then_key, pair_fits, element_fits, header_fits, value_fits, items_fit, inside_fits, within_fits, lines_fit, dotted_fits, table_fits, tables_fit, node_fits, elements_fit, as_element_fits, root_fits, parts_fit}
 use Rattle.toml_edit_fits.specs.OrderTests.{SlotsAreApart, reaches, later, marks_of, place_in, enter, first_below, order_slots, order_node, order_items, order_item, root_marks}
-use Rattle.toml_edit_fits.specs.Misfits.{MisfitView, here, unless, below, path_rule, item_misfits, pair_misfits, value_misfits, items_misfits, inside_misfits, within_misfits, lines_misfits, dotted_misfits, table_misfits, tables_misfits, node_misfits, elements_misfits, element_misfits, root_misfits}
+use Rattle.toml_edit_fits.specs.Misfits.{MisfitView, here, unless, below, path_rule, item_misfits, pair_misfits, value_misfits, items_misfits, inside_misfits, within_misfits, lines_misfits, dotted_misfits, table_misfits, tables_misfits, node_misfits, elements_misfits, element_misfits, root_misfits, misfits}
 use Rattle.toml_edit_fits.specs.EarlyTests.{is_in_order, marks_past, low_in, past_array, past_slots, past_node, past_items, past_item, early_slots, early_node, early_items, early_item, walked_misfits}
-use Rattle.toml_edit_fits.specs.MisfitViews.{walked}
+use Rattle.toml_edit_fits.specs.MisfitViews.{Reports}
+use Rattle.toml_edit_fits.proofs.ApartLaws.{made-apart}
+use Rattle.toml_edit_fits.proofs.EarlyLaws.{misfits-walked}
 use Rattle.toml_edit_fits.proofs.FitsLaws.{passes, passing}
 
 -- ---- lists without elements
@@ -293,16 +296,17 @@ mutual
   when-item nothing low m = refl
 
 -- below a header in order, a walk goes on from its marks
-pub entered-on : (is_element : Bool) (low inside : Option ℤ) (m v : Marks) (f : TableFields) (ss : Slots) → Some v ≡ enter is_element low m f ss
-    → walked (early_slots inside v ss) (past_slots v ss)
-    ≡ walked (unless (is_in_order is_element low m f ss) rule.Order ++ early_slots inside (marks_past is_element m f ss) ss) (past_slots (marks_past is_element m f ss) ss)
-entered-on is_element low inside m v f ss h = by_order (is_in_order is_element low m f ss) (h ∙ enter-when is_element low m f ss)
+pub entered-on : {R : Type 0} (tells : R → MisfitView → Type 0) (is_element : Bool) (low inside : Option ℤ) (m v : Marks) (f : TableFields) (ss : Slots) (end : Option Marks) (r : R)
+    → Some v ≡ enter is_element low m f ss → Reports tells (early_slots inside v ss) (Some (past_slots v ss)) None end r
+    → Reports tells (unless (is_in_order is_element low m f ss) rule.Order ++ early_slots inside (marks_past is_element m f ss) ss) (Some (past_slots (marks_past is_element m f ss) ss)) None end r
+entered-on tells is_element low inside m v f ss end r e h = by_order (is_in_order is_element low m f ss) (e ∙ enter-when is_element low m f ss)
   where
     by_order : (b : Bool) → Some v ≡ when b (marks_past is_element m f ss)
-        → walked (early_slots inside v ss) (past_slots v ss)
-        ≡ walked (unless b rule.Order ++ early_slots inside (marks_past is_element m f ss) ss) (past_slots (marks_past is_element m f ss) ss)
-    by_order true g = let e : v ≡ marks_past is_element m f ss = cc in ap (λ u. walked (early_slots inside u ss) (past_slots u ss)) e
-    by_order false g = cc
+        → Reports tells (unless b rule.Order ++ early_slots inside (marks_past is_element m f ss) ss) (Some (past_slots (marks_past is_element m f ss) ss)) None end r
+    by_order true g =
+        let is : v ≡ marks_past is_element m f ss = cc in
+        subst (λ (u : Marks). Reports tells (early_slots inside u ss) (Some (past_slots u ss)) None end r) is h
+    by_order false g = absurd cc
 
 -- ---- the whole tree
 
@@ -336,11 +340,20 @@ none-first : (ms : List MisfitView) → is_empty ms ≡ true → slice_get ms 0 
 none-first [] h = refl
 none-first (m ∷ ms) h = cc
 
--- a tree has no first misfit just where it fits
-pub no-misfit : (mode : Mode) (t : Tree) → SlotsAreApart t.slots → (slice_get (walked_misfits mode t) 0 ≡ None) ↔ FitsIn mode t
+-- a well-made tree has no first misfit just where it fits
+no-misfit : (mode : Mode) (t : Tree) → SlotsAreApart t.slots → (slice_get (misfits mode t) 0 ≡ None) ↔ FitsIn mode t
 no-misfit mode t apart = (
-  λ h. let all : passed mode t ≡ true = sym (none-passed mode t) ∙ first-none (walked_misfits mode t) h in
+  λ h. let all : passed mode t ≡ true = sym (none-passed mode t) ∙ first-none (walked_misfits mode t) (ap (λ ms. slice_get ms 0) (sym (misfits-walked mode t apart)) ∙ h) in
       passing mode t apart (and_left (parts_fit mode t) (is_some (order_slots None (root_marks t.root) t.slots)) all)
       (and_right (parts_fit mode t) (is_some (order_slots None (root_marks t.root) t.slots)) all),
-  λ fits. none-first (walked_misfits mode t) (none-passed mode t ∙ passes mode t fits),
+  λ fits. ap (λ ms. slice_get ms 0) (misfits-walked mode t apart) ∙ none-first (walked_misfits mode t) (none-passed mode t ∙ passes mode t fits),
 )
+
+-- so a walk that reports the first one decides whether the tree fits
+pub reports-decide : {R : Type 0} (tells : R → MisfitView → Type 0) (mode : Mode) (t : Tree) (end : Bool) (r : R) → ∥ SlotsAreWellMade t.slots ∥₁
+    → Reports tells (misfits mode t) true false end r → (end ≡ true) ↔ FitsIn mode t
+reports-decide tells mode t end r made h = by_first (slice_get (misfits mode t) 0) (no-misfit mode t (made-apart t.slots made)) h
+  where
+    by_first : (o : Option MisfitView) → (o ≡ None) ↔ FitsIn mode t → MatchOption o (end ≡ true) (λ m. (end ≡ false) × tells r m) → (end ≡ true) ↔ FitsIn mode t
+    by_first None g h = (λ e. g.0 refl, λ f. h)
+    by_first (Some m) g h = (λ e. true-false end e h.0, λ f. let e : Some m ≡ None = g.1 f in absurd cc)

@@ -80,21 +80,6 @@ module _ (mode : Mode) where
     within_fits room r (tables e xs) = true
     within_fits room r nothing = true
 
-  -- one item of an array, and one slot of an inline table
-  abbrev pub item_fits : ℕ → Node → Bool
-  item_fits room n =
-      elim (is_value_node n) [
-        | true ↦ element_fits (node_decor n) && value_fits room n
-        | false ↦ true
-      ]
-
-  abbrev pub pair_slot_fits : ℕ → Route → Key → Node → Bool
-  pair_slot_fits room r k n =
-      elim (is_line_node n) [
-        | true ↦ pair_fits room r k (node_decor n) && value_fits room n
-        | false ↦ within_fits room (then_key r k) n
-      ]
-
   -- the lines of a table, with the keys before them
   abbrev mutual
     pub lines_fit : Route → Slots → Bool
@@ -113,14 +98,6 @@ module _ (mode : Mode) where
     dotted_fits r (list f xs) = true
     dotted_fits r (tables e xs) = true
     dotted_fits r nothing = true
-
-  -- the lines of one slot of a table
-  abbrev pub slot_fits : Route → Key → Node → Bool
-  slot_fits r k n =
-      elim (is_line_node n) [
-        | true ↦ pair_fits nesting_limit r k (node_decor n) && value_fits nesting_limit n
-        | false ↦ dotted_fits (then_key r k) n
-      ]
 
   -- ---- tables
 

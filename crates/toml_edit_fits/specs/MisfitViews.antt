@@ -1,28 +1,19 @@
--- What a misfit of the code is a view of, and what a search for the first one finds.
-use Rattle.std.specs.Prelude.{◌≡◌, List, [], ◌∷◌, reverse, slice_get, Option, option_map, Result, Ok, Err}
-use Rattle.toml_edit_fits.specs.declared.misfit.Found.{Found}
+-- What a misfit of the code is a view of, and what a walk reports.
+use Rattle.std.specs.Prelude.{◌≡◌, false, List, reverse, slice_get}
+use Rattle.std.specs.Option.{MatchOption}
 use Rattle.toml_edit_fits.specs.declared.misfit.Misfit.{Misfit}
-use Rattle.toml_edit_fits.specs.declared.order.Marks.{Marks}
-use Rattle.toml_edit_fits.specs.declared.find_order.Walk.{Walk}
-use Rattle.toml_edit_fits.specs.declared.find_order.Walk.TheVariants.{On, Early}
+use Rattle.toml_edit_fits.specs.declared.report.Trail.{Trail}
 use Rattle.toml_edit_fits.specs.Misfits.{MisfitView}
 
 abbrev pub misfit_view : Misfit → MisfitView
 misfit_view m = record { path = m.path.items; rule = m.rule }
 
--- the steps come in reverse
-abbrev pub found_view : Found → MisfitView
-found_view m = record { path = reverse m.steps.items; rule = m.rule }
+-- the steps come in reverse; where memory ran out, some are missing
+abbrev pub TrailTells : Trail → MisfitView → Type 0
+TrailTells t m = t.refused ≡ false → record { path = reverse t.steps.items; rule = t.rule } ≡ m
 
--- the first of these places is found, if there is one
-abbrev pub FindsFirst : List MisfitView → Option Found → Type 0
-FindsFirst ms found = option_map found_view found ≡ slice_get ms 0
-
--- the first of these places, or else the marks behind all headers
-abbrev pub walked : List MisfitView → Marks → Result Marks MisfitView
-walked [] m = Ok m
-walked (x ∷ xs) m = Err x
-
-abbrev pub walk_view : Walk → Result Marks MisfitView
-walk_view (On m) = Ok m
-walk_view (Early found) = Err (found_view found)
+-- A walk over a part with these misfits comes to the good end just where there are none. Else it
+-- comes to the bad end, and the report tells the first.
+abbrev pub Reports : {R A : Type 0} → (R → MisfitView → Type 0) → List MisfitView → A → A → A → R → Type 0
+Reports tells ms good bad end report =
+    MatchOption (slice_get ms 0) (end ≡ good) (λ m. (end ≡ bad) × tells report m)

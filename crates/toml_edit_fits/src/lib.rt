@@ -2,15 +2,12 @@
 //! Where it does not fit, the first such place is found.
 #![tactic(auto)]
 
-mod find_order;
-mod find_table;
-mod find_value;
 mod first;
 mod fits;
-mod invariants;
 mod laws;
 mod misfit;
 mod order;
+mod report;
 mod route;
 mod table;
 mod trivia;

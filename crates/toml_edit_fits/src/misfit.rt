@@ -1,13 +1,9 @@
 //! The rules of documents that fit, and the places where one is broken.
-ghost use Rattle.std.specs.Prelude.{◌≡◌, [], IfOk};
-ghost use Rattle.std.specs.Fmt.{decimal};
-ghost use Rattle.toml_edit_fits.specs.MisfitViews.{found_view, misfit_view};
-ghost use Rattle.toml_edit_fits.specs.Misfits.{below_key, below_step};
+ghost use Rattle.std.specs.Prelude.{◌≡◌};
+ghost use Rattle.toml_edit_fits.specs.MisfitViews.{misfit_view};
 
-use std::alloc::Global;
 use std::fmt;
 use toml_edit_key::Key;
-use toml_edit_repr::Mem;
 
 /// Which rule of documents that fit is broken.
 #[derive(Clone, Copy, Debug, PartialEq, Eq, Hash)]
@@ -45,8 +41,8 @@ impl fmt::Display for FitRule {
 /// `DocumentMut::first_misfit` returns one.
 #[derive(Debug, Drop)]
 pub struct Misfit {
-    path: Vec<Key>,
-    rule: FitRule,
+    pub(crate) path: Vec<Key>,
+    pub(crate) rule: FitRule,
 }
 
 impl Misfit {
@@ -74,65 +70,4 @@ impl Misfit {
     {
         self.rule
     }
-}
-
-/// A misfit below an item: the steps that lead to it from there, the last one first.
-pub(crate) struct Found {
-    pub(crate) steps: Vec<Key>,
-    pub(crate) rule: FitRule,
-}
-
-impl Drop for Found {
-    fn drop(self) {
-        let Found { steps, rule: _ } = self;
-        drop(steps);
-    }
-}
-
-impl Found {
-    /// Returns the misfit, found below the root, with its path in order.
-    pub(crate) fn into_misfit(self) -> Misfit
-        ensures { misfit_view result ≡ found_view self }
-    {
-        let Found { steps, rule } = self;
-        let mut path = steps;
-        path.reverse();
-        Misfit { path, rule }
-    }
-}
-
-/// Returns a misfit of the item itself.
-pub(crate) fn found_here(alloc: Global, rule: FitRule) -> Found
-    ensures { found_view result ≡ record { path = []; rule = rule } }
-{
-    Found {
-        steps: Vec::new(alloc),
-        rule,
-    }
-}
-
-/// Returns the misfit with one more step before its path.
-fn found_below(found: Found, step: Key) -> Mem<Found>
-    ensures { IfOk result (λ above. found_view above ≡ below_key step (found_view found)) }
-{
-    let mut above = found;
-    above.steps.push(step)?;
-    Ok(above)
-}
-
-/// Returns the misfit, found in the item under a key, as one of its table.
-pub(crate) fn found_under(alloc: Global, found: Found, key: &Key) -> Mem<Found>
-    ensures { IfOk result (λ above. found_view above ≡ below_step key.now.name (found_view found)) }
-{
-    let step = Key::from_text(alloc, key.get())?;
-    found_below(found, step)
-}
-
-/// Returns the misfit, found in the item with this number, as one of its array.
-pub(crate) fn found_in_item(alloc: Global, found: Found, number: usize) -> Mem<Found>
-    ensures { IfOk result
-        (λ above. found_view above ≡ below_step (decimal number) (found_view found)) }
-{
-    let step = Key::new(number.to_string(alloc)?);
-    found_below(found, step)
 }

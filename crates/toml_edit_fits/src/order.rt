@@ -1,9 +1,13 @@
 //! Checking that the headers of elements are in order: an element's own before all below it, and
 //! all of these before the next element's.
-ghost use Rattle.std.specs.Prelude.{◌≡◌};
+ghost use Rattle.std.specs.Prelude.{◌≡◌, None, Some};
 ghost use Rattle.toml_edit_tree.specs.View.{fields_view, item_view, items_view, slots_view, table_slots};
+ghost use Rattle.toml_edit_fits.specs.EarlyTests as spec;
+ghost use Rattle.toml_edit_fits.specs.MisfitViews.{Reports};
 ghost use Rattle.toml_edit_fits.specs.OrderTests as tests;
 
+use crate::misfit::FitRule;
+use crate::report::Report;
 use crate::table::has_header;
 use toml_edit_slots::Slots;
 use toml_edit_tree::{Item, Table};
@@ -27,7 +31,7 @@ fn reaches(low: Option<isize>, place: isize) -> bool
 }
 
 /// Returns the later of two places, if there are two.
-pub(crate) fn later(high: Option<isize>, place: isize) -> Option<isize>
+fn later(high: Option<isize>, place: isize) -> Option<isize>
     ensures { result ≡ tests.later high place }
 {
     match high {
@@ -43,7 +47,7 @@ pub(crate) fn later(high: Option<isize>, place: isize) -> Option<isize>
 }
 
 /// Returns the later of two places, of those that there are.
-pub(crate) fn latest(high: Option<isize>, other: Option<isize>) -> Option<isize>
+fn latest(high: Option<isize>, other: Option<isize>) -> Option<isize>
     ensures { result ≡ tests.latest high other }
 {
     match other {
@@ -53,7 +57,7 @@ pub(crate) fn latest(high: Option<isize>, other: Option<isize>) -> Option<isize>
 }
 
 /// Returns the place of a table that is not dotted: its position, or the one last seen.
-pub(crate) fn place_in(marks: Marks, table: &Table) -> isize
+fn place_in(marks: Marks, table: &Table) -> isize
     ensures { result ≡ tests.place_in marks (fields_view table.now) }
 {
     table.position().unwrap_or(marks.seen)
@@ -61,12 +65,7 @@ pub(crate) fn place_in(marks: Marks, table: &Table) -> isize
 
 /// Enters a table, in an element whose header has the place `low`, if it is in one. Returns `None`
 /// if its header is too late, or comes before one that it has to follow.
-pub(crate) fn enter(
-    is_element: bool,
-    low: Option<isize>,
-    marks: Marks,
-    table: &Table,
-) -> Option<Marks>
+fn enter(is_element: bool, low: Option<isize>, marks: Marks, table: &Table) -> Option<Marks>
     ensures { result ≡ tests.enter is_element low marks (fields_view table.now)
         (table_slots table.now) }
 {
@@ -90,46 +89,67 @@ pub(crate) fn enter(
     }
 }
 
-/// Returns the place that the headers below a table may not come before, if there is one.
-fn first_below(is_element: bool, low: Option<isize>, marks: Marks, table: &Table) -> Option<isize>
-    ensures { result ≡ tests.first_below is_element low marks (fields_view table.now) }
+/// Returns the first place that headers below an element may have, if there is one.
+fn low_in(low: Option<isize>, marks: Marks, table: &Table) -> Option<isize>
+    ensures { result ≡ spec.low_in low marks (fields_view table.now) }
 {
-    if is_element && !table.is_dotted() {
-        Some(place_in(marks, table))
-    } else {
+    if table.is_dotted() {
         low
+    } else {
+        later(low, place_in(marks, table))
     }
 }
 
 /// Returns the marks after the tables below these slots, or `None` if a header is not in order.
 #[cycle(order)]
-pub(crate) fn order_slots(low: Option<isize>, marks: Marks, slots: &Slots<Item>) -> Option<Marks>
-    ensures { result ≡ tests.order_slots low marks (slots_view slots.now) }
+pub(crate) fn order_slots<R: Report>(
+    report: &mut R,
+    low: Option<isize>,
+    marks: Marks,
+    slots: &Slots<Item>,
+) -> Option<Marks>
+    ensures { Reports R.tells (spec.early_slots low marks (slots_view slots.now))
+        (Some (spec.past_slots marks (slots_view slots.now))) None result report.new }
 {
     let mut last = marks;
     let entries = slots.as_slice();
     'slots: for slot in entries {
-        last = order_node(low, last, &slot.item)?;
+        match order_node(report, low, last, &slot.item) {
+            Some(marks) => last = marks,
+            None => {
+                report.under(&slot.key);
+                return None;
+            }
+        }
     }
     Some(last)
 }
 
 /// Returns the marks after the table or the elements of a slot, and the tables below them.
 #[cycle(order)]
-fn order_node(low: Option<isize>, marks: Marks, item: &Item) -> Option<Marks>
-    ensures { result ≡ tests.order_node low marks (item_view item.now) }
+fn order_node<R: Report>(
+    report: &mut R,
+    low: Option<isize>,
+    marks: Marks,
+    item: &Item,
+) -> Option<Marks>
+    ensures { Reports R.tells (spec.early_node low marks (item_view item.now))
+        (Some (spec.past_node marks (item_view item.now))) None result report.new }
 {
     match item {
-        Item::Table(table) => {
-            let entered = enter(false, low, marks, table)?;
-            order_slots(low, entered, &table.slots)
-        }
+        Item::Table(table) => match enter(false, low, marks, table) {
+            Some(entered) => order_slots(report, low, entered, &table.slots),
+            None => {
+                report.here(FitRule::Order);
+                None
+            }
+        },
         Item::ArrayOfTables(tables) => {
             let before = Marks {
                 seen: marks.seen,
                 highest: None,
             };
-            let last = order_items(low, before, &tables.values)?;
+            let last = order_items(report, low, before, &tables.values)?;
             Some(Marks {
                 seen: last.seen,
                 highest: latest(marks.highest, last.highest),
@@ -141,26 +161,47 @@ fn order_node(low: Option<isize>, marks: Marks, item: &Item) -> Option<Marks>
 
 /// Returns the marks after the elements of an array of tables.
 #[cycle(order)]
-fn order_items(low: Option<isize>, marks: Marks, items: &Vec<Item>) -> Option<Marks>
-    ensures { result ≡ tests.order_items low marks (items_view items.now.items) }
+fn order_items<R: Report>(
+    report: &mut R,
+    low: Option<isize>,
+    marks: Marks,
+    items: &Vec<Item>,
+) -> Option<Marks>
+    ensures { Reports R.tells (spec.early_items low marks 0 (items_view items.now.items))
+        (Some (spec.past_items marks (items_view items.now.items))) None result report.new }
 {
     let mut last = marks;
-    'items: for item in items {
-        last = order_item(low, last, item)?;
+    'items: for (number, item) in items.iter().enumerate() {
+        match order_item(report, low, last, item) {
+            Some(marks) => last = marks,
+            None => {
+                report.in_item(number);
+                return None;
+            }
+        }
     }
     Some(last)
 }
 
 /// Returns the marks after an item of an array of tables. One that is no table is skipped.
 #[cycle(order)]
-fn order_item(low: Option<isize>, marks: Marks, item: &Item) -> Option<Marks>
-    ensures { result ≡ tests.order_item low marks (item_view item.now) }
+fn order_item<R: Report>(
+    report: &mut R,
+    low: Option<isize>,
+    marks: Marks,
+    item: &Item,
+) -> Option<Marks>
+    ensures { Reports R.tells (spec.early_item low marks (item_view item.now))
+        (Some (spec.past_item marks (item_view item.now))) None result report.new }
 {
     match item {
-        Item::Table(table) => {
-            let entered = enter(true, low, marks, table)?;
-            order_slots(first_below(true, low, marks, table), entered, &table.slots)
-        }
+        Item::Table(table) => match enter(true, low, marks, table) {
+            Some(entered) => order_slots(report, low_in(low, marks, table), entered, &table.slots),
+            None => {
+                report.here(FitRule::Order);
+                None
+            }
+        },
         Item::None | Item::Value(_) | Item::ArrayOfTables(_) => Some(marks),
     }
 }

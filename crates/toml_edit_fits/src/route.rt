@@ -2,7 +2,9 @@
 ghost use Rattle.std.specs.Prelude.{◌≡◌};
 ghost use Rattle.toml_edit_repr.specs.Modes.{mode_of};
 ghost use Rattle.toml_edit_fits.specs.FitTests as tests;
+ghost use Rattle.toml_edit_fits.specs.Misfits as spec;
 
+use crate::misfit::FitRule;
 use crate::trivia::{ends_line, is_white, is_whole};
 use toml_edit_key::Key;
 use toml_edit_repr::{Decor, Mode};
@@ -42,6 +44,18 @@ pub(crate) fn then_key(mode: Mode, route: Route, key: &Key) -> Route
     Route {
         room: route.room.saturating_sub(1),
         fits: key_fits(mode, route, key) && is_white(mode, key.dotted_decor().suffix()),
+    }
+}
+
+/// Returns the rule that a line or a header with these keys before its last breaks: the limits if
+/// there are too many, else that decors suit their places.
+pub(crate) fn path_rule(route: Route) -> FitRule
+    ensures { result ≡ spec.path_rule route }
+{
+    if route.room > 0 {
+        FitRule::Decor
+    } else {
+        FitRule::Limits
     }
 }
 
